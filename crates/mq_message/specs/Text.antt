@@ -1,0 +1,5 @@
+use Rattle.std.specs.Prelude.{ℕ, List}
+
+-- a text as those who send and receive it see it
+pub record PlainText : Type 0 where
+  pub bytes : List ℕ

@@ -1,0 +1,51 @@
+ghost use Rattle.std.specs.Prelude.{◌≡◌, IfOk, take};
+
+use crate::Body;
+use std::alloc::{AllocError, Global};
+use std::marker::Model;
+
+/// Bytes in a vector of their own.
+#[derive(Drop)]
+pub struct VecBody {
+    bytes: Vec<u8>,
+}
+
+impl Model for VecBody {
+    ghost use Rattle.mq_message.specs.Text.{PlainText};
+
+    ghost Value = { PlainText };
+
+    ghost view = { λ body. record { bytes = body.bytes.items } };
+}
+
+impl VecBody {
+    /// A body with a copy of these bytes.
+    pub fn from_slice(alloc: Global, bytes: &[u8]) -> Result<VecBody, AllocError>
+        ensures ok { IfOk result (λ body. body ≡ record { bytes = bytes.now }) }
+    {
+        Ok(VecBody {
+            bytes: bytes.to_vec(alloc)?,
+        })
+    }
+
+    pub fn bytes(&self) -> &[u8]
+        ensures { result.now ≡ self.now.bytes }
+    {
+        self.bytes.as_slice()
+    }
+}
+
+impl Body for VecBody {
+    ghost bytes = { λ body. body.bytes };
+
+    ghost keeps = { λ _ _. Unit {0} };
+
+    fn len(&self) -> u64 {
+        self.bytes.len() as u64
+    }
+
+    fn cut(&mut self, n: u64) {
+        self.bytes
+            .truncate(usize::try_from(n).unwrap_or(usize::MAX));
+    }
+}
