@@ -1,0 +1,5 @@
+pub mod LinesLemmas
+pub mod NumberLemmas
+pub mod PartsLemmas
+pub mod Runs
+pub mod Transfers

@@ -1,0 +1,88 @@
+use Rattle.std.proofs.Common.{◌≡◌, ℕ, ◌+◌, List, [], ◌∷◌, ◌++◌, Option, Some, Result, Ok, Err, refl, sym, ap, ◌∙◌, subst, append_assoc, append-nil}
+use Rattle.std.specs.Io.KnownBytes.{Appends}
+use Rattle.std.proofs.KnownBytes.{Appends-nil, Appends-trans}
+use Rattle.mq_cli.specs.declared.fault.Cause.{Cause}
+use Rattle.mq_cli.specs.declared.fault.RunFault.{RunFault}
+use Rattle.mq_cli.specs.declared.fault.RunFault.TheVariants.{Script, Size, Read, Write, Memory}
+use Rattle.mq_cli.specs.Commands.{reading}
+use Rattle.mq_cli.specs.Session.{State}
+use Rattle.mq_cli.specs.Serial.{AppendsFront, Runs, RunsLine}
+use Rattle.mq_cli.specs.Transcript.{Run, before, goes_on, run_from, said}
+
+-- the writer took some text, and the whole run is that text before the rest of the run
+pub record SoFar (old now : Option (List ℕ)) (whole rest : Run) : Type 0 where
+  pub text : List ℕ
+  pub whole_is : whole ≡ before text rest
+  pub taken : Appends old now text
+
+pub so_far_nothing : (now : Option (List ℕ)) (run : Run) → SoFar now now run run
+so_far_nothing now run = record { text = []; whole_is = refl; taken = Appends-nil now }
+
+before-before : (a b : List ℕ) (run : Run) → before a (before b run) ≡ before (a ++ b) run
+before-before a b run = ap (λ (w : List ℕ). record { written = w; fault = run.fault }) (sym (append_assoc a b run.written))
+
+line_done : (old now new : Option (List ℕ)) (n : ℕ) (s : State) (whole : Run) (rest : State → Run) (r : Result (List ℕ × State) Cause)
+    → SoFar old now whole (goes_on n r rest) → RunsLine now new n r s (Ok tt) → SoFar old new whole (rest s)
+line_done old now new n s whole rest (Ok turn) so ran = record {
+  text = so.text ++ turn.0;
+  whole_is = subst (λ (t : State). whole ≡ before (so.text ++ turn.0) (rest t)) (sym ran.0)
+      (so.whole_is ∙ before-before so.text turn.0 (rest turn.1));
+  taken = Appends-trans old now new so.text turn.0 so.taken ran.1;
+}
+line_done old now new n s whole rest (Err cause) so ran = absurd ran
+
+-- a line that was run is one line less to run
+pub so_far_step : (old now new : Option (List ℕ)) (n : ℕ) (s t : State) (whole : Run) (line : List ℕ) (lines : List (List ℕ))
+    → SoFar old now whole (run_from n s (line ∷ lines)) → RunsLine now new n (said n s (reading line)) t (Ok tt)
+    → SoFar old new whole (run_from (n + 1) t lines)
+unfolding run_from
+so_far_step old now new n s t whole line lines so ran =
+    line_done old now new n t whole (λ u. run_from (n + 1) u lines) (said n s (reading line)) so ran
+
+-- a front of what a line writes is a front of what the run writes
+front_before : (old now new : Option (List ℕ)) (whole run : Run) (part : List ℕ)
+    → SoFar old now whole (before part run) → AppendsFront now new part → AppendsFront old new whole.written
+front_before old now new whole run part so front =
+    let rest = front.1.0 in (
+      so.text ++ front.0,
+      (
+        rest ++ run.written,
+        ap (λ (w : Run). w.written) so.whole_is
+            ∙ ap (λ (p : List ℕ). so.text ++ (p ++ run.written)) front.1.1
+            ∙ ap (λ (l : List ℕ). so.text ++ l) (append_assoc front.0 rest run.written)
+            ∙ sym (append_assoc so.text front.0 (rest ++ run.written)),
+      ),
+      Appends-trans old now new so.text front.0 so.taken front.2,
+    )
+
+line_failed : (old now new : Option (List ℕ)) (n : ℕ) (s : State) (whole : Run) (rest : State → Run) (r : Result (List ℕ × State) Cause)
+    (e : RunFault) → SoFar old now whole (goes_on n r rest) → RunsLine now new n r s (Err e) → Runs old new whole (Err e)
+line_failed old now new n s whole rest (Ok turn) Write so ran = front_before old now new whole (rest turn.1) turn.0 so ran
+line_failed old now new n s whole rest (Ok turn) Memory so ran = front_before old now new whole (rest turn.1) turn.0 so ran
+line_failed old now new n s whole rest (Ok turn) (Script line cause) so ran = absurd ran
+line_failed old now new n s whole rest (Ok turn) Size so ran = absurd ran
+line_failed old now new n s whole rest (Ok turn) Read so ran = absurd ran
+line_failed old now new n s whole rest (Err cause) (Script line named) so ran = (
+  ap (λ (w : Run). w.fault) so.whole_is ∙ ap (λ (k : ℕ). Some (k, cause)) (sym ran.0) ∙ ap (λ (c : Cause). Some (line, c)) (sym ran.1),
+  subst (λ (w : List ℕ). Appends old new w) (sym (ap (λ (w : Run). w.written) so.whole_is))
+      (Appends-trans old now new so.text [] so.taken ran.2),
+)
+line_failed old now new n s whole rest (Err cause) Write so ran = absurd ran
+line_failed old now new n s whole rest (Err cause) Memory so ran = absurd ran
+line_failed old now new n s whole rest (Err cause) Size so ran = absurd ran
+line_failed old now new n s whole rest (Err cause) Read so ran = absurd ran
+
+-- a line that ends the run ends it as the definition says
+pub so_far_failed : (old now new : Option (List ℕ)) (n : ℕ) (s t : State) (whole : Run) (line : List ℕ) (lines : List (List ℕ)) (e : RunFault)
+    → SoFar old now whole (run_from n s (line ∷ lines)) → RunsLine now new n (said n s (reading line)) t (Err e) → Runs old new whole (Err e)
+unfolding run_from
+so_far_failed old now new n s t whole line lines e so ran =
+    line_failed old now new n t whole (λ u. run_from (n + 1) u lines) (said n s (reading line)) e so ran
+
+-- with no line left the whole run is done
+pub so_far_end : (old now : Option (List ℕ)) (n : ℕ) (s : State) (whole : Run) → SoFar old now whole (run_from n s []) → Runs old now whole (Ok tt)
+unfolding run_from
+so_far_end old now n s whole so = (
+  ap (λ (w : Run). w.fault) so.whole_is,
+  subst (λ (w : List ℕ). Appends old now w) (sym (ap (λ (w : Run). w.written) so.whole_is ∙ append-nil so.text)) so.taken,
+)

@@ -1,0 +1,9 @@
+pub mod Commands
+pub mod Lines
+pub mod Numbers
+pub mod Parts
+pub mod Seen
+pub mod Serial
+pub mod Session
+pub mod Slot
+pub mod Transcript

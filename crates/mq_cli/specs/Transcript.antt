@@ -1,0 +1,105 @@
+use Rattle.std.specs.Prelude.{ℕ, ℤ, ◌+◌, List, [], ◌∷◌, ◌++◌, codes, Option, Some, None, Result, Ok, Err}
+use Rattle.std.specs.Fmt.{decimal, signed_decimal}
+use Rattle.mq_message.specs.Text.{PlainText}
+use Rattle.mq_message.specs.declared.message.Message.{Message}
+use Rattle.mq_queue.specs.declared.receive.Received.{Received}
+use Rattle.mq_cli.specs.declared.errno.Errno.{Errno}
+use Rattle.mq_cli.specs.declared.errno.Errno.TheVariants.{EINVAL, ENOMSG, E2BIG, ENOSPC, ENOMEM}
+use Rattle.mq_cli.specs.declared.fault.Cause.{Cause}
+use Rattle.mq_cli.specs.Lines.{lines_of}
+use Rattle.mq_cli.specs.Commands.{Call, get, snd, rcv, reading}
+use Rattle.mq_cli.specs.Session.{State, Answer, msgget, msgsnd, msgrcv}
+
+-- what a call answers
+pub data Reply : Type 0 where
+  refused : (errno : Errno) → Reply
+  given : (id : ℕ) → Reply
+  at : (entry : ℕ) → Reply
+  message : (delivery : Received PlainText) → Reply
+
+abbrev pub errno_name : Errno → List ℕ
+errno_name EINVAL = codes "EINVAL"
+errno_name ENOMSG = codes "ENOMSG"
+errno_name E2BIG = codes "E2BIG"
+errno_name ENOSPC = codes "ENOSPC"
+errno_name ENOMEM = codes "ENOMEM"
+
+-- what is said of a message that is handed out, up to its text
+unfoldable pub head_of : ℤ → ℕ → ℕ → ℕ → List ℕ
+head_of mtype sender tag n =
+    codes "msg " ++ signed_decimal mtype ++ codes " seat " ++ decimal sender ++ codes " tag " ++ decimal tag
+    ++ codes " len " ++ decimal n ++ codes " ="
+
+-- a reply as it is written
+abbrev pub text_of : Reply → List ℕ
+text_of (refused errno) = errno_name errno
+text_of (given id) = codes "id " ++ decimal id
+text_of (at entry) = codes "at " ++ decimal entry
+text_of (message m) = head_of m.mtype m.sender m.tag m.length ++ m.body.bytes
+
+-- its line
+abbrev pub output : Reply → List ℕ
+output reply = text_of reply ++ 10 ∷ []
+
+-- the reply of an answer, and the state that it leaves: a refused call leaves all
+abbrev pub told : {T : Type 0} → State → (T × State → Reply × State) → Answer T → Reply × State
+told s reply (Ok turn) = reply turn
+told s reply (Err e) = (refused e, s)
+
+-- the message of line n, sent by seat 1: its tag is the number of the line
+abbrev pub message_of : ℕ → ℤ → List ℕ → Message PlainText
+message_of n mtype text = record { mtype = mtype; sender = 1; tag = n; body = record { bytes = text } }
+
+-- what each call replies and leaves
+abbrev pub get_step : State → Reply × State
+get_step s = told s (λ t. (given t.0, t.1)) (msgget s)
+
+abbrev pub send_step : State → ℕ → Message PlainText → Reply × State
+send_step s id m = told s (λ t. (at t.0, t.1)) (msgsnd s id m)
+
+abbrev pub receive_step : State → ℕ → ℕ → Reply × State
+receive_step s id size = told s (λ t. (message t.0, t.1)) (msgrcv s id size)
+
+-- what the call of line n replies and leaves
+abbrev pub step : ℕ → State → Call → Reply × State
+step n s get = get_step s
+step n s (snd id mtype text) = send_step s id (message_of n mtype text)
+step n s (rcv id size) = receive_step s id size
+
+-- what a line writes and leaves, or why it is not well formed
+abbrev pub said : ℕ → State → Result (Option Call) Cause → Result (List ℕ × State) Cause
+said n s (Ok None) = Ok ([], s)
+said n s (Ok (Some call)) = Ok (output (step n s call).0, (step n s call).1)
+said n s (Err cause) = Err cause
+
+-- what a run writes, and the first line that is not well formed, with its cause
+pub record Run : Type 0 where
+  pub written : List ℕ
+  pub fault : Option (ℕ × Cause)
+
+abbrev pub before : List ℕ → Run → Run
+before text run = record { written = text ++ run.written; fault = run.fault }
+
+abbrev pub goes_on : ℕ → Result (List ℕ × State) Cause → (State → Run) → Run
+goes_on n (Ok turn) rest = before turn.0 (rest turn.1)
+goes_on n (Err cause) rest = record { written = []; fault = Some (n, cause) }
+
+-- the run of the lines from line n on, up to the first that is not well formed
+unfoldable pub run_from : ℕ → State → List (List ℕ) → Run
+run_from n s [] = record { written = []; fault = None }
+run_from n s (line ∷ lines) = goes_on n (said n s (reading line)) (λ t. run_from (n + 1) t lines)
+
+-- no queue is made
+abbrev pub start : State
+start = record { slot = record { entries = 0; messages = [] } }
+
+abbrev pub run_of : List ℕ → Run
+run_of script = run_from 1 start (lines_of script)
+
+-- all that a script writes
+abbrev pub transcript : List ℕ → List ℕ
+transcript script = (run_of script).written
+
+-- where a script is not well formed
+abbrev pub fault_of : List ℕ → Option (ℕ × Cause)
+fault_of script = (run_of script).fault

@@ -1,0 +1,42 @@
+ghost use Rattle.std.specs.Prelude.{◌≡◌};
+ghost use Rattle.mq_cli.specs.Session.{errno_of};
+ghost use Rattle.mq_cli.specs.Transcript.{errno_name};
+
+use mq_queue::QueueError;
+
+/// The manual's names of the refusals, errno(3).
+#[derive(Clone, Copy, Debug, PartialEq, Eq)]
+pub enum Errno {
+    EINVAL,
+    ENOMSG,
+    E2BIG,
+    ENOSPC,
+    ENOMEM,
+}
+
+impl Errno {
+    pub fn name(self) -> &'static str
+        ensures { result.now ≡ errno_name self }
+    {
+        match self {
+            Errno::EINVAL => "EINVAL",
+            Errno::ENOMSG => "ENOMSG",
+            Errno::E2BIG => "E2BIG",
+            Errno::ENOSPC => "ENOSPC",
+            Errno::ENOMEM => "ENOMEM",
+        }
+    }
+}
+
+impl From<QueueError> for Errno {
+    ghost from_gives = { λ refusal errno. errno ≡ errno_of refusal };
+
+    fn from(refusal: QueueError) -> Errno {
+        match refusal {
+            QueueError::TypeInvalid | QueueError::TooLong => Errno::EINVAL,
+            QueueError::NoMessage => Errno::ENOMSG,
+            QueueError::TooBig => Errno::E2BIG,
+            QueueError::Memory => Errno::ENOMEM,
+        }
+    }
+}

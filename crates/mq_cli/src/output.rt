@@ -1,0 +1,25 @@
+ghost use Rattle.std.specs.Prelude.{OnOk, OnErr};
+ghost use Rattle.std.specs.Io.KnownBytes.{Appends};
+ghost use Rattle.mq_cli.specs.Serial.{AppendsFront};
+
+use std::io::Write;
+
+/// A write failed, or took nothing.
+#[derive(Clone, Copy, Debug)]
+pub struct WriteFailed;
+
+/// Writes all of these bytes, or a front of them where a write fails or takes nothing. Unlike
+/// std's `write_all` it asks no second time.
+pub fn write_bytes<W: Write>(writer: &mut W, bytes: &[u8]) -> Result<(), WriteFailed>
+    ensures ok { OnOk result (Appends (W.contents writer.old) (W.contents writer.new) bytes.now) }
+    ensures err { OnErr result (AppendsFront (W.contents writer.old) (W.contents writer.new) bytes.now) }
+{
+    let mut rest = bytes;
+    while !rest.is_empty() {
+        match writer.write(rest) {
+            Ok(0) | Err(_) => return Err(WriteFailed),
+            Ok(count) => rest = &rest[count..],
+        }
+    }
+    Ok(())
+}

@@ -1,0 +1,119 @@
+ghost use Rattle.std.specs.Prelude.{◌≡◌, ◌≤◌, ℕ, None, Some, Ok, OnOk, IfSome, IsErrOf, length};
+ghost use Rattle.std.specs.Io.KnownBytes.{Appends, IsAtEnd, Keeps};
+ghost use Rattle.mq_cli.specs.Serial.{AppendsFront, ReadsMoreThan, ReadsUpTo, Runs, RunsLine};
+ghost use Rattle.mq_cli.specs.Commands.{reading};
+ghost use Rattle.mq_cli.specs.Lines.{lines_of};
+ghost use Rattle.mq_cli.specs.Transcript.{fault_of, run_from, run_of, said, transcript};
+ghost use Rattle.mq_cli.specs.declared.fault.Cause.{Cause};
+
+use crate::answer::answer;
+use crate::command::read_line;
+use crate::lines::Lines;
+use crate::output::{WriteFailed, write_bytes};
+use crate::script::read_script;
+use crate::session::Session;
+use crate::{RunFault, SCRIPT_LIMIT};
+use std::alloc::{AllocError, Global};
+use std::io::{Read, Write};
+
+/// Reads a script whole, then runs it line by line and writes the answer of each call.
+pub fn run_serial<R: Read, W: Write>(
+    alloc: Global,
+    reader: &mut R,
+    writer: &mut W,
+) -> Result<(), RunFault>
+    // Where the run comes to its end, all is read, and what is written is the transcript.
+    ensures end { OnOk result (IsAtEnd (R.remaining reader.new)) }
+    ensures ok { OnOk result (IfSome (R.remaining reader.old) (λ script.
+        (fault_of script ≡ None)
+        × Appends (W.contents writer.old) (W.contents writer.new) (transcript script))) }
+
+    // The first line that is not well formed ends it, after the transcript of the lines before.
+    ensures script { (line : ℕ) (cause : Cause) → IsErrOf result (RunFault.Script line cause) →
+        IfSome (R.remaining reader.old) (λ script.
+        (fault_of script ≡ Some (line, cause))
+        × Appends (W.contents writer.old) (W.contents writer.new) (transcript script)) }
+
+    // The reader gave more bytes than a script has just where the answer is `Size`.
+    ensures size { IsErrOf result RunFault.Size →
+        ReadsMoreThan SCRIPT_LIMIT (R.remaining reader.old) (R.remaining reader.new) }
+    ensures within { ¬ IsErrOf result RunFault.Size →
+        ReadsUpTo SCRIPT_LIMIT (R.remaining reader.old) (R.remaining reader.new) }
+
+    // Nothing is written before the script is read, and never more than the transcript.
+    ensures unwritten_size { IsErrOf result RunFault.Size → Keeps (W.contents writer.old) (W.contents writer.new) }
+    ensures unwritten_read { IsErrOf result RunFault.Read → Keeps (W.contents writer.old) (W.contents writer.new) }
+    ensures write { IsErrOf result RunFault.Write → IfSome (R.remaining reader.old) (λ script.
+        AppendsFront (W.contents writer.old) (W.contents writer.new) (transcript script)) }
+    ensures memory { IsErrOf result RunFault.Memory → IfSome (R.remaining reader.old) (λ script.
+        AppendsFront (W.contents writer.old) (W.contents writer.new) (transcript script)) }
+{
+    let script = read_script(alloc, reader)?;
+    run_script(alloc, &script, writer)
+}
+
+/// Runs a script that has been read, and has the writer hand on what it holds back.
+fn run_script<W: Write>(alloc: Global, script: &[u8], writer: &mut W) -> Result<(), RunFault>
+    requires { length script.now ≤ SCRIPT_LIMIT }
+    ensures { Runs (W.contents writer.old) (W.contents writer.new) (run_of script.now) result }
+{
+    let mut session = Session::new();
+    let outcome = run_lines(alloc, &mut session, script, writer);
+    if matches!(outcome, Err(RunFault::Write)) || writer.flush().is_ok() {
+        outcome
+    } else {
+        Err(RunFault::Write)
+    }
+}
+
+/// Runs the lines up to the first that is not well formed.
+fn run_lines<W: Write>(
+    alloc: Global,
+    session: &mut Session,
+    script: &[u8],
+    writer: &mut W,
+) -> Result<(), RunFault>
+    requires fits { length script.now ≤ SCRIPT_LIMIT }
+    ensures { Runs (W.contents writer.old) (W.contents writer.new)
+        (run_from 1 session.old (lines_of script.now)) result }
+{
+    let mut number = 0;
+    let mut out = Vec::new(alloc);
+    for line in Lines::new(script) {
+        number += 1;
+        if let Err(fault) = run_line(alloc, session, number, line, &mut out, writer) {
+            return Err(fault);
+        }
+    }
+    Ok(())
+}
+
+/// Runs one line, and writes its answer by way of the buffer.
+fn run_line<W: Write>(
+    alloc: Global,
+    session: &mut Session,
+    number: u64,
+    line: &[u8],
+    out: &mut Vec<u8>,
+    writer: &mut W,
+) -> Result<(), RunFault>
+    ensures { RunsLine (W.contents writer.old) (W.contents writer.new) number
+        (said number session.old (reading line.now)) session.new result }
+{
+    let command = match read_line(line) {
+        Ok(Some(command)) => command,
+        Ok(None) => return Ok(()),
+        Err(cause) => return Err(RunFault::Script {
+            line: number,
+            cause,
+        }),
+    };
+    out.clear();
+    if let Err(AllocError) = answer(alloc, session, number, command, out) {
+        return Err(RunFault::Memory);
+    }
+    match write_bytes(writer, out) {
+        Ok(()) => Ok(()),
+        Err(WriteFailed) => Err(RunFault::Write),
+    }
+}
