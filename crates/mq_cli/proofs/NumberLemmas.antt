@@ -40,12 +40,12 @@ no_value None none = refl
 no_value (Some n) none = absurd (none n refl)
 
 -- nothing is read from what spells no number
-pub number_of-None : (word : List ℕ) → ((n : ℕ) → n < 2 ^ 64 → word ≡ decimal n → ⊥) → None ≡ number_of word
+number_of-None : (word : List ℕ) → ((n : ℕ) → n < 2 ^ 64 → word ≡ decimal n → ⊥) → None ≡ number_of word
 number_of-None word none = no_value _ (λ n e. let is = number_of-Some word n e in none n is.1 is.0)
 
--- a spelling begins with no sign
-begins_with_digit : (n : ℕ) → n < 2 ^ 64 → get_or (decimal n) 0 0 ≢ 43
-begins_with_digit n fits =
+-- no spelling begins with a plus
+begins_with_no_plus : (n : ℕ) → n < 2 ^ 64 → get_or (decimal n) 0 0 ≢ 43
+begins_with_no_plus n fits =
     not_in_digits numerals (decimal n) 43 (digits_decimal numerals n fits) (λ range. omega (arith, range)) 0 (decimal_nonempty n fits)
 
 -- only the spelling of 0 begins with a zero
@@ -56,7 +56,7 @@ begins_with_zero (suc n) fits e = let above = first_decimal (suc n) (omega arith
 -- no number is spelled with a needless front
 pub needless : (word : List ℕ) → has_needless_front word ≡ true → None ≡ number_of word
 needless word front = number_of-None word (λ n fits is. elim (or_cases _ _ (rw is at front)) [
-  | inl plus ↦ begins_with_digit n fits (eqb-true _ _ plus)
+  | inl plus ↦ begins_with_no_plus n fits (eqb-true _ _ plus)
   | inr zeros ↦
       let both = and_parts _ _ zeros in
       let one = begins_with_zero n fits (eqb-true _ _ both.0) in

@@ -1,4 +1,5 @@
 pub mod Commands
+pub mod Laws
 pub mod Lines
 pub mod Numbers
 pub mod Parts

@@ -6,6 +6,7 @@ mod answer;
 mod command;
 mod errno;
 mod fault;
+mod laws;
 mod limits;
 mod lines;
 mod number;
@@ -17,5 +18,6 @@ mod session;
 mod words;
 
 pub use fault::{Cause, RunFault};
+pub use laws::{a_command_is_spelled_one_way, a_spelled_command_is_read_back};
 pub use limits::{LINE_LIMIT, SCRIPT_LIMIT};
 pub use serial::run_serial;

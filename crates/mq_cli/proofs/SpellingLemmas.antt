@@ -1,0 +1,383 @@
+use Rattle.std.proofs.Common.{◌≡◌, ℕ, ℤ, pos, negsuc, ◌+◌, ◌-◌, ◌^◌, ◌<◌, ◌≤◌, ◌==◌, ◌&&◌, nat_le, nat_lt, ◌*◌, Bool, true, false, cond, List, [], ◌∷◌, ◌++◌, length, get_or, drop, suc, Option, Some, None, Result, Ok, Err, codes, refl, sym, ap, subst, ◌∙◌, arith, lit<, lit≤, length-append}
+use Rattle.std.specs.Fmt.{decimal, signed_decimal}
+use Rattle.std.specs.Int.{w64}
+use Rattle.std.specs.Int.RustNames.{FitsSigned}
+use Rattle.std.specs.List.{All, list_all, join_with_byte}
+use Rattle.std.specs.Option.{option_and_then, option_map}
+use Rattle.std.specs.Str.{bytes_eq}
+use Rattle.std.specs.Str.Parse.{AllDigits}
+use Rattle.std.proofs.lemmas.Bool.{and_from, and_parts, cond-true, cond-false, eqb-true, le-leb, le-ltb, leb-true, lt-ltb, ltb-true, ltb-false, ne_eqb, not-false, not_from_true}
+use Rattle.std.proofs.lemmas.Fmt.{decimal_digit, decimal_nonempty, digits_decimal, length-decimal-le}
+use Rattle.std.proofs.lemmas.List.Folds.{list_all-append}
+use Rattle.std.proofs.lemmas.List.Splits.{join_with_byte-slice_split, slice_split_at, slice_split_none}
+use Rattle.std.proofs.lemmas.List.Sums.{AllPass-from_list_all}
+use Rattle.std.proofs.lemmas.Option.{cond_some, option_and_then_some}
+use Rattle.std.proofs.lemmas.Slice.Eq.{bytes_eq-Decides}
+use Rattle.std.proofs.lemmas.Str.Parse.{digit_from_value, not_in_digits}
+use Rattle.mq_cli.specs.declared.limits.TheConstants.{LINE_LIMIT}
+use Rattle.mq_cli.specs.declared.fault.Cause.{Cause}
+use Rattle.mq_cli.specs.declared.fault.Cause.TheVariants.{Words}
+use Rattle.mq_cli.specs.Commands.{Call, get, snd, rcv, ok_map, ◌>>=◌, is_filled, is_text, text_of, get_of, send_of, receive_of, command_of, is_skipped, reading}
+use Rattle.mq_cli.specs.Laws.{line_of, spelling, Spells, ReadsBack, SpelledOneWay}
+use Rattle.mq_cli.specs.Lines.{is_printable, words_of}
+use Rattle.mq_cli.specs.Numbers.{number_of, integer_of, under, below_zero}
+use Rattle.mq_cli.proofs.NumberLemmas.{number_of-decimal, number_of-Some, numerals}
+
+-- a byte of a word: printable, and no space
+abbrev is_word_byte : ℕ → Bool
+is_word_byte b = nat_le 33 b && nat_le b 126
+
+-- the words that a command is made of have bytes, no space among them, and are no longer than a number
+record IsWord (word : List ℕ) : Type 0 where
+  filled : is_filled word ≡ true
+  bytes : list_all is_word_byte word ≡ true
+  short : length word ≤ 20
+
+-- each of these is a word
+abbrev AreWords : List (List ℕ) → Type 0
+AreWords [] = Unit {0}
+AreWords (word ∷ words) = IsWord word × AreWords words
+
+-- the words, with a space behind each, and then the last part of the line
+abbrev before_last : List (List ℕ) → List ℕ → List ℕ
+before_last [] last = last
+before_last (word ∷ words) last = word ++ 32 ∷ before_last words last
+
+-- the digits are bytes of a word
+word_digits : (ds : List ℕ) → AllDigits 10 ds → list_all is_word_byte ds ≡ true
+word_digits [] h = refl
+word_digits (d ∷ ds) h =
+    let range = digit_from_value d h.0 in
+    and_from _ _ (and_from _ _ (le-leb 33 d (omega (arith, range))) (le-leb d 126 (omega (arith, range)))) (word_digits ds h.1)
+
+-- a number is a word
+decimal_word : (n : ℕ) → n < 2 ^ 64 → IsWord (decimal n)
+decimal_word n fits = record {
+  filled = lt-ltb 0 _ (decimal_nonempty n fits);
+  bytes = word_digits (decimal n) (digits_decimal numerals n fits);
+  short = length-decimal-le 20 n (lit< tt) (omega arith) fits;
+}
+
+-- and so is one with a sign
+signed_word : (z : ℤ) → FitsSigned w64 z → IsWord (signed_decimal z)
+signed_word (pos n) fits = decimal_word n (omega (arith, fits.sfits))
+signed_word (negsuc n) fits =
+    let most : suc n < 2 ^ 64 = omega (arith, fits.sfits) in
+    let digits : length (decimal (suc n)) ≤ 19 = length-decimal-le 19 (suc n) (lit< tt) (omega (arith, fits.sfits)) most in
+    record {
+      filled = lt-ltb 0 _ (omega arith);
+      bytes = (decimal_word (suc n) most).bytes;
+      short = omega arith;
+    }
+
+-- and a name that passes the tests
+name_word : (name : List ℕ) → (is_filled name && list_all is_word_byte name && nat_le (length name) 20) ≡ true → IsWord name
+name_word name h =
+    let tests = and_parts (is_filled name && list_all is_word_byte name) (nat_le (length name) 20) h in
+    let front = and_parts (is_filled name) (list_all is_word_byte name) tests.0 in
+    record { filled = front.0; bytes = front.1; short = leb-true _ _ tests.1 }
+
+-- the range of a word's bytes
+word_byte : (b : ℕ) → is_word_byte b ≡ true → (33 ≤ b) × (b ≤ 126)
+word_byte b h =
+    let tests = and_parts (nat_le 33 b) (nat_le b 126) h in
+    (leb-true 33 b tests.0, leb-true b 126 tests.1)
+
+-- a word has no space
+no_space : (word : List ℕ) → list_all is_word_byte word ≡ true → All (λ b. (b == 32) ≡ false) word
+no_space word h k d within =
+    let range = word_byte (get_or word k d) (AllPass-from_list_all is_word_byte word h k d within) in
+    ne_eqb _ _ (λ e. omega (arith, range.0))
+
+-- and is printable
+word_printable : (word : List ℕ) → list_all is_word_byte word ≡ true → list_all is_printable word ≡ true
+word_printable [] h = refl
+word_printable (b ∷ word) h =
+    let parts = and_parts (is_word_byte b) (list_all is_word_byte word) h in
+    let range = word_byte b parts.0 in
+    and_from _ _ (and_from _ _ (le-leb 32 b (omega (arith, range.0))) (le-leb b 126 range.1)) (word_printable word parts.1)
+
+-- the words of a line are the words that it was made of, and those of its last part
+words_before_last : (words : List (List ℕ)) (last : List ℕ) → AreWords words → words_of (before_last words last) ≡ words ++ words_of last
+words_before_last [] last are = refl
+words_before_last (word ∷ words) last are =
+    slice_split_at (λ b. b == 32) word 32 (before_last words last) (no_space word are.0.bytes) refl
+    ∙ ap (λ rest. word ∷ rest) (words_before_last words last are.1)
+
+-- a word alone is one word
+words_of_word : (word : List ℕ) → IsWord word → words_of word ≡ word ∷ []
+words_of_word word is = slice_split_none (λ b. b == 32) word (no_space word is.bytes)
+
+-- each word is filled
+all_filled : (words : List (List ℕ)) → AreWords words → list_all is_filled words ≡ true
+all_filled [] are = refl
+all_filled (word ∷ words) are = and_from _ _ are.0.filled (all_filled words are.1)
+
+-- such words make a short line
+short_before_last : (words : List (List ℕ)) (last : List ℕ) → AreWords words → length (before_last words last) ≤ 21 * length words + length last
+short_before_last [] last are = omega arith
+short_before_last (word ∷ words) last are =
+    omega (arith, length-append word (32 ∷ before_last words last), are.0.short, short_before_last words last are.1)
+
+-- a line of words is printable where its last part is
+printable_before_last : (words : List (List ℕ)) (last : List ℕ) → AreWords words → list_all is_printable last ≡ true → list_all is_printable (before_last words last) ≡ true
+printable_before_last [] last are h = h
+printable_before_last (word ∷ words) last are h =
+    list_all-append is_printable word (32 ∷ before_last words last)
+    ∙ and_from _ _ (word_printable word are.0.bytes) (printable_before_last words last are.1 h)
+
+-- the last part of a printable line is printable
+printable_last : (words : List (List ℕ)) (last : List ℕ) → list_all is_printable (before_last words last) ≡ true → list_all is_printable last ≡ true
+printable_last [] last h = h
+printable_last (word ∷ words) last h =
+    printable_last words last (and_parts _ _ (sym (list_all-append is_printable word (32 ∷ before_last words last)) ∙ h)).1
+
+-- the first byte of a text that begins with it
+first_byte : (text : List ℕ) (b : ℕ) → 0 < b → (get_or text 0 0 == b) ≡ true → text ≡ b ∷ drop 1 text
+first_byte [] b above e = let is = eqb-true _ _ e in absurd (omega arith)
+first_byte (c ∷ text) b above e = ap (λ x. x ∷ text) (eqb-true c b e)
+
+-- a number below a limit is read from its spelling
+under-decimal : (limit n : ℕ) → limit ≤ 2 ^ 64 → n < limit → under limit (number_of (decimal n)) ≡ Some n
+under-decimal limit n most below = rw (number_of-decimal n (omega arith)) (cond-true _ _ _ (lt-ltb n limit below))
+
+-- and from nothing else
+under-Some : (limit : ℕ) (word : List ℕ) (n : ℕ) → under limit (number_of word) ≡ Some n → (word ≡ decimal n) × (n < limit)
+under-Some limit word n e = option_and_then_some _ _ n e (λ m read below.
+    let is = cond_some _ _ _ below in
+    let spelled = number_of-Some word m read in
+    (spelled.0 ∙ ap decimal is.1, omega (arith, ltb-true _ _ is.0, is.1)))
+
+-- `0` is the one spelling of 0
+number_of_zero : number_of (codes "0") ≡ Some 0
+number_of_zero = ap number_of (sym (decimal_digit 0 (lit< tt))) ∙ number_of-decimal 0 (lit< tt)
+
+-- and so it is below 1
+under_one : (word : List ℕ) (n : ℕ) → under 1 (number_of word) ≡ Some n → word ≡ codes "0"
+under_one word n e =
+    let read = under-Some 1 word n e in
+    let none : n ≡ 0 = omega arith in
+    read.0 ∙ ap decimal none ∙ decimal_digit 0 (lit< tt)
+
+-- a number with a sign is read from its spelling
+integer_of-signed_decimal : (z : ℤ) → FitsSigned w64 z → integer_of (signed_decimal z) ≡ Some z
+unfolding integer_of
+integer_of-signed_decimal (pos n) fits =
+    let plain = not_in_digits numerals (decimal n) 45 (digits_decimal numerals n (omega (arith, fits.sfits))) (λ range. omega (arith, range)) 0 (decimal_nonempty n (omega (arith, fits.sfits))) in
+    cond-false _ _ _ (ne_eqb _ _ plain) ∙ ap (option_map pos) (under-decimal (2 ^ 63) n (lit≤ tt) fits.sfits)
+integer_of-signed_decimal (negsuc n) fits =
+    ap (option_and_then below_zero) (number_of-decimal (suc n) (omega (arith, fits.sfits)))
+    ∙ cond-true _ _ _ (and_from _ _ (le-leb 1 (suc n) (omega arith)) (le-leb (suc n) (2 ^ 63) (omega (arith, fits.sfits))))
+    ∙ ap (λ m. Some (negsuc m)) (omega arith)
+
+-- what follows from each way that a test can go
+chosen : {T P : Type 0} (b : Bool) (x y z : T) → cond b x y ≡ z → (b ≡ true → x ≡ z → P) → (b ≡ false → y ≡ z → P) → P
+chosen true x y z e holds fails = holds refl e
+chosen false x y z e holds fails = fails refl e
+
+-- what an option was before it was mapped
+mapped : {A B : Type 0} (f : A → B) (o : Option A) (y : B) → option_map f o ≡ Some y → (x : A) × (o ≡ Some x) × (f x ≡ y)
+mapped f None y e = absurd (cc e)
+mapped f (Some x) y e = (x, refl, cc e)
+
+-- a word with `-` before it spells a number below zero
+below_zero_read : (word : List ℕ) (n : ℕ) (z : ℤ) → word ≡ 45 ∷ drop 1 word → number_of (drop 1 word) ≡ Some n → below_zero n ≡ Some z → (word ≡ signed_decimal z) × FitsSigned w64 z
+below_zero_read word n z sign read below =
+    let is = cond_some _ _ _ below in
+    let tests = and_parts (nat_le 1 n) (nat_le n (2 ^ 63)) is.0 in
+    let least = leb-true 1 n tests.0 in
+    let most = leb-true n (2 ^ 63) tests.1 in
+    let again : n ≡ suc (n - 1) = omega (arith, least) in
+    let P : ℤ → Type 0 = λ y. (word ≡ signed_decimal y) × FitsSigned w64 y in
+    subst P is.1 (sign ∙ ap (λ ds. 45 ∷ ds) ((number_of-Some _ n read).0 ∙ ap decimal again), record { sfits = omega (arith, least, most) })
+
+-- any other spells a number that is not below zero
+natural_read : (word : List ℕ) (z : ℤ) → option_map pos (under (2 ^ 63) (number_of word)) ≡ Some z → (word ≡ signed_decimal z) × FitsSigned w64 z
+natural_read word z e =
+    let read = mapped pos _ z e in
+    let spelled = under-Some (2 ^ 63) word read.0 read.1 in
+    let P : ℤ → Type 0 = λ y. (word ≡ signed_decimal y) × FitsSigned w64 y in
+    subst P read.2 (spelled.0, record { sfits = spelled.1 })
+
+-- it is read from nothing else
+integer_of-Some : (word : List ℕ) (z : ℤ) → integer_of word ≡ Some z → (word ≡ signed_decimal z) × FitsSigned w64 z
+unfolding integer_of
+integer_of-Some word z e =
+    chosen _ _ _ _ e
+    (λ minus below. option_and_then_some below_zero _ z below (λ n read is. below_zero_read word n z (first_byte word 45 (lit< tt) minus) read is))
+    (λ plain natural. natural_read word z natural)
+
+-- what follows from a step that did not fail
+bind_ok : {A B P : Type 0} (o : Option A) (f : A → Result B Cause) (y : B) → (o >>= f) ≡ Ok y → ((x : A) → o ≡ Some x → f x ≡ Ok y → P) → P
+bind_ok None f y e then = absurd (cc e)
+bind_ok (Some x) f y e then = then x refl e
+
+-- a test that was needed held
+needed : {A : Type 0} (b : Bool) (x : Result A Cause) (cause : Cause) (y : A) → cond b x (Err cause) ≡ Ok y → (b ≡ true) × (x ≡ Ok y)
+needed true x cause y e = (refl, e)
+needed false x cause y e = absurd (cc e)
+
+-- a test that was ruled out failed
+ruled_out : {A : Type 0} (b : Bool) (x : Result A Cause) (cause : Cause) (y : A) → cond b (Err cause) x ≡ Ok y → (b ≡ false) × (x ≡ Ok y)
+ruled_out true x cause y e = absurd (cc e)
+ruled_out false x cause y e = (refl, e)
+
+-- what a result was before it was mapped
+mapped_ok : {A B : Type 0} (f : A → B) (r : Result A Cause) (y : B) → ok_map f r ≡ Ok y → (x : A) × (r ≡ Ok x) × (f x ≡ y)
+mapped_ok f (Ok x) y e = (x, refl, cc e)
+mapped_ok f (Err cause) y e = absurd (cc e)
+
+-- a line that asks for a call is short and printable, and its words are a command
+record IsCommand (line : List ℕ) (call : Call) : Type 0 where
+  short : length line ≤ LINE_LIMIT
+  printable : list_all is_printable line ≡ true
+  command : command_of (words_of line) ≡ Ok call
+
+-- what is known of a line that is read as a call
+reading-Ok : (line : List ℕ) (call : Call) → reading line ≡ Ok (Some call) → IsCommand line call
+reading-Ok line call e =
+    let length_test = ruled_out _ _ _ _ e in
+    let byte_test = ruled_out _ _ _ _ length_test.1 in
+    chosen (is_skipped line) (Ok None) (ok_map Some (command_of (words_of line))) (Ok (Some call)) byte_test.1
+    (λ skipped nothing. absurd (cc nothing))
+    (λ asks something.
+        let is = mapped_ok Some (command_of (words_of line)) (Some call) something in
+        record { short = ltb-false _ _ length_test.0; printable = not-false _ byte_test.0; command = cc (is.1, is.2) })
+
+-- the words of a line, put together again, with the command's name
+rejoined : (line name text : List ℕ) (words : List (List ℕ)) → words_of line ≡ name ∷ words → bytes_eq name text ≡ true → line ≡ line_of (text ∷ words)
+rejoined line name text words e named =
+    sym (join_with_byte-slice_split 32 line) ∙ ap line_of (e ∙ ap (λ word. word ∷ words) ((bytes_eq-Decides name text).0 named))
+
+-- get is read from its spelling alone
+got : (line : List ℕ) (words : List (List ℕ)) (call : Call) → line ≡ line_of (codes "get" ∷ words) → get_of words ≡ Ok call → Spells line call
+got line (key ∷ flags ∷ []) call is e =
+    let flag = needed (bytes_eq flags (codes "c")) (under 1 (number_of key) >>= λ n. Ok get) Words call e in
+    bind_ok (under 1 (number_of key)) (λ n. Ok get) call flag.1 (λ n read done.
+        let zeros = under_one key n read in
+        let letter = (bytes_eq-Decides flags (codes "c")).0 flag.0 in
+        let same : get ≡ call = cc done in
+        subst (Spells line) same (cc (is, zeros, letter), tt))
+got line [] call is e = absurd (cc e)
+got line (key ∷ []) call is e = absurd (cc e)
+got line (key ∷ flags ∷ more ∷ words) call is e = absurd (cc e)
+
+-- and rcv
+received : (line : List ℕ) (words : List (List ℕ)) (call : Call) → line ≡ line_of (codes "rcv" ∷ words) → receive_of words ≡ Ok call → Spells line call
+received line (id ∷ size ∷ mtype ∷ []) call is e =
+    bind_ok _ _ call e (λ i read_id sized.
+        bind_ok _ _ call sized (λ s read_size typed.
+            bind_ok (under 1 (number_of mtype)) (λ n. Ok (rcv i s)) call typed (λ n read_type done.
+                let spelled_id = under-Some (2 ^ 32) id i read_id in
+                let spelled_size = number_of-Some size s read_size in
+                let spelled_type = under_one mtype n read_type in
+                let same : rcv i s ≡ call = cc done in
+                subst (Spells line) same (cc (is, spelled_id.0, spelled_size.0, spelled_type), (spelled_id.1, spelled_size.1)))))
+received line [] call is e = absurd (cc e)
+received line (id ∷ []) call is e = absurd (cc e)
+received line (id ∷ size ∷ []) call is e = absurd (cc e)
+received line (id ∷ size ∷ mtype ∷ more ∷ words) call is e = absurd (cc e)
+
+-- a word, and behind it parts that are not empty
+joined_behind : (word : List ℕ) (parts : List (List ℕ)) (b : ℕ) (text : List ℕ) → join_with_byte 32 parts ≡ b ∷ text → join_with_byte 32 (word ∷ parts) ≡ word ++ 32 ∷ (b ∷ text)
+joined_behind word [] b text e = absurd (cc e)
+joined_behind word (part ∷ parts) b text e = ap (λ rest. word ++ 32 ∷ rest) e
+
+-- and snd
+sent : (line : List ℕ) (words : List (List ℕ)) (call : Call) → line ≡ line_of (codes "snd" ∷ words) → length line ≤ LINE_LIMIT → list_all is_printable line ≡ true → send_of words ≡ Ok call → Spells line call
+sent line (id ∷ mtype ∷ parts) call is short printable e =
+    let tests = needed (is_filled id && is_filled mtype && is_text parts) (under (2 ^ 32) (number_of id) >>= λ i. integer_of mtype >>= λ z. Ok (snd i z (text_of parts))) Words call e in
+    let text : join_with_byte 32 parts ≡ 61 ∷ text_of parts = first_byte (join_with_byte 32 parts) 61 (lit< tt) (and_parts (is_filled id && is_filled mtype) (is_text parts) tests.0).1 in
+    bind_ok _ _ call tests.1 (λ i read_id typed.
+        bind_ok (integer_of mtype) (λ z. Ok (snd i z (text_of parts))) call typed (λ z read_type done.
+            let spelled_id = under-Some (2 ^ 32) id i read_id in
+            let spelled_type = integer_of-Some mtype z read_type in
+            let same : snd i z (text_of parts) ≡ call = cc done in
+            let behind = joined_behind mtype parts 61 (text_of parts) text in
+            let line_is : line ≡ spelling (snd i z (text_of parts)) = cc (is, spelled_id.0, spelled_type.0, behind) in
+            let words = codes "snd" ∷ decimal i ∷ signed_decimal z ∷ [] in
+            subst (Spells line) same
+                (line_is, (spelled_id.1, spelled_type.1, printable_last words (61 ∷ text_of parts) (rw line_is at printable), rw line_is at short))))
+sent line [] call is short printable e = absurd (cc e)
+sent line (id ∷ []) call is short printable e = absurd (cc e)
+
+-- the command that a line's words are is spelled by the line
+commanded : (line : List ℕ) (words : List (List ℕ)) (call : Call) → words_of line ≡ words → length line ≤ LINE_LIMIT → list_all is_printable line ≡ true → command_of words ≡ Ok call → Spells line call
+commanded line [] call are short printable e = absurd (cc e)
+commanded line (name ∷ words) call are short printable e =
+    chosen _ _ _ _ e
+    (λ is_snd sends. sent line words call (rejoined line name (codes "snd") words are is_snd) short printable sends)
+    (λ not_snd others.
+        let filled = ruled_out _ _ _ _ others in
+        chosen _ _ _ _ filled.1
+        (λ is_get gets. got line words call (rejoined line name (codes "get") words are is_get) gets)
+        (λ not_get rest.
+            let last = needed _ _ _ _ rest in
+            received line words call (rejoined line name (codes "rcv") words are last.0) last.1))
+
+-- a call is read from its spelling alone
+pub spelled_one_way : SpelledOneWay
+spelled_one_way line call e =
+    let is = reading-Ok line call e in
+    commanded line (words_of line) call refl is.short is.printable is.command
+
+-- a line that begins with a letter is not skipped
+not_skipped : (line : List ℕ) → nat_lt 35 (get_or line 0 0) ≡ true → is_skipped line ≡ false
+not_skipped [] letter = absurd (cc letter)
+not_skipped (b ∷ line) letter =
+    let above = ltb-true 35 b letter in
+    rw (ne_eqb (length (b ∷ line)) 0 (λ e. omega arith), ne_eqb b 35 (λ e. omega arith)) refl
+
+-- a short and printable line is read as the command that its words are
+reads : (words : List (List ℕ)) (last : List ℕ) (call : Call) → AreWords words → length (before_last words last) ≤ LINE_LIMIT → list_all is_printable last ≡ true → nat_lt 35 (get_or (before_last words last) 0 0) ≡ true → command_of (words ++ words_of last) ≡ Ok call → reading (before_last words last) ≡ Ok (Some call)
+reads words last call are short printable letter command =
+    let line = before_last words last in
+    cond-false _ _ _ (le-ltb _ _ short)
+    ∙ cond-false _ _ _ (not_from_true _ (printable_before_last words last are printable))
+    ∙ cond-false (is_skipped line) (Ok None) _ (not_skipped line letter)
+    ∙ ap (ok_map Some) (ap command_of (words_before_last words last are) ∙ command)
+
+-- the same of a line of words alone, which is short where they are few
+reads_words : (words : List (List ℕ)) (last : List ℕ) (call : Call) → AreWords words → IsWord last → length words ≤ 100 → nat_lt 35 (get_or (before_last words last) 0 0) ≡ true → command_of (words ++ last ∷ []) ≡ Ok call → reading (before_last words last) ≡ Ok (Some call)
+reads_words words last call are is few letter command =
+    let short = short_before_last words last are in
+    reads words last call are (omega (arith, short, is.short, few)) (word_printable last is.bytes) letter
+        (ap (λ rest. command_of (words ++ rest)) (words_of_word last is) ∙ command)
+
+-- get is read back
+get_again : reading (spelling get) ≡ Ok (Some get)
+get_again = rw number_of_zero refl
+
+-- the words of rcv are read back
+receive_again : (id size : ℕ) → id < 2 ^ 32 → size < 2 ^ 64 → receive_of (decimal id ∷ decimal size ∷ codes "0" ∷ []) ≡ Ok (rcv id size)
+receive_again id size id_fits size_fits =
+    rw (under-decimal (2 ^ 32) id (lit≤ tt) id_fits, number_of-decimal size size_fits, number_of_zero) refl
+
+-- and with its name, where none is empty
+rcv_again : (words : List (List ℕ)) (call : Call) → list_all is_filled words ≡ true → receive_of words ≡ Ok call → command_of (codes "rcv" ∷ words) ≡ Ok call
+rcv_again words call filled is = cond-false _ _ _ (not_from_true _ filled) ∙ is
+
+-- the words of snd are read back
+send_again : (id mtype : List ℕ) (parts : List (List ℕ)) (text : List ℕ) (i : ℕ) (z : ℤ) → is_filled id ≡ true → is_filled mtype ≡ true → join_with_byte 32 parts ≡ 61 ∷ text → under (2 ^ 32) (number_of id) ≡ Some i → integer_of mtype ≡ Some z → send_of (id ∷ mtype ∷ parts) ≡ Ok (snd i z text)
+send_again id mtype parts text i z filled typed joined read_id read_type =
+    rw (filled, typed, joined, read_id, read_type) refl
+
+-- each call that can be spelled is read back
+pub reads_back : ReadsBack
+reads_back get can = get_again
+reads_back (snd id mtype text) can =
+    let words = codes "snd" ∷ decimal id ∷ signed_decimal mtype ∷ [] in
+    let id_word = decimal_word id (omega (arith, can.0)) in
+    let type_word = signed_word mtype can.1 in
+    let are : AreWords words = (name_word (codes "snd") refl, (id_word, (type_word, tt))) in
+    reads words (61 ∷ text) (snd id mtype text) are can.3 can.2 refl
+        (send_again (decimal id) (signed_decimal mtype) (words_of (61 ∷ text)) text id mtype id_word.filled type_word.filled
+            (join_with_byte-slice_split 32 (61 ∷ text)) (under-decimal (2 ^ 32) id (lit≤ tt) can.0) (integer_of-signed_decimal mtype can.1))
+reads_back (rcv id size) can =
+    let id_word = decimal_word id (omega (arith, can.0)) in
+    let size_word = decimal_word size can.1 in
+    let zero_word = name_word (codes "0") refl in
+    let words = decimal id ∷ decimal size ∷ codes "0" ∷ [] in
+    reads_words (codes "rcv" ∷ decimal id ∷ decimal size ∷ []) (codes "0") (rcv id size)
+        (name_word (codes "rcv") refl, (id_word, (size_word, tt))) zero_word (lit≤ tt) refl
+        (rcv_again words (rcv id size) (all_filled words (id_word, (size_word, (zero_word, tt)))) (receive_again id size can.0 can.1))

@@ -1,0 +1,10 @@
+//! Tests of scripts through `run_serial`: what is written, and how faults end a run.
+
+#![tactic(auto)]
+
+#[cfg(test)]
+mod fakes;
+#[cfg(test)]
+mod faults;
+#[cfg(test)]
+mod scripts;
