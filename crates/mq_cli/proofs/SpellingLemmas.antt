@@ -1,8 +1,8 @@
-use Rattle.std.proofs.Common.{◌≡◌, ℕ, ℤ, pos, negsuc, ◌+◌, ◌-◌, ◌^◌, ◌<◌, ◌≤◌, ◌==◌, ◌&&◌, nat_le, nat_lt, ◌*◌, Bool, true, false, cond, List, [], ◌∷◌, ◌++◌, length, get_or, drop, suc, Option, Some, None, Result, Ok, Err, codes, refl, sym, ap, subst, ◌∙◌, arith, lit<, lit≤, length-append}
+use Rattle.std.proofs.Common.{◌≡◌, ℕ, ℤ, pos, negsuc, ◌+◌, ◌-◌, ◌^◌, ◌<◌, ◌≤◌, ◌==◌, ◌&&◌, ◌||◌, nat_le, nat_lt, ◌*◌, Bool, true, false, cond, List, [], ◌∷◌, ◌++◌, length, get_or, drop, suc, Option, Some, None, Result, Ok, Err, codes, refl, sym, ap, subst, ◌∙◌, arith, lit<, lit≤, length-append}
 use Rattle.std.specs.Fmt.{decimal, signed_decimal}
 use Rattle.std.specs.Int.{w64}
 use Rattle.std.specs.Int.RustNames.{FitsSigned}
-use Rattle.std.specs.List.{All, list_all, join_with_byte}
+use Rattle.std.specs.List.{All, list_all, list_any, join_with_byte}
 use Rattle.std.specs.Option.{option_and_then, option_map}
 use Rattle.std.specs.Str.{bytes_eq}
 use Rattle.std.specs.Str.Parse.{AllDigits}
@@ -17,21 +17,21 @@ use Rattle.std.proofs.lemmas.Str.Parse.{digit_from_value, not_in_digits}
 use Rattle.mq_cli.specs.declared.limits.TheConstants.{LINE_LIMIT}
 use Rattle.mq_cli.specs.declared.fault.Cause.{Cause}
 use Rattle.mq_cli.specs.declared.fault.Cause.TheVariants.{Words}
-use Rattle.mq_cli.specs.Commands.{Call, get, snd, rcv, ok_map, ◌>>=◌, is_filled, is_text, text_of, get_of, send_of, receive_of, command_of, is_skipped, reading}
-use Rattle.mq_cli.specs.Laws.{line_of, spelling, Spells, ReadsBack, SpelledOneWay}
-use Rattle.mq_cli.specs.Lines.{is_printable, words_of}
-use Rattle.mq_cli.specs.Numbers.{number_of, integer_of, under, below_zero}
+use Rattle.mq_cli.specs.Commands.{Call, sit, get, snd, rcv, Text, plain, letters, Flags, ok_map, ◌>>=◌, worded, is_filled, is_plain, is_text, text_of, flags_of, seat_of, get_of, send_of, receive_of, command_of, is_skipped, reading}
+use Rattle.mq_cli.specs.Laws.{flag_words, spelling, text_spelling, CanBeSpelled, Spells, ReadsBack, SpelledOneWay}
+use Rattle.mq_cli.specs.Lines.{is_printable, line_of, words_of}
+use Rattle.mq_cli.specs.Numbers.{number_of, integer_of, under, above_zero, below_zero}
 use Rattle.mq_cli.proofs.NumberLemmas.{number_of-decimal, number_of-Some, numerals}
 
 -- a byte of a word: printable, and no space
 abbrev is_word_byte : ℕ → Bool
 is_word_byte b = nat_le 33 b && nat_le b 126
 
--- the words that a command is made of have bytes, no space among them, and are no longer than a number
+-- the words that a command is made of have bytes, no space among them, and are no longer than `*` and a number
 record IsWord (word : List ℕ) : Type 0 where
   filled : is_filled word ≡ true
   bytes : list_all is_word_byte word ≡ true
-  short : length word ≤ 20
+  short : length word ≤ 21
 
 -- each of these is a word
 abbrev AreWords : List (List ℕ) → Type 0
@@ -55,7 +55,7 @@ decimal_word : (n : ℕ) → n < 2 ^ 64 → IsWord (decimal n)
 decimal_word n fits = record {
   filled = lt-ltb 0 _ (decimal_nonempty n fits);
   bytes = word_digits (decimal n) (digits_decimal numerals n fits);
-  short = length-decimal-le 20 n (lit< tt) (omega arith) fits;
+  short = let few : length (decimal n) ≤ 20 = length-decimal-le 20 n (lit< tt) (omega arith) fits in omega arith;
 }
 
 -- and so is one with a sign
@@ -75,7 +75,7 @@ name_word : (name : List ℕ) → (is_filled name && list_all is_word_byte name 
 name_word name h =
     let tests = and_parts (is_filled name && list_all is_word_byte name) (nat_le (length name) 20) h in
     let front = and_parts (is_filled name) (list_all is_word_byte name) tests.0 in
-    record { filled = front.0; bytes = front.1; short = leb-true _ _ tests.1 }
+    record { filled = front.0; bytes = front.1; short = let few : length name ≤ 20 = leb-true _ _ tests.1 in omega arith }
 
 -- the range of a word's bytes
 word_byte : (b : ℕ) → is_word_byte b ≡ true → (33 ≤ b) × (b ≤ 126)
@@ -114,7 +114,7 @@ all_filled [] are = refl
 all_filled (word ∷ words) are = and_from _ _ are.0.filled (all_filled words are.1)
 
 -- such words make a short line
-short_before_last : (words : List (List ℕ)) (last : List ℕ) → AreWords words → length (before_last words last) ≤ 21 * length words + length last
+short_before_last : (words : List (List ℕ)) (last : List ℕ) → AreWords words → length (before_last words last) ≤ 22 * length words + length last
 short_before_last [] last are = omega arith
 short_before_last (word ∷ words) last are =
     omega (arith, length-append word (32 ∷ before_last words last), are.0.short, short_before_last words last are.1)
@@ -241,8 +241,8 @@ reading-Ok line call e =
     chosen (is_skipped line) (Ok None) (ok_map Some (command_of (words_of line))) (Ok (Some call)) byte_test.1
     (λ skipped nothing. absurd (cc nothing))
     (λ asks something.
-        let is = mapped_ok Some (command_of (words_of line)) (Some call) something in
-        record { short = ltb-false _ _ length_test.0; printable = not-false _ byte_test.0; command = cc (is.1, is.2) })
+    let is = mapped_ok Some (command_of (words_of line)) (Some call) something in
+    record { short = ltb-false _ _ length_test.0; printable = not-false _ byte_test.0; command = cc (is.1, is.2) })
 
 -- the words of a line, put together again, with the command's name
 rejoined : (line name text : List ℕ) (words : List (List ℕ)) → words_of line ≡ name ∷ words → bytes_eq name text ≡ true → line ≡ line_of (text ∷ words)
@@ -254,50 +254,144 @@ got : (line : List ℕ) (words : List (List ℕ)) (call : Call) → line ≡ lin
 got line (key ∷ flags ∷ []) call is e =
     let flag = needed (bytes_eq flags (codes "c")) (under 1 (number_of key) >>= λ n. Ok get) Words call e in
     bind_ok (under 1 (number_of key)) (λ n. Ok get) call flag.1 (λ n read done.
-        let zeros = under_one key n read in
-        let letter = (bytes_eq-Decides flags (codes "c")).0 flag.0 in
-        let same : get ≡ call = cc done in
-        subst (Spells line) same (cc (is, zeros, letter), tt))
+    let zeros = under_one key n read in
+    let letter = (bytes_eq-Decides flags (codes "c")).0 flag.0 in
+    let same : get ≡ call = cc done in
+    subst (Spells line) same (cc (is, zeros, letter), tt))
 got line [] call is e = absurd (cc e)
 got line (key ∷ []) call is e = absurd (cc e)
 got line (key ∷ flags ∷ more ∷ words) call is e = absurd (cc e)
 
+-- a seat's number is read from its spelling
+above_zero-decimal : (n : ℕ) → 1 ≤ n → n ≤ 16 → above_zero (under 17 (number_of (decimal n))) ≡ Some n
+above_zero-decimal n least most =
+    rw (under-decimal 17 n (lit≤ tt) (omega arith)) (cond-true _ _ _ (lt-ltb 0 n (omega arith)))
+
+-- and from nothing else
+above_zero-Some : (word : List ℕ) (n : ℕ) → above_zero (under 17 (number_of word)) ≡ Some n → (word ≡ decimal n) × (1 ≤ n) × (n ≤ 16)
+above_zero-Some word n e = option_and_then_some _ _ n e (λ m read above.
+    let is = cond_some _ _ _ above in
+    let spelled = under-Some 17 word m read in
+    let least = ltb-true 0 m is.0 in
+    (spelled.0 ∙ ap decimal is.1, omega (arith, least, is.1), omega (arith, spelled.1, is.1)))
+
+-- seat is read from its spelling alone
+seated : (line : List ℕ) (words : List (List ℕ)) (call : Call) → line ≡ line_of (codes "seat" ∷ words) → seat_of words ≡ Ok call → Spells line call
+seated line (word ∷ []) call is e =
+    bind_ok (above_zero (under 17 (number_of word))) (λ n. Ok (sit n)) call e (λ n read done.
+    let spelled = above_zero-Some word n read in
+    let same : sit n ≡ call = cc done in
+    subst (Spells line) same (cc (is, spelled.0), (spelled.1, spelled.2)))
+seated line [] call is e = absurd (cc e)
+seated line (word ∷ more ∷ words) call is e = absurd (cc e)
+
+-- what follows from words that say something
+worded_ok : {A B P : Type 0} (o : Option A) (f : A → Result B Cause) (y : B) → worded o f ≡ Ok y → ((x : A) → o ≡ Some x → f x ≡ Ok y → P) → P
+worded_ok None f y e then = absurd (cc e)
+worded_ok (Some x) f y e then = then x refl e
+
+-- the value of an option
+some_is : {A : Type 0} (x y : A) → Some x ≡ Some y → x ≡ y
+some_is x y e = cc e
+
+-- a word that passes the test is the word for those flags
+flag_word : (word text : List ℕ) (set flags : Flags) → bytes_eq word text ≡ true → set ≡ flags → flag_words set.except set.noerror ≡ text ∷ [] → word ∷ [] ≡ flag_words flags.except flags.noerror
+flag_word word text set flags test same spelled =
+    ap (λ w. w ∷ []) ((bytes_eq-Decides word text).0 test) ∙ sym spelled ∙ ap (λ (f : Flags). flag_words f.except f.noerror) same
+
+-- flags are read from their word alone
+flags_of-Some : (words : List (List ℕ)) (flags : Flags) → flags_of words ≡ Some flags → words ≡ flag_words flags.except flags.noerror
+flags_of-Some [] flags e = subst (λ (f : Flags). [] ≡ flag_words f.except f.noerror) (some_is _ _ e) refl
+flags_of-Some (word ∷ []) flags e =
+    chosen _ _ _ _ e
+    (λ is_e set. flag_word word (codes "e") _ flags is_e (some_is _ _ set) refl)
+    (λ not_e others. chosen _ _ _ _ others
+    (λ is_n set. flag_word word (codes "n") _ flags is_n (some_is _ _ set) refl)
+    (λ not_n last. chosen _ _ _ _ last
+    (λ is_en set. flag_word word (codes "en") _ flags is_en (some_is _ _ set) refl)
+    (λ not_en none. absurd (cc none))))
+flags_of-Some (word ∷ more ∷ words) flags e = absurd (cc e)
+
 -- and rcv
 received : (line : List ℕ) (words : List (List ℕ)) (call : Call) → line ≡ line_of (codes "rcv" ∷ words) → receive_of words ≡ Ok call → Spells line call
-received line (id ∷ size ∷ mtype ∷ []) call is e =
-    bind_ok _ _ call e (λ i read_id sized.
-        bind_ok _ _ call sized (λ s read_size typed.
-            bind_ok (under 1 (number_of mtype)) (λ n. Ok (rcv i s)) call typed (λ n read_type done.
-                let spelled_id = under-Some (2 ^ 32) id i read_id in
-                let spelled_size = number_of-Some size s read_size in
-                let spelled_type = under_one mtype n read_type in
-                let same : rcv i s ≡ call = cc done in
-                subst (Spells line) same (cc (is, spelled_id.0, spelled_size.0, spelled_type), (spelled_id.1, spelled_size.1)))))
+received line (id ∷ size ∷ mtype ∷ words) call is e =
+    worded_ok (flags_of words) _ call e (λ flags read_flags numbers.
+    bind_ok _ _ call numbers (λ i read_id sized.
+    bind_ok _ _ call sized (λ s read_size typed.
+    bind_ok (integer_of mtype) (λ z. Ok (rcv i s z flags.except flags.noerror)) call typed (λ z read_type done.
+    let spelled_id = under-Some (2 ^ 32) id i read_id in
+    let spelled_size = number_of-Some size s read_size in
+    let spelled_type = integer_of-Some mtype z read_type in
+    let spelled_flags = flags_of-Some words flags read_flags in
+    let same : rcv i s z flags.except flags.noerror ≡ call = cc done in
+    subst (Spells line) same (cc (is, spelled_id.0, spelled_size.0, spelled_type.0, spelled_flags), (spelled_id.1, spelled_size.1, spelled_type.1))))))
 received line [] call is e = absurd (cc e)
 received line (id ∷ []) call is e = absurd (cc e)
 received line (id ∷ size ∷ []) call is e = absurd (cc e)
-received line (id ∷ size ∷ mtype ∷ more ∷ words) call is e = absurd (cc e)
 
 -- a word, and behind it parts that are not empty
 joined_behind : (word : List ℕ) (parts : List (List ℕ)) (b : ℕ) (text : List ℕ) → join_with_byte 32 parts ≡ b ∷ text → join_with_byte 32 (word ∷ parts) ≡ word ++ 32 ∷ (b ∷ text)
 joined_behind word [] b text e = absurd (cc e)
 joined_behind word (part ∷ parts) b text e = ap (λ rest. word ++ 32 ∷ rest) e
 
+-- a number of letters is within u64
+abbrev LettersFit : Text → Type 0
+LettersFit (plain bytes) = Unit {0}
+LettersFit (letters count) = count < 2 ^ 64
+
+-- what is no plain text begins with a star
+star_first : (a b c : Bool) → (a || (b && c)) ≡ true → a ≡ false → b ≡ true
+star_first true b c e other = absurd (cc other)
+star_first false true c e other = refl
+star_first false false c e other = absurd (cc e)
+
+-- a text and what it says: it begins as a text, and a number of letters is in its range
+record IsSpelled (text : List ℕ) (t : Text) : Type 0 where
+  same : text ≡ text_spelling t
+  fits : LettersFit t
+
+-- a text is read from its spelling alone
+text_of-Some : (text : List ℕ) (t : Text) → is_text text ≡ true → text_of text ≡ Some t → IsSpelled text t
+text_of-Some text t begins e =
+    chosen (is_plain text) (Some (plain (drop 1 text))) (option_map letters (number_of (drop 1 text))) (Some t) e
+    (λ equals bytes.
+    let same : plain (drop 1 text) ≡ t = some_is _ _ bytes in
+    subst (IsSpelled text) same (record { same = first_byte text 61 (lit< tt) equals; fits = tt }))
+    (λ other number.
+    let read = mapped letters (number_of (drop 1 text)) t number in
+    let spelled = number_of-Some (drop 1 text) read.0 read.1 in
+    let star = first_byte text 42 (lit< tt) (star_first (is_plain text) _ _ begins other) in
+    subst (IsSpelled text) read.2 (record { same = star ∙ ap (λ ds. 42 ∷ ds) spelled.0; fits = spelled.1 }))
+
+-- the parts of the line of snd behind its type, put together, are its text
+sent_line : (name id mtype : List ℕ) (parts : List (List ℕ)) (t : Text) → line_of parts ≡ text_spelling t
+    → line_of (name ∷ id ∷ mtype ∷ parts) ≡ line_of (name ∷ id ∷ mtype ∷ text_spelling t ∷ [])
+sent_line name id mtype parts (plain bytes) text = ap (λ rest. name ++ 32 ∷ (id ++ 32 ∷ rest)) (joined_behind mtype parts 61 bytes text)
+sent_line name id mtype parts (letters count) text = ap (λ rest. name ++ 32 ∷ (id ++ 32 ∷ rest)) (joined_behind mtype parts 42 (decimal count) text)
+
+-- a short and printable line of snd asks for a call that can be spelled
+sent_can : (id : ℕ) (z : ℤ) (t : Text) → id < 2 ^ 32 → FitsSigned w64 z → LettersFit t → length (spelling (snd id z t)) ≤ LINE_LIMIT
+    → list_all is_printable (spelling (snd id z t)) ≡ true → CanBeSpelled (snd id z t)
+sent_can id z (plain bytes) id_fits z_fits fits short printable =
+    (id_fits, z_fits, printable_last (codes "snd" ∷ decimal id ∷ signed_decimal z ∷ []) (61 ∷ bytes) printable, short)
+sent_can id z (letters count) id_fits z_fits fits short printable = (id_fits, z_fits, fits)
+
 -- and snd
 sent : (line : List ℕ) (words : List (List ℕ)) (call : Call) → line ≡ line_of (codes "snd" ∷ words) → length line ≤ LINE_LIMIT → list_all is_printable line ≡ true → send_of words ≡ Ok call → Spells line call
 sent line (id ∷ mtype ∷ parts) call is short printable e =
-    let tests = needed (is_filled id && is_filled mtype && is_text parts) (under (2 ^ 32) (number_of id) >>= λ i. integer_of mtype >>= λ z. Ok (snd i z (text_of parts))) Words call e in
-    let text : join_with_byte 32 parts ≡ 61 ∷ text_of parts = first_byte (join_with_byte 32 parts) 61 (lit< tt) (and_parts (is_filled id && is_filled mtype) (is_text parts) tests.0).1 in
+    let tests = needed (is_filled id && is_filled mtype && is_text (line_of parts)) (under (2 ^ 32) (number_of id) >>= λ i. integer_of mtype >>= λ z. text_of (line_of parts) >>= λ t. Ok (snd i z t)) Words call e in
+    let begins = (and_parts (is_filled id && is_filled mtype) (is_text (line_of parts)) tests.0).1 in
     bind_ok _ _ call tests.1 (λ i read_id typed.
-        bind_ok (integer_of mtype) (λ z. Ok (snd i z (text_of parts))) call typed (λ z read_type done.
-            let spelled_id = under-Some (2 ^ 32) id i read_id in
-            let spelled_type = integer_of-Some mtype z read_type in
-            let same : snd i z (text_of parts) ≡ call = cc done in
-            let behind = joined_behind mtype parts 61 (text_of parts) text in
-            let line_is : line ≡ spelling (snd i z (text_of parts)) = cc (is, spelled_id.0, spelled_type.0, behind) in
-            let words = codes "snd" ∷ decimal i ∷ signed_decimal z ∷ [] in
-            subst (Spells line) same
-                (line_is, (spelled_id.1, spelled_type.1, printable_last words (61 ∷ text_of parts) (rw line_is at printable), rw line_is at short))))
+    bind_ok (integer_of mtype) (λ z. text_of (line_of parts) >>= λ t. Ok (snd i z t)) call typed (λ z read_type told.
+    bind_ok (text_of (line_of parts)) (λ t. Ok (snd i z t)) call told (λ t read_text done.
+    let spelled_id = under-Some (2 ^ 32) id i read_id in
+    let spelled_type = integer_of-Some mtype z read_type in
+    let spelled_text = text_of-Some (line_of parts) t begins read_text in
+    let same : snd i z t ≡ call = cc done in
+    let behind = sent_line (codes "snd") id mtype parts t spelled_text.same in
+    let line_is : line ≡ spelling (snd i z t) = cc (is, behind, spelled_id.0, spelled_type.0) in
+    subst (Spells line) same
+    (line_is, sent_can i z t spelled_id.1 spelled_type.1 spelled_text.fits (rw line_is at short) (rw line_is at printable)))))
 sent line [] call is short printable e = absurd (cc e)
 sent line (id ∷ []) call is short printable e = absurd (cc e)
 
@@ -308,12 +402,14 @@ commanded line (name ∷ words) call are short printable e =
     chosen _ _ _ _ e
     (λ is_snd sends. sent line words call (rejoined line name (codes "snd") words are is_snd) short printable sends)
     (λ not_snd others.
-        let filled = ruled_out _ _ _ _ others in
-        chosen _ _ _ _ filled.1
-        (λ is_get gets. got line words call (rejoined line name (codes "get") words are is_get) gets)
-        (λ not_get rest.
-            let last = needed _ _ _ _ rest in
-            received line words call (rejoined line name (codes "rcv") words are last.0) last.1))
+    let filled = ruled_out _ _ _ _ others in
+    chosen _ _ _ _ filled.1
+    (λ is_rcv receives. received line words call (rejoined line name (codes "rcv") words are is_rcv) receives)
+    (λ not_rcv more. chosen _ _ _ _ more
+    (λ is_seat sits. seated line words call (rejoined line name (codes "seat") words are is_seat) sits)
+    (λ not_seat rest.
+    let last = needed _ _ _ _ rest in
+    got line words call (rejoined line name (codes "get") words are last.0) last.1)))
 
 -- a call is read from its spelling alone
 pub spelled_one_way : SpelledOneWay
@@ -342,42 +438,105 @@ reads_words : (words : List (List ℕ)) (last : List ℕ) (call : Call) → AreW
 reads_words words last call are is few letter command =
     let short = short_before_last words last are in
     reads words last call are (omega (arith, short, is.short, few)) (word_printable last is.bytes) letter
-        (ap (λ rest. command_of (words ++ rest)) (words_of_word last is) ∙ command)
+    (ap (λ rest. command_of (words ++ rest)) (words_of_word last is) ∙ command)
 
 -- get is read back
 get_again : reading (spelling get) ≡ Ok (Some get)
 get_again = rw number_of_zero refl
 
+-- a seat is read back
+seat_again : (n : ℕ) → 1 ≤ n → n ≤ 16 → command_of (codes "seat" ∷ decimal n ∷ []) ≡ Ok (sit n)
+seat_again n least most =
+    let word = decimal_word n (omega arith) in
+    rw (word.filled, above_zero-decimal n least most) refl
+
 -- the words of rcv are read back
-receive_again : (id size : ℕ) → id < 2 ^ 32 → size < 2 ^ 64 → receive_of (decimal id ∷ decimal size ∷ codes "0" ∷ []) ≡ Ok (rcv id size)
-receive_again id size id_fits size_fits =
-    rw (under-decimal (2 ^ 32) id (lit≤ tt) id_fits, number_of-decimal size size_fits, number_of_zero) refl
+receive_again : (id size : ℕ) (z : ℤ) (words : List (List ℕ)) (flags : Flags) → id < 2 ^ 32 → size < 2 ^ 64 → FitsSigned w64 z → flags_of words ≡ Some flags
+    → receive_of (decimal id ∷ decimal size ∷ signed_decimal z ∷ words) ≡ Ok (rcv id size z flags.except flags.noerror)
+receive_again id size z words flags id_fits size_fits z_fits read =
+    rw (read, under-decimal (2 ^ 32) id (lit≤ tt) id_fits, number_of-decimal size size_fits, integer_of-signed_decimal z z_fits) refl
 
 -- and with its name, where none is empty
 rcv_again : (words : List (List ℕ)) (call : Call) → list_all is_filled words ≡ true → receive_of words ≡ Ok call → command_of (codes "rcv" ∷ words) ≡ Ok call
 rcv_again words call filled is = cond-false _ _ _ (not_from_true _ filled) ∙ is
 
+-- rcv without flags is read back
+plain_rcv_again : (id size : ℕ) (z : ℤ) → id < 2 ^ 32 → size < 2 ^ 64 → FitsSigned w64 z → reading (spelling (rcv id size z false false)) ≡ Ok (Some (rcv id size z false false))
+plain_rcv_again id size z id_fits size_fits z_fits =
+    let id_word = decimal_word id (omega arith) in
+    let size_word = decimal_word size size_fits in
+    let type_word = signed_word z z_fits in
+    let words = decimal id ∷ decimal size ∷ signed_decimal z ∷ [] in
+    reads_words (codes "rcv" ∷ decimal id ∷ decimal size ∷ []) (signed_decimal z) (rcv id size z false false)
+    (name_word (codes "rcv") refl, (id_word, (size_word, tt))) type_word (lit≤ tt) refl
+    (rcv_again words (rcv id size z false false) (all_filled words (id_word, (size_word, (type_word, tt))))
+    (receive_again id size z [] (record { except = false; noerror = false }) id_fits size_fits z_fits refl))
+
+-- and with a word of flags
+flagged_rcv_again : (id size : ℕ) (z : ℤ) (word : List ℕ) (flags : Flags) → IsWord word → flags_of (word ∷ []) ≡ Some flags → id < 2 ^ 32 → size < 2 ^ 64 → FitsSigned w64 z
+    → reading (line_of (codes "rcv" ∷ decimal id ∷ decimal size ∷ signed_decimal z ∷ word ∷ [])) ≡ Ok (Some (rcv id size z flags.except flags.noerror))
+flagged_rcv_again id size z word flags is read id_fits size_fits z_fits =
+    let id_word = decimal_word id (omega arith) in
+    let size_word = decimal_word size size_fits in
+    let type_word = signed_word z z_fits in
+    let words = decimal id ∷ decimal size ∷ signed_decimal z ∷ word ∷ [] in
+    reads_words (codes "rcv" ∷ decimal id ∷ decimal size ∷ signed_decimal z ∷ []) word (rcv id size z flags.except flags.noerror)
+    (name_word (codes "rcv") refl, (id_word, (size_word, (type_word, tt)))) is (lit≤ tt) refl
+    (rcv_again words (rcv id size z flags.except flags.noerror) (all_filled words (id_word, (size_word, (type_word, (is, tt)))))
+    (receive_again id size z (word ∷ []) flags id_fits size_fits z_fits read))
+
 -- the words of snd are read back
-send_again : (id mtype : List ℕ) (parts : List (List ℕ)) (text : List ℕ) (i : ℕ) (z : ℤ) → is_filled id ≡ true → is_filled mtype ≡ true → join_with_byte 32 parts ≡ 61 ∷ text → under (2 ^ 32) (number_of id) ≡ Some i → integer_of mtype ≡ Some z → send_of (id ∷ mtype ∷ parts) ≡ Ok (snd i z text)
-send_again id mtype parts text i z filled typed joined read_id read_type =
-    rw (filled, typed, joined, read_id, read_type) refl
+send_again : (id mtype : List ℕ) (parts : List (List ℕ)) (text : List ℕ) (t : Text) (i : ℕ) (z : ℤ) → is_filled id ≡ true → is_filled mtype ≡ true → line_of parts ≡ text
+    → is_text text ≡ true → text_of text ≡ Some t → under (2 ^ 32) (number_of id) ≡ Some i → integer_of mtype ≡ Some z → send_of (id ∷ mtype ∷ parts) ≡ Ok (snd i z t)
+send_again id mtype parts text t i z filled typed joined begins read read_id read_type =
+    rw (filled, typed, joined, begins, read_id, read_type, read) refl
+
+-- no space is among the bytes of a word
+spaceless : (word : List ℕ) → list_all is_word_byte word ≡ true → list_any (λ b. b == 32) word ≡ false
+spaceless [] h = refl
+spaceless (b ∷ word) h =
+    let parts = and_parts (is_word_byte b) (list_all is_word_byte word) h in
+    let range = word_byte b parts.0 in
+    rw (ne_eqb b 32 (λ e. omega (arith, range.0)), spaceless word parts.1) refl
+
+-- a number of letters is a word
+letters_word : (count : ℕ) → count < 2 ^ 64 → IsWord (42 ∷ decimal count)
+letters_word count fits =
+    let word = decimal_word count fits in
+    record {
+      filled = lt-ltb 0 _ (omega arith);
+      bytes = word.bytes;
+      short = let few : length (decimal count) ≤ 20 = length-decimal-le 20 count (lit< tt) (omega arith) fits in omega arith;
+    }
 
 -- each call that can be spelled is read back
 pub reads_back : ReadsBack
+reads_back (sit number) can =
+    reads_words (codes "seat" ∷ []) (decimal number) (sit number) (name_word (codes "seat") refl, tt) (decimal_word number (omega (arith, can.1))) (lit≤ tt) refl
+    (seat_again number can.0 can.1)
 reads_back get can = get_again
-reads_back (snd id mtype text) can =
+reads_back (snd id mtype (plain bytes)) can =
     let words = codes "snd" ∷ decimal id ∷ signed_decimal mtype ∷ [] in
     let id_word = decimal_word id (omega (arith, can.0)) in
     let type_word = signed_word mtype can.1 in
     let are : AreWords words = (name_word (codes "snd") refl, (id_word, (type_word, tt))) in
-    reads words (61 ∷ text) (snd id mtype text) are can.3 can.2 refl
-        (send_again (decimal id) (signed_decimal mtype) (words_of (61 ∷ text)) text id mtype id_word.filled type_word.filled
-            (join_with_byte-slice_split 32 (61 ∷ text)) (under-decimal (2 ^ 32) id (lit≤ tt) can.0) (integer_of-signed_decimal mtype can.1))
-reads_back (rcv id size) can =
+    reads words (61 ∷ bytes) (snd id mtype (plain bytes)) are can.3 can.2 refl
+    (send_again (decimal id) (signed_decimal mtype) (words_of (61 ∷ bytes)) (61 ∷ bytes) (plain bytes) id mtype id_word.filled type_word.filled
+    (join_with_byte-slice_split 32 (61 ∷ bytes)) refl refl (under-decimal (2 ^ 32) id (lit≤ tt) can.0) (integer_of-signed_decimal mtype can.1))
+reads_back (snd id mtype (letters count)) can =
+    let words = codes "snd" ∷ decimal id ∷ signed_decimal mtype ∷ [] in
     let id_word = decimal_word id (omega (arith, can.0)) in
-    let size_word = decimal_word size can.1 in
-    let zero_word = name_word (codes "0") refl in
-    let words = decimal id ∷ decimal size ∷ codes "0" ∷ [] in
-    reads_words (codes "rcv" ∷ decimal id ∷ decimal size ∷ []) (codes "0") (rcv id size)
-        (name_word (codes "rcv") refl, (id_word, (size_word, tt))) zero_word (lit≤ tt) refl
-        (rcv_again words (rcv id size) (all_filled words (id_word, (size_word, (zero_word, tt)))) (receive_again id size can.0 can.1))
+    let type_word = signed_word mtype can.1 in
+    let word = letters_word count can.2 in
+    let are : AreWords words = (name_word (codes "snd") refl, (id_word, (type_word, tt))) in
+    reads_words words (42 ∷ decimal count) (snd id mtype (letters count)) are word (lit≤ tt) refl
+    (send_again (decimal id) (signed_decimal mtype) ((42 ∷ decimal count) ∷ []) (42 ∷ decimal count) (letters count) id mtype id_word.filled type_word.filled
+    refl (rw (spaceless (42 ∷ decimal count) word.bytes) refl) (ap (option_map letters) (number_of-decimal count can.2))
+    (under-decimal (2 ^ 32) id (lit≤ tt) can.0) (integer_of-signed_decimal mtype can.1))
+reads_back (rcv id size mtype false false) can = plain_rcv_again id size mtype can.0 can.1 can.2
+reads_back (rcv id size mtype true false) can =
+    flagged_rcv_again id size mtype (codes "e") (record { except = true; noerror = false }) (name_word (codes "e") refl) refl can.0 can.1 can.2
+reads_back (rcv id size mtype false true) can =
+    flagged_rcv_again id size mtype (codes "n") (record { except = false; noerror = true }) (name_word (codes "n") refl) refl can.0 can.1 can.2
+reads_back (rcv id size mtype true true) can =
+    flagged_rcv_again id size mtype (codes "en") (record { except = true; noerror = true }) (name_word (codes "en") refl) refl can.0 can.1 can.2

@@ -1,17 +1,24 @@
-use Rattle.std.specs.Prelude.{ℕ, ℤ, Bool, ◌^◌, ◌==◌, nat_lt, ◌&&◌, ◌||◌, not, if◌then◌else◌, List, [], ◌∷◌, length, drop, slice_index_or, codes, Option, Some, None, Result, Ok, Err}
-use Rattle.std.specs.List.{list_all, join_with_byte}
+use Rattle.std.specs.Prelude.{ℕ, ℤ, Bool, true, false, ◌^◌, ◌==◌, nat_lt, ◌&&◌, ◌||◌, not, if◌then◌else◌, List, [], ◌∷◌, length, drop, slice_index_or, codes, Option, Some, None, Result, Ok, Err}
+use Rattle.std.specs.List.{list_all, list_any}
+use Rattle.std.specs.Option.{option_map}
 use Rattle.std.specs.Str.{bytes_eq}
 use Rattle.mq_cli.specs.declared.limits.TheConstants.{LINE_LIMIT}
 use Rattle.mq_cli.specs.declared.fault.Cause.{Cause}
 use Rattle.mq_cli.specs.declared.fault.Cause.TheVariants.{Long, Byte, Words, Number}
-use Rattle.mq_cli.specs.Lines.{words_of, is_printable}
-use Rattle.mq_cli.specs.Numbers.{number_of, integer_of, under}
+use Rattle.mq_cli.specs.Lines.{line_of, words_of, is_printable}
+use Rattle.mq_cli.specs.Numbers.{number_of, integer_of, under, above_zero}
+
+-- the text of a message: these bytes, or that many letters
+pub data Text : Type 0 where
+  plain : (bytes : List ℕ) → Text
+  letters : (count : ℕ) → Text
 
 -- what a line asks for
 pub data Call : Type 0 where
+  sit : (number : ℕ) → Call
   get : Call
-  snd : (id : ℕ) (mtype : ℤ) (text : List ℕ) → Call
-  rcv : (id size : ℕ) → Call
+  snd : (id : ℕ) (mtype : ℤ) (text : Text) → Call
+  rcv : (id size : ℕ) (mtype : ℤ) (except noerror : Bool) → Call
 
 -- what was read, seen by f
 abbrev pub ok_map : {A B : Type 0} → (A → B) → Result A Cause → Result B Cause
@@ -27,33 +34,61 @@ None >>= f = Err Number
 abbrev pub is_filled : List ℕ → Bool
 is_filled word = nat_lt 0 (length word)
 
+-- goes on with what words say, where they say something
+abbrev pub worded : {A B : Type 0} → Option A → (A → Result B Cause) → Result B Cause
+worded None f = Err Words
+worded (Some x) f = f x
+
+-- the seat that makes the calls from here on
+abbrev pub seat_of : List (List ℕ) → Result Call Cause
+seat_of (word ∷ []) = above_zero (under 17 (number_of word)) >>= λ n. Ok (sit n)
+seat_of _ = Err Words
+
 -- msgget: a queue without a key, made
 abbrev pub get_of : List (List ℕ) → Result Call Cause
 get_of (key ∷ flags ∷ []) = if bytes_eq flags (codes "c") then (under 1 (number_of key) >>= λ _. Ok get) else Err Words
 get_of _ = Err Words
 
--- a text is `=` and the rest of the line, spaces and all
-abbrev pub is_text : List (List ℕ) → Bool
-is_text words = slice_index_or (join_with_byte 32 words) 0 0 == 61
+-- a text is `=` and the rest of the line, spaces and all, or one word that begins with `*`
+abbrev pub is_plain : List ℕ → Bool
+is_plain text = slice_index_or text 0 0 == 61
 
-abbrev pub text_of : List (List ℕ) → List ℕ
-text_of words = drop 1 (join_with_byte 32 words)
+abbrev pub is_text : List ℕ → Bool
+is_text text = is_plain text || ((slice_index_or text 0 0 == 42) && not (list_any (λ b. b == 32) text))
+
+-- the bytes behind `=`, or as many letters as the number behind `*` says
+abbrev pub text_of : List ℕ → Option Text
+text_of text = if is_plain text then Some (plain (drop 1 text)) else option_map letters (number_of (drop 1 text))
 
 -- msgsnd
 abbrev pub send_of : List (List ℕ) → Result Call Cause
 send_of (id ∷ mtype ∷ text) =
-    if is_filled id && is_filled mtype && is_text text
-    then (under (2 ^ 32) (number_of id) >>= λ i. integer_of mtype >>= λ t. Ok (snd i t (text_of text)))
+    if is_filled id && is_filled mtype && is_text (line_of text)
+    then (under (2 ^ 32) (number_of id) >>= λ i. integer_of mtype >>= λ z. text_of (line_of text) >>= λ t. Ok (snd i z t))
     else Err Words
 send_of _ = Err Words
 
--- msgrcv with msgtyp 0
+-- MSG_EXCEPT and MSG_NOERROR
+pub record Flags : Type 0 where
+  pub except : Bool
+  pub noerror : Bool
+
+abbrev pub flags_of : List (List ℕ) → Option Flags
+flags_of [] = Some (record { except = false; noerror = false })
+flags_of (word ∷ []) =
+    if bytes_eq word (codes "e") then Some (record { except = true; noerror = false })
+    else (if bytes_eq word (codes "n") then Some (record { except = false; noerror = true })
+    else (if bytes_eq word (codes "en") then Some (record { except = true; noerror = true })
+    else None))
+flags_of _ = None
+
+-- msgrcv
 abbrev pub receive_of : List (List ℕ) → Result Call Cause
-receive_of (id ∷ size ∷ mtype ∷ []) = do
+receive_of (id ∷ size ∷ mtype ∷ flags) = worded (flags_of flags) (λ f. do
   i ← under (2 ^ 32) (number_of id)
   s ← number_of size
-  _ ← under 1 (number_of mtype)
-  Ok (rcv i s)
+  z ← integer_of mtype
+  Ok (rcv i s z f.except f.noerror))
 receive_of _ = Err Words
 
 -- a command by its name; the words of all but a text are filled
@@ -62,9 +97,10 @@ command_of [] = Err Words
 command_of (name ∷ words) =
     if bytes_eq name (codes "snd") then send_of words
     else (if not (list_all is_filled words) then Err Words
-    else (if bytes_eq name (codes "get") then get_of words
     else (if bytes_eq name (codes "rcv") then receive_of words
-    else Err Words)))
+    else (if bytes_eq name (codes "seat") then seat_of words
+    else (if bytes_eq name (codes "get") then get_of words
+    else Err Words))))
 
 -- an empty line or a comment
 abbrev pub is_skipped : List ℕ → Bool

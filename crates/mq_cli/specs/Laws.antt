@@ -1,26 +1,37 @@
-use Rattle.std.specs.Prelude.{◌≡◌, ◌<◌, ◌≤◌, ◌^◌, ℕ, IsTrue, FitsSigned, List, [], ◌∷◌, length, codes, Some, Ok}
+use Rattle.std.specs.Prelude.{◌≡◌, ◌<◌, ◌≤◌, ◌^◌, ℕ, Bool, true, false, IsTrue, FitsSigned, List, [], ◌∷◌, length, codes, Some, Ok}
 use Rattle.std.specs.Fmt.{decimal, signed_decimal}
 use Rattle.std.specs.Int.{w64}
-use Rattle.std.specs.List.{list_all, join_with_byte}
+use Rattle.std.specs.List.{list_all}
 use Rattle.mq_cli.specs.declared.limits.TheConstants.{LINE_LIMIT}
-use Rattle.mq_cli.specs.Commands.{Call, get, snd, rcv, reading}
-use Rattle.mq_cli.specs.Lines.{is_printable}
+use Rattle.mq_cli.specs.Commands.{Call, sit, get, snd, rcv, Text, plain, letters, reading}
+use Rattle.mq_cli.specs.Lines.{line_of, is_printable}
 
--- the words in a line, with one space between each two
-abbrev pub line_of : List (List ℕ) → List ℕ
-line_of words = join_with_byte 32 words
+-- a text has `=` before it, a number of letters `*`
+abbrev pub text_spelling : Text → List ℕ
+text_spelling (plain bytes) = 61 ∷ bytes
+text_spelling (letters count) = 42 ∷ decimal count
 
--- the one line that asks for a call; a text has `=` before it
+-- the word for the flags, where one is set
+abbrev pub flag_words : Bool → Bool → List (List ℕ)
+flag_words false false = []
+flag_words true false = codes "e" ∷ []
+flag_words false true = codes "n" ∷ []
+flag_words true true = codes "en" ∷ []
+
+-- the one line that asks for a call
 abbrev pub spelling : Call → List ℕ
+spelling (sit number) = line_of (codes "seat" ∷ decimal number ∷ [])
 spelling get = codes "get 0 c"
-spelling (snd id mtype text) = line_of (codes "snd" ∷ decimal id ∷ signed_decimal mtype ∷ (61 ∷ text) ∷ [])
-spelling (rcv id size) = line_of (codes "rcv" ∷ decimal id ∷ decimal size ∷ codes "0" ∷ [])
+spelling (snd id mtype text) = line_of (codes "snd" ∷ decimal id ∷ signed_decimal mtype ∷ text_spelling text ∷ [])
+spelling (rcv id size mtype except noerror) = line_of (codes "rcv" ∷ decimal id ∷ decimal size ∷ signed_decimal mtype ∷ flag_words except noerror)
 
 -- the calls that a line can ask for: each number is in its range, and a text is printable and leaves the line short enough
 abbrev pub CanBeSpelled : Call → Type 0
+CanBeSpelled (sit number) = (1 ≤ number) × (number ≤ 16)
 CanBeSpelled get = Unit {0}
-CanBeSpelled (snd id mtype text) = (id < 2 ^ 32) × FitsSigned w64 mtype × IsTrue (list_all is_printable text) × (length (spelling (snd id mtype text)) ≤ LINE_LIMIT)
-CanBeSpelled (rcv id size) = (id < 2 ^ 32) × (size < 2 ^ 64)
+CanBeSpelled (snd id mtype (plain bytes)) = (id < 2 ^ 32) × FitsSigned w64 mtype × IsTrue (list_all is_printable bytes) × (length (spelling (snd id mtype (plain bytes))) ≤ LINE_LIMIT)
+CanBeSpelled (snd id mtype (letters count)) = (id < 2 ^ 32) × FitsSigned w64 mtype × (count < 2 ^ 64)
+CanBeSpelled (rcv id size mtype except noerror) = (id < 2 ^ 32) × (size < 2 ^ 64) × FitsSigned w64 mtype
 
 -- the line asks for the call, in the one way
 abbrev pub Spells : List ℕ → Call → Type 0

@@ -1,5 +1,5 @@
 use Rattle.std.specs.Prelude.{ℕ, Bool, ◌-◌, ◌==◌, nat_le, ◌&&◌, if◌then◌else◌, List, length, map, take, slice_index_or}
-use Rattle.std.specs.List.{slice_split}
+use Rattle.std.specs.List.{slice_split, join_with_byte}
 
 -- the parts of a text round a separator: one word for lines and for words
 abbrev pub parts_of : ℕ → List ℕ → List (List ℕ)
@@ -17,6 +17,10 @@ lines_of script = map without_return (parts_of 10 script)
 -- the words of a line, with one space between each two
 abbrev pub words_of : List ℕ → List (List ℕ)
 words_of line = parts_of 32 line
+
+-- words in a line, with one space between each two
+abbrev pub line_of : List (List ℕ) → List ℕ
+line_of words = join_with_byte 32 words
 
 -- a byte from the space to the tilde
 abbrev pub is_printable : ℕ → Bool

@@ -14,6 +14,10 @@ number_of word =
 abbrev pub under : ℕ → Option ℕ → Option ℕ
 under limit number = option_and_then (λ n. if nat_lt n limit then Some n else None) number
 
+-- a number from 1 on
+abbrev pub above_zero : Option ℕ → Option ℕ
+above_zero number = option_and_then (λ n. if nat_lt 0 n then Some n else None) number
+
 -- the number -n of an i64, which -0 is not
 abbrev pub below_zero : ℕ → Option ℤ
 below_zero n = if nat_le 1 n && nat_le n (2 ^ 63) then Some (negsuc (n - 1)) else None

@@ -2,14 +2,25 @@ use Rattle.std.specs.Prelude.{Option, Result}
 use Rattle.std.specs.Option.{option_map}
 use Rattle.mq_cli.specs.declared.fault.Cause.{Cause}
 use Rattle.mq_cli.specs.declared.command.Command.{Command}
-use Rattle.mq_cli.specs.declared.command.Command.TheVariants.{Get, Send, Receive}
-use Rattle.mq_cli.specs.Commands.{Call, get, snd, rcv, ok_map}
+use Rattle.mq_cli.specs.declared.command.Command.TheVariants.{Seat, Get, Send, Receive}
+use Rattle.mq_cli.specs.declared.command.TextForm.{TextForm}
+use Rattle.mq_cli.specs.declared.command.TextForm.TheVariants.{Plain, Letters}
+use Rattle.mq_cli.specs.Commands.{Call, sit, get, snd, rcv, Text, plain, letters, Flags, ok_map}
+use Rattle.mq_cli.specs.declared.command.ReceiveFlags.{ReceiveFlags}
+
+abbrev pub text_seen : TextForm → Text
+text_seen (Plain bytes) = plain bytes.now
+text_seen (Letters count) = letters count
+
+abbrev pub flags_seen : ReceiveFlags → Flags
+flags_seen flags = record { except = flags.except; noerror = flags.noerror }
 
 -- the call that a command stands for
 abbrev pub call_of : Command → Call
+call_of (Seat number) = sit number
 call_of Get = get
-call_of (Send id mtype text) = snd id mtype text.now
-call_of (Receive id size) = rcv id size
+call_of (Send id mtype text) = snd id mtype (text_seen text)
+call_of (Receive call) = rcv call.id call.size call.mtype call.flags.except call.flags.noerror
 
 abbrev pub seen : Result Command Cause → Result Call Cause
 seen read = ok_map call_of read

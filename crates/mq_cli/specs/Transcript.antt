@@ -1,17 +1,18 @@
-use Rattle.std.specs.Prelude.{ℕ, ℤ, ◌+◌, List, [], ◌∷◌, ◌++◌, codes, Option, Some, None, Result, Ok, Err}
+use Rattle.std.specs.Prelude.{ℕ, ℤ, Bool, ◌+◌, List, [], ◌∷◌, ◌++◌, codes, Option, Some, None, Result, Ok, Err}
 use Rattle.std.specs.Fmt.{decimal, signed_decimal}
 use Rattle.mq_message.specs.Text.{PlainText}
 use Rattle.mq_message.specs.declared.message.Message.{Message}
-use Rattle.mq_queue.specs.declared.receive.Received.{Received}
+use Rattle.mq_queue.specs.declared.received.Received.{Received}
 use Rattle.mq_cli.specs.declared.errno.Errno.{Errno}
-use Rattle.mq_cli.specs.declared.errno.Errno.TheVariants.{EINVAL, ENOMSG, E2BIG, ENOSPC, ENOMEM}
+use Rattle.mq_cli.specs.declared.errno.Errno.TheVariants.{EINVAL, EAGAIN, ENOMSG, E2BIG, ENOSPC, ENOMEM}
 use Rattle.mq_cli.specs.declared.fault.Cause.{Cause}
 use Rattle.mq_cli.specs.Lines.{lines_of}
-use Rattle.mq_cli.specs.Commands.{Call, get, snd, rcv, reading}
-use Rattle.mq_cli.specs.Session.{State, Answer, msgget, msgsnd, msgrcv}
+use Rattle.mq_cli.specs.Commands.{Call, sit, get, snd, rcv, Text, reading}
+use Rattle.mq_cli.specs.Session.{State, Answer, draft, msgget, msgsnd, msgrcv}
 
--- what a call answers
+-- what a command answers, if it does
 pub data Reply : Type 0 where
+  silent : Reply
   refused : (errno : Errno) → Reply
   given : (id : ℕ) → Reply
   at : (entry : ℕ) → Reply
@@ -19,6 +20,7 @@ pub data Reply : Type 0 where
 
 abbrev pub errno_name : Errno → List ℕ
 errno_name EINVAL = codes "EINVAL"
+errno_name EAGAIN = codes "EAGAIN"
 errno_name ENOMSG = codes "ENOMSG"
 errno_name E2BIG = codes "E2BIG"
 errno_name ENOSPC = codes "ENOSPC"
@@ -32,13 +34,15 @@ head_of mtype sender tag n =
 
 -- a reply as it is written
 abbrev pub text_of : Reply → List ℕ
+text_of silent = []
 text_of (refused errno) = errno_name errno
 text_of (given id) = codes "id " ++ decimal id
 text_of (at entry) = codes "at " ++ decimal entry
 text_of (message m) = head_of m.mtype m.sender m.tag m.length ++ m.body.bytes
 
--- its line
+-- its line, where there is one
 abbrev pub output : Reply → List ℕ
+output silent = []
 output reply = text_of reply ++ 10 ∷ []
 
 -- the reply of an answer, and the state that it leaves: a refused call leaves all
@@ -46,25 +50,33 @@ abbrev pub told : {T : Type 0} → State → (T × State → Reply × State) →
 told s reply (Ok turn) = reply turn
 told s reply (Err e) = (refused e, s)
 
--- the message of line n, sent by seat 1: its tag is the number of the line
-abbrev pub message_of : ℕ → ℤ → List ℕ → Message PlainText
-message_of n mtype text = record { mtype = mtype; sender = 1; tag = n; body = record { bytes = text } }
+-- the message of line n: its tag is the number of the line
+abbrev pub message_of : ℕ → ℕ → ℤ → PlainText → Message PlainText
+message_of n seat mtype text = record { mtype = mtype; sender = seat; tag = n; body = text }
 
--- what each call replies and leaves
+-- what each command replies and leaves
+abbrev pub sit_step : State → ℕ → Reply × State
+sit_step s number = (silent, record { slot = s.slot; seat = number })
+
 abbrev pub get_step : State → Reply × State
 get_step s = told s (λ t. (given t.0, t.1)) (msgget s)
 
-abbrev pub send_step : State → ℕ → Message PlainText → Reply × State
-send_step s id m = told s (λ t. (at t.0, t.1)) (msgsnd s id m)
+abbrev pub post_step : State → ℕ → Message PlainText → Reply × State
+post_step s id m = told s (λ t. (at t.0, t.1)) (msgsnd s id m)
 
-abbrev pub receive_step : State → ℕ → ℕ → Reply × State
-receive_step s id size = told s (λ t. (message t.0, t.1)) (msgrcv s id size)
+-- a text that cannot be made is refused whatever else the line says
+abbrev pub send_step : ℕ → State → ℕ → ℤ → Text → Reply × State
+send_step n s id mtype text = told s (λ d. post_step s id (message_of n s.seat mtype d.0)) (draft s text)
 
--- what the call of line n replies and leaves
+abbrev pub receive_step : State → ℕ → ℕ → ℤ → Bool → Bool → Reply × State
+receive_step s id size mtype except noerror = told s (λ t. (message t.0, t.1)) (msgrcv s id size mtype except noerror)
+
+-- what the command of line n replies and leaves
 abbrev pub step : ℕ → State → Call → Reply × State
+step n s (sit number) = sit_step s number
 step n s get = get_step s
-step n s (snd id mtype text) = send_step s id (message_of n mtype text)
-step n s (rcv id size) = receive_step s id size
+step n s (snd id mtype text) = send_step n s id mtype text
+step n s (rcv id size mtype except noerror) = receive_step s id size mtype except noerror
 
 -- what a line writes and leaves, or why it is not well formed
 abbrev pub said : ℕ → State → Result (Option Call) Cause → Result (List ℕ × State) Cause
@@ -89,9 +101,9 @@ unfoldable pub run_from : ℕ → State → List (List ℕ) → Run
 run_from n s [] = record { written = []; fault = None }
 run_from n s (line ∷ lines) = goes_on n (said n s (reading line)) (λ t. run_from (n + 1) t lines)
 
--- no queue is made
+-- no queue is made, and seat 1 makes the calls
 abbrev pub start : State
-start = record { slot = record { entries = 0; messages = [] } }
+start = record { slot = record { entries = 0; messages = [] }; seat = 1 }
 
 abbrev pub run_of : List ℕ → Run
 run_of script = run_from 1 start (lines_of script)

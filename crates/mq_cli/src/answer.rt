@@ -1,18 +1,16 @@
 ghost use Rattle.std.specs.Prelude.{◌≡◌, ◌≢◌, ◌++◌, OnOk};
 ghost use Rattle.mq_cli.specs.Seen.{call_of};
 ghost use Rattle.mq_cli.specs.Serial.{Answered};
-ghost use Rattle.mq_cli.specs.Transcript.{step, get_step, send_step, receive_step, head_of, output, refused, given, at, message};
+ghost use Rattle.mq_cli.specs.Transcript.{step, get_step, post_step, receive_step, head_of, output, refused, given, at, message};
 
-use crate::command::Command;
+use crate::command::{Command, ReceiveCall, ReceiveFlags};
+use crate::draft::draft;
 use crate::errno::Errno;
 use crate::session::Session;
 use mq_message::{Message, VecBody};
-use mq_queue::Received;
+use mq_queue::{MSGMAX, Received};
 use std::alloc::{AllocError, Global};
 use std::io::Write;
-
-/// The seat that makes the calls of a script.
-const SEAT: u16 = 1;
 
 /// Makes the call of the line with this number, and writes its answer line behind what the
 /// buffer holds. Want of memory has no line: it is the one `Err`.
@@ -27,17 +25,24 @@ pub fn answer(
         out.old.items out.new.items session.new) }
 {
     match command {
+        Command::Seat(seat) => {
+            session.sit(seat);
+            Ok(())
+        }
         Command::Get => get(alloc, session, out),
         Command::Send { id, mtype, text } => {
+            if text.len() > MSGMAX {
+                return write_refused(out, Errno::EINVAL);
+            }
             let message = Message {
                 mtype,
-                sender: SEAT,
+                sender: session.seat(),
                 tag: line,
-                body: VecBody::from_slice(alloc, text)?,
+                body: draft(alloc, text)?,
             };
             send(session, id, message, out)
         }
-        Command::Receive { id, size } => receive(session, id, size, out),
+        Command::Receive(call) => receive(session, call, out),
     }
 }
 
@@ -56,7 +61,7 @@ fn send(
     message: Message<VecBody>,
     out: &mut Vec<u8>,
 ) -> Result<(), AllocError>
-    ensures { OnOk result (Answered (send_step session.old id message)
+    ensures { OnOk result (Answered (post_step session.old id message)
         out.old.items out.new.items session.new) }
 {
     match session.msgsnd(id, message) {
@@ -65,11 +70,13 @@ fn send(
     }
 }
 
-fn receive(session: &mut Session, id: u32, size: u64, out: &mut Vec<u8>) -> Result<(), AllocError>
-    ensures { OnOk result (Answered (receive_step session.old id size)
+fn receive(session: &mut Session, call: ReceiveCall, out: &mut Vec<u8>) -> Result<(), AllocError>
+    ensures { OnOk result (Answered
+        (receive_step session.old call.id call.size call.mtype call.flags.except call.flags.noerror)
         out.old.items out.new.items session.new) }
 {
-    match session.msgrcv(id, size) {
+    let ReceiveFlags { except, noerror } = call.flags;
+    match session.msgrcv(call.id, call.size, call.mtype, except, noerror) {
         Ok(received) => write_message(out, &received),
         Err(errno) => write_refused(out, errno),
     }

@@ -1,21 +1,56 @@
-ghost use Rattle.std.specs.Prelude.{◌≡◌, ◌^◌, ◌==◌, true, false, drop, slice_index_or, IfSome, IfNone};
-ghost use Rattle.std.specs.List.{list_all};
-ghost use Rattle.mq_cli.specs.Commands.{get_of, send_of, receive_of, command_of, reading, is_filled, is_skipped as is_skipped_line};
+ghost use Rattle.std.specs.Prelude.{◌≡◌, ◌^◌, ◌==◌};
+ghost use Rattle.std.specs.List.{list_all, list_any};
+ghost use Rattle.std.specs.Option.{option_map};
+ghost use Rattle.mq_cli.specs.Commands.{command_of, flags_of, get_of, is_filled, receive_of, reading};
+ghost use Rattle.mq_cli.specs.Commands.{seat_of, send_of, text_of};
+ghost use Rattle.mq_cli.specs.Commands.{is_skipped as is_skipped_line};
+ghost use Rattle.mq_cli.specs.Commands.{is_text as is_text_form};
 ghost use Rattle.mq_cli.specs.Lines.{is_printable, words_of};
-ghost use Rattle.mq_cli.specs.Numbers.{number_of, under};
+ghost use Rattle.mq_cli.specs.Numbers.{above_zero, number_of, under};
 ghost use Rattle.mq_cli.specs.Parts.{parts_left};
-ghost use Rattle.mq_cli.specs.Seen.{seen, seen_line};
+ghost use Rattle.mq_cli.specs.Seen.{flags_seen, seen, seen_line, text_seen};
 
 use crate::number::{integer, number};
 use crate::words::Words;
 use crate::{Cause, LINE_LIMIT};
 
+/// The text of a message as a line spells it.
+#[derive(Clone, Copy, Drop)]
+pub enum TextForm<'a> {
+    /// `=` and these bytes.
+    Plain(&'a [u8]),
+    /// `*` and the number of letters.
+    Letters(u64),
+}
+
+/// The flags MSG_EXCEPT and MSG_NOERROR of msgrcv.
+#[derive(Clone, Copy)]
+pub struct ReceiveFlags {
+    pub except: bool,
+    pub noerror: bool,
+}
+
+/// The arguments of msgrcv.
+#[derive(Clone, Copy)]
+pub struct ReceiveCall {
+    pub id: u32,
+    pub size: u64,
+    pub mtype: i64,
+    pub flags: ReceiveFlags,
+}
+
 /// What a line asks for.
 #[derive(Clone, Copy, Drop)]
 pub enum Command<'a> {
+    /// This seat makes the calls from here on.
+    Seat(u16),
     Get,
-    Send { id: u32, mtype: i64, text: &'a [u8] },
-    Receive { id: u32, size: u64 },
+    Send {
+        id: u32,
+        mtype: i64,
+        text: TextForm<'a>,
+    },
+    Receive(ReceiveCall),
 }
 
 /// What a line without its end says: `None` where it is empty or a comment.
@@ -25,7 +60,7 @@ pub fn read_line(line: &[u8]) -> Result<Option<Command<'_>>, Cause>
     if line.len() > LINE_LIMIT {
         return Err(Cause::Long);
     }
-    if !is_plain(line) {
+    if !is_printable_line(line) {
         return Err(Cause::Byte);
     }
     if is_skipped(line) {
@@ -37,7 +72,7 @@ pub fn read_line(line: &[u8]) -> Result<Option<Command<'_>>, Cause>
     }
 }
 
-fn is_plain(line: &[u8]) -> bool
+fn is_printable_line(line: &[u8]) -> bool
     ensures { result ≡ list_all is_printable line.now }
 {
     line.iter().all(|b| *b >= 0x20 && *b <= 0x7e)
@@ -65,11 +100,14 @@ fn read_command(line: &[u8]) -> Result<Command<'_>, Cause>
     if !are_filled(line) {
         return Err(Cause::Words);
     }
-    if name == b"get".as_slice() {
-        return read_get(words);
-    }
     if name == b"rcv".as_slice() {
         return read_receive(words);
+    }
+    if name == b"seat".as_slice() {
+        return read_seat(words);
+    }
+    if name == b"get".as_slice() {
+        return read_get(words);
     }
     Err(Cause::Words)
 }
@@ -97,52 +135,104 @@ fn read_get(mut words: Words<'_>) -> Result<Command<'_>, Cause>
     }
 }
 
+fn read_seat(mut words: Words<'_>) -> Result<Command<'_>, Cause>
+    ensures { seen result ≡ seat_of (parts_left 32 words.entry.rest) }
+{
+    match (words.next(), words.next()) {
+        (Some(word), None) => match seat_number(word) {
+            Some(seat) => Ok(Command::Seat(seat)),
+            None => Err(Cause::Number),
+        },
+        _ => Err(Cause::Words),
+    }
+}
+
 fn read_send(mut words: Words<'_>) -> Result<Command<'_>, Cause>
     ensures { seen result ≡ send_of (parts_left 32 words.entry.rest) }
 {
     let (Some(id), Some(mtype)) = (words.next(), words.next()) else {
         return Err(Cause::Words);
     };
-    let Some(text) = read_text(words.into_rest()) else {
-        return Err(Cause::Words);
-    };
-    if id.is_empty() || mtype.is_empty() {
+    let text = words.into_rest();
+    if id.is_empty() || mtype.is_empty() || !is_text(text) {
         return Err(Cause::Words);
     }
-    match (id_of(id), integer(mtype)) {
-        (Some(id), Some(mtype)) => Ok(Command::Send { id, mtype, text }),
+    match (id_of(id), integer(mtype), read_text(text)) {
+        (Some(id), Some(mtype), Some(text)) => Ok(Command::Send { id, mtype, text }),
         _ => Err(Cause::Number),
     }
 }
 
-/// What stands behind the `=` that begins a text.
-fn read_text(rest: &[u8]) -> Option<&[u8]>
-    ensures some { IfSome result (λ text.
-        ((slice_index_or rest.now 0 0 == 61) ≡ true) × (text.now ≡ drop 1 rest.now)) }
-    ensures none { IfNone result ((slice_index_or rest.now 0 0 == 61) ≡ false) }
+fn is_text(text: &[u8]) -> bool
+    ensures { result ≡ is_text_form text.now }
 {
-    match rest {
-        [first, text @ ..] if *first == b'=' => Some(text),
-        _ => None,
+    match text {
+        [first, ..] => *first == b'=' || (*first == b'*' && !has_space(text)),
+        [] => false,
+    }
+}
+
+fn has_space(text: &[u8]) -> bool
+    ensures { result ≡ list_any (λ b. b == 32) text.now }
+{
+    text.iter().any(|b| *b == b' ')
+}
+
+fn read_text(text: &[u8]) -> Option<TextForm<'_>>
+    ensures { option_map text_seen result ≡ text_of text.now }
+{
+    match text {
+        [first, bytes @ ..] if *first == b'=' => Some(TextForm::Plain(bytes)),
+        [_, count @ ..] => Some(TextForm::Letters(number(count)?)),
+        [] => Some(TextForm::Letters(number(text)?)),
     }
 }
 
 fn read_receive(mut words: Words<'_>) -> Result<Command<'_>, Cause>
     ensures { seen result ≡ receive_of (parts_left 32 words.entry.rest) }
 {
-    match (words.next(), words.next(), words.next(), words.next()) {
-        (Some(id), Some(size), Some(mtype), None) => {
-            match (id_of(id), number(size), number(mtype)) {
-                (Some(id), Some(size), Some(0)) => Ok(Command::Receive { id, size }),
-                _ => Err(Cause::Number),
-            }
-        }
-        _ => Err(Cause::Words),
+    let (Some(id), Some(size), Some(mtype)) = (words.next(), words.next(), words.next()) else {
+        return Err(Cause::Words);
+    };
+    let Some(flags) = read_flags(words) else {
+        return Err(Cause::Words);
+    };
+    match (id_of(id), number(size), integer(mtype)) {
+        (Some(id), Some(size), Some(mtype)) => Ok(Command::Receive(ReceiveCall {
+            id,
+            size,
+            mtype,
+            flags,
+        })),
+        _ => Err(Cause::Number),
     }
+}
+
+fn read_flags(mut words: Words<'_>) -> Option<ReceiveFlags>
+    ensures { option_map flags_seen result ≡ flags_of (parts_left 32 words.entry.rest) }
+{
+    let (except, noerror) = match (words.next(), words.next()) {
+        (None, _) => (false, false),
+        (Some(word), None) if word == b"e".as_slice() => (true, false),
+        (Some(word), None) if word == b"n".as_slice() => (false, true),
+        (Some(word), None) if word == b"en".as_slice() => (true, true),
+        _ => return None,
+    };
+    Some(ReceiveFlags { except, noerror })
 }
 
 fn id_of(word: &[u8]) -> Option<u32>
     ensures { result ≡ under (2 ^ 32) (number_of word.now) }
 {
     u32::try_from(number(word)?).ok()
+}
+
+/// The number of a seat: 1 to 16.
+fn seat_number(word: &[u8]) -> Option<u16>
+    ensures { result ≡ above_zero (under 17 (number_of word.now)) }
+{
+    match number(word) {
+        Some(number) if number >= 1 && number <= 16 => Some(number as u16),
+        _ => None,
+    }
 }

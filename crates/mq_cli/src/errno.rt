@@ -8,6 +8,7 @@ use mq_queue::QueueError;
 #[derive(Clone, Copy, Debug, PartialEq, Eq)]
 pub enum Errno {
     EINVAL,
+    EAGAIN,
     ENOMSG,
     E2BIG,
     ENOSPC,
@@ -20,6 +21,7 @@ impl Errno {
     {
         match self {
             Errno::EINVAL => "EINVAL",
+            Errno::EAGAIN => "EAGAIN",
             Errno::ENOMSG => "ENOMSG",
             Errno::E2BIG => "E2BIG",
             Errno::ENOSPC => "ENOSPC",
@@ -34,6 +36,7 @@ impl From<QueueError> for Errno {
     fn from(refusal: QueueError) -> Errno {
         match refusal {
             QueueError::TypeInvalid | QueueError::TooLong => Errno::EINVAL,
+            QueueError::Full => Errno::EAGAIN,
             QueueError::NoMessage => Errno::ENOMSG,
             QueueError::TooBig => Errno::E2BIG,
             QueueError::Memory => Errno::ENOMEM,

@@ -4,6 +4,7 @@
 
 mod answer;
 mod command;
+mod draft;
 mod errno;
 mod fault;
 mod laws;

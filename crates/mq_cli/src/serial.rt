@@ -59,6 +59,7 @@ fn run_script<W: Write>(alloc: Global, script: &[u8], writer: &mut W) -> Result<
 {
     let mut session = Session::new();
     let outcome = run_lines(alloc, &mut session, script, writer);
+    session.close();
     if matches!(outcome, Err(RunFault::Write)) || writer.flush().is_ok() {
         outcome
     } else {

@@ -1,17 +1,21 @@
-ghost use Rattle.std.specs.Prelude.{◌≡◌, Ok, OnErr, IfOk, IfErr};
-ghost use Rattle.mq_cli.specs.Session.{errno_or_memory, msgget as msgget_answer, msgsnd as msgsnd_answer, msgrcv as msgrcv_answer};
+ghost use Rattle.std.specs.Prelude.{◌≡◌, None, Some, Ok, OnErr, IfOk, IfErr};
+ghost use Rattle.mq_cli.specs.Session.{errno_or_memory};
+ghost use Rattle.mq_cli.specs.Session.{msgget as msgget_answer, msgsnd as msgsnd_answer, msgrcv as msgrcv_answer};
 ghost use Rattle.mq_cli.specs.Transcript.{start};
 
 use crate::errno::Errno;
 use mq_message::{Message, VecBody};
-use mq_queue::{QueueError, QueueState, Received};
+use mq_queue::{QueueState, Received};
+use mq_select::{ListWaiting, Selection, Waiting};
 use std::alloc::Global;
 use std::marker::Model;
 
-/// The queues of a run: one, under id 0, once it is made.
-#[derive(Drop)]
+type Queue = QueueState<VecBody, ListWaiting<VecBody>>;
+
+/// The queues of a run: one, under id 0, once it is made. It is given up by `close`.
 pub struct Session {
-    queue: Option<QueueState<VecBody>>,
+    queue: Option<Queue>,
+    seat: u16,
 }
 
 impl Model for Session {
@@ -22,7 +26,7 @@ impl Model for Session {
 
     ghost Value = { State };
 
-    ghost view = { λ s. record { slot = slot_of s.queue } };
+    ghost view = { λ s. record { slot = slot_of s.queue; seat = s.seat } };
 
     ghost invariant = { λ s. ForSome s.queue (λ queue. 0 < queue.entries) };
 }
@@ -38,7 +42,23 @@ impl Session {
     pub fn new() -> Session
         ensures { result ≡ start }
     {
-        Session { queue: None }
+        Session {
+            queue: None,
+            seat: 1,
+        }
+    }
+
+    /// The seat that makes the calls.
+    pub fn seat(&self) -> u16
+        ensures { result ≡ self.now.seat }
+    {
+        self.seat
+    }
+
+    pub fn sit(&mut self, seat: u16)
+        ensures { self.new ≡ record { slot = self.old.slot; seat = seat } }
+    {
+        self.seat = seat;
     }
 
     /// Makes the queue, msgget(2) with IPC_PRIVATE.
@@ -50,7 +70,7 @@ impl Session {
         if self.queue.is_some() {
             return Err(Errno::ENOSPC);
         }
-        self.queue = Some(QueueState::made(alloc));
+        put_first(&mut self.queue, QueueState::made(alloc));
         Ok(0)
     }
 
@@ -82,18 +102,53 @@ impl Session {
         }
     }
 
-    /// Takes out the message that has waited longest, msgop(2) msgrcv.
-    pub fn msgrcv(&mut self, id: u32, size: u64) -> Result<Received<VecBody>, Errno>
-        ensures ok { IfOk result (λ r. msgrcv_answer self.old id size ≡ Ok (r, self.new)) }
-        ensures refused { IfErr result (λ errno. errno ≡ errno_or_memory (msgrcv_answer self.old id size)) }
+    /// Takes out the first message that the selection names, msgop(2) msgrcv. With `noerror` a
+    /// longer text is cut to the size.
+    pub fn msgrcv(
+        &mut self,
+        id: u32,
+        size: u64,
+        mtype: i64,
+        except: bool,
+        noerror: bool,
+    ) -> Result<Received<VecBody>, Errno>
+        ensures ok { IfOk result (λ r.
+            msgrcv_answer self.old id size mtype except noerror ≡ Ok (r, self.new)) }
+        ensures refused { IfErr result (λ errno.
+            errno ≡ errno_or_memory (msgrcv_answer self.old id size mtype except noerror)) }
         ensures unchanged { OnErr result (self.new ≡ self.old) }
     {
         match &mut self.queue {
-            Some(queue) if id == 0 => match queue.receive(size) {
-                Ok(received) => Ok(received),
-                Err(refusal) => Err(Errno::from(refusal)),
-            },
+            Some(queue) if id == 0 => {
+                match queue.receive(size, Selection::read(mtype, except), noerror) {
+                    Ok(received) => Ok(received),
+                    Err(refusal) => Err(Errno::from(refusal)),
+                }
+            }
             _ => Err(Errno::EINVAL),
         }
+    }
+
+    /// Gives the queue up, with all that waits in it.
+    pub fn close(self) {
+        let Session { queue, seat: _ } = self;
+        if let Some(queue) = queue {
+            let mut waiting = queue.into_parts();
+            while let Some(message) = waiting.pop_any() {
+                drop(message);
+            }
+            waiting.end();
+        }
+    }
+}
+
+/// Puts the queue where there is none yet.
+fn put_first(place: &mut Option<Queue>, queue: Queue)
+    requires { place.old ≡ None }
+    ensures { place.new ≡ Some queue }
+{
+    match place.replace(queue) {
+        None => (),
+        Some(_) => unreachable!(),
     }
 }

@@ -3,6 +3,7 @@ use mq_cli::{RunFault, SCRIPT_LIMIT, run_serial};
 use std::test::Fail;
 
 const SCRIPT: &str = "get 0 c\nsnd 0 5 =hello\nrcv 0 100 0\nrcv 0 100 0\n";
+
 const OUTPUT: &str = "id 0\nat 1\nmsg 5 seat 1 tag 2 len 5 =hello\nENOMSG\n";
 
 #[test]
@@ -43,7 +44,11 @@ fn a_writer_that_gives_up_has_a_front_of_the_answers(rt: HostRuntime) -> Result<
                 Ok(())
             };
             assert_eq!(rt; ended, expected, "with room for {room}");
-            assert_eq!(rt; writer.taken.as_slice(), &OUTPUT.as_bytes()[..room], "with room for {room}");
+            assert_eq!(rt;
+                writer.taken.as_slice(),
+                &OUTPUT.as_bytes()[..room],
+                "with room for {room}"
+            );
         }
     }
     Ok(())

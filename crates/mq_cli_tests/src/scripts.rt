@@ -4,7 +4,7 @@ use std::test::Fail;
 /// A script, what it writes, and the fault that ends it.
 type Case = (&'static str, &'static str, Option<(u64, Cause)>);
 
-const CASES: [Case; 12] = [
+const CASES: [Case; 22] = [
     ("", "", None),
     ("\n\n# nothing said\n", "", None),
     (
@@ -19,7 +19,11 @@ const CASES: [Case; 12] = [
         None,
     ),
     // One CR is the line's end; a second one is a byte of the line.
-    ("get 0 c\r\nsnd 0 1 =a\r\n\r\nrcv 0 1 0\r", "id 0\nat 1\nmsg 1 seat 1 tag 2 len 1 =a\n", None),
+    (
+        "get 0 c\r\nsnd 0 1 =a\r\n\r\nrcv 0 1 0\r",
+        "id 0\nat 1\nmsg 1 seat 1 tag 2 len 1 =a\n",
+        None,
+    ),
     ("get 0 c\r\r\n", "", Some((1, Cause::Byte))),
     // Each refusal, which leaves all as it was.
     (
@@ -38,10 +42,81 @@ const CASES: [Case; 12] = [
         None,
     ),
     // A comment counts as a line, and has no answer.
-    ("# made\nget 0 c\n#snd 0\nsnd 0 1 =a\nrcv 0 1 0\n", "id 0\nat 1\nmsg 1 seat 1 tag 4 len 1 =a\n", None),
+    (
+        "# made\nget 0 c\n#snd 0\nsnd 0 1 =a\nrcv 0 1 0\n",
+        "id 0\nat 1\nmsg 1 seat 1 tag 4 len 1 =a\n",
+        None,
+    ),
+    // The lowest type up to a bound; of one type the message that was sent first.
+    (
+        "get 0 c\nsnd 0 3 =c\nsnd 0 1 =a\nsnd 0 2 =b\nsnd 0 1 =z\nrcv 0 9 -2\nrcv 0 9 -2\nrcv 0 9 -2\nrcv 0 9 -2\n",
+        "id 0\nat 1\nat 2\nat 3\nat 4\nmsg 1 seat 1 tag 3 len 1 =a\nmsg 1 seat 1 tag 5 len 1 =z\nmsg 2 seat 1 tag 4 len 1 =b\nENOMSG\n",
+        None,
+    ),
+    // The bounds of the types.
+    (
+        "get 0 c\nsnd 0 9223372036854775807 =m\nrcv 0 9 -9223372036854775807\nsnd 0 9223372036854775807 =m\nsnd 0 8 =k\nrcv 0 9 -9223372036854775808\nrcv 0 9 -9223372036854775808\n",
+        "id 0\nat 1\nmsg 9223372036854775807 seat 1 tag 2 len 1 =m\nat 3\nat 4\nmsg 8 seat 1 tag 5 len 1 =k\nmsg 9223372036854775807 seat 1 tag 4 len 1 =m\n",
+        None,
+    ),
+    // All but one type; MSG_EXCEPT says nothing at 0 and below.
+    (
+        "get 0 c\nsnd 0 7 =a\nsnd 0 5 =b\nsnd 0 7 =c\nsnd 0 4 =d\nrcv 0 9 7 e\nrcv 0 9 7 e\nrcv 0 9 7 e\nrcv 0 9 0 e\nrcv 0 9 -7 e\n",
+        "id 0\nat 1\nat 2\nat 3\nat 4\nmsg 5 seat 1 tag 3 len 1 =b\nmsg 4 seat 1 tag 5 len 1 =d\nENOMSG\nmsg 7 seat 1 tag 2 len 1 =a\nmsg 7 seat 1 tag 4 len 1 =c\n",
+        None,
+    ),
+    // A text that is longer than the size stays, or is cut.
+    (
+        "get 0 c\nsnd 0 1 =hello\nrcv 0 3 0\nrcv 0 3 0 n\nsnd 0 1 =hello\nrcv 0 0 0 n\nsnd 0 2 =\nrcv 0 0 0 n\n",
+        "id 0\nat 1\nE2BIG\nmsg 1 seat 1 tag 2 len 5 =hel\nat 3\nmsg 1 seat 1 tag 5 len 5 =\nat 5\nmsg 2 seat 1 tag 7 len 0 =\n",
+        None,
+    ),
+    // Both flags.
+    (
+        "get 0 c\nsnd 0 1 =long\nsnd 0 2 =longer\nrcv 0 4 1 en\n",
+        "id 0\nat 1\nat 2\nmsg 2 seat 1 tag 3 len 6 =long\n",
+        None,
+    ),
+    // The quota is bytes and messages; an empty text still has room beside full bytes.
+    (
+        "get 0 c\nsnd 0 1 *8192\nsnd 0 1 *8192\nsnd 0 1 =a\nsnd 0 1 =\n",
+        "id 0\nat 1\nat 2\nEAGAIN\nat 3\n",
+        None,
+    ),
+    // A text over the limit is refused before it is made, whatever the id and the type.
+    (
+        "snd 0 1 *8193\nget 0 c\nsnd 0 1 *18446744073709551615\nsnd 9 0 *8193\nsnd 0 1 *0\nsnd 0 1 *28\nrcv 0 99 0\nrcv 0 99 0\n",
+        "EINVAL\nid 0\nEINVAL\nEINVAL\nat 1\nat 2\nmsg 1 seat 1 tag 5 len 0 =\nmsg 1 seat 1 tag 6 len 28 =abcdefghijklmnopqrstuvwxyzab\n",
+        None,
+    ),
+    // Each seat sends as itself.
+    (
+        "seat 16\nget 0 c\nsnd 0 1 =a\nseat 2\nrcv 0 1 0\nsnd 0 1 =b\nseat 1\nrcv 0 1 0\n",
+        "id 0\nat 1\nmsg 1 seat 16 tag 3 len 1 =a\nat 3\nmsg 1 seat 2 tag 6 len 1 =b\n",
+        None,
+    ),
+    // E2BIG does not look for a later message that fits.
+    (
+        "get 0 c\nsnd 0 1 =long\nsnd 0 1 =s\nrcv 0 1 1\nrcv 0 1 -1\nrcv 0 1 9 e\nrcv 0 4 1\n",
+        "id 0\nat 1\nat 2\nE2BIG\nE2BIG\nE2BIG\nmsg 1 seat 1 tag 2 len 4 =long\n",
+        None,
+    ),
+    (
+        "get 0 c\nrcv 0 9 9223372036854775808\n",
+        "id 0\n",
+        Some((2, Cause::Number)),
+    ),
     // The first line that is not well formed ends the run.
-    ("get 0 c\nrcv 0 9\nget 0 c\n", "id 0\n", Some((2, Cause::Words))),
-    ("get 0 c\nsnd 0 01 =a\nsnd 0 1 =a\n", "id 0\n", Some((2, Cause::Number))),
+    (
+        "get 0 c\nrcv 0 9\nget 0 c\n",
+        "id 0\n",
+        Some((2, Cause::Words)),
+    ),
+    (
+        "get 0 c\nsnd 0 01 =a\nsnd 0 1 =a\n",
+        "id 0\n",
+        Some((2, Cause::Number)),
+    ),
 ];
 
 #[test]
@@ -60,7 +135,7 @@ fn each_script_writes_its_answers(rt: HostRuntime) -> Result<(), Fail> {
 }
 
 /// Lines that are not well formed, each with its cause.
-const CAUSES: [(&str, Cause); 41] = [
+const CAUSES: [(&str, Cause); 54] = [
     ("\tget 0 c", Cause::Byte),
     ("get 0 c\u{7f}", Cause::Byte),
     ("# caf\u{e9}", Cause::Byte),
@@ -87,8 +162,13 @@ const CAUSES: [(&str, Cause); 41] = [
     ("snd 0 5 hello", Cause::Words),
     ("snd 0 5  =hello", Cause::Words),
     ("snd  5 =hello", Cause::Words),
-    ("snd 0 5 *5", Cause::Words),
+    ("snd 0 5 *5 ", Cause::Words),
+    ("snd 0 5 *5 5", Cause::Words),
     ("snd x 5 hello", Cause::Words),
+    ("snd 0 5 *", Cause::Number),
+    ("snd 0 5 *05", Cause::Number),
+    ("snd 0 5 *-1", Cause::Number),
+    ("snd 0 5 *18446744073709551616", Cause::Number),
     ("snd 0 =a =b", Cause::Number),
     ("snd 4294967296 5 =a", Cause::Number),
     ("snd -1 5 =a", Cause::Number),
@@ -99,9 +179,17 @@ const CAUSES: [(&str, Cause); 41] = [
     ("snd 0 +1 =a", Cause::Number),
     ("snd 0 1a =a", Cause::Number),
     ("rcv 0 18446744073709551616 0", Cause::Number),
-    ("rcv 0 9 5", Cause::Number),
+    ("rcv 0 9 -9223372036854775809", Cause::Number),
     ("rcv 0 9", Cause::Words),
-    ("rcv 0 9 0 n", Cause::Words),
+    ("rcv 0 9 0 ne", Cause::Words),
+    ("rcv 0 9 x ne", Cause::Words),
+    ("rcv 0 9 0 e n", Cause::Words),
+    ("rcv 0  0", Cause::Words),
+    ("seat", Cause::Words),
+    ("seat 1 2", Cause::Words),
+    ("seat 0", Cause::Number),
+    ("seat 17", Cause::Number),
+    ("seat 01", Cause::Number),
 ];
 
 #[test]
@@ -121,8 +209,22 @@ fn a_line_is_long_past_its_limit(rt: HostRuntime) -> Result<(), Fail> {
     for (count, end, expected) in [
         (4096, "", Ok(())),
         (4096, "\r\n", Ok(())),
-        (4097, "", Err(RunFault::Script { line: 1, cause: Cause::Long })),
-        (4097, "\r\n", Err(RunFault::Script { line: 1, cause: Cause::Long })),
+        (
+            4097,
+            "",
+            Err(RunFault::Script {
+                line: 1,
+                cause: Cause::Long,
+            }),
+        ),
+        (
+            4097,
+            "\r\n",
+            Err(RunFault::Script {
+                line: 1,
+                cause: Cause::Long,
+            }),
+        ),
     ] {
         let mut script = vec![in rt.alloc(); b'#'; count]?;
         script.extend_from_slice(end.as_bytes())?;

@@ -28,6 +28,13 @@ impl VecBody {
         })
     }
 
+    /// A body of these very bytes.
+    pub fn from_vec(bytes: Vec<u8>) -> VecBody
+        ensures { result ≡ record { bytes = bytes.items } }
+    {
+        VecBody { bytes }
+    }
+
     pub fn bytes(&self) -> &[u8]
         ensures { result.now ≡ self.now.bytes }
     {

@@ -1,16 +1,26 @@
-use Rattle.std.specs.Prelude.{ℕ, ℤ, pos, int_lt, nat_lt, if◌then◌else◌, List, [], ◌∷◌, length, Option, Some, None, Result, Ok, Err}
-use Rattle.mq_message.specs.declared.message.Message.{Message}
+use Rattle.std.specs.Prelude.{ℕ, ℤ, pos, int_lt, nat_lt, nat_le, if◌then◌else◌, Bool, ◌||◌, List, Option, Some, None, Result, Ok, Err}
+use Rattle.mq_select.specs.declared.selection.Selection.{Selection}
+use Rattle.mq_select.specs.Selection.{pick}
+use Rattle.mq_select.specs.Waiting.{Entry}
 use Rattle.mq_queue.specs.declared.limits.TheConstants.{MSGMAX}
 use Rattle.mq_queue.specs.declared.error.QueueError.{QueueError}
-use Rattle.mq_queue.specs.declared.error.QueueError.TheVariants.{TypeInvalid, TooLong, NoMessage, TooBig}
+use Rattle.mq_queue.specs.declared.error.QueueError.TheVariants.{TypeInvalid, TooLong, Full, NoMessage, TooBig}
+use Rattle.mq_queue.specs.Room.{has_room}
 
--- msgop(2), msgsnd: why a message of this type and length is not taken
-abbrev pub send_refusal : ℤ → ℕ → Option QueueError
-send_refusal mtype n =
-    if int_lt mtype (pos 1) then Some TypeInvalid else (if nat_lt MSGMAX n then Some TooLong else None)
+-- why a message of this type and length is not taken beside what waits, if it is not (msgop(2),
+-- msgsnd)
+abbrev pub send_refusal : List Entry → ℕ → ℤ → ℕ → Option QueueError
+send_refusal waiting quota mtype n =
+    if int_lt mtype (pos 1) then Some TypeInvalid
+    else (if nat_lt MSGMAX n then Some TooLong
+    else (if has_room waiting n quota then None else Some Full))
 
--- msgop(2), msgrcv with msgtyp 0: the message that has waited longest, where it fits the size
-abbrev pub receive_answer : {B : Type 0} → (B → List ℕ) → List (ℕ × Message B) → ℕ → Result (ℕ × Message B) QueueError
-receive_answer bytes [] size = Err NoMessage
-receive_answer bytes (m ∷ rest) size =
-    if nat_lt size (length (bytes m.1.body)) then Err TooBig else Ok m
+-- what a receiver of this size gets where this message is the one asked for (msgop(2), msgrcv)
+abbrev pub handed_out : ℕ → Bool → Option Entry → Result Entry QueueError
+handed_out size noerror None = Err NoMessage
+handed_out size noerror (Some m) = if noerror || nat_le m.length size then Ok m else Err TooBig
+
+-- which of the waiting messages a receiver gets, or why it gets none (msgop(2), msgrcv)
+abbrev pub receive_answer : List Entry → ℕ → Selection → Bool → Result Entry QueueError
+receive_answer waiting size selection noerror =
+    handed_out size noerror (pick (λ m. m.mtype) waiting selection)

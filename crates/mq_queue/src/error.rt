@@ -9,10 +9,13 @@ pub enum QueueError {
     /// The text is longer than [`MSGMAX`](crate::MSGMAX): `EINVAL`.
     #[error("the text is too long for a message")]
     TooLong,
-    /// No message waits: `ENOMSG`.
+    /// The bytes or the count of the messages would pass the queue's quota: `EAGAIN`.
+    #[error("the queue is full")]
+    Full,
+    /// No message waits that the selection asks for: `ENOMSG`.
     #[error("no message waits")]
     NoMessage,
-    /// The text is longer than the receiver's size: `E2BIG`.
+    /// The text is longer than the receiver's size, and is not to be cut: `E2BIG`.
     #[error("the text is longer than the size")]
     TooBig,
     /// There is no memory for the change: `ENOMEM`.

@@ -1,60 +1,62 @@
-ghost use Rattle.std.specs.Prelude.{◌≡◌, ◌+◌, length, drop, Ok, Err, OnOk, OnErr, IfOk, IfErr};
+ghost use Rattle.std.specs.Prelude.{◌≡◌, ◌+◌, ◌||◌, length, min, take, nat_le, IsSomeAnd};
+ghost use Rattle.std.specs.Prelude.{OnOk, OnErr, IfOk, IfErr};
+ghost use Rattle.mq_select.specs.Waiting.{message_at, without};
 ghost use Rattle.mq_queue.specs.Answer.{receive_answer};
+ghost use Rattle.mq_queue.specs.Entries.{entries_of};
 
-use crate::{QueueError, QueueState};
+use crate::{QueueError, QueueState, Received};
 use mq_message::{Body, Message};
+use mq_select::{Selection, Waiting};
 
-/// What a receiver gets.
-#[derive(Drop)]
-pub struct Received<B> {
-    /// The number of this change of the queue.
-    pub entry: u64,
-    /// The number of the change that sent the message.
-    pub place: u64,
-    pub mtype: i64,
-    /// The number of the sender's seat.
-    pub sender: u16,
-    /// The sender's own number of the message.
-    pub tag: u64,
-    /// The number of bytes that were sent.
-    pub length: u64,
-    pub body: B,
+/// Whether a receiver of this size is handed a text of this length.
+fn is_handed_out(length: u64, size: u64, noerror: bool) -> bool
+    ensures { result ≡ (noerror || nat_le length size) }
+{
+    noerror || length <= size
 }
 
-impl<B: Body> QueueState<B> {
-    /// Takes out the message that has waited longest, where its text is no longer than `size`
-    /// (msgop(2), msgrcv with msgtyp 0 and IPC_NOWAIT).
-    pub fn receive(&mut self, size: u64) -> Result<Received<B>, QueueError>
-        ensures refused { IfErr result (λ e. receive_answer B.bytes self.old.messages size ≡ Err e) }
+impl<B: Body, W: Waiting<B>> QueueState<B, W> {
+    /// Takes out the first message that the selection asks for (msgop(2), msgrcv with
+    /// IPC_NOWAIT). With `noerror`, the flag MSG_NOERROR, a longer text is cut to `size` bytes.
+    pub fn receive(
+        &mut self,
+        size: u64,
+        selection: Selection,
+        noerror: bool,
+    ) -> Result<Received<B>, QueueError>
+        ensures refused { IfErr result (λ e.
+            receive_answer (entries_of B.bytes self.old.messages) size selection noerror ≡ Err e) }
         ensures unchanged { OnErr result (self.new ≡ self.old) }
 
-        ensures answer { IfOk result (λ r. receive_answer B.bytes self.old.messages size ≡ Ok (
-          r.place,
-          record { mtype = r.mtype; sender = r.sender; tag = r.tag; body = r.body },
-        )) }
-        ensures length { IfOk result (λ r. r.length ≡ length (B.bytes r.body)) }
+        ensures answer { IfOk result (λ r.
+            receive_answer (entries_of B.bytes self.old.messages) size selection noerror
+            ≡ Ok (record { place = r.place; seat = r.sender; tag = r.tag; mtype = r.mtype; length = r.length })) }
+        ensures body { IfOk result (λ r. IsSomeAnd (message_at r.place self.old.messages) (λ m.
+            (B.bytes r.body ≡ take size (B.bytes m.body)) × B.keeps m.body r.body)) }
+        ensures length { IfOk result (λ r. length (B.bytes r.body) ≡ min r.length size) }
         ensures entry { IfOk result (λ r. r.entry ≡ self.old.entries) }
         ensures entries { OnOk result (self.new.entries ≡ self.old.entries + 1) }
-        ensures rest { OnOk result (self.new.messages ≡ drop 1 self.old.messages) }
+        ensures rest { IfOk result (λ r. self.new.messages ≡ without r.place self.old.messages) }
     {
         let entry = self.entries;
-        let Some(oldest) = self.waiting.front() else {
+        let Some(place) = self.waiting.find(selection) else {
             return Err(QueueError::NoMessage);
         };
-        let length = oldest.1.body.len();
-        if length > size {
+        let length = self.waiting.length_of(place);
+        if !is_handed_out(length, size, noerror) {
             return Err(QueueError::TooBig);
         }
-        let Some((place, message)) = self.waiting.pop_front() else {
-            unreachable!();
-        };
+        let message = self.waiting.take(place);
         self.entries = entry + 1;
+        self.count -= 1;
+        self.bytes -= length;
         let Message {
             mtype,
             sender,
             tag,
-            body,
+            mut body,
         } = message;
+        body.cut(size);
         Ok(Received {
             entry,
             place,

@@ -1,0 +1,10 @@
+use Rattle.std.proofs.Common.{rules, w64}
+use Rattle.std.proofs.lemmas.Int.{to_z-of_z}
+use mir.Val.{SFits}
+use Rattle.mq_cli.proofs.answer.receive.Goals as goal
+
+pub returns-in-Ok : goal.returns-in-Ok
+returns-in-Ok c =
+    let fits : SFits w64 c.args.call.mtype = search rules in
+    let told = simp to_z-of_z at c.in-Ok.ensures.ok in
+    search (rules, told)

@@ -1,0 +1,16 @@
+/// What a receiver gets.
+#[derive(Drop)]
+pub struct Received<B> {
+    /// The number of this change of the queue.
+    pub entry: u64,
+    /// The number of the change that sent the message.
+    pub place: u64,
+    pub mtype: i64,
+    /// The number of the sender's seat.
+    pub sender: u16,
+    /// The sender's own number of the message.
+    pub tag: u64,
+    /// The number of bytes that were sent, of which `body` has no more than the receiver's size.
+    pub length: u64,
+    pub body: B,
+}

@@ -1,0 +1,93 @@
+-- The message at a place, by its index in a list whose places rise.
+use Rattle.std.proofs.Common.{◌≡◌, ◌≢◌, ℕ, ℤ, map, zero, suc, ◌<◌, ◌==◌, nat_lt, List, [], ◌∷◌, ◌++◌, length, get_or, position, find, filter, remove, All, AllPairs, IsSome, Some, None, Bool, true, false, not, cond, refl, ap, sym, ◌∙◌, arith, slice_get}
+use Rattle.std.specs.List.{position_or_len}
+use Rattle.std.specs.Option.{option_map}
+use Rattle.std.proofs.lemmas.Bool.{eqb-false, eqb-true, ltb-true, ltb-false, ne_eqb}
+use Rattle.std.proofs.lemmas.List.Folds.{find_at}
+use Rattle.std.proofs.lemmas.Option.{cond_some, none-some, same_Some, slice_get-get_or, slice_get_past}
+use Rattle.std.proofs.lemmas.List.Quantifiers.{position-Some, all_pairs_push, all_pairs_remove}
+use Rattle.mq_select.specs.declared.selection.Selection.{Selection}
+use Rattle.mq_select.specs.Selection.{pick, eligible}
+use Rattle.mq_select.specs.Waiting.{message_at, without}
+
+-- a test that each element passes keeps the list
+filter_all : {X : Type 0} (p : X → Bool) (xs : List X) → ((k : ℕ) (d : X) → k < length xs → p (get_or xs k d) ≡ true) → filter p xs ≡ xs
+filter_all p [] all = refl
+filter_all p (x ∷ xs) all = rw (all 0 x (omega arith)) (ap (λ ys. x ∷ ys) (filter_all p xs (λ k d l. all (suc k) d (omega arith))))
+
+-- a test that one element alone passes: the others are left
+filter_one : {X : Type 0} (p : X → Bool) (xs : List X) (i : ℕ) → i < length xs → ((d : X) → p (get_or xs i d) ≡ true) → ((k : ℕ) (d : X) → k < length xs → k ≢ i → p (get_or xs k d) ≡ false) → remove xs i ≡ filter (λ x. not (p x)) xs
+filter_one p [] i l here others = absurd (omega arith)
+filter_one p (x ∷ xs) zero l here others = rw (here x) (sym (filter_all (λ y. not (p y)) xs (λ k d m. ap not (others (suc k) d (omega arith) (omega arith)))))
+filter_one p (x ∷ xs) (suc i) l here others =
+    rw (others 0 x (omega arith) (omega arith)) (ap (λ ys. x ∷ ys) (filter_one p xs i (omega arith) here (λ k d m n. others (suc k) d (omega arith) (omega arith))))
+
+-- a test that nothing passes finds nothing
+pub find_none : {X : Type 0} (xs : List X) → find (λ _. false) xs ≡ None
+find_none [] = refl
+find_none (x ∷ xs) = find_none xs
+
+-- a place at which a message waits has an index
+pub has_index : {X : Type 0} (place : ℕ) (xs : List (ℕ × X)) → IsSome (message_at place xs) → IsSome (position (λ m. m.0 == place) xs)
+has_index {X} place xs h = by (nat_lt at (length xs)) refl
+  where
+    at : ℕ
+    at = position_or_len (λ (m : ℕ × X). m.0 == place) xs
+
+    by : (b : Bool) → nat_lt at (length xs) ≡ b → IsSome (cond b (Some at) None)
+    by true inside = refl
+    by false past =
+        let nothing : find (λ (m : ℕ × X). m.0 == place) xs ≡ None = find_at _ xs ∙ slice_get_past xs at (ltb-false at (length xs) past) in
+        let absent : false ≡ true = rw nothing at h in cc
+
+-- the index of a place is inside the list
+inside : {X : Type 0} (place : ℕ) (xs : List (ℕ × X)) (i : ℕ) → position (λ m. m.0 == place) xs ≡ Some i → i < length xs
+inside {X} place xs i h =
+    let p : ℕ × X → Bool = λ m. m.0 == place in
+    let found : (nat_lt (position_or_len p xs) (length xs) ≡ true) × (position_or_len p xs ≡ i) = cond_some _ _ _ h in
+    omega (arith, ltb-true _ _ found.0)
+
+-- the message at a place is what stands at its index
+pub at_index : {X : Type 0} (place : ℕ) (xs : List (ℕ × X)) (i : ℕ) (d : ℕ × X) → position (λ m. m.0 == place) xs ≡ Some i → message_at place xs ≡ Some (get_or xs i d).1
+at_index {X} place xs i d h =
+    let p : ℕ × X → Bool = λ m. m.0 == place in
+    let found : (nat_lt (position_or_len p xs) (length xs) ≡ true) × (position_or_len p xs ≡ i) = cond_some _ _ _ h in
+    let read : find p xs ≡ Some (get_or xs i d) = find_at p xs ∙ ap (slice_get xs) found.1 ∙ slice_get-get_or xs i d (inside place xs i h) in
+    ap (option_map (λ (m : ℕ × X). m.1)) read
+
+-- two places at different indices differ, where places rise
+apart : (k i a b : ℕ) → k ≢ i → (k < i → a < b) → (i < k → b < a) → a ≢ b
+apart k i a b other before after same = grind arith
+
+-- to remove at that index leaves the list without the place
+pub without_is : {X : Type 0} (place : ℕ) (xs : List (ℕ × X)) (i : ℕ) → AllPairs (λ a b. a.0 < b.0) xs → position (λ m. m.0 == place) xs ≡ Some i → remove xs i ≡ without place xs
+without_is {X} place xs i rising h =
+    let p : ℕ × X → Bool = λ m. m.0 == place in
+    let within = inside place xs i h in
+    filter_one p xs i within (λ d. (position-Some p xs i d h).1) (λ k d l other.
+    let here : (get_or xs i d).0 ≡ place = eqb-true _ _ (position-Some p xs i d h).1 in
+    let before : k < i → (get_or xs k d).0 < (get_or xs i d).0 = λ m. rising k i d m within in
+    let after : i < k → (get_or xs i d).0 < (get_or xs k d).0 = λ m. rising i k d m l in
+    ne_eqb _ _ (λ same. apart k i _ _ other before after (same ∙ sym here)))
+
+-- places still rise with one above them all at the end
+pub rising_push : {X : Type 0} (xs : List (ℕ × X)) (place : ℕ) (x : X) → AllPairs (λ a b. a.0 < b.0) xs → All (λ m. m.0 < place) xs → AllPairs (λ a b. a.0 < b.0) (xs ++ (place, x) ∷ [])
+rising_push {X} xs place x rising above = all_pairs_push (λ (a b : ℕ × X). a.0 < b.0) xs (place, x) rising above
+
+-- places still rise without one of them
+pub rising_remove : {X : Type 0} (place : ℕ) (xs : List (ℕ × X)) (i : ℕ) → position (λ m. m.0 == place) xs ≡ Some i → AllPairs (λ a b. a.0 < b.0) xs → AllPairs (λ a b. a.0 < b.0) (remove xs i)
+rising_remove {X} place xs i h rising = all_pairs_remove (λ (a b : ℕ × X). a.0 < b.0) xs i (inside place xs i h) rising
+
+-- where a test finds a message, one waits at its place
+found_waits : {X : Type 0} (p : ℕ × X → Bool) (xs : List (ℕ × X)) (place : ℕ) → option_map (λ m. m.0) (find p xs) ≡ Some place → IsSome (message_at place xs)
+found_waits p [] place h = absurd (none-some place h)
+found_waits p (x ∷ xs) place h = by (p x) refl (x.0 == place) refl h (found_waits p xs place)
+  where
+    by : (a : Bool) → p x ≡ a → (b : Bool) → (x.0 == place) ≡ b → option_map (λ m. m.0) (cond a (Some x) (find p xs)) ≡ Some place → (option_map (λ m. m.0) (find p xs) ≡ Some place → IsSome (message_at place xs)) → IsSome (option_map (λ m. m.1) (cond b (Some x) (find (λ m. m.0 == place) xs)))
+    by a e true f k later = refl
+    by true e false f k later = absurd (eqb-false _ _ f (same_Some _ _ k))
+    by false e false f k later = later k
+
+-- where a selection picks a message, one waits at its place
+pub picked_waits : {X : Type 0} (type_of : ℕ × X → ℤ) (xs : List (ℕ × X)) (selection : Selection) (place : ℕ) → option_map (λ m. m.0) (pick type_of xs selection) ≡ Some place → IsSome (message_at place xs)
+picked_waits type_of xs selection place h = found_waits (λ m. eligible (map type_of xs) selection (type_of m)) xs place h

@@ -1,0 +1,4 @@
+pub mod Laws
+pub mod Selection
+pub mod Waiting
+pub mod Worked

@@ -1,0 +1,16 @@
+//! Selections, and lists of waiting messages: which message a receiver is handed, and where the
+//! messages lie until then.
+
+#![tactic(auto)]
+
+pub mod laws;
+mod list;
+mod selection;
+#[cfg(test)]
+mod tests;
+mod waiting;
+pub mod worked;
+
+pub use list::ListWaiting;
+pub use selection::Selection;
+pub use waiting::Waiting;

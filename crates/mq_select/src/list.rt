@@ -1,0 +1,160 @@
+ghost use Rattle.std.specs.Prelude.{◌≡◌, ◌==◌, ◌<◌, ◌++◌, ◌∷◌, [], All};
+ghost use Rattle.std.specs.Prelude.{find, int_le, map, not, pos, position};
+ghost use Rattle.std.specs.Option.{option_map};
+ghost use Rattle.std.specs.Ordering.{int_eq};
+ghost use Rattle.mq_select.specs.Selection.{least_of, lower_of};
+
+use crate::{Selection, Waiting};
+use mq_message::{Body, Message};
+use std::alloc::{AllocError, Global};
+use std::collections::VecDeque;
+use std::marker::Model;
+
+/// The waiting messages in one list, in the order of sending. To find and take the first message
+/// costs the same however many wait; any other selection reads the list from its front. It can be
+/// dropped only where its bodies can.
+#[derive(Drop)]
+pub struct ListWaiting<B> {
+    messages: VecDeque<(u64, Message<B>)>,
+    /// The type for which there is room for one more message.
+    prepared: Option<i64>,
+}
+
+impl<B> Model for ListWaiting<B> {
+    ghost use Rattle.std.specs.Prelude.{◌<◌, AllPairs};
+    ghost use Rattle.std.specs.Option.{ForSome};
+    ghost use Rattle.std.specs.VecDeque.{deque_len, deque_capacity};
+    ghost use Rattle.mq_select.specs.Waiting.{Listed};
+
+    ghost Value = { Listed B };
+
+    ghost view = { λ w. record { messages = w.messages.items; prepared = w.prepared } };
+
+    ghost invariant = { λ w. AllPairs (λ a b. a.0 < b.0) w.messages.items
+        × ForSome w.prepared (λ _. deque_len w.messages < deque_capacity w.messages) };
+}
+
+type Placed<B> = (u64, Message<B>);
+
+/// The lower of a type and the lowest before it, if there was one.
+fn lower(least: Option<i64>, mtype: i64) -> i64
+    ensures { Some result ≡ lower_of least mtype }
+{
+    match least {
+        Some(least) if least <= mtype => least,
+        _ => mtype,
+    }
+}
+
+/// Whether a type is at most the bound.
+/// Whether a type is at most the bound.
+fn is_within(mtype: i64, bound: u64) -> bool
+    ensures { result ≡ int_le mtype (pos bound) }
+{
+    i128::from(mtype) <= i128::from(bound)
+}
+
+/// The lowest type that is at most the bound.
+fn least_within<B>(messages: &VecDeque<Placed<B>>, bound: u64) -> Option<i64>
+    ensures { result ≡ least_of bound (map (λ m. m.1.mtype) messages.now.items) }
+{
+    messages
+        .iter()
+        .map(|m| m.1.mtype)
+        .filter(|&mtype| is_within(mtype, bound))
+        .fold(None, |least, mtype| Some(lower(least, mtype)))
+}
+
+/// The place of the first message of this type.
+fn first_of<B>(messages: &VecDeque<Placed<B>>, wanted: i64) -> Option<u64>
+    ensures { result ≡ option_map (λ m. m.0)
+        (find (λ m. int_eq m.1.mtype wanted) messages.now.items) }
+{
+    messages.iter().find(|m| m.1.mtype == wanted).map(|m| m.0)
+}
+
+/// The place of the first message of any other type.
+/// The place of the first message of any other type.
+fn first_other<B>(messages: &VecDeque<Placed<B>>, other: i64) -> Option<u64>
+    ensures { result ≡ option_map (λ m. m.0)
+        (find (λ m. not (int_eq m.1.mtype other)) messages.now.items) }
+{
+    messages.iter().find(|m| m.1.mtype != other).map(|m| m.0)
+}
+
+/// The index at which this place stands.
+fn index_of<B>(messages: &VecDeque<Placed<B>>, place: u64) -> Option<usize>
+    ensures { result ≡ position (λ m. m.0 == place) messages.now.items }
+{
+    messages.iter().position(|m| m.0 == place)
+}
+
+impl<B: Body> Waiting<B> for ListWaiting<B> {
+    ghost messages = { λ w. w.messages };
+
+    ghost prepared = { λ w. w.prepared };
+
+    fn fresh(alloc: Global) -> Self {
+        ListWaiting {
+            messages: VecDeque::new(alloc),
+            prepared: None,
+        }
+    }
+
+    fn find(&self, selection: Selection) -> Option<u64> {
+        match selection {
+            Selection::Any => self.messages.front().map(|m| m.0),
+            Selection::Exact(wanted) => first_of(&self.messages, wanted),
+            Selection::Except(other) => first_other(&self.messages, other),
+            Selection::UpTo(bound) => first_of(
+                &self.messages,
+                least_within(&self.messages, bound)?,
+            ),
+        }
+    }
+
+    fn prepare(&mut self, mtype: i64) -> Result<(), AllocError> {
+        self.messages.reserve(1)?;
+        self.prepared = Some(mtype);
+        Ok(())
+    }
+
+    fn put_prepared(&mut self, place: u64, message: Message<B>)
+        requires prepared { self.old.prepared ≡ Some message.mtype }
+        requires above { All (λ m. m.0 < place) self.old.messages }
+        ensures added { self.new.messages ≡ self.old.messages ++ (place, message) ∷ [] }
+        ensures unprepared { self.new.prepared ≡ None }
+    {
+        self.prepared = None;
+        match self.messages.push_back((place, message)) {
+            Ok(()) => (),
+            Err(_) => unreachable!(),
+        }
+    }
+
+    fn take(&mut self, place: u64) -> Message<B> {
+        self.prepared = None;
+        let index = index_of(&self.messages, place).unwrap();
+        let (_, message) = self.messages.remove(index).unwrap();
+        message
+    }
+
+    fn length_of(&self, place: u64) -> u64 {
+        let index = index_of(&self.messages, place).unwrap();
+        self.messages[index].1.body.len()
+    }
+
+    fn pop_any(&mut self) -> Option<Message<B>> {
+        self.prepared = None;
+        let (_, message) = self.messages.pop_front()?;
+        Some(message)
+    }
+
+    fn end(self) {
+        let ListWaiting {
+            messages,
+            prepared: _,
+        } = self;
+        messages.destroy_empty();
+    }
+}

@@ -1,0 +1,68 @@
+ghost use Rattle.std.specs.Prelude.{◌≡◌, ◌++◌, ◌∷◌, [], ◌<◌, ℕ, ℤ, Option, List, length};
+ghost use Rattle.std.specs.Prelude.{All, IfNone, IfSome, IsSome, OnErr, OnOk};
+ghost use Rattle.std.specs.List.Sorted.{IsPermutation};
+ghost use Rattle.std.specs.Option.{option_map};
+ghost use Rattle.mq_message.specs.declared.message.Message.{Message};
+ghost use Rattle.mq_select.specs.Selection.{pick};
+ghost use Rattle.mq_select.specs.Waiting.{message_at, without};
+
+use crate::Selection;
+use mq_message::{Body, Message};
+use std::alloc::{AllocError, Global};
+
+/// The messages of a queue that wait for a receiver, each at its place: where its sending stands in
+/// the queue's log. A list takes memory in `prepare` alone.
+pub trait Waiting<B: Body> {
+    ghost messages: { Self → List (ℕ × Message B) };
+
+    ghost prepared: { Self → Option ℤ };
+
+    /// A list in which nothing waits. It keeps the allocator for later.
+    fn fresh(alloc: Global) -> Self
+        ensures empty { messages result ≡ [] }
+        ensures unprepared { prepared result ≡ None };
+
+    /// The place of the first message that the selection asks for (msgop(2), msgrcv), or `None`
+    /// where there is no such message.
+    fn find(&self, selection: Selection) -> Option<u64>
+        ensures { result ≡ option_map (λ m. m.0)
+            (pick (λ m. m.1.mtype) (messages self.now) selection) };
+
+    /// Takes the memory that one more message of this type needs. An `Err` is want of memory.
+    fn prepare(&mut self, mtype: i64) -> Result<(), AllocError>
+        ensures unchanged { messages self.new ≡ messages self.old }
+        ensures ok { OnOk result (prepared self.new ≡ Some mtype) }
+        ensures err { OnErr result (prepared self.new ≡ prepared self.old) };
+
+    /// Adds a message at the end.
+    fn put_prepared(&mut self, place: u64, message: Message<B>)
+        requires prepared { prepared self.old ≡ Some message.mtype }
+        requires above { All (λ m. m.0 < place) (messages self.old) }
+        ensures added { messages self.new ≡ messages self.old ++ (place, message) ∷ [] }
+        ensures unprepared { prepared self.new ≡ None };
+
+    /// Takes out the message at this place.
+    fn take(&mut self, place: u64) -> Message<B>
+        requires { IsSome (message_at place (messages self.old)) }
+        ensures taken { message_at place (messages self.old) ≡ Some result }
+        ensures rest { messages self.new ≡ without place (messages self.old) }
+        ensures unprepared { prepared self.new ≡ None };
+
+    /// The number of bytes of the message at this place.
+    fn length_of(&self, place: u64) -> u64
+        requires { IsSome (message_at place (messages self.now)) }
+        ensures { IfSome (message_at place (messages self.now)) (λ m.
+            result ≡ length (B.bytes m.body)) };
+
+    /// Takes out some message, or answers `None` where nothing waits: for the way out of a queue
+    /// whose bodies cannot be dropped.
+    fn pop_any(&mut self) -> Option<Message<B>>
+        ensures none { IfNone result ((messages self.old ≡ []) × (messages self.new ≡ [])) }
+        ensures some { IfSome result (λ m.
+            (place : ℕ) × IsPermutation ((place, m) ∷ messages self.new) (messages self.old)) }
+        ensures unprepared { prepared self.new ≡ None };
+
+    /// Gives the memory of an empty list back.
+    fn end(self)
+        requires { messages self ≡ [] };
+}

@@ -1,0 +1,13 @@
+pub mod Powers
+pub mod Ranges
+pub mod Apart
+pub mod Fits
+pub mod Halving
+pub mod LentSets
+pub mod Kept
+pub mod FreePages
+pub mod Largest
+pub mod Trees
+pub mod Steps
+pub mod Totals
+pub mod LawLemmas

@@ -1,0 +1,70 @@
+-- The laws of lending, each the contract of a function of `laws`.
+use Rattle.std.specs.Prelude.{◌≡◌, ℕ, ◌+◌, ◌^◌, ◌≤◌, true, List, Some, None, IsSome, IsSomeAnd, Contains, sum_by}
+use Rattle.mq_tree.specs.Blocks.{Block, block, HasPage, page_count}
+use Rattle.mq_tree.specs.LentSet.{IsLentSet, joined, left, is_lent, free_pages}
+use Rattle.mq_tree.specs.Fit.{fit, largest, IsFit, HasNoFit}
+
+-- what `fit` answers is aligned, in the arena and free, and no lesser start is
+abbrev pub FitIsLeast : Type 0
+FitIsLeast =
+    (height : ℕ) (lent : List Block) (order start : ℕ)
+    → fit height lent order ≡ Some start → IsFit height lent order start
+
+-- and it answers none only where no start is
+abbrev pub NoneHasNoFit : Type 0
+NoneHasNoFit =
+    (height : ℕ) (lent : List Block) (order : ℕ)
+    → fit height lent order ≡ None → HasNoFit height lent order
+
+-- the least start at which a block fits is what `fit` answers
+abbrev pub FitIsComplete : Type 0
+FitIsComplete =
+    (height : ℕ) (lent : List Block) (order start : ℕ)
+    → IsFit height lent order start → fit height lent order ≡ Some start
+
+-- the largest order fits, and each order that fits is at most that
+abbrev pub LargestFits : Type 0
+LargestFits =
+    (height : ℕ) (lent : List Block)
+    → ((most : ℕ) → largest height lent ≡ Some most → IsSome (fit height lent most))
+    × ((order : ℕ)
+    → IsSome (fit height lent order) → IsSomeAnd (largest height lent) (λ most. order ≤ most))
+
+-- a page of a lent block is in no other lent block
+abbrev pub LentSetIsApart : Type 0
+LentSetIsApart =
+    (height : ℕ) (lent : List Block) (a b : Block) (page : ℕ)
+    → IsLentSet height lent → Contains lent a → Contains lent b
+    → HasPage a page → HasPage b page → a ≡ b
+
+-- the free pages and the lengths of the lent blocks add up to the arena
+abbrev pub FreePagesAddUp : Type 0
+FreePagesAddUp =
+    (height : ℕ) (lent : List Block)
+    → IsLentSet height lent → free_pages height lent + sum_by page_count lent ≡ 2 ^ height
+
+-- a block that is lent and given back leaves all as it was
+abbrev pub LentAndGivenBack : Type 0
+LentAndGivenBack =
+    (height : ℕ) (lent : List Block) (order start : ℕ) → fit height lent order ≡ Some start
+    → left (block start order) (joined (block start order) lent) ≡ lent
+
+-- a lent set stays one, with a block more that fits and with a block less
+abbrev pub StaysLentSet : Type 0
+StaysLentSet =
+    (height : ℕ) (lent : List Block) → IsLentSet height lent
+    → ((order start : ℕ)
+    → fit height lent order ≡ Some start → IsLentSet height (joined (block start order) lent))
+    × ((b : Block) → IsLentSet height (left b lent))
+
+-- a block that is lent takes its pages
+abbrev pub LendTakesPages : Type 0
+LendTakesPages =
+    (height : ℕ) (lent : List Block) (order start : ℕ) → fit height lent order ≡ Some start
+    → free_pages height lent ≡ free_pages height (joined (block start order) lent) + 2 ^ order
+
+-- a lent block that is given back leaves its pages free
+abbrev pub GiveFreesPages : Type 0
+GiveFreesPages =
+    (height : ℕ) (lent : List Block) (b : Block) → IsLentSet height lent → is_lent b lent ≡ true
+    → free_pages height (left b lent) ≡ free_pages height lent + 2 ^ b.order

@@ -1,0 +1,10 @@
+use thiserror::Error;
+
+/// Why an `OrderTree` could not be made, in the order of the tests.
+#[derive(Clone, Copy, PartialEq, Eq, Debug, Drop, Error)]
+pub enum TreeError {
+    #[error("the height is over 10")]
+    Height,
+    #[error("out of memory")]
+    Memory,
+}

@@ -1,0 +1,16 @@
+//! A buddy system over the pages of an arena: which blocks are lent, and the least start at which
+//! the next one fits.
+#![tactic(auto)]
+
+mod error;
+mod give;
+mod halves;
+pub mod laws;
+mod lend;
+mod node;
+#[cfg(test)]
+mod tests;
+mod tree;
+
+pub use error::TreeError;
+pub use tree::OrderTree;

@@ -1,0 +1,122 @@
+ghost use Rattle.std.specs.Prelude.{◌≡◌, ◌+◌, ◌^◌, ◌<◌, ◌≤◌, ◌↔◌, [], IfOk, IsErrOf, IfSome, OnSome, IfNone};
+ghost use Rattle.std.specs.Bool.{OnTrue, OnFalse};
+ghost use Rattle.mq_tree.specs.Blocks.{block};
+ghost use Rattle.mq_tree.specs.LentSet.{IsLentSet, joined, left, is_lent, free_pages};
+ghost use Rattle.mq_tree.specs.Fit.{fit, largest};
+
+use crate::error::TreeError;
+use crate::give::give_in;
+use crate::halves::{has_room, root_of};
+use crate::lend::lend_in;
+use crate::node::{Node, pages_in};
+use std::alloc::Global;
+use std::marker::Model;
+
+/// The pages of an arena, lent in blocks of `2 ^ order` pages that start at a multiple of their
+/// length: Knowlton's buddy system ("A fast storage allocator", CACM 1965). A tree of status nodes
+/// tells for each run of pages the largest order that fits in it, so `lend` and `give` take a step
+/// for each level of the tree, and the others one.
+#[derive(Drop)]
+pub struct OrderTree {
+    height: u8,
+    free: u32,
+    nodes: Vec<Node>,
+}
+
+impl Model for OrderTree {
+    ghost use Rattle.mq_tree.specs.LentSet.{Lending};
+    ghost use Rattle.mq_tree.specs.Trees.{IsWhole, lent_blocks};
+
+    ghost Value = { Lending };
+
+    ghost view = { λ t. record { height = t.height; lent = lent_blocks t.height t.nodes.items } };
+
+    ghost invariant = { λ t. IsWhole t.height t.free t.nodes.items };
+}
+
+impl OrderTree {
+    /// An arena of `2 ^ height` pages, none lent. The one call that takes memory.
+    pub fn new(alloc: Global, height: u8) -> Result<OrderTree, TreeError>
+        ensures ok { IfOk result (λ tree. tree ≡ record { height = height; lent = [] }) }
+        ensures err { IsErrOf result TreeError.Height ↔ (10 < height) }
+    {
+        if height > 10 {
+            return Err(TreeError::Height);
+        }
+        let pages = pages_in(height);
+        let mut nodes = Vec::new(alloc);
+        if nodes.resize(2 * pages as usize - 1, Node::Free).is_err() {
+            return Err(TreeError::Memory);
+        }
+        Ok(OrderTree {
+            height,
+            free: pages,
+            nodes,
+        })
+    }
+
+    /// Lends the block of that order with the least start, and answers the start, a page number.
+    /// `None` where no block of that order fits, so for each order over the height.
+    pub fn lend(&mut self, order: u8) -> Option<u32>
+        ensures fit { result ≡ fit self.old.height self.old.lent order }
+        ensures lent { IfSome result
+            (λ start. self.new.lent ≡ joined (block start order) self.old.lent) }
+        ensures unchanged { IfNone result (self.new ≡ self.old) }
+
+        ensures height { self.new.height ≡ self.old.height }
+        ensures lent_set { IsLentSet self.new.height self.new.lent }
+        ensures free { OnSome result
+            (free_pages self.old.height self.old.lent
+            ≡ free_pages self.old.height self.new.lent + 2 ^ order) }
+    {
+        if !has_room(self.nodes.as_slice(), self.height, order) {
+            return None;
+        }
+        let start = lend_in(self.nodes.as_mut_slice(), self.height, order);
+        self.free -= pages_in(order);
+        Some(start)
+    }
+
+    /// Takes a lent block back: false, with nothing changed, where that very block is not lent.
+    pub fn give(&mut self, start: u32, order: u8) -> bool
+        ensures lent { result ≡ is_lent (block start order) self.old.lent }
+        ensures left { self.new.lent ≡ left (block start order) self.old.lent }
+        ensures kept { OnFalse result (self.new ≡ self.old) }
+
+        ensures height { self.new.height ≡ self.old.height }
+        ensures lent_set { IsLentSet self.new.height self.new.lent }
+        ensures free { OnTrue result
+            (free_pages self.old.height self.new.lent
+            ≡ free_pages self.old.height self.old.lent + 2 ^ order) }
+    {
+        if order > self.height {
+            return false;
+        }
+        if !give_in(self.nodes.as_mut_slice(), self.height, start, order) {
+            return false;
+        }
+        self.free += pages_in(order);
+        true
+    }
+
+    /// The largest order that `lend` would meet.
+    pub fn largest(&self) -> Option<u8>
+        ensures value { result ≡ largest self.now.height self.now.lent }
+    {
+        root_of(self.nodes.as_slice(), self.height).largest(self.height)
+    }
+
+    /// How many pages are in no lent block.
+    pub fn free_pages(&self) -> u32
+        ensures value { result ≡ free_pages self.now.height self.now.lent }
+    {
+        self.free
+    }
+
+    /// How many pages the arena has, lent or not.
+    pub fn pages(&self) -> u32
+        ensures value { result ≡ 2 ^ self.now.height }
+    {
+        pages_in(self.height)
+    }
+}
