@@ -1,0 +1,21 @@
+use Rattle.std.proofs.Common.{◌≡◌, ◌∙◌, ◌^◌, ◌++◌, ℕ, List, length, take, drop, ap, sym, subst}
+use Rattle.std.specs.List.{refill}
+use Rattle.mq_arena.specs.Bytes.{AreWhole}
+use Rattle.mq_arena.proofs.Kept.{halves_left, at_same}
+use Rattle.mq_arena.proofs.block.Block.write_halves.Goals as goal
+
+pub returns-clause-halves : goal.returns-clause-halves
+returns-clause-halves g c =
+    let h = c.write_both.ensures.halves in
+    let old : List (List ℕ) = c.args.self.now.pages in
+    let here : c.self.inside.pages.items ≡ old = ap (λ b. b.pages) c.self.view_is in
+    let lent : c.as_mut_slice.result.now ≡ old = c.as_mut_slice.ensures.value ∙ here in
+    let long : length old ≡ 2 ^ c.args.self.now.order =
+    ap length (sym here) ∙ c.self.invariant.block.count ∙ ap (λ b. 2 ^ b.order) c.self.view_is in
+    let first = at_same _ _ _ _ _ (ap (take c.args.i) lent) (λ p q next s. record { met = s.met }) h.3 in
+    let second = at_same _ _ _ _ _ (ap (drop c.args.i) lent) (λ p q next s. record { met = s.met }) h.4 in
+    let all : refill (length old) old c.write_both.new.all ≡ h.0 ++ h.1 =
+    halves_left _ _ old c.write_both.new.all h.0 h.1 c.args.i (2 ^ c.args.self.now.order)
+    (subst AreWhole here c.self.invariant.block.whole) long c.requires.within c.requires.front_kept
+    c.requires.back_kept first second (h.2 ∙ ap (λ pages. refill (length pages) pages (h.0 ++ h.1)) lent) in
+    (h.0, h.1, ap (λ pages. refill (length pages) pages c.write_both.new.all) here ∙ all, first, second)

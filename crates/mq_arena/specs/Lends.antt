@@ -1,0 +1,23 @@
+-- What a page and a block end as, once the bytes that they lend are given back.
+use Rattle.std.specs.Prelude.{ℕ, List, [], length, slice_index_or, slice_set}
+use Rattle.std.specs.List.{refill}
+use Rattle.std.specs.Borrow.{Lends, MutBor, Fml, Array, RattleType, u8}
+use Rattle.std.specs.declared.sync.ledger.Ledger.{Ghosts}
+use Rattle.mq_arena.specs.OwnedBlock.{OwnedBlock}
+use Rattle.mq_arena.specs.contracts.page.Page as page
+use Rattle.mq_arena.specs.contracts.block.Block as block
+
+-- the page ends with the bytes that were left in it, and keeps its length
+abbrev pub LendsPage : MutBor (List ℕ) → MutBor (List ℕ) → Fml
+LendsPage p r = Lends page.the_row (Array u8 0) p r (refill (length p.now) p.now)
+
+-- pages with these bytes in page i
+abbrev pub with_part : List (List ℕ) → ℕ → List ℕ → List (List ℕ)
+with_part pages i bytes =
+    let old = slice_index_or pages i [] in slice_set pages i (refill (length old) old bytes)
+
+module _ (L : RattleType) (ledger : Ghosts L.Denot) (b : MutBor OwnedBlock) where
+  -- the block ends with the bytes that were left in page i
+  abbrev pub LendsPart : ℕ → MutBor (List ℕ) → Fml
+  LendsPart i r =
+      Lends (block.the_row L ledger) (Array u8 0) b r (λ bytes. record b.now { pages = with_part b.now.pages i bytes })

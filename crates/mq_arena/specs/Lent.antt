@@ -1,0 +1,29 @@
+-- What an arena has lent, before and after a block goes out or comes home.
+use Rattle.std.specs.Prelude.{ℕ, List, Option, sum_by}
+use Rattle.std.specs.Option.{option_map}
+use Rattle.mq_tree.specs.Blocks.{Block, block, page_count}
+use Rattle.mq_tree.specs.LentSet.{Lending, joined, left}
+use Rattle.mq_tree.specs.Fit.{fit}
+use Rattle.mq_arena.specs.OwnedBlock.{OwnedBlock}
+
+-- where a block lies
+abbrev pub place : OwnedBlock → Block
+place b = block b.start b.order
+
+-- the arena with these blocks lent
+abbrev pub with_lent : Lending → List Block → Lending
+with_lent arena lent = record { height = arena.height; lent = lent }
+
+-- the block of that order that goes out next, and the arena once it is out; none where none fits
+abbrev pub lend : Lending → ℕ → Option (Block × Lending)
+lend arena order =
+    option_map (λ start. (block start order, with_lent arena (joined (block start order) arena.lent)))
+    (fit arena.height arena.lent order)
+
+-- the arena once the block is home; one that is not lent changes nothing
+abbrev pub gives_back : Block → Lending → Lending
+gives_back b arena = with_lent arena (left b arena.lent)
+
+-- how many pages the lent blocks have
+abbrev pub lent_pages : List Block → ℕ
+lent_pages lent = sum_by page_count lent

@@ -1,0 +1,150 @@
+//! A block: `2^order` pages in the hand of one owner.
+ghost use Rattle.std.specs.Prelude.{◌≡◌, ◌+◌, ◌-◌, ◌*◌, ◌^◌, ◌<◌, ◌≤◌, ℕ, List, [], ◌++◌, length, take, drop, slice_index_or};
+ghost use Rattle.std.specs.List.{concat};
+ghost use Rattle.std.specs.Borrow.{sem};
+ghost use Rattle.mq_arena.specs.Bytes.{cut_parts};
+ghost use Rattle.mq_arena.specs.Halves.{Writes, TakesPages, KeepsPages};
+
+use crate::halves::write_both;
+use crate::page::{PAGE_LEN, Page};
+use crate::parts::Parts;
+use crate::writes;
+use smallvec::SmallVec;
+use std::marker::Model;
+use std::sync::ledger::{Ledger, Share};
+use std::thread::{Threads, join_mut};
+
+/// A block of `2^order` pages that begins at the page `start` of its arena, with its share of the
+/// arena's count of lent pages. It can't be dropped: its owner gives it back to the arena.
+pub struct Block<L: Ledger> {
+    pub(crate) start: u32,
+    pub(crate) order: u8,
+    pub(crate) pages: SmallVec<Page, 8>,
+    pub(crate) share: Share<L>,
+}
+
+impl<L: Ledger> Model for Block<L> {
+    ghost use Rattle.mq_arena.specs.OwnedBlock.{OwnedBlock, owned, IsCounted};
+
+    ghost Value = { OwnedBlock };
+
+    ghost view = { λ b. owned b.start b.order b.pages.items };
+
+    ghost invariant = { λ b. IsCounted (owned b.start b.order b.pages.items)
+        b.share.amount b.share.parts };
+}
+
+impl<L: Ledger> Block<L> {
+    ghost use Rattle.mq_arena.specs.Lends.{LendsPart};
+    ghost use Rattle.mq_arena.specs.OwnedBlock.{IsBlock};
+
+    pub fn start(&self) -> u32
+        ensures { result ≡ self.now.start }
+    {
+        self.start
+    }
+
+    pub fn order(&self) -> u8
+        ensures order { result ≡ self.now.order }
+        ensures block { IsBlock self.now }
+    {
+        self.order
+    }
+
+    pub fn part(&self, i: usize) -> &[u8]
+        requires { i < 2 ^ self.now.order }
+        ensures value { result.now ≡ slice_index_or self.now.pages i [] }
+        ensures len { length result.now ≡ PAGE_LEN }
+    {
+        self.pages[i].bytes()
+    }
+
+    pub fn part_mut(&mut self, i: usize) -> &mut [u8]
+        requires { i < 2 ^ self.old.order }
+        ensures* writes_back { sem 𝓛 (LendsPart L.row L.Ledger self.entry i result) }
+        ensures value { result.now ≡ slice_index_or self.old.pages i [] }
+        ensures len { length result.now ≡ PAGE_LEN }
+    {
+        match self.pages.get_mut(i) {
+            Some(page) => page.bytes_mut(),
+            None => unreachable!(),
+        }
+    }
+
+    #[tactic(auto, using(crate::proofs::Cuts::cut_whole))]
+    /// All pages in order.
+    pub fn parts(&self) -> Parts<'_>
+        ensures { result ≡ self.now.pages }
+    {
+        Parts {
+            pages: self.pages.as_slice(),
+            len: PAGE_LEN * self.pages.len(),
+        }
+    }
+
+    #[tactic(auto, using(crate::proofs::Cuts::concat_cut_parts))]
+    /// The pages of the first `len` bytes, the last one cut where they end.
+    pub fn parts_to(&self, len: usize) -> Parts<'_>
+        ensures parts { result ≡ cut_parts len self.now.pages }
+        ensures bytes { concat result ≡ take len (concat self.now.pages) }
+    {
+        Parts {
+            pages: self.pages.as_slice(),
+            len,
+        }
+    }
+
+    /// Writes the bytes over the first ones of the block, and leaves the rest as it is.
+    pub fn fill(&mut self, bytes: &[u8])
+        requires { length bytes.now ≤ PAGE_LEN * 2 ^ self.old.order }
+        ensures start { self.new.start ≡ self.old.start }
+        ensures order { self.new.order ≡ self.old.order }
+        ensures bytes { concat self.new.pages
+            ≡ bytes.now ++ drop (length bytes.now) (concat self.old.pages) }
+    {
+        writes::fill(self.pages.as_mut_slice(), bytes);
+    }
+
+    #[tactic(auto, using(crate::proofs::Filling::both_filled))]
+    /// Fills the pages below `i` and those from `i` on, on two threads.
+    pub fn fill_halves(&mut self, rt: &impl Threads, i: usize, front: &[u8], back: &[u8])
+        requires within { i ≤ 2 ^ self.old.order }
+        requires front_fits { length front.now ≡ PAGE_LEN * i }
+        requires back_fits { length front.now + length back.now ≤ PAGE_LEN * 2 ^ self.old.order }
+        ensures start { self.new.start ≡ self.old.start }
+        ensures order { self.new.order ≡ self.old.order }
+        ensures bytes { concat self.new.pages
+            ≡ front.now ++ back.now
+            ++ drop (length front.now + length back.now) (concat self.old.pages) }
+    {
+        let (first, rest) = self.pages.as_mut_slice().split_at_mut(i);
+        join_mut(
+            rt,
+            &mut || writes::fill(first, front),
+            &mut || writes::fill(rest, back),
+        );
+    }
+
+    /// Lends the pages below `i` to `f` and those from `i` on to `g`, on two threads.
+    pub fn write_halves<R: Threads, F: FnMut(&mut [Page]) + Send, G: FnMut(&mut [Page])>(
+        &mut self,
+        rt: &R,
+        i: usize,
+        f: F,
+        g: G,
+    )
+        requires within { i ≤ 2 ^ self.old.order }
+        requires front_taken { TakesPages (F.pre f) i }
+        requires front_kept { KeepsPages (F.step f) i }
+        requires back_taken { TakesPages (G.pre g) (2 ^ self.old.order - i) }
+        requires back_kept { KeepsPages (G.step g) (2 ^ self.old.order - i) }
+        ensures start { self.new.start ≡ self.old.start }
+        ensures order { self.new.order ≡ self.old.order }
+        ensures count { length self.old.pages ≡ 2 ^ self.old.order }
+        ensures halves { (front back : List (List ℕ)) × (self.new.pages ≡ front ++ back)
+            × Writes (F.step f) (take i self.old.pages) front
+            × Writes (G.step g) (drop i self.old.pages) back }
+    {
+        write_both(rt, self.pages.as_mut_slice(), i, f, g);
+    }
+}

@@ -1,0 +1,23 @@
+//! Pages of 1,024 bytes, blocks of `2^order` pages, and their two halves written on two threads.
+#![tactic(auto)]
+
+mod account;
+mod block;
+mod halves;
+mod homecoming;
+mod homes;
+mod page;
+mod parts;
+mod state;
+#[cfg(test)]
+mod tests;
+mod unopened;
+mod writes;
+
+pub use block::Block;
+pub use homecoming::Homecoming;
+pub use page::Page;
+pub use parts::Parts;
+pub use state::ArenaState;
+pub use unopened::Unopened;
+pub use writes::fill;

@@ -1,0 +1,75 @@
+//! A page, and what is written into it.
+ghost use Rattle.std.specs.Prelude.{◌≡◌, ◌≤◌, [], ◌++◌, length, drop, replicate, IfOk};
+ghost use Rattle.std.specs.Borrow.{sem};
+
+use std::alloc::{AllocError, Global};
+use std::default::MadeWith;
+use std::marker::Model;
+
+/// The bytes of a page.
+pub const PAGE_LEN: usize = 1024;
+
+/// A page of memory of its own, seen as its bytes. Each page of a block has 1,024 of them; a blank
+/// page, which fills an unused place of a vector and takes no memory, has none.
+#[derive(Drop)]
+pub struct Page {
+    bytes: Vec<u8>,
+}
+
+impl Model for Page {
+    ghost use Rattle.std.specs.Prelude.{ℕ, List};
+
+    ghost Value = { List ℕ };
+
+    ghost view = { λ page. page.bytes.items };
+}
+
+impl MadeWith<Global> for Page {
+    ghost is_made_with = { λ page. page ≡ [] };
+
+    fn made_with(alloc: Global) -> Page {
+        Page {
+            bytes: Vec::new(alloc),
+        }
+    }
+}
+
+impl Page {
+    ghost use Rattle.mq_arena.specs.Lends.{LendsPage};
+
+    pub(crate) fn zeroed(alloc: Global) -> Result<Page, AllocError>
+        ensures { IfOk result (λ page. page ≡ replicate PAGE_LEN 0) }
+    {
+        let bytes = vec![in alloc; 0; PAGE_LEN]?;
+        Ok(Page { bytes })
+    }
+
+    pub fn bytes(&self) -> &[u8]
+        ensures { result.now ≡ self.now }
+    {
+        self.bytes.as_slice()
+    }
+
+    /// The bytes, to be written in place: the page keeps its length.
+    pub fn bytes_mut(&mut self) -> &mut [u8]
+        ensures* writes_back { sem 𝓛 (LendsPage self.entry result) }
+        ensures value { result.now ≡ self.old }
+    {
+        self.bytes.as_mut_slice()
+    }
+
+    /// Writes over the first bytes and leaves the rest as they are.
+    pub fn write(&mut self, bytes: &[u8])
+        requires { length bytes.now ≤ length self.old }
+        ensures { self.new ≡ bytes.now ++ drop (length bytes.now) self.old }
+    {
+        let (front, _) = self.bytes.as_mut_slice().split_at_mut(bytes.len());
+        front.copy_from_slice(bytes);
+    }
+
+    pub(crate) fn clear(&mut self)
+        ensures { self.new ≡ replicate (length self.old) 0 }
+    {
+        self.bytes.as_mut_slice().fill(0);
+    }
+}

@@ -1,0 +1,128 @@
+//! The arena: the pages at home, and which are lent.
+ghost use Rattle.std.specs.Prelude.{◌≡◌, ◌+◌, ◌^◌, ◌≤◌, ◌↔◌, Some, None, replicate, IfSome, IfNone, IsTrue};
+ghost use Rattle.mq_tree.specs.LentSet.{is_lent, free_pages};
+ghost use Rattle.mq_tree.specs.Fit.{largest};
+ghost use Rattle.mq_arena.specs.Account.{pages_of};
+ghost use Rattle.mq_arena.specs.Lent.{place, lend, gives_back, lent_pages};
+
+use crate::account::{audit, page_count};
+use crate::block::Block;
+use crate::homecoming::Homecoming;
+use crate::homes::{put_pages, take_pages};
+use crate::page::{PAGE_LEN, Page};
+use mq_tree::OrderTree;
+use std::marker::Model;
+use std::sync::ledger::{Book, Ledger, Share};
+
+/// The pages of an arena, lent in blocks by Knowlton's buddy system ("A fast storage allocator",
+/// CACM 1965). Each page that is not lent is at home, at the place of its number. The ledger `L`
+/// counts the pages of the blocks that are out, wherever they are: its book is here, and each
+/// block carries its share.
+#[derive(Drop)]
+pub struct ArenaState<L: Ledger> {
+    pub(crate) tree: OrderTree,
+    pub(crate) homes: Vec<Page>,
+    pub(crate) out: Book<L>,
+    pub(crate) parts: Share<L>,
+}
+
+impl<L: Ledger> Model for ArenaState<L> {
+    ghost use Rattle.mq_tree.specs.LentSet.{Lending};
+    ghost use Rattle.mq_arena.specs.Stocked.{IsArena};
+
+    ghost Value = { Lending };
+
+    ghost view = { λ a. a.tree };
+
+    ghost invariant = { λ a. IsArena a.tree a.homes.items a.out.total a.parts.parts };
+}
+
+impl<L: Ledger> ArenaState<L> {
+    /// Takes the block of that order with the least start, with all bytes zero. It takes no memory:
+    /// the pages move into the block.
+    pub fn take(&mut self, order: u8) -> Option<Block<L>>
+        requires { order ≤ 3 }
+        ensures lent { IfSome result (λ b. lend self.old order ≡ Some (place b, self.new)) }
+        ensures order { IfSome result (λ b. b.order ≡ order) }
+        ensures zero { IfSome result (λ b. b.pages ≡ replicate (2 ^ order) (replicate PAGE_LEN 0)) }
+        ensures none { IfNone result (lend self.old order ≡ None) }
+        ensures unchanged { IfNone result (self.new ≡ self.old) }
+    {
+        let start = self.tree.lend(order)?;
+        let count = page_count(order);
+        let alloc = *self.homes.allocator();
+        let homes = self.homes.as_mut_slice();
+        let pages = take_pages(alloc, homes, start as usize, count as usize);
+        let mut share = self.parts.split_off(count as u64, 0);
+        self.out.add(&mut share, count as u64);
+        Some(Block {
+            start,
+            order,
+            pages,
+            share,
+        })
+    }
+
+    /// Takes a block back: home where that very block is lent, else a stray.
+    pub fn put(&mut self, block: Block<L>) -> Homecoming
+        ensures home { (result ≡ Homecoming.Home) ↔ IsTrue (is_lent (place block) self.old.lent) }
+        ensures back { self.new ≡ gives_back (place block) self.old }
+        ensures stray { result ≡ Homecoming.Stray → self.new ≡ self.old }
+    {
+        let Block {
+            start,
+            order,
+            pages,
+            mut share,
+        } = block;
+        if !self.tree.give(start, order) {
+            self.parts.merge(share);
+            return Homecoming::Stray;
+        }
+        self.out.sub(&mut share, page_count(order) as u64);
+        self.parts.merge(share);
+        put_pages(self.homes.as_mut_slice(), start as usize, pages);
+        Homecoming::Home
+    }
+
+    /// How many pages the arena has.
+    pub fn pages(&self) -> u32
+        ensures { result ≡ 2 ^ self.now.height }
+    {
+        self.tree.pages()
+    }
+
+    /// How many pages are not lent.
+    pub fn free_pages(&self) -> u32
+        ensures { result ≡ free_pages self.now.height self.now.lent }
+    {
+        self.tree.free_pages()
+    }
+
+    /// How many pages the lent blocks have.
+    pub fn lent_pages(&self) -> u32
+        ensures blocks { result ≡ lent_pages self.now.lent }
+        ensures account { free_pages self.now.height self.now.lent + result ≡ 2 ^ self.now.height }
+    {
+        let all = self.tree.pages();
+        all - self.tree.free_pages()
+    }
+
+    /// Shows that each block in anyone's hands is counted: the pages of these and the free ones are
+    /// no more than the arena's. It changes nothing.
+    pub fn account(&mut self, blocks: &mut [Block<L>])
+        ensures counted { free_pages self.old.height self.old.lent + pages_of blocks.old
+            ≤ 2 ^ self.old.height }
+        ensures arena { self.new ≡ self.old }
+        ensures blocks { blocks.new ≡ blocks.old }
+    {
+        audit(&mut self.out, &mut self.parts, blocks);
+    }
+
+    /// The largest order of which `take` would find a block, where it is at most 3.
+    pub fn largest(&self) -> Option<u8>
+        ensures { result ≡ largest self.now.height self.now.lent }
+    {
+        self.tree.largest()
+    }
+}

@@ -1,0 +1,232 @@
+//! Tests of what no clause says: that calls succeed, and what a block shows at last.
+ghost use Rattle.std.specs.Prelude.{◌≡◌, ◌^◌, ◌<◌, ◌≤◌, length};
+ghost use Rattle.mq_tree.specs.LentSet.{free_pages};
+
+use super::*;
+use mq_tree::TreeError;
+use std::marker::Brand;
+use std::mem::swap;
+use std::process::Abort;
+use std::slice::from_mut;
+use std::sync::ledger::{Blank, Ledger};
+use std::test::Fail;
+use std::thread::Threads;
+
+const PARTS: u64 = 1025;
+
+fn taken<L: Ledger>(rt: &impl Abort, arena: &mut ArenaState<L>, order: u8, start: u32) -> Block<L>
+    requires { order ≤ 3 }
+    ensures { result.order ≡ order }
+{
+    match arena.take(order) {
+        Some(block) => {
+            assert_eq!(rt; block.start(), start);
+            block
+        }
+        None => panic!(rt; "no block of order {order} at {start}"),
+    }
+}
+
+fn finds_none<L: Ledger>(rt: &impl Abort, arena: &mut ArenaState<L>, order: u8)
+    requires { order ≤ 3 }
+{
+    if let Some(block) = arena.take(order) {
+        arena.put(block);
+        panic!(rt; "a block of order {order}");
+    }
+}
+
+fn shows<L: Ledger>(rt: &impl Abort, block: &Block<L>, bytes: &[u8]) {
+    let mut rest = bytes;
+    for part in block.parts_to(bytes.len()) {
+        assert!(rt; part.len() <= rest.len());
+        let (now, later) = rest.split_at(part.len());
+        assert!(rt; part == now);
+        rest = later;
+    }
+    assert!(rt; rest.is_empty());
+}
+
+fn used_again<L: Ledger>(rt: &impl Abort, unopened: Unopened, ledger: Blank)
+    requires name { ledger.name ≡ L.name }
+    requires parts { ledger.parts ≡ L.parts }
+    requires enough { 2 ^ unopened < ledger.parts }
+{
+    let mut arena = unopened.open::<L>(ledger);
+    let mut block = taken(rt, &mut arena, 1, 0);
+    block.fill(&[7; 2048]);
+    block.part_mut(1)[1023] = 9;
+    assert_eq!(rt; block.part(0)[0], 7);
+    assert_eq!(rt; block.part(1)[1023], 9);
+    assert_eq!(rt; arena.put(block), Homecoming::Home);
+
+    let block = taken(rt, &mut arena, 1, 0);
+    shows(rt, &block, &[0; 2048]);
+    assert_eq!(rt; block.parts().count(), 2);
+    assert_eq!(rt; arena.put(block), Homecoming::Home);
+}
+
+#[test]
+fn a_page_is_zero_after_it_was_used(rt: HostRuntime) -> Result<(), Fail> {
+    let unopened = Unopened::new(rt.alloc(), 1)?;
+    used_again::<Brand>(&rt, unopened, Blank::new(PARTS));
+    Ok(())
+}
+
+fn fills_up<L: Ledger>(rt: &impl Abort, unopened: Unopened, ledger: Blank)
+    requires name { ledger.name ≡ L.name }
+    requires parts { ledger.parts ≡ L.parts }
+    requires enough { 2 ^ unopened < ledger.parts }
+{
+    let mut arena = unopened.open::<L>(ledger);
+    assert_eq!(rt; arena.pages(), 4);
+    finds_none(rt, &mut arena, 3);
+    let mut pair = taken(rt, &mut arena, 1, 0);
+    let one = taken(rt, &mut arena, 0, 2);
+    finds_none(rt, &mut arena, 1);
+    assert_eq!(rt; arena.largest(), Some(0));
+    assert_eq!(rt; arena.free_pages(), 1);
+    assert_eq!(rt; arena.lent_pages(), 3);
+
+    arena.account(from_mut(&mut pair));
+    assert_eq!(rt; arena.put(pair), Homecoming::Home);
+    assert_eq!(rt; arena.largest(), Some(1));
+    assert_eq!(rt; arena.put(one), Homecoming::Home);
+    assert_eq!(rt; arena.largest(), Some(2));
+    assert_eq!(rt; arena.lent_pages(), 0);
+}
+
+#[test]
+fn take_answers_none_where_nothing_fits(rt: HostRuntime) -> Result<(), Fail> {
+    let unopened = Unopened::new(rt.alloc(), 2)?;
+    fills_up::<Brand>(&rt, unopened, Blank::new(PARTS));
+    Ok(())
+}
+
+fn is_cut<L: Ledger>(rt: &impl Abort, block: &Block<L>, i: usize, letters: (u8, u8)) {
+    let mut k: usize = 0;
+    for part in block.parts() {
+        let want = if k < i { letters.0 } else { letters.1 };
+        for byte in part {
+            assert_eq!(rt; *byte, want, "part {k} of {i}");
+        }
+        k = k.saturating_add(1);
+    }
+    assert_eq!(rt; k, 4);
+}
+
+fn cut_at<L: Ledger, R: Abort + Threads>(
+    rt: &R,
+    block: &mut Block<L>,
+    i: usize,
+    first: &[u8],
+    second: &[u8],
+)
+    requires order { block.old.order ≡ 2 }
+    requires within { i ≤ 4 }
+    requires first { length first.now ≡ 4096 }
+    requires second { length second.now ≡ 4096 }
+    ensures { block.new.order ≡ 2 }
+{
+    block.fill_halves(rt, i, &first[..1024 * i], &second[1024 * i..]);
+    is_cut(rt, block, i, (b'A', b'B'));
+    let front = &second[..1024 * i];
+    let back = &first[1024 * i..];
+    block.write_halves(
+        rt,
+        i,
+        |pages: &mut [Page]| fill(pages, front),
+        |pages: &mut [Page]| fill(pages, back),
+    );
+    is_cut(rt, block, i, (b'B', b'A'));
+}
+
+fn halves<L: Ledger, R: Abort + Threads>(
+    rt: &R,
+    unopened: Unopened,
+    ledger: Blank,
+    first: &[u8],
+    second: &[u8],
+)
+    requires first { length first.now ≡ 4096 }
+    requires second { length second.now ≡ 4096 }
+    requires name { ledger.name ≡ L.name }
+    requires parts { ledger.parts ≡ L.parts }
+    requires enough { 2 ^ unopened < ledger.parts }
+{
+    let mut arena = unopened.open::<L>(ledger);
+    let mut block = taken(rt, &mut arena, 2, 0);
+    cut_at(rt, &mut block, 0, first, second);
+    cut_at(rt, &mut block, 1, first, second);
+    cut_at(rt, &mut block, 4, first, second);
+    assert_eq!(rt; block.order(), 2);
+    assert_eq!(rt; arena.put(block), Homecoming::Home);
+}
+
+#[test]
+fn two_threads_write_the_two_halves(rt: HostRuntime) -> Result<(), Fail> {
+    let unopened = Unopened::new(rt.alloc(), 3)?;
+    let first = vec![in rt.alloc(); b'A'; 4096]?;
+    let second = vec![in rt.alloc(); b'B'; 4096]?;
+    halves::<Brand, HostRuntime>(&rt, unopened, Blank::new(PARTS), &first, &second);
+    Ok(())
+}
+
+// Gives each arena the other's pages, of which as many are lent.
+fn exchange<L: Ledger, M: Ledger>(a: &mut ArenaState<L>, b: &mut ArenaState<M>)
+    requires pages { 2 ^ a.old.height ≡ 2 ^ b.old.height }
+    requires free { free_pages a.old.height a.old.lent ≡ free_pages b.old.height b.old.lent }
+{
+    swap(&mut a.tree, &mut b.tree);
+    swap(&mut a.homes, &mut b.homes);
+}
+
+fn goes_astray<L: Ledger, M: Ledger>(
+    rt: &impl Abort,
+    first: Unopened,
+    here: Blank,
+    second: Unopened,
+    there: Blank,
+)
+    requires name { here.name ≡ L.name }
+    requires parts { here.parts ≡ L.parts }
+    requires enough { 2 ^ first < here.parts }
+    requires other_name { there.name ≡ M.name }
+    requires other_parts { there.parts ≡ M.parts }
+    requires other_enough { 2 ^ second < there.parts }
+{
+    let mut a = first.open::<L>(here);
+    let mut b = second.open::<M>(there);
+    let one = taken(rt, &mut a, 0, 0);
+    let other = taken(rt, &mut a, 0, 1);
+    let pair = taken(rt, &mut b, 1, 0);
+    assert_eq!(rt; a.pages(), b.pages());
+    assert_eq!(rt; a.free_pages(), b.free_pages());
+    exchange(&mut a, &mut b);
+    assert_eq!(rt; a.put(one), Homecoming::Stray);
+    assert_eq!(rt; a.put(other), Homecoming::Stray);
+    assert_eq!(rt; b.put(pair), Homecoming::Stray);
+    assert_eq!(rt; a.lent_pages(), 2);
+    assert_eq!(rt; b.lent_pages(), 2);
+    assert_eq!(rt; a.free_pages(), 6);
+}
+
+#[test]
+fn a_stray_stays_counted(rt: HostRuntime) -> Result<(), Fail> {
+    let first = Unopened::new(rt.alloc(), 3)?;
+    let second = Unopened::new(rt.alloc(), 3)?;
+    goes_astray::<Brand, Brand>(&rt, first, Blank::new(PARTS), second, Blank::new(PARTS));
+    Ok(())
+}
+
+#[test]
+fn an_arena_is_refused_by_height_and_by_memory_alone(rt: HostRuntime) {
+    match Unopened::new(rt.alloc(), 11) {
+        Ok(_) => panic!(rt; "a height of 11"),
+        Err(refused) => assert_eq!(rt; refused, TreeError::Height),
+    }
+    // Each allocation of this one is refused in turn by `rt try --test --fail-alloc 1..`.
+    if let Err(refused) = Unopened::new(rt.alloc(), 2) {
+        assert_eq!(rt; refused, TreeError::Memory);
+    }
+}
