@@ -47,7 +47,6 @@ fn lower(least: Option<i64>, mtype: i64) -> i64
 }
 
 /// Whether a type is at most the bound.
-/// Whether a type is at most the bound.
 fn is_within(mtype: i64, bound: u64) -> bool
     ensures { result ≡ int_le mtype (pos bound) }
 {
@@ -73,7 +72,6 @@ fn first_of<B>(messages: &VecDeque<Placed<B>>, wanted: i64) -> Option<u64>
     messages.iter().find(|m| m.1.mtype == wanted).map(|m| m.0)
 }
 
-/// The place of the first message of any other type.
 /// The place of the first message of any other type.
 fn first_other<B>(messages: &VecDeque<Placed<B>>, other: i64) -> Option<u64>
     ensures { result ≡ option_map (λ m. m.0)
