@@ -1,3 +1,4 @@
+pub mod DraftLemmas
 pub mod LinesLemmas
 pub mod NumberLemmas
 pub mod PartsLemmas

@@ -1,6 +1,6 @@
 use Rattle.std.proofs.Common.{◌≡◌, ℕ, ◌+◌, List, [], ◌∷◌, ◌++◌, Option, Some, Result, Ok, Err, refl, sym, ap, ◌∙◌, subst, append_assoc, append-nil}
-use Rattle.std.specs.Io.KnownBytes.{Appends}
-use Rattle.std.proofs.KnownBytes.{Appends-nil, Appends-trans}
+use Rattle.std.specs.Io.KnownBytes.{Appends, Keeps}
+use Rattle.std.proofs.KnownBytes.{Appends-kept, Appends-nil, Appends-trans}
 use Rattle.mq_cli.specs.declared.fault.Cause.{Cause}
 use Rattle.mq_cli.specs.declared.fault.RunFault.{RunFault}
 use Rattle.mq_cli.specs.declared.fault.RunFault.TheVariants.{Script, Size, Read, Write, Memory}
@@ -86,3 +86,16 @@ so_far_end old now n s whole so = (
   ap (λ (w : Run). w.fault) so.whole_is,
   subst (λ (w : List ℕ). Appends old now w) (sym (ap (λ (w : Run). w.written) so.whole_is ∙ append-nil so.text)) so.taken,
 )
+
+-- however a run ended, a front of what it writes was written
+pub runs_front : (old now : Option (List ℕ)) (run : Run) (r : Result (Unit {0}) RunFault) → Runs old now run r → AppendsFront old now run.written
+runs_front old now run (Ok _) ran = (run.written, ([], sym (append-nil run.written)), ran.1)
+runs_front old now run (Err (Script line cause)) ran = (run.written, ([], sym (append-nil run.written)), ran.1)
+runs_front old now run (Err Write) ran = ran
+runs_front old now run (Err Memory) ran = ran
+runs_front old now run (Err Size) ran = absurd ran
+runs_front old now run (Err Read) ran = absurd ran
+
+-- and a flush keeps it so
+pub front_kept : (old now new : Option (List ℕ)) (text : List ℕ) → AppendsFront old now text → Keeps now new → AppendsFront old new text
+front_kept old now new text front kept = (front.0, front.1, Appends-kept old now new front.0 front.2 kept)

@@ -17,7 +17,7 @@ use Rattle.std.proofs.lemmas.Str.Parse.{digit_from_value, not_in_digits}
 use Rattle.mq_cli.specs.declared.limits.TheConstants.{LINE_LIMIT}
 use Rattle.mq_cli.specs.declared.fault.Cause.{Cause}
 use Rattle.mq_cli.specs.declared.fault.Cause.TheVariants.{Words}
-use Rattle.mq_cli.specs.Commands.{Call, sit, get, snd, rcv, Text, plain, letters, Flags, ok_map, ◌>>=◌, worded, is_filled, is_plain, is_text, text_of, flags_of, seat_of, get_of, send_of, receive_of, command_of, is_skipped, reading}
+use Rattle.mq_cli.specs.Commands.{Call, sit, show, get, snd, rcv, Text, plain, letters, Flags, ok_map, ◌>>=◌, worded, is_filled, is_plain, is_text, text_of, flags_of, seat_of, arena_of, get_of, send_of, receive_of, command_of, is_skipped, reading}
 use Rattle.mq_cli.specs.Laws.{flag_words, spelling, text_spelling, CanBeSpelled, Spells, ReadsBack, SpelledOneWay}
 use Rattle.mq_cli.specs.Lines.{is_printable, line_of, words_of}
 use Rattle.mq_cli.specs.Numbers.{number_of, integer_of, under, above_zero, below_zero}
@@ -285,6 +285,13 @@ seated line (word ∷ []) call is e =
 seated line [] call is e = absurd (cc e)
 seated line (word ∷ more ∷ words) call is e = absurd (cc e)
 
+-- arena is read from its spelling alone
+listed : (line : List ℕ) (words : List (List ℕ)) (call : Call) → line ≡ line_of (codes "arena" ∷ words) → arena_of words ≡ Ok call → Spells line call
+listed line [] call is e =
+    let same : show ≡ call = cc e in
+    subst (Spells line) same (is, tt)
+listed line (word ∷ words) call is e = absurd (cc e)
+
 -- what follows from words that say something
 worded_ok : {A B P : Type 0} (o : Option A) (f : A → Result B Cause) (y : B) → worded o f ≡ Ok y → ((x : A) → o ≡ Some x → f x ≡ Ok y → P) → P
 worded_ok None f y e then = absurd (cc e)
@@ -407,9 +414,11 @@ commanded line (name ∷ words) call are short printable e =
     (λ is_rcv receives. received line words call (rejoined line name (codes "rcv") words are is_rcv) receives)
     (λ not_rcv more. chosen _ _ _ _ more
     (λ is_seat sits. seated line words call (rejoined line name (codes "seat") words are is_seat) sits)
-    (λ not_seat rest.
-    let last = needed _ _ _ _ rest in
-    got line words call (rejoined line name (codes "get") words are last.0) last.1)))
+    (λ not_seat rest. chosen _ _ _ _ rest
+    (λ is_arena asks. listed line words call (rejoined line name (codes "arena") words are is_arena) asks)
+    (λ not_arena others.
+    let last = needed _ _ _ _ others in
+    got line words call (rejoined line name (codes "get") words are last.0) last.1))))
 
 -- a call is read from its spelling alone
 pub spelled_one_way : SpelledOneWay
@@ -514,6 +523,7 @@ pub reads_back : ReadsBack
 reads_back (sit number) can =
     reads_words (codes "seat" ∷ []) (decimal number) (sit number) (name_word (codes "seat") refl, tt) (decimal_word number (omega (arith, can.1))) (lit≤ tt) refl
     (seat_again number can.0 can.1)
+reads_back show can = refl
 reads_back get can = get_again
 reads_back (snd id mtype (plain bytes)) can =
     let words = codes "snd" ∷ decimal id ∷ signed_decimal mtype ∷ [] in

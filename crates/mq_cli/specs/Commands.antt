@@ -16,6 +16,7 @@ pub data Text : Type 0 where
 -- what a line asks for
 pub data Call : Type 0 where
   sit : (number : ℕ) → Call
+  show : Call
   get : Call
   snd : (id : ℕ) (mtype : ℤ) (text : Text) → Call
   rcv : (id size : ℕ) (mtype : ℤ) (except noerror : Bool) → Call
@@ -43,6 +44,11 @@ worded (Some x) f = f x
 abbrev pub seat_of : List (List ℕ) → Result Call Cause
 seat_of (word ∷ []) = above_zero (under 17 (number_of word)) >>= λ n. Ok (sit n)
 seat_of _ = Err Words
+
+-- the arena's figures
+abbrev pub arena_of : List (List ℕ) → Result Call Cause
+arena_of [] = Ok show
+arena_of _ = Err Words
 
 -- msgget: a queue without a key, made
 abbrev pub get_of : List (List ℕ) → Result Call Cause
@@ -99,8 +105,9 @@ command_of (name ∷ words) =
     else (if not (list_all is_filled words) then Err Words
     else (if bytes_eq name (codes "rcv") then receive_of words
     else (if bytes_eq name (codes "seat") then seat_of words
+    else (if bytes_eq name (codes "arena") then arena_of words
     else (if bytes_eq name (codes "get") then get_of words
-    else Err Words))))
+    else Err Words)))))
 
 -- an empty line or a comment
 abbrev pub is_skipped : List ℕ → Bool

@@ -3,7 +3,7 @@ use Rattle.std.specs.Fmt.{decimal, signed_decimal}
 use Rattle.std.specs.Int.{w64}
 use Rattle.std.specs.List.{list_all}
 use Rattle.mq_cli.specs.declared.limits.TheConstants.{LINE_LIMIT}
-use Rattle.mq_cli.specs.Commands.{Call, sit, get, snd, rcv, Text, plain, letters, reading}
+use Rattle.mq_cli.specs.Commands.{Call, sit, show, get, snd, rcv, Text, plain, letters, reading}
 use Rattle.mq_cli.specs.Lines.{line_of, is_printable}
 
 -- a text has `=` before it, a number of letters `*`
@@ -21,6 +21,7 @@ flag_words true true = codes "en" ∷ []
 -- the one line that asks for a call
 abbrev pub spelling : Call → List ℕ
 spelling (sit number) = line_of (codes "seat" ∷ decimal number ∷ [])
+spelling show = codes "arena"
 spelling get = codes "get 0 c"
 spelling (snd id mtype text) = line_of (codes "snd" ∷ decimal id ∷ signed_decimal mtype ∷ text_spelling text ∷ [])
 spelling (rcv id size mtype except noerror) = line_of (codes "rcv" ∷ decimal id ∷ decimal size ∷ signed_decimal mtype ∷ flag_words except noerror)
@@ -28,6 +29,7 @@ spelling (rcv id size mtype except noerror) = line_of (codes "rcv" ∷ decimal i
 -- the calls that a line can ask for: each number is in its range, and a text is printable and leaves the line short enough
 abbrev pub CanBeSpelled : Call → Type 0
 CanBeSpelled (sit number) = (1 ≤ number) × (number ≤ 16)
+CanBeSpelled show = Unit {0}
 CanBeSpelled get = Unit {0}
 CanBeSpelled (snd id mtype (plain bytes)) = (id < 2 ^ 32) × FitsSigned w64 mtype × IsTrue (list_all is_printable bytes) × (length (spelling (snd id mtype (plain bytes))) ≤ LINE_LIMIT)
 CanBeSpelled (snd id mtype (letters count)) = (id < 2 ^ 32) × FitsSigned w64 mtype × (count < 2 ^ 64)

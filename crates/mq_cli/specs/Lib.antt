@@ -1,4 +1,5 @@
 pub mod Commands
+pub mod Drafts
 pub mod Laws
 pub mod Lines
 pub mod Numbers
@@ -8,3 +9,4 @@ pub mod Serial
 pub mod Session
 pub mod Slot
 pub mod Transcript
+pub mod Turns

@@ -2,10 +2,10 @@ use Rattle.std.specs.Prelude.{Option, Result}
 use Rattle.std.specs.Option.{option_map}
 use Rattle.mq_cli.specs.declared.fault.Cause.{Cause}
 use Rattle.mq_cli.specs.declared.command.Command.{Command}
-use Rattle.mq_cli.specs.declared.command.Command.TheVariants.{Seat, Get, Send, Receive}
+use Rattle.mq_cli.specs.declared.command.Command.TheVariants.{Seat, Arena, Get, Send, Receive}
 use Rattle.mq_cli.specs.declared.command.TextForm.{TextForm}
 use Rattle.mq_cli.specs.declared.command.TextForm.TheVariants.{Plain, Letters}
-use Rattle.mq_cli.specs.Commands.{Call, sit, get, snd, rcv, Text, plain, letters, Flags, ok_map}
+use Rattle.mq_cli.specs.Commands.{Call, sit, show, get, snd, rcv, Text, plain, letters, Flags, ok_map}
 use Rattle.mq_cli.specs.declared.command.ReceiveFlags.{ReceiveFlags}
 
 abbrev pub text_seen : TextForm → Text
@@ -18,8 +18,9 @@ flags_seen flags = record { except = flags.except; noerror = flags.noerror }
 -- the call that a command stands for
 abbrev pub call_of : Command → Call
 call_of (Seat number) = sit number
+call_of Arena = show
 call_of Get = get
-call_of (Send id mtype text) = snd id mtype (text_seen text)
+call_of (Send call) = snd call.id call.mtype (text_seen call.text)
 call_of (Receive call) = rcv call.id call.size call.mtype call.flags.except call.flags.noerror
 
 abbrev pub seen : Result Command Cause → Result Call Cause

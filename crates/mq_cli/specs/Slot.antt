@@ -1,7 +1,7 @@
 use Rattle.std.specs.Prelude.{[], Option, Some, None}
 use Rattle.mq_message.specs.Text.{PlainText}
 use Rattle.mq_queue.specs.Queue.{Queue}
-use Rattle.mq_cli.specs.Session.{SlotState}
+use Rattle.mq_cli.specs.Turns.{SlotState}
 
 -- the slot with this queue
 abbrev pub slot_of : Option (Queue PlainText) → SlotState

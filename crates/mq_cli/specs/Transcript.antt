@@ -1,5 +1,7 @@
-use Rattle.std.specs.Prelude.{ℕ, ℤ, Bool, ◌+◌, List, [], ◌∷◌, ◌++◌, codes, Option, Some, None, Result, Ok, Err}
+use Rattle.std.specs.Prelude.{ℕ, ℤ, Bool, ◌+◌, ◌^◌, List, [], ◌∷◌, ◌++◌, codes, Option, Some, None, Result, Ok, Err}
 use Rattle.std.specs.Fmt.{decimal, signed_decimal}
+use Rattle.mq_tree.specs.Fit.{largest}
+use Rattle.mq_tree.specs.LentSet.{free_pages}
 use Rattle.mq_message.specs.Text.{PlainText}
 use Rattle.mq_message.specs.declared.message.Message.{Message}
 use Rattle.mq_queue.specs.declared.received.Received.{Received}
@@ -7,8 +9,8 @@ use Rattle.mq_cli.specs.declared.errno.Errno.{Errno}
 use Rattle.mq_cli.specs.declared.errno.Errno.TheVariants.{EINVAL, EAGAIN, ENOMSG, E2BIG, ENOSPC, ENOMEM}
 use Rattle.mq_cli.specs.declared.fault.Cause.{Cause}
 use Rattle.mq_cli.specs.Lines.{lines_of}
-use Rattle.mq_cli.specs.Commands.{Call, sit, get, snd, rcv, Text, reading}
-use Rattle.mq_cli.specs.Session.{State, Answer, draft, msgget, msgsnd, msgrcv}
+use Rattle.mq_cli.specs.Commands.{Call, sit, show, get, snd, rcv, Text, reading}
+use Rattle.mq_cli.specs.Session.{State, Answer, draft, spent, msgget, msgsnd, msgrcv}
 
 -- what a command answers, if it does
 pub data Reply : Type 0 where
@@ -17,6 +19,7 @@ pub data Reply : Type 0 where
   given : (id : ℕ) → Reply
   at : (entry : ℕ) → Reply
   message : (delivery : Received PlainText) → Reply
+  figures : (pages free : ℕ) (most : Option ℕ) → Reply
 
 abbrev pub errno_name : Errno → List ℕ
 errno_name EINVAL = codes "EINVAL"
@@ -32,12 +35,21 @@ head_of mtype sender tag n =
     codes "msg " ++ signed_decimal mtype ++ codes " seat " ++ decimal sender ++ codes " tag " ++ decimal tag
     ++ codes " len " ++ decimal n ++ codes " ="
 
+-- what is said of the arena, up to the largest order that fits
+unfoldable pub pages_of : ℕ → ℕ → List ℕ
+pages_of pages free = codes "pages " ++ decimal pages ++ codes " free " ++ decimal free ++ codes " largest "
+
+abbrev pub order_name : Option ℕ → List ℕ
+order_name None = codes "none"
+order_name (Some order) = decimal order
+
 -- a reply as it is written
 abbrev pub text_of : Reply → List ℕ
 text_of silent = []
 text_of (refused errno) = errno_name errno
 text_of (given id) = codes "id " ++ decimal id
 text_of (at entry) = codes "at " ++ decimal entry
+text_of (figures pages free most) = pages_of pages free ++ order_name most
 text_of (message m) = head_of m.mtype m.sender m.tag m.length ++ m.body.bytes
 
 -- its line, where there is one
@@ -56,24 +68,26 @@ message_of n seat mtype text = record { mtype = mtype; sender = seat; tag = n; b
 
 -- what each command replies and leaves
 abbrev pub sit_step : State → ℕ → Reply × State
-sit_step s number = (silent, record { slot = s.slot; seat = number })
+sit_step s number = (silent, record { arena = s.arena; slot = s.slot; seat = number })
+
+abbrev pub arena_step : State → Reply × State
+arena_step s = (figures (2 ^ s.arena.height) (free_pages s.arena.height s.arena.lent) (largest s.arena.height s.arena.lent), s)
 
 abbrev pub get_step : State → Reply × State
 get_step s = told s (λ t. (given t.0, t.1)) (msgget s)
 
-abbrev pub post_step : State → ℕ → Message PlainText → Reply × State
-post_step s id m = told s (λ t. (at t.0, t.1)) (msgsnd s id m)
-
--- a text that cannot be made is refused whatever else the line says
+-- a text that cannot be made is refused whatever else the line says; a refused call leaves all
 abbrev pub send_step : ℕ → State → ℕ → ℤ → Text → Reply × State
-send_step n s id mtype text = told s (λ d. post_step s id (message_of n s.seat mtype d.0)) (draft s text)
+send_step n s id mtype text = told s (λ d. told s (λ t. (at t.0, t.1)) (msgsnd d.1 id (message_of n s.seat mtype d.0))) (draft s text)
 
+-- a text that was handed out is given up once it is written
 abbrev pub receive_step : State → ℕ → ℕ → ℤ → Bool → Bool → Reply × State
-receive_step s id size mtype except noerror = told s (λ t. (message t.0, t.1)) (msgrcv s id size mtype except noerror)
+receive_step s id size mtype except noerror = told s (λ t. (message t.0, spent t.0.body t.1)) (msgrcv s id size mtype except noerror)
 
 -- what the command of line n replies and leaves
 abbrev pub step : ℕ → State → Call → Reply × State
 step n s (sit number) = sit_step s number
+step n s show = arena_step s
 step n s get = get_step s
 step n s (snd id mtype text) = send_step n s id mtype text
 step n s (rcv id size mtype except noerror) = receive_step s id size mtype except noerror
@@ -101,17 +115,17 @@ unfoldable pub run_from : ℕ → State → List (List ℕ) → Run
 run_from n s [] = record { written = []; fault = None }
 run_from n s (line ∷ lines) = goes_on n (said n s (reading line)) (λ t. run_from (n + 1) t lines)
 
--- no queue is made, and seat 1 makes the calls
-abbrev pub start : State
-start = record { slot = record { entries = 0; messages = [] }; seat = 1 }
+-- nothing is lent in an arena of this height, no queue is made, and seat 1 makes the calls
+abbrev pub start : ℕ → State
+start height = record { arena = record { height = height; lent = [] }; slot = record { entries = 0; messages = [] }; seat = 1 }
 
-abbrev pub run_of : List ℕ → Run
-run_of script = run_from 1 start (lines_of script)
+abbrev pub run_of : ℕ → List ℕ → Run
+run_of height script = run_from 1 (start height) (lines_of script)
 
--- all that a script writes
-abbrev pub transcript : List ℕ → List ℕ
-transcript script = (run_of script).written
+-- all that a script writes, over an arena of this height
+abbrev pub transcript : ℕ → List ℕ → List ℕ
+transcript height script = (run_of height script).written
 
 -- where a script is not well formed
-abbrev pub fault_of : List ℕ → Option (ℕ × Cause)
-fault_of script = (run_of script).fault
+abbrev pub fault_of : ℕ → List ℕ → Option (ℕ × Cause)
+fault_of height script = (run_of height script).fault

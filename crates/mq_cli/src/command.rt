@@ -1,10 +1,11 @@
 ghost use Rattle.std.specs.Prelude.{◌≡◌, ◌^◌, ◌==◌};
 ghost use Rattle.std.specs.List.{list_all, list_any};
 ghost use Rattle.std.specs.Option.{option_map};
-ghost use Rattle.mq_cli.specs.Commands.{command_of, flags_of, get_of, is_filled, receive_of, reading};
+ghost use Rattle.mq_cli.specs.Commands.{arena_of, command_of, flags_of, get_of, is_filled, receive_of, reading};
 ghost use Rattle.mq_cli.specs.Commands.{seat_of, send_of, text_of};
 ghost use Rattle.mq_cli.specs.Commands.{is_skipped as is_skipped_line};
 ghost use Rattle.mq_cli.specs.Commands.{is_text as is_text_form};
+ghost use Rattle.mq_cli.specs.Drafts.{length_of_text};
 ghost use Rattle.mq_cli.specs.Lines.{is_printable, words_of};
 ghost use Rattle.mq_cli.specs.Numbers.{above_zero, number_of, under};
 ghost use Rattle.mq_cli.specs.Parts.{parts_left};
@@ -30,6 +31,14 @@ pub struct ReceiveFlags {
     pub noerror: bool,
 }
 
+/// The arguments of msgsnd.
+#[derive(Clone, Copy, Drop)]
+pub struct SendCall<'a> {
+    pub id: u32,
+    pub mtype: i64,
+    pub text: TextForm<'a>,
+}
+
 /// The arguments of msgrcv.
 #[derive(Clone, Copy)]
 pub struct ReceiveCall {
@@ -44,13 +53,23 @@ pub struct ReceiveCall {
 pub enum Command<'a> {
     /// This seat makes the calls from here on.
     Seat(u16),
+    /// The arena's figures.
+    Arena,
     Get,
-    Send {
-        id: u32,
-        mtype: i64,
-        text: TextForm<'a>,
-    },
+    Send(SendCall<'a>),
     Receive(ReceiveCall),
+}
+
+impl TextForm<'_> {
+    /// The number of its bytes.
+    pub fn len(&self) -> u64
+        ensures { result ≡ length_of_text (text_seen self.now) }
+    {
+        match self {
+            TextForm::Plain(bytes) => bytes.len() as u64,
+            TextForm::Letters(count) => *count,
+        }
+    }
 }
 
 /// What a line without its end says: `None` where it is empty or a comment.
@@ -106,6 +125,9 @@ fn read_command(line: &[u8]) -> Result<Command<'_>, Cause>
     if name == b"seat".as_slice() {
         return read_seat(words);
     }
+    if name == b"arena".as_slice() {
+        return read_arena(words);
+    }
     if name == b"get".as_slice() {
         return read_get(words);
     }
@@ -135,6 +157,15 @@ fn read_get(mut words: Words<'_>) -> Result<Command<'_>, Cause>
     }
 }
 
+fn read_arena(mut words: Words<'_>) -> Result<Command<'_>, Cause>
+    ensures { seen result ≡ arena_of (parts_left 32 words.entry.rest) }
+{
+    match words.next() {
+        None => Ok(Command::Arena),
+        Some(_) => Err(Cause::Words),
+    }
+}
+
 fn read_seat(mut words: Words<'_>) -> Result<Command<'_>, Cause>
     ensures { seen result ≡ seat_of (parts_left 32 words.entry.rest) }
 {
@@ -158,7 +189,7 @@ fn read_send(mut words: Words<'_>) -> Result<Command<'_>, Cause>
         return Err(Cause::Words);
     }
     match (id_of(id), integer(mtype), read_text(text)) {
-        (Some(id), Some(mtype), Some(text)) => Ok(Command::Send { id, mtype, text }),
+        (Some(id), Some(mtype), Some(text)) => Ok(Command::Send(SendCall { id, mtype, text })),
         _ => Err(Cause::Number),
     }
 }

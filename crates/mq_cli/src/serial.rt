@@ -1,4 +1,4 @@
-ghost use Rattle.std.specs.Prelude.{◌≡◌, ◌≤◌, ℕ, None, Some, Ok, OnOk, IfSome, IsErrOf, length};
+ghost use Rattle.std.specs.Prelude.{◌≡◌, ◌^◌, ◌<◌, ◌≤◌, ℕ, None, Some, Ok, OnOk, IfSome, IsErrOf, length};
 ghost use Rattle.std.specs.Io.KnownBytes.{Appends, IsAtEnd, Keeps};
 ghost use Rattle.mq_cli.specs.Serial.{AppendsFront, ReadsMoreThan, ReadsUpTo, Runs, RunsLine};
 ghost use Rattle.mq_cli.specs.Commands.{reading};
@@ -13,26 +13,32 @@ use crate::output::{WriteFailed, write_bytes};
 use crate::script::read_script;
 use crate::session::Session;
 use crate::{RunFault, SCRIPT_LIMIT};
+use mq_arena::Unopened;
 use std::alloc::{AllocError, Global};
 use std::io::{Read, Write};
+use std::marker::Brand;
+use std::sync::ledger::{Blank, Ledger};
 
 /// Reads a script whole, then runs it line by line and writes the answer of each call.
 pub fn run_serial<R: Read, W: Write>(
     alloc: Global,
     reader: &mut R,
     writer: &mut W,
+    height: u8,
 ) -> Result<(), RunFault>
+    requires { height ≤ 10 }
+
     // Where the run comes to its end, all is read, and what is written is the transcript.
     ensures end { OnOk result (IsAtEnd (R.remaining reader.new)) }
     ensures ok { OnOk result (IfSome (R.remaining reader.old) (λ script.
-        (fault_of script ≡ None)
-        × Appends (W.contents writer.old) (W.contents writer.new) (transcript script))) }
+        (fault_of height script ≡ None)
+        × Appends (W.contents writer.old) (W.contents writer.new) (transcript height script))) }
 
     // The first line that is not well formed ends it, after the transcript of the lines before.
     ensures script { (line : ℕ) (cause : Cause) → IsErrOf result (RunFault.Script line cause) →
         IfSome (R.remaining reader.old) (λ script.
-        (fault_of script ≡ Some (line, cause))
-        × Appends (W.contents writer.old) (W.contents writer.new) (transcript script)) }
+        (fault_of height script ≡ Some (line, cause))
+        × Appends (W.contents writer.old) (W.contents writer.new) (transcript height script)) }
 
     // The reader gave more bytes than a script has just where the answer is `Size`.
     ensures size { IsErrOf result RunFault.Size →
@@ -44,33 +50,50 @@ pub fn run_serial<R: Read, W: Write>(
     ensures unwritten_size { IsErrOf result RunFault.Size → Keeps (W.contents writer.old) (W.contents writer.new) }
     ensures unwritten_read { IsErrOf result RunFault.Read → Keeps (W.contents writer.old) (W.contents writer.new) }
     ensures write { IsErrOf result RunFault.Write → IfSome (R.remaining reader.old) (λ script.
-        AppendsFront (W.contents writer.old) (W.contents writer.new) (transcript script)) }
+        AppendsFront (W.contents writer.old) (W.contents writer.new) (transcript height script)) }
     ensures memory { IsErrOf result RunFault.Memory → IfSome (R.remaining reader.old) (λ script.
-        AppendsFront (W.contents writer.old) (W.contents writer.new) (transcript script)) }
+        AppendsFront (W.contents writer.old) (W.contents writer.new) (transcript height script)) }
 {
     let script = read_script(alloc, reader)?;
-    run_script(alloc, &script, writer)
+    let Ok(arena) = Unopened::new(alloc, height) else {
+        return Err(RunFault::Memory);
+    };
+    run_script::<Brand, W>(alloc, arena, Blank::new(LEDGER_PARTS), &script, writer)
 }
 
-/// Runs a script that has been read, and has the writer hand on what it holds back.
-fn run_script<W: Write>(alloc: Global, script: &[u8], writer: &mut W) -> Result<(), RunFault>
-    requires { length script.now ≤ SCRIPT_LIMIT }
-    ensures { Runs (W.contents writer.old) (W.contents writer.new) (run_of script.now) result }
+/// More than an arena has pages.
+const LEDGER_PARTS: u64 = 1025;
+
+/// Runs a script that has been read, and has the writer hand on what it holds back. All texts are
+/// at home again afterwards, however the run ends.
+fn run_script<L: Ledger, W: Write>(
+    alloc: Global,
+    arena: Unopened,
+    ledger: Blank,
+    script: &[u8],
+    writer: &mut W,
+) -> Result<(), RunFault>
+    requires fits { length script.now ≤ SCRIPT_LIMIT }
+    requires name { ledger.name ≡ L.name }
+    requires parts { ledger.parts ≡ L.parts }
+    requires enough { 2 ^ arena < ledger.parts }
+    ensures { Runs (W.contents writer.old) (W.contents writer.new) (run_of arena script.now) result }
 {
-    let mut session = Session::new();
+    let Ok(mut session) = Session::new(alloc, arena.open::<L>(ledger)) else {
+        return Err(RunFault::Memory);
+    };
     let outcome = run_lines(alloc, &mut session, script, writer);
     session.close();
-    if matches!(outcome, Err(RunFault::Write)) || writer.flush().is_ok() {
-        outcome
-    } else {
-        Err(RunFault::Write)
+    match writer.flush() {
+        Ok(()) => outcome,
+        Err(_) => Err(RunFault::Write),
     }
 }
 
 /// Runs the lines up to the first that is not well formed.
-fn run_lines<W: Write>(
+fn run_lines<L: Ledger, W: Write>(
     alloc: Global,
-    session: &mut Session,
+    session: &mut Session<L>,
     script: &[u8],
     writer: &mut W,
 ) -> Result<(), RunFault>
@@ -90,9 +113,9 @@ fn run_lines<W: Write>(
 }
 
 /// Runs one line, and writes its answer by way of the buffer.
-fn run_line<W: Write>(
+fn run_line<L: Ledger, W: Write>(
     alloc: Global,
-    session: &mut Session,
+    session: &mut Session<L>,
     number: u64,
     line: &[u8],
     out: &mut Vec<u8>,

@@ -1,6 +1,9 @@
 use mq_cli::{Cause, RunFault, run_serial};
 use std::test::Fail;
 
+/// The height of the arena, where a case does not say another.
+const HEIGHT: u8 = 6;
+
 /// A script, what it writes, and the fault that ends it.
 type Case = (&'static str, &'static str, Option<(u64, Cause)>);
 
@@ -123,12 +126,57 @@ const CASES: [Case; 22] = [
 fn each_script_writes_its_answers(rt: HostRuntime) -> Result<(), Fail> {
     for (script, output, fault) in CASES {
         let mut written = Vec::new(rt.alloc());
-        let ended = run_serial(rt.alloc(), &mut script.as_bytes(), &mut written);
+        let ended = run_serial(rt.alloc(), &mut script.as_bytes(), &mut written, HEIGHT);
         let expected = match fault {
             Some((line, cause)) => Err(RunFault::Script { line, cause }),
             None => Ok(()),
         };
         assert_eq!(rt; ended, expected, "{script}");
+        assert_eq!(rt; written.as_slice(), output.as_bytes(), "{script}");
+    }
+    Ok(())
+}
+
+/// Scripts over arenas of their own heights, and what they write.
+const ARENAS: [(u8, &str, &str); 6] = [
+    (6, "arena", "pages 64 free 64 largest 6\n"),
+    (
+        6,
+        "get 0 c\nsnd 0 1 =hello\nrcv 0 3 0\nrcv 0 3 0 n\nsnd 0 1 =hello\nrcv 0 0 0 n\narena\n",
+        "id 0\nat 1\nE2BIG\nmsg 1 seat 1 tag 2 len 5 =hel\nat 3\nmsg 1 seat 1 tag 5 len 5 =\npages 64 free 64 largest 6\n",
+    ),
+    (
+        6,
+        "get 0 c\nsnd 0 1 *0\narena\nsnd 0 1 *1\nsnd 0 1 *1024\nsnd 0 1 *1025\nsnd 0 1 *2049\nsnd 0 1 *8192\narena\nsnd 0 1 *8193\n",
+        "id 0\nat 1\npages 64 free 64 largest 6\nat 2\nat 3\nat 4\nat 5\nat 6\npages 64 free 48 largest 5\nEINVAL\n",
+    ),
+    // One page: a text that finds no run of pages is refused, an empty one needs none.
+    (
+        0,
+        "get 0 c\nsnd 0 1 =a\nsnd 0 1 =b\nsnd 0 1 =\nrcv 0 9 0\nsnd 0 1 =b\narena\n",
+        "id 0\nat 1\nENOMEM\nat 2\nmsg 1 seat 1 tag 2 len 1 =a\nat 4\npages 1 free 0 largest none\n",
+    ),
+    // Pages are free, but no two buddies are.
+    (
+        2,
+        "get 0 c\nsnd 0 1 =a\nsnd 0 2 =b\nsnd 0 3 =c\nsnd 0 4 =d\nrcv 0 9 1\nrcv 0 9 3\narena\nsnd 0 5 *1025\nrcv 0 9 2\nsnd 0 5 *1025\n",
+        "id 0\nat 1\nat 2\nat 3\nat 4\nmsg 1 seat 1 tag 2 len 1 =a\nmsg 3 seat 1 tag 4 len 1 =c\npages 4 free 2 largest 0\nENOMEM\nmsg 2 seat 1 tag 3 len 1 =b\nat 8\n",
+    ),
+    // The text is made first, so its refusal comes before that of the id and of the type.
+    (
+        0,
+        "get 0 c\nsnd 0 1 =a\nsnd 9 0 *1\nsnd 9 0 *8193\nsnd 9 0 =\nrcv 0 1 0\nsnd 9 1 =b\narena\n",
+        "id 0\nat 1\nENOMEM\nEINVAL\nEINVAL\nmsg 1 seat 1 tag 2 len 1 =a\nEINVAL\npages 1 free 1 largest 0\n",
+    ),
+];
+
+#[test]
+fn each_arena_lends_as_it_must(rt: HostRuntime) -> Result<(), Fail> {
+    for (height, script, output) in ARENAS {
+        let mut written = Vec::new(rt.alloc());
+        assert!(rt; height <= 10);
+        let ended = run_serial(rt.alloc(), &mut script.as_bytes(), &mut written, height);
+        assert_eq!(rt; ended, Ok(()), "{script}");
         assert_eq!(rt; written.as_slice(), output.as_bytes(), "{script}");
     }
     Ok(())
@@ -196,7 +244,7 @@ const CAUSES: [(&str, Cause); 54] = [
 fn a_line_that_is_not_well_formed_has_its_cause(rt: HostRuntime) -> Result<(), Fail> {
     for (line, cause) in CAUSES {
         let mut written = Vec::new(rt.alloc());
-        let ended = run_serial(rt.alloc(), &mut line.as_bytes(), &mut written);
+        let ended = run_serial(rt.alloc(), &mut line.as_bytes(), &mut written, HEIGHT);
         assert_eq!(rt; ended, Err(RunFault::Script { line: 1, cause }), "{line}");
         assert!(rt; written.is_empty(), "{line}");
     }
@@ -229,7 +277,7 @@ fn a_line_is_long_past_its_limit(rt: HostRuntime) -> Result<(), Fail> {
         let mut script = vec![in rt.alloc(); b'#'; count]?;
         script.extend_from_slice(end.as_bytes())?;
         let mut written = Vec::new(rt.alloc());
-        let ended = run_serial(rt.alloc(), &mut script.as_slice(), &mut written);
+        let ended = run_serial(rt.alloc(), &mut script.as_slice(), &mut written, HEIGHT);
         assert_eq!(rt; ended, expected);
     }
     Ok(())

@@ -1,9 +1,40 @@
-use Rattle.std.specs.Prelude.{ℕ, List, []}
+-- Texts as those who send and receive them see them.
+use Rattle.std.specs.Prelude.{ℕ, ◌+◌, ◌-◌, ◌*◌, ◌/◌, ◌^◌, nat_lt, List, [], ◌∷◌, ◌++◌, length, take, drop, Option, None, count_by}
+use Rattle.std.specs.List.{concat}
+use Rattle.mq_tree.specs.Blocks.{Block}
+use Rattle.mq_arena.specs.declared.page.TheConstants.{PAGE_LEN}
 
--- a text as those who send and receive it see it
+-- a text: its bytes, and where its block lies if it has one
 pub record PlainText : Type 0 where
   pub bytes : List ℕ
+  pub block : Option Block
 
--- the empty text
+-- the empty text, which has no block
 abbrev pub no_text : PlainText
-no_text = record { bytes = [] }
+no_text = record { bytes = []; block = None }
+
+-- how many parts n bytes have: one for each page that they begin
+abbrev pub count_of : ℕ → ℕ
+count_of n = (n + (PAGE_LEN - 1)) / PAGE_LEN
+
+-- the least order of a block with room for n bytes, where n is at most 8,192: as many orders
+-- are too small
+abbrev pub order_for : ℕ → ℕ
+order_for n = count_by (λ order. nat_lt (PAGE_LEN * 2 ^ order) n) (0 ∷ 1 ∷ 2 ∷ [])
+
+-- the bytes in part i: those of one page, fewer where they end
+abbrev pub text_part : List ℕ → ℕ → List ℕ
+text_part bytes i = take PAGE_LEN (drop (PAGE_LEN * i) bytes)
+
+-- the text once these bytes stand in part i
+abbrev pub with_part : PlainText → ℕ → List ℕ → PlainText
+with_part text i part =
+    let before = PAGE_LEN * i in
+    record {
+      bytes = take before text.bytes ++ part ++ drop (before + length part) text.bytes;
+      block = text.block;
+    }
+
+-- the text once its bytes are the first ones of these pages
+abbrev pub with_front : PlainText → List (List ℕ) → PlainText
+with_front text pages = record { bytes = take (length text.bytes) (concat pages); block = text.block }

@@ -4,8 +4,15 @@
 
 mod body;
 mod message;
+mod order;
+#[cfg(test)]
+mod tests;
+mod text;
+mod text_writes;
 mod vec_body;
 
 pub use body::Body;
 pub use message::Message;
+pub use order::order_for;
+pub use text::Text;
 pub use vec_body::VecBody;

@@ -1,4 +1,4 @@
-ghost use Rattle.std.specs.Prelude.{◌≡◌, IfOk, take};
+ghost use Rattle.std.specs.Prelude.{◌≡◌, None, IfOk, take};
 
 use crate::Body;
 use std::alloc::{AllocError, Global};
@@ -11,17 +11,18 @@ pub struct VecBody {
 }
 
 impl Model for VecBody {
+    ghost use Rattle.std.specs.Prelude.{None};
     ghost use Rattle.mq_message.specs.Text.{PlainText};
 
     ghost Value = { PlainText };
 
-    ghost view = { λ body. record { bytes = body.bytes.items } };
+    ghost view = { λ body. record { bytes = body.bytes.items; block = None } };
 }
 
 impl VecBody {
     /// A body with a copy of these bytes.
     pub fn from_slice(alloc: Global, bytes: &[u8]) -> Result<VecBody, AllocError>
-        ensures ok { IfOk result (λ body. body ≡ record { bytes = bytes.now }) }
+        ensures ok { IfOk result (λ body. body ≡ record { bytes = bytes.now; block = None }) }
     {
         Ok(VecBody {
             bytes: bytes.to_vec(alloc)?,
@@ -30,7 +31,7 @@ impl VecBody {
 
     /// A body of these very bytes.
     pub fn from_vec(bytes: Vec<u8>) -> VecBody
-        ensures { result ≡ record { bytes = bytes.items } }
+        ensures { result ≡ record { bytes = bytes.items; block = None } }
     {
         VecBody { bytes }
     }

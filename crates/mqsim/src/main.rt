@@ -7,6 +7,9 @@ use std::io;
 use std::io::BufWriter;
 use std::process::ExitCode;
 
+/// The arena has `2^6` pages.
+const HEIGHT: u8 = 6;
+
 fn main(rt: HostRuntime) -> ExitCode {
     match run(&rt) {
         Ok(()) => ExitCode::SUCCESS,
@@ -23,7 +26,7 @@ fn run(rt: &(impl AllocGlobal + Input + Print)) -> Result<(), RunFault> {
         Ok(writer) => writer,
         Err(_) => return Err(RunFault::Memory),
     };
-    run_serial(rt.alloc(), &mut rt.reader(), &mut writer)
+    run_serial(rt.alloc(), &mut rt.reader(), &mut writer, HEIGHT)
 }
 
 /// The exit status that tells a fault.

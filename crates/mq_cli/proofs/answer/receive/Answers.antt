@@ -4,7 +4,7 @@ use mir.Val.{SFits}
 use Rattle.mq_cli.proofs.answer.receive.Goals as goal
 
 pub returns-in-Ok : goal.returns-in-Ok
-returns-in-Ok c =
+returns-in-Ok g c =
     let fits : SFits w64 c.args.call.mtype = search rules in
     let told = simp to_z-of_z at c.in-Ok.ensures.ok in
     search (rules, told)

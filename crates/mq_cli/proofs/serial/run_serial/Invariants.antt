@@ -1,0 +1,4 @@
+use Rattle.mq_cli.proofs.serial.run_serial.Given as goal
+
+abbrev pub ghosts-run_script : goal.ghosts-run_script
+ghosts-run_script g a = record { name = a.ledger.name; parts = a.ledger.parts }

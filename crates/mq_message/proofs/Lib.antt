@@ -1,0 +1,6 @@
+pub mod Drafts
+pub mod Orders
+pub mod Pages
+pub mod Parts
+pub mod Texts
+pub mod Written

@@ -1,0 +1,117 @@
+-- A part of a text, and the page that it is the front of.
+use Rattle.std.proofs.Common.{◌≡◌, ℕ, ◌+◌, ◌-◌, ◌*◌, ◌^◌, ◌≤◌, ◌<◌, List, [], ◌++◌, ◌∷◌, zero, suc, inl, inr, length, take, drop, get_or, set, min, Option, Some, refl, sym, ◌∙◌, ap, subst, arith, length-append, length-drop}
+use Rattle.std.proofs.lemmas.Bool.{cases_lt}
+use Rattle.std.proofs.lemmas.List.{take_min}
+use Rattle.std.proofs.lemmas.List.Elements.{All-head, All-tail}
+use Rattle.std.specs.List.{concat}
+use Rattle.mq_arena.specs.Bytes.{AreWhole, cut_parts}
+use Rattle.mq_arena.specs.OwnedBlock.{OwnedBlock, owned}
+use Rattle.mq_arena.specs.Lent.{place}
+use Rattle.mq_arena.specs.Lends.{with_part as with_page}
+use Rattle.mq_arena.specs.declared.page.TheConstants.{PAGE_LEN}
+use Rattle.mq_arena.proofs.Cuts.{cut_some}
+use Rattle.mq_arena.proofs.Filling.{refill_all}
+use Rattle.mq_message.specs.Text.{PlainText, count_of, text_part, with_part}
+use Rattle.mq_message.specs.Held.{text_of, IsText}
+use Rattle.mq_message.proofs.Texts.{text_length, part_is}
+use Rattle.mq_message.proofs.Pages.{page_length, written}
+
+-- part i of the text is the front of page i of its block
+pub record IsPartOf (text : PlainText) (len i : ℕ) (b : OwnedBlock) : Type 0 where
+  pub whole : AreWhole b.pages
+  pub within : i < length b.pages
+  pub from : PAGE_LEN * i ≤ len
+  pub same : text_of len (Some b) ≡ text
+  pub part : text_part text.bytes i ≡ take (min PAGE_LEN (len - PAGE_LEN * i)) (get_or b.pages i [])
+
+-- that it is
+pub part_of : (text : PlainText) (len i : ℕ) (block : Option OwnedBlock) (b : OwnedBlock) → text_of len block ≡ text
+    → block ≡ Some b → IsText len block → i < count_of (length text.bytes) → IsPartOf text len i b
+part_of text len i block b shown some held below =
+    let here : IsText len (Some b) = subst (IsText len) some held in
+    let same : text_of len (Some b) ≡ text = ap (text_of len) (sym some) ∙ shown in
+    let long : length text.bytes ≡ len = ap (λ t. length t.bytes) (sym same) ∙ text_length len (Some b) here in
+    let pages : length b.pages ≡ 2 ^ b.order = here.0.count in
+    let room : len ≤ PAGE_LEN * 2 ^ b.order = here.1 in
+    let early : i < count_of len = subst (λ n. i < count_of n) long below in
+    let within : i < length b.pages = omega arith in
+    let from : PAGE_LEN * i ≤ len = omega arith in
+    record {
+      whole = here.0.whole;
+      within = within;
+      from = from;
+      same = same;
+      part = ap (λ t. text_part t.bytes i) (sym same) ∙ part_is b.pages len i here.0.whole within from;
+    }
+
+-- the text once its part is another one
+pub part_written : (text : PlainText) (len i : ℕ) (b : OwnedBlock) (part page : List ℕ) → IsPartOf text len i b
+    → length part ≡ min PAGE_LEN (len - PAGE_LEN * i) → page ≡ part ++ drop (length part) (get_or b.pages i [])
+    → text_of len (Some (owned b.start b.order (with_page b.pages i page))) ≡ with_part text i part
+part_written text len i b part page is long now =
+    let old : List ℕ = get_or b.pages i [] in
+    let one : length old ≡ PAGE_LEN = page_length b.pages i is.whole is.within in
+    let same_length : length page ≡ length old =
+    ap length now ∙ omega (arith, length-append part (drop (length part) old), length-drop (length part) old) in
+    let all : List ℕ = part ++ drop (length part) old in
+    let bytes : take len (concat (with_page b.pages i page)) ≡ take len (concat (set b.pages i all)) =
+    ap (λ bs. take len (concat (set b.pages i bs))) (refill_all old page same_length ∙ now) in
+    let at_end : PAGE_LEN * i + length part ≤ len = omega (arith, is.from) in
+    ap (λ bs. let t : PlainText = record { bytes = bs; block = Some (place b) } in t)
+    (bytes ∙ written b.pages i len (length part) part is.whole is.within (omega arith) at_end refl)
+    ∙ ap (λ t. with_part t i part) is.same
+
+-- one part more
+count_more : (len : ℕ) → 0 < len → count_of len ≡ suc (count_of (len - PAGE_LEN))
+count_more len some = elim (cases_lt len PAGE_LEN) [ inl less ↦ omega arith | inr more ↦ omega arith ]
+
+-- as many parts as pages that the bytes begin
+pub length-cut_parts : (len : ℕ) (pages : List (List ℕ)) → len ≤ PAGE_LEN * length pages
+    → length (cut_parts len pages) ≡ count_of len
+length-cut_parts len [] room = let none : len ≡ 0 = omega arith in rw none refl
+length-cut_parts len (page ∷ pages) room = elim (cases_lt 0 len) [
+  | inl some ↦
+      ap length (cut_some len page pages some)
+      ∙ ap suc (length-cut_parts (len - PAGE_LEN) pages (omega arith)) ∙ sym (count_more len some)
+  | inr none ↦ let zero_len : len ≡ 0 = omega arith in rw zero_len refl
+]
+
+-- a part is the front of its page
+pub cut_at : (len i : ℕ) (pages : List (List ℕ)) → AreWhole pages → len ≤ PAGE_LEN * length pages → i < count_of len
+    → get_or (cut_parts len pages) i [] ≡ take (min PAGE_LEN (len - PAGE_LEN * i)) (get_or pages i [])
+cut_at len i [] whole room below = let none : len ≡ 0 = omega arith in absurd (omega arith)
+cut_at len zero (page ∷ pages) whole room below =
+    let some : 0 < len = omega arith in
+    let long : length page ≡ PAGE_LEN = All-head (λ p. length p ≡ PAGE_LEN) page pages whole in
+    let same : min PAGE_LEN (len - PAGE_LEN * 0) ≡ min len (length page) = omega arith in
+    ap (λ ps. get_or ps 0 []) (cut_some len page pages some) ∙ sym (ap (λ k. take k page) same ∙ take_min len page)
+cut_at len (suc i) (page ∷ pages) whole room below =
+    let some : 0 < len = omega arith in
+    let rest : AreWhole pages = All-tail (λ p. length p ≡ PAGE_LEN) page pages whole in
+    let fewer : i < count_of (len - PAGE_LEN) = omega (arith, count_more len some) in
+    let same : len - PAGE_LEN - PAGE_LEN * i ≡ len - PAGE_LEN * suc i = omega arith in
+    ap (λ ps. get_or ps (suc i) []) (cut_some len page pages some)
+    ∙ cut_at (len - PAGE_LEN) i pages rest (omega arith) fewer
+    ∙ ap (λ k. take (min PAGE_LEN k) (get_or pages i [])) same
+
+-- all parts of a text: how many, and each of them
+pub parts_count : (text : PlainText) (len : ℕ) (block : Option OwnedBlock) (b : OwnedBlock) → text_of len block ≡ text
+    → block ≡ Some b → IsText len block → length (cut_parts len b.pages) ≡ count_of (length text.bytes)
+parts_count text len block b shown some held =
+    let here : IsText len (Some b) = subst (IsText len) some held in
+    let long : length text.bytes ≡ len = ap (λ t. length t.bytes) (sym shown) ∙ text_length len block held in
+    let pages : length b.pages ≡ 2 ^ b.order = here.0.count in
+    let room : len ≤ PAGE_LEN * 2 ^ b.order = here.1 in
+    length-cut_parts len b.pages (omega arith) ∙ ap count_of (sym long)
+
+pub parts_each : (text : PlainText) (len : ℕ) (block : Option OwnedBlock) (b : OwnedBlock) → text_of len block ≡ text
+    → block ≡ Some b → IsText len block → (i : ℕ) → i < count_of (length text.bytes)
+    → get_or (cut_parts len b.pages) i [] ≡ text_part text.bytes i
+parts_each text len block b shown some held i below =
+    let is : IsPartOf text len i b = part_of text len i block b shown some held below in
+    let here : IsText len (Some b) = subst (IsText len) some held in
+    let long : length text.bytes ≡ len = ap (λ t. length t.bytes) (sym shown) ∙ text_length len block held in
+    let pages : length b.pages ≡ 2 ^ b.order = here.0.count in
+    let room : len ≤ PAGE_LEN * 2 ^ b.order = here.1 in
+    let early : i < count_of len = subst (λ n. i < count_of n) long below in
+    cut_at len i b.pages is.whole (omega arith) early ∙ sym is.part

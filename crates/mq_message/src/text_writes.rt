@@ -1,0 +1,114 @@
+//! What is written into a text.
+ghost use Rattle.std.specs.Prelude.{◌≡◌, ◌+◌, ◌*◌, ◌≤◌, ◌<◌, List, ℕ, ◌++◌, length, take, drop, min, ◌-◌, ◌^◌, IsSome, IfSome};
+ghost use Rattle.mq_arena.specs.Halves.{Writes, TakesAtMut, TakesPages, KeepsPages};
+ghost use Rattle.mq_arena.specs.OwnedBlock.{IsBlock};
+ghost use Rattle.mq_message.specs.Text.{count_of, text_part, with_part, with_front};
+
+use crate::order::PAGE_LEN;
+use crate::text::{Text, part_len};
+use mq_arena::{Block, Page};
+use std::marker::Send;
+use std::sync::ledger::Ledger;
+use std::thread::Threads;
+
+impl<L: Ledger> Text<L> {
+    /// Lends part `i` to `f`.
+    pub fn write_part<F: FnMut(&mut [u8])>(&mut self, i: usize, f: F)
+        requires part { i < count_of (length self.old.bytes) }
+        requires taken { TakesAtMut (F.pre f) (text_part self.old.bytes i) }
+        ensures len { length self.new.bytes ≡ length self.old.bytes }
+        ensures written { (part : List ℕ) × Writes (F.step f) (text_part self.old.bytes i) part
+            × (length part ≡ length (text_part self.old.bytes i))
+            × (self.new ≡ with_part self.old i part) }
+    {
+        let len = part_len(self.len, i);
+        let Some(block) = &mut self.block else {
+            unreachable!()
+        };
+        write_front(block.part_mut(i), len, f);
+        still_whole(block);
+    }
+
+    #[tactic(auto, using(crate::proofs::Texts::text_length, crate::proofs::Written::filled_text))]
+    /// Writes these bytes over the text's.
+    pub fn fill(&mut self, bytes: &[u8])
+        requires { length bytes.now ≡ length self.old.bytes }
+        ensures { self.new ≡ record { bytes = bytes.now; block = self.old.block } }
+    {
+        let Some(block) = &mut self.block else {
+            return;
+        };
+        block.fill(bytes);
+        still_whole(block);
+    }
+
+    #[tactic(auto, using(crate::proofs::Texts::text_length, crate::proofs::Written::filled_text))]
+    /// Fills the parts below `i` and those from `i` on, on two threads unless `back` is empty.
+    pub fn fill_halves(&mut self, rt: &impl Threads, i: usize, front: &[u8], back: &[u8])
+        requires within { i ≤ count_of (length self.old.bytes) }
+        requires front_fits { length front.now ≡ min (PAGE_LEN * i) (length self.old.bytes) }
+        requires back_fits { length front.now + length back.now ≡ length self.old.bytes }
+        ensures { self.new ≡ record { bytes = front.now ++ back.now; block = self.old.block } }
+    {
+        if back.is_empty() {
+            self.fill(front);
+            return;
+        }
+        let Some(block) = &mut self.block else {
+            return;
+        };
+        block.fill_halves(rt, i, front, back);
+        still_whole(block);
+    }
+
+    /// Lends the pages below `i` to `f` and those from `i` on to `g`, on two threads. The text's
+    /// bytes are the first ones of these pages.
+    pub fn write_halves<R: Threads, F: FnMut(&mut [Page]) + Send, G: FnMut(&mut [Page])>(
+        &mut self,
+        rt: &R,
+        i: usize,
+        f: F,
+        g: G,
+    )
+        requires block { IsSome self.old.block }
+        requires within { i ≤ count_of (length self.old.bytes) }
+        requires front_taken { TakesPages (F.pre f) i }
+        requires front_kept { KeepsPages (F.step f) i }
+        requires back_taken { IfSome self.old.block (λ b. TakesPages (G.pre g) (2 ^ b.order - i)) }
+        requires back_kept { IfSome self.old.block (λ b. KeepsPages (G.step g) (2 ^ b.order - i)) }
+        ensures len { length self.new.bytes ≡ length self.old.bytes }
+        ensures halves { (pages front back : List (List ℕ)) × (self.old ≡ with_front self.old pages)
+            × (self.new ≡ with_front self.old (front ++ back))
+            × Writes (F.step f) (take i pages) front × Writes (G.step g) (drop i pages) back }
+    {
+        let Some(block) = &mut self.block else {
+            unreachable!()
+        };
+        block.write_halves(rt, i, f, g);
+        still_whole(block);
+    }
+}
+
+/// Shows that a block has all its pages. It changes nothing.
+fn still_whole<L: Ledger>(block: &Block<L>)
+    ensures { IsBlock block.now }
+{
+    block.order();
+}
+
+fn write_front<F: FnMut(&mut [u8])>(page: &mut [u8], len: usize, mut f: F)
+    requires within { len ≤ length page.old }
+    requires taken { TakesAtMut (F.pre f) (take len page.old) }
+    ensures { (part : List ℕ) × Writes (F.step f) (take len page.old) part
+        × (length part ≡ len) × (page.new ≡ part ++ drop len page.old) }
+{
+    let (front, _) = page.split_at_mut(len);
+    call_at(&mut f, front);
+}
+
+fn call_at<F: FnMut(&mut [u8])>(f: &mut F, part: &mut [u8])
+    requires { TakesAtMut (F.pre f.old) part.old }
+    ensures { Writes (F.step f.old) part.old part.new }
+{
+    f(part);
+}
