@@ -71,6 +71,19 @@ impl<L: Ledger> Block<L> {
         }
     }
 
+    /// The first `len` bytes of that page, to be written in place.
+    pub fn front_mut(&mut self, page: usize, len: usize) -> &mut [u8]
+        requires page { page < 2 ^ self.old.order }
+        requires within { len ≤ PAGE_LEN }
+        ensures* writes_back { sem 𝓛 (LendsPart L.row L.Ledger self.entry page result) }
+        ensures value { result.now ≡ take len (slice_index_or self.old.pages page []) }
+    {
+        match self.pages.get_mut(page) {
+            Some(whole) => whole.front_mut(len),
+            None => unreachable!(),
+        }
+    }
+
     #[tactic(auto, using(crate::proofs::Cuts::cut_whole))]
     /// All pages in order.
     pub fn parts(&self) -> Parts<'_>

@@ -1,5 +1,5 @@
 //! A page, and what is written into it.
-ghost use Rattle.std.specs.Prelude.{◌≡◌, ◌≤◌, [], ◌++◌, length, drop, replicate, IfOk};
+ghost use Rattle.std.specs.Prelude.{◌≡◌, ◌≤◌, [], ◌++◌, length, take, drop, replicate, IfOk};
 ghost use Rattle.std.specs.Borrow.{sem};
 
 use std::alloc::{AllocError, Global};
@@ -56,6 +56,15 @@ impl Page {
         ensures value { result.now ≡ self.old }
     {
         self.bytes.as_mut_slice()
+    }
+
+    /// The first `len` bytes, to be written in place: the page keeps its length and its other bytes.
+    pub fn front_mut(&mut self, len: usize) -> &mut [u8]
+        requires { len ≤ length self.old }
+        ensures* writes_back { sem 𝓛 (LendsPage self.entry result) }
+        ensures value { result.now ≡ take len self.old }
+    {
+        self.bytes.slice_mut(..len)
     }
 
     /// Writes over the first bytes and leaves the rest as they are.
