@@ -1,4 +1,5 @@
 pub mod Drafts
+pub mod Loans
 pub mod Orders
 pub mod Pages
 pub mod Parts

@@ -1,20 +1,15 @@
 -- A part of a text, and the page that it is the front of.
-use Rattle.std.proofs.Common.{◌≡◌, ℕ, ◌+◌, ◌-◌, ◌*◌, ◌^◌, ◌≤◌, ◌<◌, List, [], ◌++◌, ◌∷◌, zero, suc, inl, inr, length, take, drop, get_or, set, min, Option, Some, refl, sym, ◌∙◌, ap, subst, arith, length-append, length-drop}
+use Rattle.std.proofs.Common.{◌≡◌, ℕ, ◌-◌, ◌*◌, ◌^◌, ◌≤◌, ◌<◌, List, [], ◌∷◌, zero, suc, inl, inr, length, take, get_or, min, Option, Some, refl, sym, ◌∙◌, ap, subst, arith}
 use Rattle.std.proofs.lemmas.Bool.{cases_lt}
 use Rattle.std.proofs.lemmas.List.{take_min}
 use Rattle.std.proofs.lemmas.List.Elements.{All-head, All-tail}
-use Rattle.std.specs.List.{concat}
 use Rattle.mq_arena.specs.Bytes.{AreWhole, cut_parts}
-use Rattle.mq_arena.specs.OwnedBlock.{OwnedBlock, owned}
-use Rattle.mq_arena.specs.Lent.{place}
-use Rattle.mq_arena.specs.Lends.{with_part as with_page}
+use Rattle.mq_arena.specs.OwnedBlock.{OwnedBlock}
 use Rattle.mq_arena.specs.declared.page.TheConstants.{PAGE_LEN}
 use Rattle.mq_arena.proofs.Cuts.{cut_some}
-use Rattle.mq_arena.proofs.Filling.{refill_all}
-use Rattle.mq_message.specs.Text.{PlainText, count_of, text_part, with_part}
+use Rattle.mq_message.specs.Text.{PlainText, count_of, text_part}
 use Rattle.mq_message.specs.Held.{text_of, IsText}
 use Rattle.mq_message.proofs.Texts.{text_length, part_is}
-use Rattle.mq_message.proofs.Pages.{page_length, written}
 
 -- part i of the text is the front of page i of its block
 pub record IsPartOf (text : PlainText) (len i : ℕ) (b : OwnedBlock) : Type 0 where
@@ -43,23 +38,6 @@ part_of text len i block b shown some held below =
       same = same;
       part = ap (λ t. text_part t.bytes i) (sym same) ∙ part_is b.pages len i here.0.whole within from;
     }
-
--- the text once its part is another one
-pub part_written : (text : PlainText) (len i : ℕ) (b : OwnedBlock) (part page : List ℕ) → IsPartOf text len i b
-    → length part ≡ min PAGE_LEN (len - PAGE_LEN * i) → page ≡ part ++ drop (length part) (get_or b.pages i [])
-    → text_of len (Some (owned b.start b.order (with_page b.pages i page))) ≡ with_part text i part
-part_written text len i b part page is long now =
-    let old : List ℕ = get_or b.pages i [] in
-    let one : length old ≡ PAGE_LEN = page_length b.pages i is.whole is.within in
-    let same_length : length page ≡ length old =
-    ap length now ∙ omega (arith, length-append part (drop (length part) old), length-drop (length part) old) in
-    let all : List ℕ = part ++ drop (length part) old in
-    let bytes : take len (concat (with_page b.pages i page)) ≡ take len (concat (set b.pages i all)) =
-    ap (λ bs. take len (concat (set b.pages i bs))) (refill_all old page same_length ∙ now) in
-    let at_end : PAGE_LEN * i + length part ≤ len = omega (arith, is.from) in
-    ap (λ bs. let t : PlainText = record { bytes = bs; block = Some (place b) } in t)
-    (bytes ∙ written b.pages i len (length part) part is.whole is.within (omega arith) at_end refl)
-    ∙ ap (λ t. with_part t i part) is.same
 
 -- one part more
 count_more : (len : ℕ) → 0 < len → count_of len ≡ suc (count_of (len - PAGE_LEN))

@@ -1,6 +1,6 @@
 //! Tests of what no clause says: that calls succeed, and what a text shows at last.
-ghost use Rattle.std.specs.Prelude.{◌≡◌, ◌^◌, ◌<◌, ◌≤◌, length};
-ghost use Rattle.mq_message.specs.Text.{count_of};
+ghost use Rattle.std.specs.Prelude.{◌≡◌, ◌^◌, ◌<◌, ◌≤◌, length, replicate};
+ghost use Rattle.mq_message.specs.Text.{count_of, text_part, with_part};
 
 use super::*;
 use mq_arena::{ArenaState, Block, Homecoming, Page, Unopened, fill};
@@ -61,6 +61,16 @@ fn filled_at<L: Ledger, R: Abort + Threads>(rt: &R, text: &mut Text<L>, i: usize
     shows(rt, text, bytes);
 }
 
+#[tactic(auto, using(crate::proofs::Loans::left_length))]
+fn part_filled<L: Ledger>(text: &mut Text<L>, i: usize, letter: u8)
+    requires { i < count_of (length text.old.bytes) }
+    ensures len { length text.new.bytes ≡ length text.old.bytes }
+    ensures text { text.new ≡ with_part text.old i
+        (replicate (length (text_part text.old.bytes i)) letter) }
+{
+    text.part_mut(i).fill(letter);
+}
+
 fn two_threads<L: Ledger, R: Abort + Threads>(
     rt: &R,
     unopened: Unopened,
@@ -86,8 +96,11 @@ fn two_threads<L: Ledger, R: Abort + Threads>(
     holds(rt, text.part(2), 2, b'B');
     filled_at(rt, &mut text, 0, &[b'C'; 2050]);
     filled_at(rt, &mut text, 3, letters);
-    text.write_part(2, |part: &mut [u8]| part.fill(b'D'));
+    part_filled(&mut text, 2, b'D');
     holds(rt, text.part(2), 2, b'D');
+    holds(rt, text.part(1), 1024, b'B');
+    part_filled(&mut text, 0, b'D');
+    holds(rt, text.part(0), 1024, b'D');
     holds(rt, text.part(1), 1024, b'B');
     assert_eq!(rt; text.start(), Some(4));
     home(rt, &mut arena, text);

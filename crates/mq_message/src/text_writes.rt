@@ -1,8 +1,9 @@
 //! What is written into a text.
 ghost use Rattle.std.specs.Prelude.{◌≡◌, ◌+◌, ◌*◌, ◌≤◌, ◌<◌, List, ℕ, ◌++◌, length, take, drop, min, ◌-◌, ◌^◌, IsSome, IfSome};
-ghost use Rattle.mq_arena.specs.Halves.{Writes, TakesAtMut, TakesPages, KeepsPages};
+ghost use Rattle.std.specs.Borrow.{sem};
+ghost use Rattle.mq_arena.specs.Halves.{Writes, TakesPages, KeepsPages};
 ghost use Rattle.mq_arena.specs.OwnedBlock.{IsBlock};
-ghost use Rattle.mq_message.specs.Text.{count_of, text_part, with_part, with_front};
+ghost use Rattle.mq_message.specs.Text.{count_of, text_part, with_front};
 
 use crate::order::PAGE_LEN;
 use crate::text::{Text, part_len};
@@ -12,21 +13,19 @@ use std::sync::ledger::Ledger;
 use std::thread::Threads;
 
 impl<L: Ledger> Text<L> {
-    /// Lends part `i` to `f`.
-    pub fn write_part<F: FnMut(&mut [u8])>(&mut self, i: usize, f: F)
-        requires part { i < count_of (length self.old.bytes) }
-        requires taken { TakesAtMut (F.pre f) (text_part self.old.bytes i) }
-        ensures len { length self.new.bytes ≡ length self.old.bytes }
-        ensures written { (part : List ℕ) × Writes (F.step f) (text_part self.old.bytes i) part
-            × (length part ≡ length (text_part self.old.bytes i))
-            × (self.new ≡ with_part self.old i part) }
+    ghost use Rattle.mq_message.specs.Lends.{LendsPart};
+
+    /// The bytes in page `i`, up to the text's end, to be written in place.
+    pub fn part_mut(&mut self, i: usize) -> &mut [u8]
+        requires { i < count_of (length self.old.bytes) }
+        ensures* writes_back { sem 𝓛 (LendsPart L.row L.Ledger self.entry i result) }
+        ensures value { result.now ≡ text_part self.old.bytes i }
     {
         let len = part_len(self.len, i);
-        let Some(block) = &mut self.block else {
-            unreachable!()
-        };
-        write_front(block.part_mut(i), len, f);
-        still_whole(block);
+        match &mut self.block {
+            Some(block) => block.front_mut(i, len),
+            None => unreachable!(),
+        }
     }
 
     #[tactic(auto, using(crate::proofs::Texts::text_length, crate::proofs::Written::filled_text))]
@@ -94,21 +93,4 @@ fn still_whole<L: Ledger>(block: &Block<L>)
     ensures { IsBlock block.now }
 {
     block.order();
-}
-
-fn write_front<F: FnMut(&mut [u8])>(page: &mut [u8], len: usize, mut f: F)
-    requires within { len ≤ length page.old }
-    requires taken { TakesAtMut (F.pre f) (take len page.old) }
-    ensures { (part : List ℕ) × Writes (F.step f) (take len page.old) part
-        × (length part ≡ len) × (page.new ≡ part ++ drop len page.old) }
-{
-    let (front, _) = page.split_at_mut(len);
-    call_at(&mut f, front);
-}
-
-fn call_at<F: FnMut(&mut [u8])>(f: &mut F, part: &mut [u8])
-    requires { TakesAtMut (F.pre f.old) part.old }
-    ensures { Writes (F.step f.old) part.old part.new }
-{
-    f(part);
 }
