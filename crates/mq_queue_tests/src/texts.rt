@@ -1,0 +1,198 @@
+//! A text that is sent on and on lies in its own block.
+ghost use Rattle.std.specs.Prelude.{◌≡◌, ◌^◌, ◌<◌, length};
+ghost use Rattle.mq_message.specs.Text.{count_of};
+
+use mq_arena::{ArenaState, Homecoming, Unopened};
+use mq_message::{Body, Message, Text};
+use mq_queue::{QueueState, Received};
+use mq_select::{ListWaiting, Selection, Waiting};
+use std::alloc::Global;
+use std::marker::Brand;
+use std::process::Abort;
+use std::sync::ledger::{Blank, Ledger};
+use std::test::Fail;
+use std::thread::Threads;
+
+const PARTS: u64 = 1025;
+
+const LEN: usize = 2050;
+
+type Queue<L> = QueueState<Text<L>, ListWaiting<Text<L>>>;
+
+fn drafted<L: Ledger>(rt: &impl Abort, arena: &mut ArenaState<L>) -> Text<L>
+    ensures { length result.bytes ≡ LEN }
+{
+    match arena.take(2) {
+        Some(block) => Text::of(block, LEN),
+        None => panic!(rt; "no block"),
+    }
+}
+
+fn spent<L: Ledger>(rt: &impl Abort, arena: &mut ArenaState<L>, text: Text<L>) {
+    match text.into_block() {
+        Some(block) => assert_eq!(rt; arena.put(block), Homecoming::Home),
+        None => panic!(rt; "no block"),
+    }
+}
+
+fn made<L: Ledger>(alloc: Global) -> Queue<L> {
+    Queue::made(alloc)
+}
+
+fn sent<L: Ledger>(rt: &impl Abort, queue: &mut Queue<L>, text: Text<L>) {
+    let message = Message {
+        mtype: 1,
+        sender: 3,
+        tag: 70,
+        body: text,
+    };
+    match queue.send(message) {
+        Ok(_) => (),
+        Err((refusal, _message)) => panic!(rt; "{refusal}"),
+    }
+}
+
+fn received<L: Ledger>(rt: &impl Abort, queue: &mut Queue<L>) -> Text<L> {
+    match queue.receive(LEN as u64, Selection::Any, false) {
+        Ok(
+            Received {
+                entry: _,
+                place: _,
+                mtype: _,
+                sender: _,
+                tag: _,
+                length: _,
+                body,
+            },
+        ) => body,
+        Err(refusal) => panic!(rt; "{refusal}"),
+    }
+}
+
+fn given_up<L: Ledger>(rt: &impl Abort, queue: Queue<L>) {
+    let mut waiting = queue.into_parts();
+    match waiting.pop_any() {
+        None => waiting.end(),
+        Some(_message) => panic!(rt; "a message waits"),
+    }
+}
+
+fn holds(part: &[u8], len: usize, letter: u8) -> bool {
+    part.len() == len && part.iter().all(|byte| *byte == letter)
+}
+
+/// Whether the text has the letters that were filled in, and lies where it lay.
+fn is_as_filled<L: Ledger>(text: &Text<L>, start: Option<u32>) -> bool {
+    text.start() == start
+        && text.count() == 3
+        && holds(text.part(0), 1024, b'A')
+        && holds(text.part(1), 1024, b'B')
+        && holds(text.part(2), 2, b'B')
+}
+
+fn is_zero<L: Ledger>(text: &Text<L>) -> bool {
+    text.count() == 3
+        && holds(text.part(0), 1024, 0)
+        && holds(text.part(1), 1024, 0)
+        && holds(text.part(2), 2, 0)
+}
+
+/// A text in the arena's second block of its order, filled by two threads.
+fn filled<L: Ledger, R: Abort + Threads>(rt: &R, arena: &mut ArenaState<L>) -> Text<L> {
+    let before = drafted(rt, arena);
+    let mut text = drafted(rt, arena);
+    spent(rt, arena, before);
+    assert!(rt; is_zero(&text));
+    text.fill_halves(rt, 1, &[b'A'; 1024], &[b'B'; 1026]);
+    text
+}
+
+fn handed_on<L: Ledger>(rt: &impl Abort, queue: &mut Queue<L>, text: Text<L>) -> Text<L> {
+    sent(rt, queue, text);
+    received(rt, queue)
+}
+
+fn sent_on<L: Ledger, R: Abort + Threads>(rt: &R, alloc: Global, unopened: Unopened, ledger: Blank)
+    requires name { ledger.name ≡ L.name }
+    requires parts { ledger.parts ≡ L.parts }
+    requires enough { 2 ^ unopened < ledger.parts }
+{
+    let mut arena = unopened.open::<L>(ledger);
+    let mut first = made(alloc);
+    let mut second = made(alloc);
+    let text = filled(rt, &mut arena);
+    let start = text.start();
+    assert_eq!(rt; start, Some(4));
+    let text = handed_on(rt, &mut first, text);
+    assert!(rt; is_as_filled(&text, start));
+    let text = handed_on(rt, &mut second, text);
+    assert!(rt; is_as_filled(&text, start));
+    assert_eq!(rt; arena.free_pages(), 60);
+    spent(rt, &mut arena, text);
+    assert_eq!(rt; arena.free_pages(), 64);
+    given_up(rt, first);
+    given_up(rt, second);
+}
+
+#[test]
+fn a_text_is_sent_and_received_in_its_own_block(rt: HostRuntime) -> Result<(), Fail> {
+    let unopened = Unopened::new(rt.alloc(), 6)?;
+    sent_on::<Brand, HostRuntime>(&rt, rt.alloc(), unopened, Blank::new(PARTS));
+    Ok(())
+}
+
+#[tactic(auto, using(mq_message::proofs::Loans::left_length))]
+fn part_copied<L: Ledger>(rt: &impl Abort, copy: &mut Text<L>, text: &Text<L>, i: usize)
+    requires within { i < count_of (length text.now.bytes) }
+    requires same { length copy.old.bytes ≡ length text.now.bytes }
+    ensures { length copy.new.bytes ≡ length copy.old.bytes }
+{
+    let bytes = text.part(i);
+    let part = copy.part_mut(i);
+    assert_eq!(rt; part.len(), bytes.len());
+    part.copy_from_slice(bytes);
+}
+
+/// The same bytes in another block.
+fn copied<L: Ledger>(rt: &impl Abort, arena: &mut ArenaState<L>, text: Text<L>) -> Text<L> {
+    let mut copy = drafted(rt, arena);
+    assert_eq!(rt; text.len(), LEN as u64);
+    part_copied(rt, &mut copy, &text, 0);
+    part_copied(rt, &mut copy, &text, 1);
+    part_copied(rt, &mut copy, &text, 2);
+    spent(rt, arena, text);
+    copy
+}
+
+fn copied_on_its_way<L: Ledger, R: Abort + Threads>(
+    rt: &R,
+    alloc: Global,
+    unopened: Unopened,
+    ledger: Blank,
+)
+    requires name { ledger.name ≡ L.name }
+    requires parts { ledger.parts ≡ L.parts }
+    requires enough { 2 ^ unopened < ledger.parts }
+{
+    let mut arena = unopened.open::<L>(ledger);
+    let mut first = made(alloc);
+    let mut second = made(alloc);
+    let text = filled(rt, &mut arena);
+    let start = text.start();
+    let text = handed_on(rt, &mut first, text);
+    let text = copied(rt, &mut arena, text);
+    let text = handed_on(rt, &mut second, text);
+    assert!(rt; !is_as_filled(&text, start));
+    assert!(rt; is_as_filled(&text, text.start()));
+    spent(rt, &mut arena, text);
+    assert_eq!(rt; arena.free_pages(), 64);
+    given_up(rt, first);
+    given_up(rt, second);
+}
+
+#[test]
+fn a_text_that_was_copied_on_its_way_is_found_out(rt: HostRuntime) -> Result<(), Fail> {
+    let unopened = Unopened::new(rt.alloc(), 6)?;
+    copied_on_its_way::<Brand, HostRuntime>(&rt, rt.alloc(), unopened, Blank::new(PARTS));
+    Ok(())
+}
