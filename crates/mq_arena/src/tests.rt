@@ -56,7 +56,9 @@ fn used_again<L: Ledger>(rt: &impl Abort, unopened: Unopened, ledger: Blank)
     let mut block = taken(rt, &mut arena, 1, 0);
     block.fill(&[7; 2048]);
     block.part_mut(1)[1023] = 9;
-    assert_eq!(rt; block.part(0)[0], 7);
+    block.front_mut(0, 5).fill(8);
+    assert_eq!(rt; block.part(0)[4], 8);
+    assert_eq!(rt; block.part(0)[5], 7);
     assert_eq!(rt; block.part(1)[1023], 9);
     assert_eq!(rt; arena.put(block), Homecoming::Home);
 
