@@ -58,7 +58,7 @@ impl Page {
         self.bytes.as_mut_slice()
     }
 
-    /// The first `len` bytes, to be written in place: the page keeps its length and its other bytes.
+    /// The first `len` bytes, to be written in place: the page keeps its length.
     pub fn front_mut(&mut self, len: usize) -> &mut [u8]
         requires { len ≤ length self.old }
         ensures* writes_back { sem 𝓛 (LendsPage self.entry result) }

@@ -39,7 +39,8 @@ refill_front n old left within =
 
 -- bytes that end within page i
 ends_within : (pages : List (List ℕ)) (i n : ℕ) (page : List ℕ) → AreWhole pages → i < length pages
-    → n ≤ length page → take (PAGE_LEN * i + n) (concat (set pages i page)) ≡ concat (take i pages) ++ take n page
+    → n ≤ length page
+    → take (PAGE_LEN * i + n) (concat (set pages i page)) ≡ concat (take i pages) ++ take n page
 ends_within pages i n page whole within short =
     let before : List ℕ = concat (take i pages) in
     let after : List ℕ = concat (drop (i + 1) pages) in
@@ -50,9 +51,10 @@ ends_within pages i n page whole within short =
     ∙ ap (λ bs. before ++ bs) (take-append-le n page after short)
 
 -- the first bytes show no more of page i than its front
-same_front : (pages : List (List ℕ)) (i len : ℕ) (one other : List ℕ) → AreWhole pages → i < length pages
-    → PAGE_LEN * i ≤ len → length one ≡ PAGE_LEN → length other ≡ PAGE_LEN
-    → take (min PAGE_LEN (len - PAGE_LEN * i)) one ≡ take (min PAGE_LEN (len - PAGE_LEN * i)) other
+same_front : (pages : List (List ℕ)) (i len : ℕ) (one other : List ℕ) → AreWhole pages
+    → i < length pages → PAGE_LEN * i ≤ len → length one ≡ PAGE_LEN → length other ≡ PAGE_LEN
+    → take (min PAGE_LEN (len - PAGE_LEN * i)) one
+    ≡ take (min PAGE_LEN (len - PAGE_LEN * i)) other
     → take len (concat (set pages i one)) ≡ take len (concat (set pages i other))
 same_front pages i len one other whole within from long long-2 same =
     let n : ℕ = min PAGE_LEN (len - PAGE_LEN * i) in
@@ -71,10 +73,10 @@ same_front pages i len one other whole within from long long-2 same =
     ]
 
 -- the text once these bytes stand in its part
-part_written : (text : PlainText) (len i : ℕ) (b : OwnedBlock) (part : List ℕ) → IsPartOf text len i b
-    → length part ≡ min PAGE_LEN (len - PAGE_LEN * i)
-    → text_of len (Some (owned b.start b.order (set b.pages i (part ++ drop (length part) (get_or b.pages i [])))))
-    ≡ with_part text i part
+part_written : (text : PlainText) (len i : ℕ) (b : OwnedBlock) (part : List ℕ)
+    → IsPartOf text len i b → length part ≡ min PAGE_LEN (len - PAGE_LEN * i)
+    → let page = part ++ drop (length part) (get_or b.pages i []) in
+    text_of len (Some (owned b.start b.order (set b.pages i page))) ≡ with_part text i part
 part_written text len i b part is long =
     let at_end : PAGE_LEN * i + length part ≤ len = omega (arith, is.from) in
     ap (λ bs. let t : PlainText = record { bytes = bs; block = Some (place b) } in t)
@@ -82,7 +84,8 @@ part_written text len i b part is long =
     ∙ ap (λ t. with_part t i part) is.same
 
 -- the text once the loan of its part ends
-pub part_left : (text : PlainText) (len i : ℕ) (b : OwnedBlock) (left : List ℕ) → IsPartOf text len i b
+pub part_left : (text : PlainText) (len i : ℕ) (b : OwnedBlock) (left : List ℕ)
+    → IsPartOf text len i b
     → text_of len (Some (owned b.start b.order (with_page b.pages i left))) ≡ with_left text i left
 part_left text len i b left is =
     let n : ℕ = min PAGE_LEN (len - PAGE_LEN * i) in
@@ -95,7 +98,8 @@ part_left text len i b left is =
     let other : List ℕ = part ++ drop (length part) old in
     let other_long : length other ≡ PAGE_LEN =
     omega (arith, length-append part (drop (length part) old), length-drop (length part) old) in
-    let same : take n page ≡ take n other = sym (take_at part (drop (length part) old) n part_long) in
+    let same : take n page ≡ take n other =
+    sym (take_at part (drop (length part) old) n part_long) in
     let lent : refill (length (text_part text.bytes i)) (text_part text.bytes i) left ≡ part =
     ap (λ bs. refill (length bs) bs left) is.part
     ∙ ap (λ k. refill k (take n old) left) (length-take-le n old (omega arith))

@@ -10,8 +10,12 @@ returns g c =
     let len = c.self.inside.len in
     let b = c.in-Some.block in
     let is : IsPartOf text len i b =
-    part_of text len i c.self.inside.block b c.self.view_is c.in-Some.is c.self.invariant c.requires in (
-      (refl {a = c.front_mut.result.ghost_name}, λ w. rw c.in-Some.is (part_left text len i b w is)),
+    part_of text len i c.self.inside.block b c.self.view_is c.in-Some.is c.self.invariant
+    c.requires in (
+      (
+        refl {a = c.front_mut.result.ghost_name},
+        λ w. rw c.in-Some.is (part_left text len i b w is),
+      ),
       record {
         writes_back = tt;
         value = rw (c.front_mut.ensures.value, c.in-Some.is, c.part_len-len.ensures) (sym is.part);
