@@ -90,15 +90,15 @@ refused_at s reply (Err other) errno e memory = ap (λ (r : Errno). (refused r, 
 
 -- a send that is refused after its text was made leaves all
 pub send_refused : (n : ℕ) (s : State) (id : ℕ) (mtype : ℤ) (text : Text) (made : PlainText) (after : State) (errno : Errno) → draft s text ≡ Ok (made, after)
-    → errno ≡ errno_or_memory (msgsnd after id (message_of n s.seat mtype made)) → errno ≢ ENOMEM → send_step n s id mtype text ≡ (refused errno, s)
+    → errno ≡ errno_or_memory (msgsnd after id (message_of n s.seat mtype made) n) → errno ≢ ENOMEM → send_step n s id mtype text ≡ (refused errno, s)
 send_refused n s id mtype text made after errno e is memory =
-    ap (told s (λ d. told s (λ t. (at t.0, t.1)) (msgsnd d.1 id (message_of n s.seat mtype d.0)))) e
-    ∙ refused_at s (λ t. (at t.0, t.1)) (msgsnd after id (message_of n s.seat mtype made)) errno is memory
+    ap (told s (λ d. told s (λ t. (at t.0, t.1)) (msgsnd d.1 id (message_of n s.seat mtype d.0) n))) e
+    ∙ refused_at s (λ t. (at t.0, t.1)) (msgsnd after id (message_of n s.seat mtype made) n) errno is memory
 
 -- the same of what a refused send writes and leaves
 pub refused_leaves : (n : ℕ) (s : State) (id : ℕ) (mtype : ℤ) (text : Text) (made : PlainText) (after : State) (errno : Errno) (body : PlainText) (kept last : State)
     (old new : List ℕ) (r : Result (Unit {0}) AllocError) → draft s text ≡ Ok (made, after)
-    → errno ≡ errno_or_memory (msgsnd after id (message_of n s.seat mtype made)) → body ≡ made → kept ≡ after → last ≡ spent body kept
+    → errno ≡ errno_or_memory (msgsnd after id (message_of n s.seat mtype made) n) → body ≡ made → kept ≡ after → last ≡ spent body kept
     → OnOk r (new ≡ old ++ output (refused errno)) → OnOk r (errno ≢ ENOMEM) → OnOk r (Answered (send_step n s id mtype text) old new last)
 refused_leaves n s id mtype text made after errno body kept last old new (Ok _) e is same_text same_state gone line memory =
     let told = send_refused n s id mtype text made after errno e is memory in

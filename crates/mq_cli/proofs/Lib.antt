@@ -1,7 +1,9 @@
 pub mod DraftLemmas
+pub mod HomeLemmas
 pub mod LinesLemmas
 pub mod NumberLemmas
 pub mod PartsLemmas
 pub mod Runs
+pub mod SlotLemmas
 pub mod SpellingLemmas
 pub mod Transfers

@@ -17,7 +17,7 @@ use Rattle.std.proofs.lemmas.Str.Parse.{digit_from_value, not_in_digits}
 use Rattle.mq_cli.specs.declared.limits.TheConstants.{LINE_LIMIT}
 use Rattle.mq_cli.specs.declared.fault.Cause.{Cause}
 use Rattle.mq_cli.specs.declared.fault.Cause.TheVariants.{Words}
-use Rattle.mq_cli.specs.Commands.{Call, sit, show, get, snd, rcv, Text, plain, letters, Flags, ok_map, ◌>>=◌, worded, is_filled, is_plain, is_text, text_of, flags_of, seat_of, arena_of, get_of, send_of, receive_of, command_of, is_skipped, reading}
+use Rattle.mq_cli.specs.Commands.{Call, sit, show, get, snd, rcv, set, rm, stat, Text, plain, letters, Flags, ok_map, ◌>>=◌, worded, is_filled, is_plain, is_text, text_of, flags_of, seat_of, arena_of, get_of, set_of, remove_of, stat_of, send_of, receive_of, command_of, is_skipped, reading}
 use Rattle.mq_cli.specs.Laws.{flag_words, spelling, text_spelling, CanBeSpelled, Spells, ReadsBack, SpelledOneWay}
 use Rattle.mq_cli.specs.Lines.{is_printable, line_of, words_of}
 use Rattle.mq_cli.specs.Numbers.{number_of, integer_of, under, above_zero, below_zero}
@@ -292,6 +292,39 @@ listed line [] call is e =
     subst (Spells line) same (is, tt)
 listed line (word ∷ words) call is e = absurd (cc e)
 
+-- and set
+changed : (line : List ℕ) (words : List (List ℕ)) (call : Call) → line ≡ line_of (codes "set" ∷ words) → set_of words ≡ Ok call → Spells line call
+changed line (id ∷ qbytes ∷ []) call is e =
+    bind_ok _ _ call e (λ i read_id told.
+    bind_ok (number_of qbytes) (λ q. Ok (set i q)) call told (λ q read_qbytes done.
+    let spelled_id = under-Some (2 ^ 32) id i read_id in
+    let spelled_qbytes = number_of-Some qbytes q read_qbytes in
+    let same : set i q ≡ call = cc done in
+    subst (Spells line) same (cc (is, spelled_id.0, spelled_qbytes.0), (spelled_id.1, spelled_qbytes.1))))
+changed line [] call is e = absurd (cc e)
+changed line (id ∷ []) call is e = absurd (cc e)
+changed line (id ∷ qbytes ∷ more ∷ words) call is e = absurd (cc e)
+
+-- and rm
+removed : (line : List ℕ) (words : List (List ℕ)) (call : Call) → line ≡ line_of (codes "rm" ∷ words) → remove_of words ≡ Ok call → Spells line call
+removed line (id ∷ []) call is e =
+    bind_ok (under (2 ^ 32) (number_of id)) (λ i. Ok (rm i)) call e (λ i read done.
+    let spelled = under-Some (2 ^ 32) id i read in
+    let same : rm i ≡ call = cc done in
+    subst (Spells line) same (cc (is, spelled.0), spelled.1))
+removed line [] call is e = absurd (cc e)
+removed line (id ∷ more ∷ words) call is e = absurd (cc e)
+
+-- and stat
+asked : (line : List ℕ) (words : List (List ℕ)) (call : Call) → line ≡ line_of (codes "stat" ∷ words) → stat_of words ≡ Ok call → Spells line call
+asked line (id ∷ []) call is e =
+    bind_ok (under (2 ^ 32) (number_of id)) (λ i. Ok (stat i)) call e (λ i read done.
+    let spelled = under-Some (2 ^ 32) id i read in
+    let same : stat i ≡ call = cc done in
+    subst (Spells line) same (cc (is, spelled.0), spelled.1))
+asked line [] call is e = absurd (cc e)
+asked line (id ∷ more ∷ words) call is e = absurd (cc e)
+
 -- what follows from words that say something
 worded_ok : {A B P : Type 0} (o : Option A) (f : A → Result B Cause) (y : B) → worded o f ≡ Ok y → ((x : A) → o ≡ Some x → f x ≡ Ok y → P) → P
 worded_ok None f y e then = absurd (cc e)
@@ -302,8 +335,8 @@ some_is : {A : Type 0} (x y : A) → Some x ≡ Some y → x ≡ y
 some_is x y e = cc e
 
 -- a word that passes the test is the word for those flags
-flag_word : (word text : List ℕ) (set flags : Flags) → bytes_eq word text ≡ true → set ≡ flags → flag_words set.except set.noerror ≡ text ∷ [] → word ∷ [] ≡ flag_words flags.except flags.noerror
-flag_word word text set flags test same spelled =
+flag_word : (word text : List ℕ) (wanted flags : Flags) → bytes_eq word text ≡ true → wanted ≡ flags → flag_words wanted.except wanted.noerror ≡ text ∷ [] → word ∷ [] ≡ flag_words flags.except flags.noerror
+flag_word word text wanted flags test same spelled =
     ap (λ w. w ∷ []) ((bytes_eq-Decides word text).0 test) ∙ sym spelled ∙ ap (λ (f : Flags). flag_words f.except f.noerror) same
 
 -- flags are read from their word alone
@@ -311,11 +344,11 @@ flags_of-Some : (words : List (List ℕ)) (flags : Flags) → flags_of words ≡
 flags_of-Some [] flags e = subst (λ (f : Flags). [] ≡ flag_words f.except f.noerror) (some_is _ _ e) refl
 flags_of-Some (word ∷ []) flags e =
     chosen _ _ _ _ e
-    (λ is_e set. flag_word word (codes "e") _ flags is_e (some_is _ _ set) refl)
+    (λ is_e found. flag_word word (codes "e") _ flags is_e (some_is _ _ found) refl)
     (λ not_e others. chosen _ _ _ _ others
-    (λ is_n set. flag_word word (codes "n") _ flags is_n (some_is _ _ set) refl)
+    (λ is_n found. flag_word word (codes "n") _ flags is_n (some_is _ _ found) refl)
     (λ not_n last. chosen _ _ _ _ last
-    (λ is_en set. flag_word word (codes "en") _ flags is_en (some_is _ _ set) refl)
+    (λ is_en found. flag_word word (codes "en") _ flags is_en (some_is _ _ found) refl)
     (λ not_en none. absurd (cc none))))
 flags_of-Some (word ∷ more ∷ words) flags e = absurd (cc e)
 
@@ -416,9 +449,15 @@ commanded line (name ∷ words) call are short printable e =
     (λ is_seat sits. seated line words call (rejoined line name (codes "seat") words are is_seat) sits)
     (λ not_seat rest. chosen _ _ _ _ rest
     (λ is_arena asks. listed line words call (rejoined line name (codes "arena") words are is_arena) asks)
-    (λ not_arena others.
+    (λ not_arena rest. chosen _ _ _ _ rest
+    (λ is_get gets. got line words call (rejoined line name (codes "get") words are is_get) gets)
+    (λ not_get rest. chosen _ _ _ _ rest
+    (λ is_set sets. changed line words call (rejoined line name (codes "set") words are is_set) sets)
+    (λ not_set rest. chosen _ _ _ _ rest
+    (λ is_rm removes. removed line words call (rejoined line name (codes "rm") words are is_rm) removes)
+    (λ not_rm others.
     let last = needed _ _ _ _ others in
-    got line words call (rejoined line name (codes "get") words are last.0) last.1))))
+    asked line words call (rejoined line name (codes "stat") words are last.0) last.1)))))))
 
 -- a call is read from its spelling alone
 pub spelled_one_way : SpelledOneWay
@@ -458,6 +497,19 @@ seat_again : (n : ℕ) → 1 ≤ n → n ≤ 16 → command_of (codes "seat" ∷
 seat_again n least most =
     let word = decimal_word n (omega arith) in
     rw (word.filled, above_zero-decimal n least most) refl
+
+-- the words of set, rm and stat are read back
+set_again : (id qbytes : ℕ) → id < 2 ^ 32 → qbytes < 2 ^ 64 → command_of (codes "set" ∷ decimal id ∷ decimal qbytes ∷ []) ≡ Ok (set id qbytes)
+set_again id qbytes id_fits qbytes_fits =
+    let id_word = decimal_word id (omega arith) in
+    let qbytes_word = decimal_word qbytes qbytes_fits in
+    rw (id_word.filled, qbytes_word.filled, under-decimal (2 ^ 32) id (lit≤ tt) id_fits, number_of-decimal qbytes qbytes_fits) refl
+
+remove_again : (id : ℕ) → id < 2 ^ 32 → command_of (codes "rm" ∷ decimal id ∷ []) ≡ Ok (rm id)
+remove_again id fits = rw ((decimal_word id (omega arith)).filled, under-decimal (2 ^ 32) id (lit≤ tt) fits) refl
+
+stat_again : (id : ℕ) → id < 2 ^ 32 → command_of (codes "stat" ∷ decimal id ∷ []) ≡ Ok (stat id)
+stat_again id fits = rw ((decimal_word id (omega arith)).filled, under-decimal (2 ^ 32) id (lit≤ tt) fits) refl
 
 -- the words of rcv are read back
 receive_again : (id size : ℕ) (z : ℤ) (words : List (List ℕ)) (flags : Flags) → id < 2 ^ 32 → size < 2 ^ 64 → FitsSigned w64 z → flags_of words ≡ Some flags
@@ -550,3 +602,11 @@ reads_back (rcv id size mtype false true) can =
     flagged_rcv_again id size mtype (codes "n") (record { except = false; noerror = true }) (name_word (codes "n") refl) refl can.0 can.1 can.2
 reads_back (rcv id size mtype true true) can =
     flagged_rcv_again id size mtype (codes "en") (record { except = true; noerror = true }) (name_word (codes "en") refl) refl can.0 can.1 can.2
+reads_back (set id qbytes) can =
+    let id_word = decimal_word id (omega (arith, can.0)) in
+    reads_words (codes "set" ∷ decimal id ∷ []) (decimal qbytes) (set id qbytes) (name_word (codes "set") refl, (id_word, tt)) (decimal_word qbytes can.1) (lit≤ tt) refl
+    (set_again id qbytes can.0 can.1)
+reads_back (rm id) can =
+    reads_words (codes "rm" ∷ []) (decimal id) (rm id) (name_word (codes "rm") refl, tt) (decimal_word id (omega (arith, can))) (lit≤ tt) refl (remove_again id can)
+reads_back (stat id) can =
+    reads_words (codes "stat" ∷ []) (decimal id) (stat id) (name_word (codes "stat") refl, tt) (decimal_word id (omega (arith, can))) (lit≤ tt) refl (stat_again id can)

@@ -20,6 +20,9 @@ pub data Call : Type 0 where
   get : Call
   snd : (id : ℕ) (mtype : ℤ) (text : Text) → Call
   rcv : (id size : ℕ) (mtype : ℤ) (except noerror : Bool) → Call
+  set : (id qbytes : ℕ) → Call
+  rm : (id : ℕ) → Call
+  stat : (id : ℕ) → Call
 
 -- what was read, seen by f
 abbrev pub ok_map : {A B : Type 0} → (A → B) → Result A Cause → Result B Cause
@@ -97,6 +100,20 @@ receive_of (id ∷ size ∷ mtype ∷ flags) = worded (flags_of flags) (λ f. do
   Ok (rcv i s z f.except f.noerror))
 receive_of _ = Err Words
 
+-- msgctl: IPC_SET, IPC_RMID and IPC_STAT
+abbrev pub set_of : List (List ℕ) → Result Call Cause
+set_of (id ∷ qbytes ∷ []) =
+    under (2 ^ 32) (number_of id) >>= λ i. number_of qbytes >>= λ q. Ok (set i q)
+set_of _ = Err Words
+
+abbrev pub remove_of : List (List ℕ) → Result Call Cause
+remove_of (id ∷ []) = under (2 ^ 32) (number_of id) >>= λ i. Ok (rm i)
+remove_of _ = Err Words
+
+abbrev pub stat_of : List (List ℕ) → Result Call Cause
+stat_of (id ∷ []) = under (2 ^ 32) (number_of id) >>= λ i. Ok (stat i)
+stat_of _ = Err Words
+
 -- a command by its name; the words of all but a text are filled
 abbrev pub command_of : List (List ℕ) → Result Call Cause
 command_of [] = Err Words
@@ -107,7 +124,10 @@ command_of (name ∷ words) =
     else (if bytes_eq name (codes "seat") then seat_of words
     else (if bytes_eq name (codes "arena") then arena_of words
     else (if bytes_eq name (codes "get") then get_of words
-    else Err Words)))))
+    else (if bytes_eq name (codes "set") then set_of words
+    else (if bytes_eq name (codes "rm") then remove_of words
+    else (if bytes_eq name (codes "stat") then stat_of words
+    else Err Words))))))))
 
 -- an empty line or a comment
 abbrev pub is_skipped : List ℕ → Bool

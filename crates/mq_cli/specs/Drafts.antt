@@ -1,11 +1,12 @@
 -- Texts that are made of what a line says, in blocks of the arena, and that are given back.
-use Rattle.std.specs.Prelude.{ℕ, ◌+◌, ◌%◌, ◌==◌, nat_lt, if◌then◌else◌, List, length, map, Option, Some, None, Result, Ok, Err}
-use Rattle.std.specs.List.{range_with_len}
+use Rattle.std.specs.Prelude.{ℕ, ◌+◌, ◌%◌, ◌==◌, nat_lt, if◌then◌else◌, Bool, false, not, List, length, filter, map, Option, Some, None, Result, Ok, Err}
+use Rattle.std.specs.List.{list_any, range_with_len}
 use Rattle.std.specs.Option.{option_map_or}
-use Rattle.mq_tree.specs.Blocks.{Block}
+use Rattle.mq_tree.specs.Blocks.{Block, is_block}
 use Rattle.mq_tree.specs.LentSet.{Lending}
-use Rattle.mq_arena.specs.Lent.{lend, gives_back}
+use Rattle.mq_arena.specs.Lent.{lend, gives_back, with_lent}
 use Rattle.mq_message.specs.Text.{PlainText, order_for}
+use Rattle.mq_message.specs.declared.message.Message.{Message}
 use Rattle.mq_queue.specs.declared.limits.TheConstants.{MSGMAX}
 use Rattle.mq_cli.specs.Commands.{Text, plain, letters}
 use Rattle.mq_cli.specs.declared.errno.Errno.{Errno}
@@ -38,3 +39,12 @@ drafts arena text =
 -- the arena once the text's block, if it has one, is home
 abbrev pub spends : PlainText → Lending → Lending
 spends text arena = option_map_or (λ b. gives_back b arena) text.block arena
+
+-- whether a text lies in this block
+abbrev pub lies_in : Block → PlainText → Bool
+lies_in b text = option_map_or (λ c. is_block c b) text.block false
+
+-- the arena once the blocks of all these messages are home
+abbrev pub spends_all : List (ℕ × Message PlainText) → Lending → Lending
+spends_all messages arena =
+    with_lent arena (filter (λ b. not (list_any (λ m. lies_in b m.1.body) messages)) arena.lent)

@@ -4,13 +4,15 @@ use Rattle.mq_tree.specs.Fit.{largest}
 use Rattle.mq_tree.specs.LentSet.{free_pages}
 use Rattle.mq_message.specs.Text.{PlainText}
 use Rattle.mq_message.specs.declared.message.Message.{Message}
+use Rattle.mq_queue.specs.declared.figures.Figures.{Figures}
 use Rattle.mq_queue.specs.declared.received.Received.{Received}
 use Rattle.mq_cli.specs.declared.errno.Errno.{Errno}
-use Rattle.mq_cli.specs.declared.errno.Errno.TheVariants.{EINVAL, EAGAIN, ENOMSG, E2BIG, ENOSPC, ENOMEM}
+use Rattle.mq_cli.specs.declared.errno.Errno.TheVariants.{EINVAL, EIDRM, EAGAIN, ENOMSG, E2BIG, EPERM, ENOSPC, ENOMEM}
 use Rattle.mq_cli.specs.declared.fault.Cause.{Cause}
 use Rattle.mq_cli.specs.Lines.{lines_of}
-use Rattle.mq_cli.specs.Commands.{Call, sit, show, get, snd, rcv, Text, reading}
-use Rattle.mq_cli.specs.Session.{State, Answer, draft, spent, msgget, msgsnd, msgrcv}
+use Rattle.mq_cli.specs.Commands.{Call, sit, show, get, snd, rcv, set, rm, stat, Text, reading}
+use Rattle.mq_cli.specs.Session.{State, Answer, draft, spent, msgget, msgsnd, msgrcv, rmid}
+use Rattle.mq_cli.specs.Session.{set as set_answer, stat as stat_answer}
 
 -- what a command answers, if it does
 pub data Reply : Type 0 where
@@ -20,12 +22,16 @@ pub data Reply : Type 0 where
   at : (entry : ℕ) → Reply
   message : (delivery : Received PlainText) → Reply
   figures : (pages free : ℕ) (most : Option ℕ) → Reply
+  gone : (entry events : ℕ) → Reply
+  counted : (queue : Figures) → Reply
 
 abbrev pub errno_name : Errno → List ℕ
 errno_name EINVAL = codes "EINVAL"
+errno_name EIDRM = codes "EIDRM"
 errno_name EAGAIN = codes "EAGAIN"
 errno_name ENOMSG = codes "ENOMSG"
 errno_name E2BIG = codes "E2BIG"
+errno_name EPERM = codes "EPERM"
 errno_name ENOSPC = codes "ENOSPC"
 errno_name ENOMEM = codes "ENOMEM"
 
@@ -43,6 +49,20 @@ abbrev pub order_name : Option ℕ → List ℕ
 order_name None = codes "none"
 order_name (Some order) = decimal order
 
+-- what is said of a queue: what waits and its quota, and then who changed it last and when
+unfoldable pub counts_of : Figures → List ℕ
+counts_of f =
+    codes "qnum " ++ decimal f.qnum ++ codes " cbytes " ++ decimal f.cbytes ++ codes " qbytes "
+    ++ decimal f.qbytes
+
+unfoldable pub callers_of : Figures → List ℕ
+callers_of f = codes " lspid " ++ decimal f.lspid ++ codes " lrpid " ++ decimal f.lrpid
+
+unfoldable pub moments_of : Figures → List ℕ
+moments_of f =
+    codes " stime " ++ decimal f.stime ++ codes " rtime " ++ decimal f.rtime ++ codes " ctime "
+    ++ decimal f.ctime
+
 -- a reply as it is written
 abbrev pub text_of : Reply → List ℕ
 text_of silent = []
@@ -50,6 +70,8 @@ text_of (refused errno) = errno_name errno
 text_of (given id) = codes "id " ++ decimal id
 text_of (at entry) = codes "at " ++ decimal entry
 text_of (figures pages free most) = pages_of pages free ++ order_name most
+text_of (gone entry events) = codes "at " ++ decimal entry ++ codes " events " ++ decimal events
+text_of (counted queue) = counts_of queue ++ callers_of queue ++ moments_of queue
 text_of (message m) = head_of m.mtype m.sender m.tag m.length ++ m.body.bytes
 
 -- its line, where there is one
@@ -73,24 +95,42 @@ sit_step s number = (silent, record { arena = s.arena; slot = s.slot; seat = num
 abbrev pub arena_step : State → Reply × State
 arena_step s = (figures (2 ^ s.arena.height) (free_pages s.arena.height s.arena.lent) (largest s.arena.height s.arena.lent), s)
 
-abbrev pub get_step : State → Reply × State
-get_step s = told s (λ t. (given t.0, t.1)) (msgget s)
+abbrev pub get_step : ℕ → State → Reply × State
+get_step n s = told s (λ t. (given t.0, t.1)) (msgget s n)
 
 -- a text that cannot be made is refused whatever else the line says; a refused call leaves all
 abbrev pub send_step : ℕ → State → ℕ → ℤ → Text → Reply × State
-send_step n s id mtype text = told s (λ d. told s (λ t. (at t.0, t.1)) (msgsnd d.1 id (message_of n s.seat mtype d.0))) (draft s text)
+send_step n s id mtype text = told s (λ d. told s (λ t. (at t.0, t.1)) (msgsnd d.1 id (message_of n s.seat mtype d.0) n)) (draft s text)
 
 -- a text that was handed out is given up once it is written
-abbrev pub receive_step : State → ℕ → ℕ → ℤ → Bool → Bool → Reply × State
-receive_step s id size mtype except noerror = told s (λ t. (message t.0, spent t.0.body t.1)) (msgrcv s id size mtype except noerror)
+abbrev pub receive_step : ℕ → State → ℕ → ℕ → ℤ → Bool → Bool → Reply × State
+receive_step n s id size mtype except noerror =
+    told s (λ t. (message t.0, spent t.0.body t.1)) (msgrcv s id size mtype except noerror n)
+
+abbrev pub set_step : ℕ → State → ℕ → ℕ → Reply × State
+set_step n s id qbytes = told s (λ t. (at t.0, t.1)) (set_answer s id qbytes n)
+
+abbrev pub remove_step : ℕ → State → ℕ → Reply × State
+remove_step n s id = told s (λ t. (gone t.0.entry t.0.events, t.1)) (rmid s id n)
+
+-- the figures change nothing
+abbrev pub stat_reply : Result Figures Errno → Reply
+stat_reply (Ok queue) = counted queue
+stat_reply (Err errno) = refused errno
+
+abbrev pub stat_step : State → ℕ → Reply × State
+stat_step s id = (stat_reply (stat_answer s id), s)
 
 -- what the command of line n replies and leaves
 abbrev pub step : ℕ → State → Call → Reply × State
 step n s (sit number) = sit_step s number
 step n s show = arena_step s
-step n s get = get_step s
+step n s get = get_step n s
 step n s (snd id mtype text) = send_step n s id mtype text
-step n s (rcv id size mtype except noerror) = receive_step s id size mtype except noerror
+step n s (rcv id size mtype except noerror) = receive_step n s id size mtype except noerror
+step n s (set id qbytes) = set_step n s id qbytes
+step n s (rm id) = remove_step n s id
+step n s (stat id) = stat_step s id
 
 -- what a line writes and leaves, or why it is not well formed
 abbrev pub said : ℕ → State → Result (Option Call) Cause → Result (List ℕ × State) Cause
@@ -117,7 +157,7 @@ run_from n s (line ∷ lines) = goes_on n (said n s (reading line)) (λ t. run_f
 
 -- nothing is lent in an arena of this height, no queue is made, and seat 1 makes the calls
 abbrev pub start : ℕ → State
-start height = record { arena = record { height = height; lent = [] }; slot = record { entries = 0; messages = [] }; seat = 1 }
+start height = record { arena = record { height = height; lent = [] }; slot = record { events = []; messages = [] }; seat = 1 }
 
 abbrev pub run_of : ℕ → List ℕ → Run
 run_of height script = run_from 1 (start height) (lines_of script)

@@ -2,7 +2,7 @@ ghost use Rattle.std.specs.Prelude.{◌≡◌, ◌^◌, ◌==◌};
 ghost use Rattle.std.specs.List.{list_all, list_any};
 ghost use Rattle.std.specs.Option.{option_map};
 ghost use Rattle.mq_cli.specs.Commands.{arena_of, command_of, flags_of, get_of, is_filled, receive_of, reading};
-ghost use Rattle.mq_cli.specs.Commands.{seat_of, send_of, text_of};
+ghost use Rattle.mq_cli.specs.Commands.{remove_of, seat_of, send_of, set_of, stat_of, text_of};
 ghost use Rattle.mq_cli.specs.Commands.{is_skipped as is_skipped_line};
 ghost use Rattle.mq_cli.specs.Commands.{is_text as is_text_form};
 ghost use Rattle.mq_cli.specs.Drafts.{length_of_text};
@@ -58,6 +58,12 @@ pub enum Command<'a> {
     Get,
     Send(SendCall<'a>),
     Receive(ReceiveCall),
+    /// IPC_SET of the queue with this id.
+    Set { id: u32, qbytes: u64 },
+    /// IPC_RMID.
+    Remove { id: u32 },
+    /// IPC_STAT.
+    Stat { id: u32 },
 }
 
 impl TextForm<'_> {
@@ -130,6 +136,15 @@ fn read_command(line: &[u8]) -> Result<Command<'_>, Cause>
     }
     if name == b"get".as_slice() {
         return read_get(words);
+    }
+    if name == b"set".as_slice() {
+        return read_set(words);
+    }
+    if name == b"rm".as_slice() {
+        return read_remove(words);
+    }
+    if name == b"stat".as_slice() {
+        return read_stat(words);
     }
     Err(Cause::Words)
 }
@@ -250,6 +265,42 @@ fn read_flags(mut words: Words<'_>) -> Option<ReceiveFlags>
         _ => return None,
     };
     Some(ReceiveFlags { except, noerror })
+}
+
+fn read_set(mut words: Words<'_>) -> Result<Command<'_>, Cause>
+    ensures { seen result ≡ set_of (parts_left 32 words.entry.rest) }
+{
+    match (words.next(), words.next(), words.next()) {
+        (Some(id), Some(qbytes), None) => match (id_of(id), number(qbytes)) {
+            (Some(id), Some(qbytes)) => Ok(Command::Set { id, qbytes }),
+            _ => Err(Cause::Number),
+        },
+        _ => Err(Cause::Words),
+    }
+}
+
+fn read_remove(mut words: Words<'_>) -> Result<Command<'_>, Cause>
+    ensures { seen result ≡ remove_of (parts_left 32 words.entry.rest) }
+{
+    match (words.next(), words.next()) {
+        (Some(id), None) => match id_of(id) {
+            Some(id) => Ok(Command::Remove { id }),
+            None => Err(Cause::Number),
+        },
+        _ => Err(Cause::Words),
+    }
+}
+
+fn read_stat(mut words: Words<'_>) -> Result<Command<'_>, Cause>
+    ensures { seen result ≡ stat_of (parts_left 32 words.entry.rest) }
+{
+    match (words.next(), words.next()) {
+        (Some(id), None) => match id_of(id) {
+            Some(id) => Ok(Command::Stat { id }),
+            None => Err(Cause::Number),
+        },
+        _ => Err(Cause::Words),
+    }
 }
 
 fn id_of(word: &[u8]) -> Option<u32>

@@ -8,9 +8,11 @@ use mq_queue::QueueError;
 #[derive(Clone, Copy, Debug, PartialEq, Eq)]
 pub enum Errno {
     EINVAL,
+    EIDRM,
     EAGAIN,
     ENOMSG,
     E2BIG,
+    EPERM,
     ENOSPC,
     ENOMEM,
 }
@@ -21,9 +23,11 @@ impl Errno {
     {
         match self {
             Errno::EINVAL => "EINVAL",
+            Errno::EIDRM => "EIDRM",
             Errno::EAGAIN => "EAGAIN",
             Errno::ENOMSG => "ENOMSG",
             Errno::E2BIG => "E2BIG",
+            Errno::EPERM => "EPERM",
             Errno::ENOSPC => "ENOSPC",
             Errno::ENOMEM => "ENOMEM",
         }
@@ -39,6 +43,7 @@ impl From<QueueError> for Errno {
             QueueError::Full => Errno::EAGAIN,
             QueueError::NoMessage => Errno::ENOMSG,
             QueueError::TooBig => Errno::E2BIG,
+            QueueError::OverLimit => Errno::EPERM,
             QueueError::Memory => Errno::ENOMEM,
         }
     }

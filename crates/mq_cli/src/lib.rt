@@ -3,16 +3,19 @@
 #![tactic(auto)]
 
 mod answer;
+mod calls;
 mod command;
 mod draft;
 mod errno;
 mod fault;
+mod home;
 mod laws;
 mod limits;
 mod lines;
 mod number;
 mod output;
 mod parts;
+mod reply;
 mod script;
 mod serial;
 mod session;

@@ -183,7 +183,7 @@ fn each_arena_lends_as_it_must(rt: HostRuntime) -> Result<(), Fail> {
 }
 
 /// Lines that are not well formed, each with its cause.
-const CAUSES: [(&str, Cause); 54] = [
+const CAUSES: [(&str, Cause); 68] = [
     ("\tget 0 c", Cause::Byte),
     ("get 0 c\u{7f}", Cause::Byte),
     ("# caf\u{e9}", Cause::Byte),
@@ -238,6 +238,20 @@ const CAUSES: [(&str, Cause); 54] = [
     ("seat 0", Cause::Number),
     ("seat 17", Cause::Number),
     ("seat 01", Cause::Number),
+    ("set 0", Cause::Words),
+    ("set 0 1 2", Cause::Words),
+    ("set x ", Cause::Words),
+    ("set 0 -1", Cause::Number),
+    ("set 0 18446744073709551616", Cause::Number),
+    ("set 4294967296 1", Cause::Number),
+    ("rm", Cause::Words),
+    ("rm 0 0", Cause::Words),
+    ("rm 00", Cause::Number),
+    ("rm 4294967296", Cause::Number),
+    ("stat", Cause::Words),
+    ("stat 0 0", Cause::Words),
+    ("stat -1", Cause::Number),
+    ("stat 4294967296", Cause::Number),
 ];
 
 #[test]

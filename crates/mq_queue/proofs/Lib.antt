@@ -1,3 +1,14 @@
+pub mod Logs
+pub mod Sendings
+pub mod Steps
+pub mod Lists
+pub mod Sound
+pub mod Changes
+pub mod Found
+pub mod Sends
+pub mod Receipts
+pub mod Allowed
+pub mod Once
+pub mod Order
+pub mod Replayed
 pub mod Places
-pub mod Answers
-pub mod Counted

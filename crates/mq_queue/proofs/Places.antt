@@ -1,21 +1,24 @@
--- The message at a place, in a list whose places rise.
-use Rattle.std.proofs.Common.{◌≡◌, ℕ, ◌<◌, ◌==◌, suc, List, [], ◌∷◌, find, filter, All, AllPairs, Some, Bool, true, false, cond, refl, ap, subst, ◌∙◌, arith}
+-- What stands at a place, in a list whose places rise.
+use Rattle.std.proofs.Common.{◌≡◌, ℕ, ◌+◌, ◌<◌, ◌==◌, suc, List, [], ◌∷◌, length, map, find, filter, sum_by, All, AllPairs, Some, Bool, true, false, not, cond, refl, ap, subst, ◌∙◌, arith}
 use Rattle.std.specs.Option.{option_map}
+use lib.ListN.{get_or-map}
 use Rattle.std.proofs.lemmas.Bool.{eqb-true, eq-eqb, ne_eqb}
+use Rattle.std.proofs.lemmas.List.{length-map}
+use Rattle.std.proofs.lemmas.List.Filters.{length-filter_both, sum_by-filter_both}
 use Rattle.std.proofs.lemmas.Option.{none-some, same_Some}
 use Rattle.mq_select.specs.Waiting.{message_at}
 
 -- the places of a list rise
-abbrev pub Rises : {X : Type 0} → List (ℕ × X) → Type 0
-Rises {X} xs = AllPairs (λ (a b : ℕ × X). a.0 < b.0) xs
+abbrev pub Rises : {X : Type 0} → (X → ℕ) → List X → Type 0
+Rises place xs = AllPairs (λ a b. place a < place b) xs
 
 -- the first place is below all others
-first_least : {X : Type 0} (y : ℕ × X) (ys : List (ℕ × X)) → Rises (y ∷ ys) → All (λ m. y.0 < m.0) ys
-first_least y ys rises k d l = rises 0 (suc k) d (omega arith) (omega arith)
+first_least : {X : Type 0} (place : X → ℕ) (y : X) (ys : List X) → Rises place (y ∷ ys) → All (λ m. place y < place m) ys
+first_least place y ys rises k d l = rises 0 (suc k) d (omega arith) (omega arith)
 
 -- what follows the first rises too
-rest_rises : {X : Type 0} (y : ℕ × X) (ys : List (ℕ × X)) → Rises (y ∷ ys) → Rises ys
-rest_rises y ys rises i j d less l = rises (suc i) (suc j) d (omega arith) (omega arith)
+rest_rises : {X : Type 0} (place : X → ℕ) (y : X) (ys : List X) → Rises place (y ∷ ys) → Rises place ys
+rest_rises place y ys rises i j d less l = rises (suc i) (suc j) d (omega arith) (omega arith)
 
 -- what holds of each holds of what is found
 pub found_is : {X : Type 0} (P : X → Type 0) (p : X → Bool) (xs : List X) (x : X) → All P xs → find p xs ≡ Some x → P x
@@ -27,33 +30,33 @@ found_is {X} P p (y ∷ ys) x all found = by (p y) found (found_is P p ys x (λ 
     by false e later = later e
 
 -- nothing is at a place below all others
-none_at : {X : Type 0} (place : ℕ) (xs : List (ℕ × X)) → All (λ m. place < m.0) xs → filter (λ m. m.0 == place) xs ≡ []
-none_at place [] above = refl
-none_at place (y ∷ ys) above =
-    let other : (y.0 == place) ≡ false = ne_eqb _ _ (λ e. let least : place < y.0 = above 0 y (omega arith) in omega arith) in
-    rw other (none_at place ys (λ k d l. above (suc k) d (omega arith)))
+none_at : {X : Type 0} (place : X → ℕ) (at : ℕ) (xs : List X) → All (λ m. at < place m) xs → filter (λ m. place m == at) xs ≡ []
+none_at place at [] above = refl
+none_at place at (y ∷ ys) above =
+    let other : (place y == at) ≡ false = ne_eqb _ _ (λ e. let least : at < place y = above 0 y (omega arith) in omega arith) in
+    rw other (none_at place at ys (λ k d l. above (suc k) d (omega arith)))
 
 -- one message alone is at its place
-pub one_at : {X : Type 0} (place : ℕ) (xs : List (ℕ × X)) (x : ℕ × X) → Rises xs → find (λ m. m.0 == place) xs ≡ Some x → filter (λ m. m.0 == place) xs ≡ x ∷ []
-one_at place [] x rises found = absurd (none-some x found)
-one_at {X} place (y ∷ ys) x rises found = by (y.0 == place) refl found (one_at place ys x (rest_rises y ys rises))
+one_at : {X : Type 0} (place : X → ℕ) (at : ℕ) (xs : List X) (x : X) → Rises place xs → find (λ m. place m == at) xs ≡ Some x → filter (λ m. place m == at) xs ≡ x ∷ []
+one_at place at [] x rises found = absurd (none-some x found)
+one_at {X} place at (y ∷ ys) x rises found = by (place y == at) refl found (one_at place at ys x (rest_rises place y ys rises))
   where
-    by : (b : Bool) → (y.0 == place) ≡ b → cond b (Some y) (find (λ m. m.0 == place) ys) ≡ Some x → (find (λ m. m.0 == place) ys ≡ Some x → filter (λ m. m.0 == place) ys ≡ x ∷ []) → cond b (y ∷ filter (λ m. m.0 == place) ys) (filter (λ m. m.0 == place) ys) ≡ x ∷ []
+    by : (b : Bool) → (place y == at) ≡ b → cond b (Some y) (find (λ m. place m == at) ys) ≡ Some x → (find (λ m. place m == at) ys ≡ Some x → filter (λ m. place m == at) ys ≡ x ∷ []) → cond b (y ∷ filter (λ m. place m == at) ys) (filter (λ m. place m == at) ys) ≡ x ∷ []
     by true here e later =
-        let above : All (λ m. place < m.0) ys = rw (← eqb-true _ _ here) (first_least y ys rises) in
-        rw (none_at place ys above) (ap (λ m. m ∷ []) (same_Some _ _ e))
+        let above : All (λ m. at < place m) ys = rw (← eqb-true _ _ here) (first_least place y ys rises) in
+        rw (none_at place at ys above) (ap (λ m. m ∷ []) (same_Some _ _ e))
     by false here e later = later e
 
 -- what a test finds is what stands at its place
-pub found_at : {X : Type 0} (p : ℕ × X → Bool) (xs : List (ℕ × X)) (x : ℕ × X) → Rises xs → find p xs ≡ Some x → find (λ m. m.0 == x.0) xs ≡ Some x
-found_at p [] x rises found = absurd (none-some x found)
-found_at {X} p (y ∷ ys) x rises found = by (p y) found (found_at p ys x (rest_rises y ys rises))
+pub found_at : {X : Type 0} (place : X → ℕ) (p : X → Bool) (xs : List X) (x : X) → Rises place xs → find p xs ≡ Some x → find (λ m. place m == place x) xs ≡ Some x
+found_at place p [] x rises found = absurd (none-some x found)
+found_at {X} place p (y ∷ ys) x rises found = by (p y) found (found_at place p ys x (rest_rises place y ys rises))
   where
-    by : (b : Bool) → cond b (Some y) (find p ys) ≡ Some x → (find p ys ≡ Some x → find (λ m. m.0 == x.0) ys ≡ Some x) → cond (y.0 == x.0) (Some y) (find (λ m. m.0 == x.0) ys) ≡ Some x
-    by true e later = rw (eq-eqb y.0 x.0 (ap (λ m. m.0) (same_Some y x e))) e
+    by : (b : Bool) → cond b (Some y) (find p ys) ≡ Some x → (find p ys ≡ Some x → find (λ m. place m == place x) ys ≡ Some x) → cond (place y == place x) (Some y) (find (λ m. place m == place x) ys) ≡ Some x
+    by true e later = rw (eq-eqb (place y) (place x) (ap place (same_Some y x e))) e
     by false e later =
-        let above : y.0 < x.0 = found_is (λ m. y.0 < m.0) p ys x (first_least y ys rises) e in
-        rw (ne_eqb y.0 x.0 (λ same. let less : y.0 < x.0 = above in omega arith)) (later e)
+        let above : place y < place x = found_is (λ m. place y < place m) p ys x (first_least place y ys rises) e in
+        rw (ne_eqb (place y) (place x) (λ same. let less : place y < place x = above in omega arith)) (later e)
 
 -- what is found at a place is a message with that place
 pub whole_at : {X : Type 0} (place : ℕ) (xs : List (ℕ × X)) (m : X) → message_at place xs ≡ Some m → find (λ m. m.0 == place) xs ≡ Some (place, m)
@@ -67,3 +70,28 @@ whole_at {X} place (y ∷ ys) m found = by (y.0 == place) refl found (whole_at p
         let whole : Some y ≡ Some (place, m) = ap (λ k. Some (k, y.1)) place_is ∙ ap (λ n. Some (place, n)) message_is in
         whole
     by false here e later = later e
+
+-- without what stands at a place there is one less
+pub length-without : {X : Type 0} (place : X → ℕ) (at : ℕ) (xs : List X) (x : X) → Rises place xs → find (λ m. place m == at) xs ≡ Some x → 1 + length (filter (λ m. not (place m == at)) xs) ≡ length xs
+length-without {X} place at xs x rises found =
+    let both = length-filter_both (λ (m : X). place m == at) (λ m. not (place m == at)) (λ _. refl) xs in
+    rw (one_at place at xs x rises found) at both
+
+-- and the sum is less by what it adds
+pub sum_by-without : {X : Type 0} (place : X → ℕ) (at : ℕ) (f : X → ℕ) (xs : List X) (x : X) → Rises place xs → find (λ m. place m == at) xs ≡ Some x → f x + sum_by f (filter (λ m. not (place m == at)) xs) ≡ sum_by f xs
+sum_by-without {X} place at f xs x rises found =
+    let both = sum_by-filter_both (λ (m : X). place m == at) (λ m. not (place m == at)) (λ _. refl) f xs in
+    let parts : sum_by f (x ∷ []) + sum_by f (filter (λ m. not (place m == at)) xs) ≡ sum_by f xs = rw (one_at place at xs x rises found) at both in
+    omega (arith, parts)
+
+-- what holds of each two of a list that was mapped
+pub pairs_unmapped : {X Y : Type 0} (R : Y → Y → Type 0) (f : X → Y) (xs : List X) → AllPairs R (map f xs) → AllPairs (λ a b. R (f a) (f b)) xs
+pairs_unmapped R f xs all i j d less within =
+    let within' : j < length (map f xs) = rw (length-map xs f) within in
+    rw (get_or-map f xs i d, get_or-map f xs j d) at (all i j (f d) less within')
+
+-- what holds of each of a list that was mapped
+pub all_unmapped : {X Y : Type 0} (P : Y → Type 0) (f : X → Y) (xs : List X) → All P (map f xs) → All (λ a. P (f a)) xs
+all_unmapped P f xs all k d within =
+    let within' : k < length (map f xs) = rw (length-map xs f) within in
+    rw (get_or-map f xs k d) at (all k (f d) within')

@@ -1,10 +1,11 @@
+-- What a queue answers.
 use Rattle.std.specs.Prelude.{ℕ, ℤ, pos, int_lt, nat_lt, nat_le, if◌then◌else◌, Bool, ◌||◌, List, Option, Some, None, Result, Ok, Err}
 use Rattle.mq_select.specs.declared.selection.Selection.{Selection}
 use Rattle.mq_select.specs.Selection.{pick}
 use Rattle.mq_select.specs.Waiting.{Entry}
-use Rattle.mq_queue.specs.declared.limits.TheConstants.{MSGMAX}
+use Rattle.mq_queue.specs.declared.limits.TheConstants.{MSGMAX, MSGMNB}
 use Rattle.mq_queue.specs.declared.error.QueueError.{QueueError}
-use Rattle.mq_queue.specs.declared.error.QueueError.TheVariants.{TypeInvalid, TooLong, Full, NoMessage, TooBig}
+use Rattle.mq_queue.specs.declared.error.QueueError.TheVariants.{TypeInvalid, TooLong, Full, NoMessage, TooBig, OverLimit, Memory}
 use Rattle.mq_queue.specs.Room.{has_room}
 
 -- why a message of this type and length is not taken beside what waits, if it is not (msgop(2),
@@ -24,3 +25,12 @@ handed_out size noerror (Some m) = if noerror || nat_le m.length size then Ok m 
 abbrev pub receive_answer : List Entry → ℕ → Selection → Bool → Result Entry QueueError
 receive_answer waiting size selection noerror =
     handed_out size noerror (pick (λ m. m.mtype) waiting selection)
+
+-- why a receiver is refused: as above, or for want of memory (msgop(2), msgrcv)
+abbrev pub refusal_or_memory : Result Entry QueueError → QueueError
+refusal_or_memory (Ok m) = Memory
+refusal_or_memory (Err e) = e
+
+-- why the quota is not set to this value, if it is not (msgctl(2), IPC_SET)
+abbrev pub set_refusal : ℕ → Option QueueError
+set_refusal qbytes = if nat_lt MSGMNB qbytes then Some OverLimit else None

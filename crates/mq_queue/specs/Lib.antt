@@ -1,5 +1,11 @@
 pub mod Answer
-pub mod Entries
+pub mod Figures
+pub mod Lawful
+pub mod Laws
+pub mod Log
 pub mod Queue
+pub mod Replay
+pub mod Replies
 pub mod Room
+pub mod Waiting
 pub mod Worked

@@ -1,21 +1,32 @@
-use Rattle.std.specs.Prelude.{◌≡◌, ℕ, ◌+◌, ◌<◌, ◌≤◌, ◌^◌, List, length, All, AllPairs}
+-- A queue.
+use Rattle.std.specs.Prelude.{◌≡◌, ℕ, ◌≤◌, false, List}
 use Rattle.mq_message.specs.declared.message.Message.{Message}
+use Rattle.mq_queue.specs.declared.event.Event.{Event}
+use Rattle.mq_queue.specs.declared.figures.Figures.{Figures}
 use Rattle.mq_queue.specs.declared.limits.TheConstants.{MSGMNB}
-use Rattle.mq_queue.specs.Entries.{entries_of}
-use Rattle.mq_queue.specs.Room.{bytes_of}
+use Rattle.mq_queue.specs.Figures.{live_figures}
+use Rattle.mq_queue.specs.Lawful.{Lawful}
+use Rattle.mq_queue.specs.Log.{ends_with_removed}
+use Rattle.mq_queue.specs.Waiting.{entries_of, waiting}
 
--- a queue: the number of its changes so far, and what waits, each message with its place
+-- a queue: its log, and the messages that wait, each with the place of its sending in the log
+-- (sysvipc(7))
 pub record Queue (B : Type 0) : Type 0 where
-  pub entries : ℕ
+  pub log : List Event
   pub messages : List (ℕ × Message B)
 
--- the count and the bytes of what waits are kept beside it and are within the quota, and no place
--- is used twice (msgctl(2), msg_qnum and msg_cbytes)
-pub record IsCounted {B : Type 0} (bytes : B → List ℕ) (messages : List (ℕ × Message B)) (entries count total : ℕ) : Type 0 where
-  pub rising : AllPairs (λ a b. a.0 < b.0) messages
-  pub below : All (λ m. m.0 < entries) messages
-  pub counted : count ≡ length messages
-  pub added : total ≡ bytes_of (entries_of bytes messages)
-  pub count_limit : count ≤ MSGMNB
-  pub bytes_limit : total ≤ MSGMNB
-  pub numbered : entries + count < 2 ^ 64
+-- the log is that of a queue which was not removed, and the messages are those that wait by it
+-- (msgop(2))
+pub record IsSound {B : Type 0} (bytes : B → List ℕ)
+    (log : List Event) (messages : List (ℕ × Message B)) : Type 0 where
+  pub lawful : Lawful log
+  pub live : ends_with_removed log ≡ false
+  pub waits : entries_of bytes messages ≡ waiting log
+
+-- the figures are those of a queue with this log, and each that bounds another is within the
+-- greatest quota (msgctl(2), msqid_ds)
+pub record AreFigures (log : List Event) (kept : Figures) : Type 0 where
+  pub same : kept ≡ live_figures log
+  pub count : kept.qnum ≤ MSGMNB
+  pub bytes : kept.cbytes ≤ MSGMNB
+  pub limit : kept.qbytes ≤ MSGMNB

@@ -1,5 +1,10 @@
-use Rattle.std.specs.Prelude.{ℕ, ◌+◌, nat_le, Bool, ◌&&◌, List, length, sum_by}
+-- Room in a queue.
+use Rattle.std.specs.Prelude.{ℕ, ◌+◌, nat_le, Bool, ◌&&◌, Option, Some, None, List, length, sum_by}
 use Rattle.mq_select.specs.Waiting.{Entry}
+use Rattle.mq_queue.specs.declared.event.Event.{Event}
+use Rattle.mq_queue.specs.declared.event.Event.TheVariants.{Made, Changed}
+use Rattle.mq_queue.specs.declared.limits.TheConstants.{MSGMNB}
+use Rattle.mq_queue.specs.Log.{last_told}
 
 -- the bytes that wait (msgctl(2), msg_cbytes)
 abbrev pub bytes_of : List Entry → ℕ
@@ -9,3 +14,14 @@ bytes_of entries = sum_by (λ m. m.length) entries
 -- messages are more than the quota (msgop(2), msgsnd)
 abbrev pub has_room : List Entry → ℕ → ℕ → Bool
 has_room entries n quota = nat_le (bytes_of entries + n) quota && nat_le (length entries + 1) quota
+
+-- the quota that an event tells: a queue is made with the greatest, and a change sets it
+-- (msgctl(2), msg_qbytes)
+abbrev pub qbytes_told : Event → Option ℕ
+qbytes_told (Made seat moment key) = Some MSGMNB
+qbytes_told (Changed seat moment qbytes) = Some qbytes
+qbytes_told _ = None
+
+-- how many bytes may wait, and as many messages (msgctl(2), msg_qbytes)
+abbrev pub quota : List Event → ℕ
+quota log = last_told qbytes_told 0 log

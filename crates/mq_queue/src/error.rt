@@ -18,6 +18,9 @@ pub enum QueueError {
     /// The text is longer than the receiver's size, and is not to be cut: `E2BIG`.
     #[error("the text is longer than the size")]
     TooBig,
+    /// The quota is above [`MSGMNB`](crate::MSGMNB): `EPERM`.
+    #[error("the quota is above its limit")]
+    OverLimit,
     /// There is no memory for the change: `ENOMEM`.
     #[error("out of memory")]
     Memory,

@@ -1,9 +1,14 @@
-//! One message queue: what waits, and what its calls answer.
+//! One message queue: its log, what waits by it, and what its calls answer.
 
 #![tactic(auto)]
 
+mod change;
 mod error;
+mod event;
+mod figures;
+pub mod laws;
 mod limits;
+mod log;
 mod receive;
 mod received;
 mod send;
@@ -13,6 +18,9 @@ mod tests;
 pub mod worked;
 
 pub use error::QueueError;
+pub use event::Event;
+pub use figures::{BoardRow, Figures};
 pub use limits::{MSGMAX, MSGMNB};
+pub use log::Log;
 pub use received::Received;
 pub use state::QueueState;

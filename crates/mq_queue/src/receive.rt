@@ -1,10 +1,12 @@
-ghost use Rattle.std.specs.Prelude.{◌≡◌, ◌+◌, ◌||◌, length, min, take, nat_le, IsSomeAnd};
+ghost use Rattle.std.specs.Prelude.{◌≡◌, ◌||◌, ◌++◌, ◌∷◌, [], length, min, take, nat_le, IsSomeAnd};
 ghost use Rattle.std.specs.Prelude.{OnOk, OnErr, IfOk, IfErr};
 ghost use Rattle.mq_select.specs.Waiting.{message_at, without};
-ghost use Rattle.mq_queue.specs.Answer.{receive_answer};
-ghost use Rattle.mq_queue.specs.Entries.{entries_of};
+ghost use Rattle.mq_queue.specs.Answer.{receive_answer, refusal_or_memory};
+ghost use Rattle.mq_queue.specs.Queue.{IsSound};
+ghost use Rattle.mq_queue.specs.Waiting.{waiting};
 
-use crate::{QueueError, QueueState, Received};
+use crate::log::{append, count};
+use crate::{Event, Figures, QueueError, QueueState, Received};
 use mq_message::{Body, Message};
 use mq_select::{Selection, Waiting};
 
@@ -23,22 +25,33 @@ impl<B: Body, W: Waiting<B>> QueueState<B, W> {
         size: u64,
         selection: Selection,
         noerror: bool,
+        seat: u16,
+        moment: u64,
     ) -> Result<Received<B>, QueueError>
-        ensures refused { IfErr result (λ e.
-            receive_answer (entries_of B.bytes self.old.messages) size selection noerror ≡ Err e) }
+        ensures refused { IfErr result (λ e. e ≡ refusal_or_memory
+            (receive_answer (waiting self.old.log) size selection noerror)) }
         ensures unchanged { OnErr result (self.new ≡ self.old) }
 
-        ensures answer { IfOk result (λ r.
-            receive_answer (entries_of B.bytes self.old.messages) size selection noerror
-            ≡ Ok (record { place = r.place; seat = r.sender; tag = r.tag; mtype = r.mtype; length = r.length })) }
+        ensures accepted { IfOk result (λ r.
+            receive_answer (waiting self.old.log) size selection noerror
+            ≡ Ok (record {
+              place = r.place;
+              seat = r.sender;
+              tag = r.tag;
+              mtype = r.mtype;
+              length = r.length;
+            })) }
         ensures body { IfOk result (λ r. IsSomeAnd (message_at r.place self.old.messages) (λ m.
             (B.bytes r.body ≡ take size (B.bytes m.body)) × B.keeps m.body r.body)) }
         ensures length { IfOk result (λ r. length (B.bytes r.body) ≡ min r.length size) }
-        ensures entry { IfOk result (λ r. r.entry ≡ self.old.entries) }
-        ensures entries { OnOk result (self.new.entries ≡ self.old.entries + 1) }
-        ensures rest { IfOk result (λ r. self.new.messages ≡ without r.place self.old.messages) }
+        ensures entry { IfOk result (λ r. r.entry ≡ length self.old.log) }
+        ensures log { IfOk result (λ r. self.new.log
+            ≡ self.old.log ++ Event.Received seat moment r.place selection size noerror ∷ []) }
+        ensures messages { IfOk result (λ r.
+            self.new.messages ≡ without r.place self.old.messages) }
+        ensures sound { IsSound B.bytes self.new.log self.new.messages }
     {
-        let entry = self.entries;
+        let kept = self.kept;
         let Some(place) = self.waiting.find(selection) else {
             return Err(QueueError::NoMessage);
         };
@@ -46,10 +59,27 @@ impl<B: Body, W: Waiting<B>> QueueState<B, W> {
         if !is_handed_out(length, size, noerror) {
             return Err(QueueError::TooBig);
         }
+        let Ok(()) = self.log.reserve(1) else {
+            return Err(QueueError::Memory);
+        };
+        let entry = count(&self.log);
         let message = self.waiting.take(place);
-        self.entries = entry + 1;
-        self.count -= 1;
-        self.bytes -= length;
+        let received = Event::Received {
+            seat,
+            moment,
+            place,
+            selection,
+            size,
+            noerror,
+        };
+        self.kept = Figures {
+            qnum: kept.qnum - 1,
+            cbytes: kept.cbytes - length,
+            rtime: moment,
+            lrpid: seat,
+            ..kept
+        };
+        append(&mut self.log, received);
         let Message {
             mtype,
             sender,

@@ -1,9 +1,9 @@
 /// What a receiver gets.
 #[derive(Drop)]
 pub struct Received<B> {
-    /// The number of this change of the queue.
+    /// The place of this receipt in the queue's log.
     pub entry: u64,
-    /// The number of the change that sent the message.
+    /// The place at which the message was sent.
     pub place: u64,
     pub mtype: i64,
     /// The number of the sender's seat.

@@ -1,9 +1,12 @@
 ghost use Rattle.std.specs.Prelude.{◌≡◌, ◌+◌, ◌<◌, ◌^◌, ◌&&◌, ◌++◌, ◌∷◌, [], length, nat_le, unwrap_or};
 ghost use Rattle.std.specs.Prelude.{OnOk, OnErr, IfOk, IfErr};
 ghost use Rattle.mq_queue.specs.Answer.{send_refusal};
-ghost use Rattle.mq_queue.specs.Entries.{entries_of};
+ghost use Rattle.mq_queue.specs.Queue.{IsSound};
+ghost use Rattle.mq_queue.specs.Room.{quota};
+ghost use Rattle.mq_queue.specs.Waiting.{waiting};
 
-use crate::{MSGMAX, MSGMNB, QueueError, QueueState};
+use crate::log::{append, count};
+use crate::{Event, Figures, MSGMAX, QueueError, QueueState};
 use mq_message::{Body, Message};
 use mq_select::Waiting;
 
@@ -19,21 +22,27 @@ fn has_room(count: u64, bytes: u64, length: u64, quota: u64) -> bool
 impl<B: Body, W: Waiting<B>> QueueState<B, W> {
     /// Puts a message behind all that wait, and answers its place (msgop(2), msgsnd with
     /// IPC_NOWAIT). A message that is refused is handed back.
-    pub fn send(&mut self, message: Message<B>) -> Result<u64, (QueueError, Message<B>)>
+    pub fn send(
+        &mut self,
+        message: Message<B>,
+        moment: u64,
+    ) -> Result<u64, (QueueError, Message<B>)>
         ensures refused { IfErr result (λ r. r.0 ≡ unwrap_or (send_refusal
-            (entries_of B.bytes self.old.messages) MSGMNB
+            (waiting self.old.log) (quota self.old.log)
             message.mtype (length (B.bytes message.body))) QueueError.Memory) }
         ensures handed_back { IfErr result (λ r. r.1 ≡ message) }
         ensures unchanged { OnErr result (self.new ≡ self.old) }
 
-        ensures accepted { OnOk result (send_refusal (entries_of B.bytes self.old.messages) MSGMNB
+        ensures accepted { OnOk result (send_refusal (waiting self.old.log) (quota self.old.log)
             message.mtype (length (B.bytes message.body)) ≡ None) }
-        ensures place { IfOk result (λ place. place ≡ self.old.entries) }
-        ensures entries { OnOk result (self.new.entries ≡ self.old.entries + 1) }
+        ensures place { IfOk result (λ place. place ≡ length self.old.log) }
+        ensures log { OnOk result (self.new.log ≡ self.old.log ++ Event.Sent message.sender moment
+            message.tag message.mtype (length (B.bytes message.body)) ∷ []) }
         ensures messages { OnOk result
-            (self.new.messages ≡ self.old.messages ++ (self.old.entries, message) ∷ []) }
+            (self.new.messages ≡ self.old.messages ++ (length self.old.log, message) ∷ []) }
+        ensures sound { IsSound B.bytes self.new.log self.new.messages }
     {
-        let place = self.entries;
+        let kept = self.kept;
         let length = message.body.len();
         if message.mtype < 1 {
             return Err((QueueError::TypeInvalid, message));
@@ -41,20 +50,32 @@ impl<B: Body, W: Waiting<B>> QueueState<B, W> {
         if length > MSGMAX {
             return Err((QueueError::TooLong, message));
         }
-        if !has_room(self.count, self.bytes, length, MSGMNB) {
+        if !has_room(kept.qnum, kept.cbytes, length, kept.qbytes) {
             return Err((QueueError::Full, message));
         }
-        // This change and the receipt of each message that then waits have numbers within u64.
-        if u64::MAX - place - self.count < 2 {
+        let Ok(()) = self.log.reserve(1) else {
             return Err((QueueError::Memory, message));
-        }
+        };
         let Ok(()) = self.waiting.prepare(message.mtype) else {
             return Err((QueueError::Memory, message));
         };
+        let place = count(&self.log);
+        let sent = Event::Sent {
+            seat: message.sender,
+            moment,
+            tag: message.tag,
+            mtype: message.mtype,
+            length,
+        };
+        self.kept = Figures {
+            qnum: kept.qnum + 1,
+            cbytes: kept.cbytes + length,
+            stime: moment,
+            lspid: message.sender,
+            ..kept
+        };
+        append(&mut self.log, sent);
         self.waiting.put_prepared(place, message);
-        self.entries = place + 1;
-        self.count += 1;
-        self.bytes += length;
         Ok(place)
     }
 }

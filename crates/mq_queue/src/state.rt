@@ -1,59 +1,103 @@
-ghost use Rattle.std.specs.Prelude.{◌≡◌, []};
+ghost use Rattle.std.specs.Prelude.{◌≡◌, ◌<◌, ◌^◌, ◌∷◌, [], length, slice_get, IfOk};
+ghost use Rattle.mq_queue.specs.Figures.{figures};
+ghost use Rattle.mq_queue.specs.Queue.{IsSound};
 
+use crate::log::{append, count, event_at};
+use crate::{Event, Figures, Log, MSGMNB};
 use mq_message::Body;
 use mq_select::Waiting;
-use std::alloc::Global;
+use std::alloc::{AllocError, Global};
 use std::marker::{Model, PhantomData};
 
-/// A queue, seen as the number of changes since it was made and the messages that wait, each
-/// with its place: the number of the change that sent it. The making has place 0. A queue is not
-/// dropped: `into_parts` gives it up.
+/// A queue, seen as its log and the messages that wait, each with the place of its sending in the
+/// log. A queue is not dropped: `remove` or `into_parts` gives it up.
 pub struct QueueState<B: Body, W: Waiting<B>> {
-    pub(crate) entries: u64,
+    pub(crate) log: Vec<Event>,
     pub(crate) waiting: W,
-    /// How many messages wait.
-    pub(crate) count: u64,
-    /// How many bytes wait.
-    pub(crate) bytes: u64,
+    /// What the log says in sum, so that no call goes through it.
+    pub(crate) kept: Figures,
     pub(crate) body: PhantomData<B>,
 }
 
 impl<B: Body, W: Waiting<B>> Model for QueueState<B, W> {
-    ghost use Rattle.mq_queue.specs.Queue.{Queue, IsCounted};
+    ghost use Rattle.mq_queue.specs.Queue.{Queue, IsSound, AreFigures};
 
     ghost Value = { Queue B };
 
-    ghost view = { λ q. record { entries = q.entries; messages = W.messages q.waiting } };
+    ghost view = { λ q. record { log = q.log.items; messages = W.messages q.waiting } };
 
-    ghost invariant = { λ q. IsCounted B.bytes (W.messages q.waiting) q.entries q.count q.bytes };
+    ghost invariant = { λ q. IsSound B.bytes q.log.items (W.messages q.waiting)
+        × AreFigures q.log.items q.kept };
 }
 
 impl<B: Body, W: Waiting<B>> QueueState<B, W> {
-    /// A new queue, with no message (msgget(2), "Notes": a message queue is made empty).
-    pub fn made(alloc: Global) -> QueueState<B, W>
-        ensures entries { result.entries ≡ 1 }
-        ensures messages { result.messages ≡ [] }
+    /// A new queue, with no message (msgget(2), "Notes": a message queue is made empty). An `Err`
+    /// is want of memory.
+    pub fn made(
+        alloc: Global,
+        key: i32,
+        seat: u16,
+        moment: u64,
+    ) -> Result<QueueState<B, W>, AllocError>
+        ensures log { IfOk result (λ q. q.log ≡ Event.Made seat moment key ∷ []) }
+        ensures messages { IfOk result (λ q. q.messages ≡ []) }
+        ensures sound { IfOk result (λ q. IsSound B.bytes q.log q.messages) }
     {
-        QueueState {
-            entries: 1,
+        let mut log = Vec::with_capacity(alloc, 1)?;
+        append(&mut log, Event::Made { seat, moment, key });
+        let kept = Figures {
+            qnum: 0,
+            cbytes: 0,
+            qbytes: MSGMNB,
+            stime: 0,
+            rtime: 0,
+            ctime: moment,
+            lspid: 0,
+            lrpid: 0,
+        };
+        Ok(QueueState {
+            log,
             waiting: W::fresh(alloc),
-            count: 0,
-            bytes: 0,
+            kept,
             body: PhantomData,
-        }
+        })
     }
 
-    /// The waiting messages alone. This is no change of the queue.
-    pub fn into_parts(self) -> W
-        ensures messages { W.messages result ≡ self.messages }
+    /// What IPC_STAT shows (msgctl(2)). No call goes through the log for it.
+    pub fn figures(&self) -> Figures
+        ensures value { result ≡ figures self.now.log }
+        ensures sound { IsSound B.bytes self.now.log self.now.messages }
+    {
+        self.kept
+    }
+
+    /// How many events the log has.
+    pub fn log_len(&self) -> u64
+        ensures count { result ≡ length self.now.log }
+        ensures small { result < 2 ^ 63 }
+    {
+        count(&self.log)
+    }
+
+    /// The event at this place of the log, or `None` where the log has ended.
+    pub fn event(&self, i: u64) -> Option<Event>
+        ensures { result ≡ slice_get self.now.log i }
+    {
+        event_at(&self.log, i)
+    }
+
+    /// The log and the messages that wait. This is no change of the queue, and takes no memory.
+    pub fn into_parts(self) -> (Log, W)
+        ensures log { result.0 ≡ self.log }
+        ensures messages { W.messages result.1 ≡ self.messages }
+        ensures sound { IsSound B.bytes self.log self.messages }
     {
         let QueueState {
-            entries: _,
+            log,
             waiting,
-            count: _,
-            bytes: _,
+            kept: _,
             body: _,
         } = self;
-        waiting
+        (Log::of(log), waiting)
     }
 }

@@ -1,4 +1,4 @@
-use crate::{QueueError, QueueState, Received};
+use crate::{Event, Figures, QueueError, QueueState, Received};
 use mq_message::{Message, VecBody};
 use mq_select::{ListWaiting, Selection};
 use std::alloc::{AllocError, Global};
@@ -12,6 +12,8 @@ enum Step {
     Send(i64, usize),
     /// A size, a selection and MSG_NOERROR.
     Receive(u64, Selection, bool),
+    /// A quota.
+    Set(u64),
 }
 
 #[derive(Clone, Copy, Debug, PartialEq, Eq)]
@@ -34,8 +36,8 @@ fn message(alloc: Global, mtype: i64, length: usize) -> Result<Message<VecBody>,
 
 /// Sends a message, and once more where there was no memory: then as if for the first time.
 fn send(queue: &mut Queue, message: Message<VecBody>) -> Answer {
-    let answer = match queue.send(message) {
-        Err((QueueError::Memory, message)) => queue.send(message),
+    let answer = match queue.send(message, 60) {
+        Err((QueueError::Memory, message)) => queue.send(message, 60),
         answer => answer,
     };
     match answer {
@@ -45,7 +47,11 @@ fn send(queue: &mut Queue, message: Message<VecBody>) -> Answer {
 }
 
 fn receive(queue: &mut Queue, size: u64, selection: Selection, noerror: bool) -> Answer {
-    match queue.receive(size, selection, noerror) {
+    let answer = match queue.receive(size, selection, noerror, 4, 80) {
+        Err(QueueError::Memory) => queue.receive(size, selection, noerror, 4, 80),
+        answer => answer,
+    };
+    match answer {
         Ok(got) => Answer::Got(
             got.entry,
             got.place,
@@ -56,12 +62,24 @@ fn receive(queue: &mut Queue, size: u64, selection: Selection, noerror: bool) ->
     }
 }
 
+fn set(queue: &mut Queue, qbytes: u64) -> Answer {
+    let answer = match queue.set(qbytes, 5, 90) {
+        Err(QueueError::Memory) => queue.set(qbytes, 5, 90),
+        answer => answer,
+    };
+    match answer {
+        Ok(place) => Answer::At(place),
+        Err(refusal) => Answer::Refused(refusal),
+    }
+}
+
 fn play(alloc: Global, queue: &mut Queue, steps: &[Step]) -> Result<Vec<Answer>, AllocError> {
     let mut answers = Vec::new(alloc);
     for step in steps {
         let answer = match *step {
             Step::Send(mtype, length) => send(queue, message(alloc, mtype, length)?),
             Step::Receive(size, selection, noerror) => receive(queue, size, selection, noerror),
+            Step::Set(qbytes) => set(queue, qbytes),
         };
         answers.push(answer)?;
     }
@@ -70,7 +88,7 @@ fn play(alloc: Global, queue: &mut Queue, steps: &[Step]) -> Result<Vec<Answer>,
 
 /// What a new queue answers to these calls, one after another.
 fn played(alloc: Global, steps: &[Step]) -> Result<Vec<Answer>, AllocError> {
-    let mut queue = Queue::made(alloc);
+    let mut queue = Queue::made(alloc, 7, 2, 50)?;
     let answers = play(alloc, &mut queue, steps);
     let _ = queue.into_parts();
     answers
@@ -79,7 +97,7 @@ fn played(alloc: Global, steps: &[Step]) -> Result<Vec<Answer>, AllocError> {
 #[test]
 fn a_queue_answers_as_the_manual_says(rt: HostRuntime) -> Result<(), Fail> {
     let any = Selection::Any;
-    let cases: [(&[Step], &[Answer]); 5] = [
+    let cases: [(&[Step], &[Answer]); 8] = [
         // The longest text, and one byte more; the whole quota, and one byte more.
         (
             &[
@@ -179,6 +197,57 @@ fn a_queue_answers_as_the_manual_says(rt: HostRuntime) -> Result<(), Fail> {
                 Answer::Got(7, 3, 3, 3),
             ],
         ),
+        // A quota by bytes and by count.
+        (
+            &[
+                Step::Send(1, 2),
+                Step::Send(1, 2),
+                Step::Set(4),
+                Step::Send(1, 2),
+                Step::Send(1, 0),
+                Step::Send(1, 0),
+                Step::Send(1, 0),
+            ],
+            &[
+                Answer::At(1),
+                Answer::At(2),
+                Answer::At(3),
+                Answer::Refused(QueueError::Full),
+                Answer::At(4),
+                Answer::At(5),
+                Answer::Refused(QueueError::Full),
+            ],
+        ),
+        // A queue over a quota that was lowered refuses an empty text too, until it is under it.
+        (
+            &[
+                Step::Send(1, 6),
+                Step::Set(4),
+                Step::Send(1, 0),
+                Step::Receive(6, any, false),
+                Step::Send(1, 0),
+                Step::Set(16385),
+                Step::Set(16384),
+                Step::Set(0),
+                Step::Send(1, 0),
+            ],
+            &[
+                Answer::At(1),
+                Answer::At(2),
+                Answer::Refused(QueueError::Full),
+                Answer::Got(3, 1, 6, 6),
+                Answer::At(4),
+                Answer::Refused(QueueError::OverLimit),
+                Answer::At(5),
+                Answer::At(6),
+                Answer::Refused(QueueError::Full),
+            ],
+        ),
+        // The quota that stands is set once more: an event all the same.
+        (
+            &[Step::Set(16384), Step::Set(16384), Step::Send(1, 1)],
+            &[Answer::At(1), Answer::At(2), Answer::At(3)],
+        ),
     ];
     for (steps, answers) in cases {
         assert_eq!(rt; played(rt.alloc(), steps)?.as_slice(), answers);
@@ -197,7 +266,7 @@ fn filled(alloc: Global, queue: &mut Queue, number: u64) -> Result<Answer, Alloc
 
 #[test]
 fn no_more_messages_wait_than_the_quota_has_bytes(rt: HostRuntime) -> Result<(), Fail> {
-    let mut queue = Queue::made(rt.alloc());
+    let mut queue = Queue::made(rt.alloc(), 7, 2, 50)?;
     let last = filled(rt.alloc(), &mut queue, 16384);
     let more = filled(rt.alloc(), &mut queue, 1);
     let next = receive(&mut queue, 0, Selection::Any, false);
@@ -209,7 +278,7 @@ fn no_more_messages_wait_than_the_quota_has_bytes(rt: HostRuntime) -> Result<(),
 }
 
 fn handed_back(queue: &mut Queue, message: Message<VecBody>) -> Option<Message<VecBody>> {
-    match queue.send(message) {
+    match queue.send(message, 60) {
         Err((QueueError::TooLong, message)) => Some(message),
         _ => None,
     }
@@ -218,7 +287,7 @@ fn handed_back(queue: &mut Queue, message: Message<VecBody>) -> Option<Message<V
 #[test]
 fn a_text_that_is_too_long_is_handed_back(rt: HostRuntime) -> Result<(), Fail> {
     let long = message(rt.alloc(), 5, 8193)?;
-    let mut queue = Queue::made(rt.alloc());
+    let mut queue = Queue::made(rt.alloc(), 7, 2, 50)?;
     let back = handed_back(&mut queue, long);
     let _ = queue.into_parts();
     let back = back.ok_or("it was taken")?;
@@ -238,18 +307,146 @@ fn front_of_hello(alloc: Global, queue: &mut Queue) -> Result<Received<VecBody>,
     send(queue, hello);
     Ok(
         queue
-            .receive(2, Selection::Any, true)
+            .receive(2, Selection::Any, true, 4, 80)
             .map_err(|_| "nothing waits")?,
     )
 }
 
 #[test]
 fn a_received_text_is_the_front_of_what_was_sent(rt: HostRuntime) -> Result<(), Fail> {
-    let mut queue = Queue::made(rt.alloc());
+    let mut queue = Queue::made(rt.alloc(), 7, 2, 50)?;
     let got = front_of_hello(rt.alloc(), &mut queue);
     let _ = queue.into_parts();
     let got = got?;
     assert_eq!(rt; got.body.bytes(), b"he".as_slice());
     assert_eq!(rt; (got.mtype, got.sender, got.tag, got.length), (5, 3, 70, 5));
+    Ok(())
+}
+
+/// A sending at the first moment, a receipt and a new quota at the second, and the same quota once
+/// more at the third, each by a seat of its own.
+fn visit(alloc: Global, queue: &mut Queue, moments: [u64; 3]) -> Result<(), Fail> {
+    let [sent, received, changed] = moments;
+    queue
+        .send(message(alloc, 5, 5)?, sent)
+        .map_err(|_| "not sent")?;
+    queue
+        .receive(9, Selection::Exact(6), false, 4, received)
+        .map_err(|_| "refused")
+        .err()
+        .ok_or("there is no message of type 6")?;
+    queue
+        .receive(9, Selection::Any, false, 4, received)
+        .map_err(|_| "not received")?;
+    queue.set(100, 5, received).map_err(|_| "not set")?;
+    queue.set(100, 5, changed).map_err(|_| "not set")?;
+    Ok(())
+}
+
+#[test]
+fn figures_show_the_last_moment_whatever_it_is(rt: HostRuntime) -> Result<(), Fail> {
+    let cases: [[u64; 3]; 4] = [
+        [60, 70, 80],
+        [80, 70, 60],
+        [0, 0, 0],
+        [u64::MAX, u64::MAX, 1],
+    ];
+    for moments in cases {
+        let [stime, rtime, ctime] = moments;
+        let mut queue = Queue::made(rt.alloc(), 7, 2, 50)?;
+        let visited = visit(rt.alloc(), &mut queue, moments);
+        let figures = queue.figures();
+        let _ = queue.into_parts();
+        visited?;
+        let wanted = Figures {
+            qnum: 0,
+            cbytes: 0,
+            qbytes: 100,
+            stime,
+            rtime,
+            ctime,
+            lspid: 3,
+            lrpid: 4,
+        };
+        assert_eq!(rt; figures, wanted);
+    }
+    Ok(())
+}
+
+#[test]
+fn refusals_leave_log_and_figures(rt: HostRuntime) -> Result<(), Fail> {
+    let mut queue = Queue::made(rt.alloc(), 7, 2, 50)?;
+    let before = queue.figures();
+    let steps = [
+        Step::Send(0, 1),
+        Step::Send(1, 8193),
+        Step::Receive(9, Selection::Any, true),
+        Step::Set(16385),
+    ];
+    let answers = play(rt.alloc(), &mut queue, &steps);
+    let after = queue.figures();
+    let count = queue.log_len();
+    let _ = queue.into_parts();
+    let wanted = [
+        Answer::Refused(QueueError::TypeInvalid),
+        Answer::Refused(QueueError::TooLong),
+        Answer::Refused(QueueError::NoMessage),
+        Answer::Refused(QueueError::OverLimit),
+    ];
+    assert_eq!(rt; answers?.as_slice(), wanted.as_slice());
+    assert_eq!(rt; (after, count), (before, 1));
+    assert_eq!(rt; (before.qbytes, before.ctime), (16384, 50));
+    Ok(())
+}
+
+#[test]
+fn the_log_of_a_removed_queue_tells_all(rt: HostRuntime) -> Result<(), Fail> {
+    let mut queue = Queue::made(rt.alloc(), 7, 2, 50)?;
+    let visited = visit(rt.alloc(), &mut queue, [60, 70, 80]);
+    let last = queue.event(4);
+    let beyond = (queue.event(5), queue.event(u64::MAX));
+    let (log, _) = match queue.remove(2, 90) {
+        Ok(parts) => parts,
+        Err(queue) => queue.into_parts(),
+    };
+    visited?;
+    let changed = |moment: u64| Event::Changed {
+        seat: 5,
+        moment,
+        qbytes: 100,
+    };
+    let events = [
+        Event::Made {
+            seat: 2,
+            moment: 50,
+            key: 7,
+        },
+        Event::Sent {
+            seat: 3,
+            moment: 60,
+            tag: 70,
+            mtype: 5,
+            length: 5,
+        },
+        Event::Received {
+            seat: 4,
+            moment: 70,
+            place: 1,
+            selection: Selection::Any,
+            size: 9,
+            noerror: false,
+        },
+        changed(70),
+        changed(80),
+        Event::Removed {
+            seat: 2,
+            moment: 90,
+        },
+    ];
+    assert_eq!(rt; last, Some(changed(80)));
+    assert_eq!(rt; beyond, (None, None));
+    assert_eq!(rt; log.len(), 6);
+    assert_eq!(rt; (log.get(0), log.get(6)), (Some(events[0]), None));
+    assert_eq!(rt; log.into_events().as_slice(), events.as_slice());
     Ok(())
 }

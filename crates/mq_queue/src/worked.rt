@@ -1,13 +1,21 @@
 //! Examples of what a queue answers: each is proved of the definitions alone.
 
-ghost use Rattle.std.specs.Prelude.{◌≡◌, ◌∷◌, [], drop, pos, true, false};
+ghost use Rattle.std.specs.Prelude.{◌≡◌, ◌∷◌, ◌++◌, [], drop, pos, true, false};
 ghost use Rattle.mq_select.specs.declared.selection.Selection.TheVariants.{Any, Exact, Except, UpTo};
-ghost use Rattle.mq_queue.specs.declared.error.QueueError.TheVariants.{TypeInvalid, TooLong, Full, NoMessage, TooBig};
-ghost use Rattle.mq_queue.specs.Answer.{send_refusal, receive_answer};
+ghost use Rattle.mq_queue.specs.declared.error.QueueError.TheVariants.{TypeInvalid, TooLong, Full, NoMessage, TooBig, OverLimit};
+ghost use Rattle.mq_queue.specs.Answer.{send_refusal, receive_answer, set_refusal};
+ghost use Rattle.mq_queue.specs.Figures.{figures, no_figures};
+ghost use Rattle.mq_queue.specs.Log.{made_key};
+ghost use Rattle.mq_queue.specs.Replay.{state_after};
+ghost use Rattle.mq_queue.specs.Replies.{replayed};
+ghost use Rattle.mq_queue.specs.Room.{quota};
+ghost use Rattle.mq_queue.specs.Waiting.{waiting};
 ghost use Rattle.mq_queue.specs.Worked.{text, ab_and_cd, hello_and_hi, four_types};
+ghost use Rattle.mq_queue.specs.Worked.{quota_of_4, four_texts, over_quota, under_quota, shut};
+ghost use Rattle.mq_queue.specs.Worked.{hello_received, two_of_type_1, removed};
 
 /// With a quota of 4, the bytes are at most 4, and so are the messages.
-pub fn quota_of_4()
+pub fn room_by_quota()
     ensures first { send_refusal [] 4 (pos 1) 2 ≡ None }
     ensures second { send_refusal (text 1 1 2 ∷ []) 4 (pos 1) 2 ≡ None }
     ensures byte_more { send_refusal ab_and_cd 4 (pos 1) 1 ≡ Some Full }
@@ -41,4 +49,58 @@ pub fn selected()
     ensures then { receive_answer (drop 2 four_types) 9 (UpTo 2) false ≡ Ok (text 4 1 1) }
     ensures other { receive_answer (drop 1 four_types) 9 (Except (pos 1)) false ≡ Ok (text 3 2 1) }
     ensures missing { receive_answer four_types 9 (Exact (pos 4)) true ≡ Err NoMessage }
+{}
+
+/// "ab" and "cd" wait under a quota of 4: there is room for two empty texts, and then for none.
+pub fn full_by_bytes_and_by_count()
+    ensures waits { waiting quota_of_4 ≡ ab_and_cd }
+    ensures quota { quota quota_of_4 ≡ 4 }
+    ensures bytes { send_refusal (waiting quota_of_4) (quota quota_of_4) (pos 1) 2 ≡ Some Full }
+    ensures empty { send_refusal (waiting quota_of_4) (quota quota_of_4) (pos 1) 0 ≡ None }
+    ensures count { send_refusal (waiting four_texts) (quota four_texts) (pos 1) 0 ≡ Some Full }
+{}
+
+/// A queue may hold more than a quota that was lowered. It is full then, also for an empty text,
+/// until the messages that are too many are received.
+pub fn over_and_under()
+    ensures over { send_refusal (waiting over_quota) (quota over_quota) (pos 1) 0 ≡ Some Full }
+    ensures received { receive_answer (waiting over_quota) 9 Any false ≡ Ok (text 1 1 6) }
+    ensures under { send_refusal (waiting under_quota) (quota under_quota) (pos 1) 0 ≡ None }
+    ensures above { set_refusal 16385 ≡ Some OverLimit }
+    ensures greatest { set_refusal 16384 ≡ None }
+    ensures least { set_refusal 0 ≡ None }
+    ensures none { send_refusal (waiting shut) (quota shut) (pos 1) 0 ≡ Some Full }
+{}
+
+/// The figures after a sending, a new quota and a receipt, and after the removal.
+pub fn figures_shown()
+    ensures live { figures hello_received ≡ record {
+      qnum = 0;
+      cbytes = 0;
+      qbytes = 100;
+      stime = 2;
+      rtime = 4;
+      ctime = 3;
+      lspid = 1;
+      lrpid = 2;
+    } }
+    ensures waiting { figures quota_of_4 ≡ record {
+      qnum = 2;
+      cbytes = 4;
+      qbytes = 4;
+      stime = 3;
+      rtime = 0;
+      ctime = 4;
+      lspid = 1;
+      lrpid = 0;
+    } }
+    ensures removed { figures (hello_received ++ removed 5 ∷ []) ≡ no_figures }
+    ensures key { made_key hello_received ≡ pos 7 }
+{}
+
+/// A log that is played from its start: what is left, and what the last two receivers got.
+pub fn played_again()
+    ensures waits { (state_after two_of_type_1).entries ≡ text 1 3 1 ∷ text 3 2 1 ∷ [] }
+    ensures answers { drop 5 (replayed two_of_type_1)
+        ≡ Ok (Some (text 2 1 1)) ∷ Ok (Some (text 4 1 1)) ∷ [] }
 {}

@@ -35,8 +35,11 @@ fn spent<L: Ledger>(rt: &impl Abort, arena: &mut ArenaState<L>, text: Text<L>) {
     }
 }
 
-fn made<L: Ledger>(alloc: Global) -> Queue<L> {
-    Queue::made(alloc)
+fn made<L: Ledger>(rt: &impl Abort, alloc: Global) -> Queue<L> {
+    match Queue::made(alloc, 0, 1, 0) {
+        Ok(queue) => queue,
+        Err(_) => panic!(rt; "out of memory"),
+    }
 }
 
 fn sent<L: Ledger>(rt: &impl Abort, queue: &mut Queue<L>, text: Text<L>) {
@@ -46,14 +49,14 @@ fn sent<L: Ledger>(rt: &impl Abort, queue: &mut Queue<L>, text: Text<L>) {
         tag: 70,
         body: text,
     };
-    match queue.send(message) {
+    match queue.send(message, 1) {
         Ok(_) => (),
         Err((refusal, _message)) => panic!(rt; "{refusal}"),
     }
 }
 
 fn received<L: Ledger>(rt: &impl Abort, queue: &mut Queue<L>) -> Text<L> {
-    match queue.receive(LEN as u64, Selection::Any, false) {
+    match queue.receive(LEN as u64, Selection::Any, false, 2, 1) {
         Ok(
             Received {
                 entry: _,
@@ -70,7 +73,7 @@ fn received<L: Ledger>(rt: &impl Abort, queue: &mut Queue<L>) -> Text<L> {
 }
 
 fn given_up<L: Ledger>(rt: &impl Abort, queue: Queue<L>) {
-    let mut waiting = queue.into_parts();
+    let (_, mut waiting) = queue.into_parts();
     match waiting.pop_any() {
         None => waiting.end(),
         Some(_message) => panic!(rt; "a message waits"),
@@ -118,8 +121,8 @@ fn sent_on<L: Ledger, R: Abort + Threads>(rt: &R, alloc: Global, unopened: Unope
     requires enough { 2 ^ unopened < ledger.parts }
 {
     let mut arena = unopened.open::<L>(ledger);
-    let mut first = made(alloc);
-    let mut second = made(alloc);
+    let mut first = made(rt, alloc);
+    let mut second = made(rt, alloc);
     let text = filled(rt, &mut arena);
     let start = text.start();
     assert_eq!(rt; start, Some(4));
@@ -175,8 +178,8 @@ fn copied_on_its_way<L: Ledger, R: Abort + Threads>(
     requires enough { 2 ^ unopened < ledger.parts }
 {
     let mut arena = unopened.open::<L>(ledger);
-    let mut first = made(alloc);
-    let mut second = made(alloc);
+    let mut first = made(rt, alloc);
+    let mut second = made(rt, alloc);
     let text = filled(rt, &mut arena);
     let start = text.start();
     let text = handed_on(rt, &mut first, text);

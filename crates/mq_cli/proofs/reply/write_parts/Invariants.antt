@@ -1,6 +1,6 @@
 use Rattle.std.proofs.Common.{◌≡◌, ◌++◌}
 use Rattle.std.specs.List.{concat}
-use Rattle.mq_cli.proofs.answer.write_parts.Given as goal
+use Rattle.mq_cli.proofs.reply.write_parts.Given as goal
 
 -- the parts that are left are what is still to be written
 abbrev pub invariant-loop-part : goal.invariant-loop-part

@@ -1,0 +1,158 @@
+ghost use Rattle.std.specs.Prelude.{◌≡◌, ◌≢◌, ◌++◌, ◌∷◌, [], OnOk};
+ghost use Rattle.mq_cli.specs.Transcript.{callers_of, counts_of, head_of, moments_of, order_name, pages_of};
+ghost use Rattle.mq_cli.specs.Transcript.{output, refused, given, at, message, figures, gone, counted};
+
+use crate::errno::Errno;
+use crate::session::{ArenaFigures, Removal};
+use mq_message::Text;
+use mq_queue::{Figures, Received};
+use std::alloc::AllocError;
+use std::io::Write;
+use std::sync::ledger::Ledger;
+
+/// `pages P free F largest K`
+pub fn write_arena(out: &mut Vec<u8>, f: ArenaFigures) -> Result<(), AllocError>
+    ensures { OnOk result
+        (out.new.items ≡ out.old.items ++ output (figures f.pages f.free f.largest)) }
+{
+    write_pages(out, f.pages, f.free)?;
+    write_order(out, f.largest)
+}
+
+#[tactic(auto, unfolding(crate::specs::Transcript::pages_of))]
+/// All of that line before the order.
+fn write_pages(out: &mut Vec<u8>, pages: u32, free: u32) -> Result<(), AllocError>
+    ensures { OnOk result (out.new.items ≡ out.old.items ++ pages_of pages free) }
+{
+    write!(out, "pages {pages} free {free} largest ").map_err(|_| AllocError)
+}
+
+/// The order, and the end of the line.
+fn write_order(out: &mut Vec<u8>, order: Option<u8>) -> Result<(), AllocError>
+    ensures { OnOk result (out.new.items ≡ out.old.items ++ order_name order ++ 10 ∷ []) }
+{
+    match order {
+        Some(order) => writeln!(out, "{order}").map_err(|_| AllocError),
+        None => writeln!(out, "none").map_err(|_| AllocError),
+    }
+}
+
+/// `id ID`
+pub fn write_id(out: &mut Vec<u8>, id: u32) -> Result<(), AllocError>
+    ensures { OnOk result (out.new.items ≡ out.old.items ++ output (given id)) }
+{
+    writeln!(out, "id {id}").map_err(|_| AllocError)
+}
+
+/// `at E`
+pub fn write_entry(out: &mut Vec<u8>, entry: u64) -> Result<(), AllocError>
+    ensures { OnOk result (out.new.items ≡ out.old.items ++ output (at entry)) }
+{
+    writeln!(out, "at {entry}").map_err(|_| AllocError)
+}
+
+/// `at E events K`
+pub fn write_removal(out: &mut Vec<u8>, removal: Removal) -> Result<(), AllocError>
+    ensures { OnOk result
+        (out.new.items ≡ out.old.items ++ output (gone removal.entry removal.events)) }
+{
+    let Removal { entry, events } = removal;
+    writeln!(out, "at {entry} events {events}").map_err(|_| AllocError)
+}
+
+/// `qnum A cbytes B qbytes C lspid D lrpid E stime F rtime G ctime H`
+pub fn write_figures(out: &mut Vec<u8>, f: Figures) -> Result<(), AllocError>
+    ensures { OnOk result (out.new.items ≡ out.old.items ++ output (counted f)) }
+{
+    write_counts(out, f)?;
+    write_callers(out, f)?;
+    write_moments(out, f)?;
+    out.push(b'\n')?;
+    Ok(())
+}
+
+#[tactic(auto, unfolding(crate::specs::Transcript::counts_of))]
+fn write_counts(out: &mut Vec<u8>, f: Figures) -> Result<(), AllocError>
+    ensures { OnOk result (out.new.items ≡ out.old.items ++ counts_of f) }
+{
+    let Figures {
+        qnum,
+        cbytes,
+        qbytes,
+        ..
+    } = f;
+    write!(out, "qnum {qnum} cbytes {cbytes} qbytes {qbytes}").map_err(|_| AllocError)
+}
+
+#[tactic(auto, unfolding(crate::specs::Transcript::callers_of))]
+fn write_callers(out: &mut Vec<u8>, f: Figures) -> Result<(), AllocError>
+    ensures { OnOk result (out.new.items ≡ out.old.items ++ callers_of f) }
+{
+    let Figures { lspid, lrpid, .. } = f;
+    write!(out, " lspid {lspid} lrpid {lrpid}").map_err(|_| AllocError)
+}
+
+#[tactic(auto, unfolding(crate::specs::Transcript::moments_of))]
+fn write_moments(out: &mut Vec<u8>, f: Figures) -> Result<(), AllocError>
+    ensures { OnOk result (out.new.items ≡ out.old.items ++ moments_of f) }
+{
+    let Figures {
+        stime,
+        rtime,
+        ctime,
+        ..
+    } = f;
+    write!(out, " stime {stime} rtime {rtime} ctime {ctime}").map_err(|_| AllocError)
+}
+
+/// `msg TYPE seat S tag T len L =BYTES`
+pub fn write_message<L: Ledger>(out: &mut Vec<u8>, m: &Received<Text<L>>) -> Result<(), AllocError>
+    ensures { OnOk result (out.new.items ≡ out.old.items ++ output (message m.now)) }
+{
+    write_head(out, m.mtype, m.sender, m.tag, m.length)?;
+    write_parts(out, &m.body)?;
+    out.push(b'\n')?;
+    Ok(())
+}
+
+/// The bytes of a text.
+fn write_parts<L: Ledger>(out: &mut Vec<u8>, text: &Text<L>) -> Result<(), AllocError>
+    ensures { OnOk result (out.new.items ≡ out.old.items ++ text.now.bytes) }
+{
+    for part in text.parts() {
+        out.extend_from_slice(part)?;
+    }
+    Ok(())
+}
+
+#[tactic(auto, unfolding(crate::specs::Transcript::head_of))]
+/// All of that line before the text.
+fn write_head(
+    out: &mut Vec<u8>,
+    mtype: i64,
+    sender: u16,
+    tag: u64,
+    length: u64,
+) -> Result<(), AllocError>
+    ensures { OnOk result (out.new.items ≡ out.old.items ++ head_of mtype sender tag length) }
+{
+    write!(out, "msg {mtype} seat {sender} tag {tag} len {length} =").map_err(|_| AllocError)
+}
+
+/// The manual's name of a refusal.
+pub fn write_errno(out: &mut Vec<u8>, errno: Errno) -> Result<(), AllocError>
+    ensures { OnOk result (out.new.items ≡ out.old.items ++ output (refused errno)) }
+{
+    writeln!(out, "{}", errno.name()).map_err(|_| AllocError)
+}
+
+/// The manual's name of the refusal of a call; `ENOMEM` has no line there.
+pub fn write_refused(out: &mut Vec<u8>, errno: Errno) -> Result<(), AllocError>
+    ensures ok { OnOk result (out.new.items ≡ out.old.items ++ output (refused errno)) }
+    ensures memory { OnOk result (errno ≢ Errno.ENOMEM) }
+{
+    if errno == Errno::ENOMEM {
+        return Err(AllocError);
+    }
+    write_errno(out, errno)
+}

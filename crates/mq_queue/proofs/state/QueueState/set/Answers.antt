@@ -1,0 +1,14 @@
+use Rattle.std.proofs.Common.{rules, ◌≡◌, ◌++◌, ◌∷◌, []}
+use Rattle.mq_queue.specs.declared.event.Event.TheVariants.{Changed}
+use Rattle.mq_queue.proofs.Changes.{changed_figures, changed_sound}
+use Rattle.mq_queue.proofs.state.QueueState.set.Goals as goal
+
+pub invariant_of-self-2 : goal.invariant_of-self-2
+invariant_of-self-2 g c =
+    let grown : c.append.new.events.items ≡ c.self.inside.log.items ++ Changed c.args.seat c.args.moment c.args.qbytes ∷ [] = rw (← c.reserve.ensures.items) c.append.ensures in (
+      changed_sound _ _ _ _ _ _ _ c.self.invariant.0 (search rules) grown,
+      changed_figures _ _ _ _ _ _ c.self.invariant.0.lawful c.self.invariant.1 (search rules) grown,
+    )
+
+pub returns-clause-sound : goal.returns-clause-sound
+returns-clause-sound g c = (invariant_of-self-2 g c).0

@@ -1,0 +1,33 @@
+/// What IPC_STAT shows of a queue, by the names of msgctl(2).
+#[derive(Clone, Copy, Debug, PartialEq, Eq)]
+pub struct Figures {
+    /// How many messages wait.
+    pub qnum: u64,
+    /// How many bytes wait.
+    pub cbytes: u64,
+    /// How many bytes may wait, and as many messages.
+    pub qbytes: u64,
+    /// The moment of the last sending, or 0.
+    pub stime: u64,
+    /// The moment of the last receipt, or 0.
+    pub rtime: u64,
+    /// The moment of the making, or of the last new quota.
+    pub ctime: u64,
+    /// The seat that sent last, or 0.
+    pub lspid: u16,
+    /// The seat that received last, or 0.
+    pub lrpid: u16,
+}
+
+/// What a report shows of a place for queues.
+#[derive(Clone, Copy, Debug, PartialEq, Eq)]
+pub struct BoardRow {
+    /// How many queues were made there.
+    pub made: u32,
+    /// Whether one of them is there now.
+    pub live: bool,
+    /// Its key, or 0.
+    pub key: i32,
+    /// Its figures, or all 0.
+    pub figures: Figures,
+}
