@@ -19,12 +19,12 @@ pub struct Figures {
     pub lrpid: u16,
 }
 
-/// What a report shows of a place for queues.
+/// What a report shows of a slot, which has one queue after another.
 #[derive(Clone, Copy, Debug, PartialEq, Eq)]
 pub struct BoardRow {
-    /// How many queues were made there.
+    /// How many queues were made in it.
     pub made: u32,
-    /// Whether one of them is there now.
+    /// Whether one of them is not yet removed.
     pub live: bool,
     /// Its key, or 0.
     pub key: i32,

@@ -7,7 +7,7 @@ ghost use Rattle.mq_queue.specs.Waiting.{waiting};
 
 use crate::log::{append, count};
 use crate::{Event, Figures, QueueError, QueueState, Received};
-use mq_message::{Body, Message};
+use mq_message::Body;
 use mq_select::{Selection, Waiting};
 
 /// Whether a receiver of this size is handed a text of this length.
@@ -63,7 +63,7 @@ impl<B: Body, W: Waiting<B>> QueueState<B, W> {
             return Err(QueueError::Memory);
         };
         let entry = count(&self.log);
-        let message = self.waiting.take(place);
+        let mut message = self.waiting.take(place);
         let received = Event::Received {
             seat,
             moment,
@@ -80,21 +80,15 @@ impl<B: Body, W: Waiting<B>> QueueState<B, W> {
             ..kept
         };
         append(&mut self.log, received);
-        let Message {
-            mtype,
-            sender,
-            tag,
-            mut body,
-        } = message;
-        body.cut(size);
+        message.body.cut(size);
         Ok(Received {
             entry,
             place,
-            mtype,
-            sender,
-            tag,
+            mtype: message.mtype,
+            sender: message.sender,
+            tag: message.tag,
             length,
-            body,
+            body: message.body,
         })
     }
 }

@@ -1,4 +1,4 @@
-use crate::{Event, Figures, QueueError, QueueState, Received};
+use crate::{Event, Figures, Log, QueueError, QueueState, Received};
 use mq_message::{Message, VecBody};
 use mq_select::{ListWaiting, Selection};
 use std::alloc::{AllocError, Global};
@@ -35,9 +35,9 @@ fn message(alloc: Global, mtype: i64, length: usize) -> Result<Message<VecBody>,
 }
 
 /// Sends a message, and once more where there was no memory: then as if for the first time.
-fn send(queue: &mut Queue, message: Message<VecBody>) -> Answer {
-    let answer = match queue.send(message, 60) {
-        Err((QueueError::Memory, message)) => queue.send(message, 60),
+fn send(queue: &mut Queue, message: Message<VecBody>, moment: u64) -> Answer {
+    let answer = match queue.send(message, moment) {
+        Err((QueueError::Memory, message)) => queue.send(message, moment),
         answer => answer,
     };
     match answer {
@@ -46,9 +46,15 @@ fn send(queue: &mut Queue, message: Message<VecBody>) -> Answer {
     }
 }
 
-fn receive(queue: &mut Queue, size: u64, selection: Selection, noerror: bool) -> Answer {
-    let answer = match queue.receive(size, selection, noerror, 4, 80) {
-        Err(QueueError::Memory) => queue.receive(size, selection, noerror, 4, 80),
+fn receive(
+    queue: &mut Queue,
+    size: u64,
+    selection: Selection,
+    noerror: bool,
+    moment: u64,
+) -> Answer {
+    let answer = match queue.receive(size, selection, noerror, 4, moment) {
+        Err(QueueError::Memory) => queue.receive(size, selection, noerror, 4, moment),
         answer => answer,
     };
     match answer {
@@ -62,9 +68,9 @@ fn receive(queue: &mut Queue, size: u64, selection: Selection, noerror: bool) ->
     }
 }
 
-fn set(queue: &mut Queue, qbytes: u64) -> Answer {
-    let answer = match queue.set(qbytes, 5, 90) {
-        Err(QueueError::Memory) => queue.set(qbytes, 5, 90),
+fn set(queue: &mut Queue, qbytes: u64, moment: u64) -> Answer {
+    let answer = match queue.set(qbytes, 5, moment) {
+        Err(QueueError::Memory) => queue.set(qbytes, 5, moment),
         answer => answer,
     };
     match answer {
@@ -77,9 +83,9 @@ fn play(alloc: Global, queue: &mut Queue, steps: &[Step]) -> Result<Vec<Answer>,
     let mut answers = Vec::new(alloc);
     for step in steps {
         let answer = match *step {
-            Step::Send(mtype, length) => send(queue, message(alloc, mtype, length)?),
-            Step::Receive(size, selection, noerror) => receive(queue, size, selection, noerror),
-            Step::Set(qbytes) => set(queue, qbytes),
+            Step::Send(mtype, length) => send(queue, message(alloc, mtype, length)?, 60),
+            Step::Receive(size, selection, noerror) => receive(queue, size, selection, noerror, 80),
+            Step::Set(qbytes) => set(queue, qbytes, 90),
         };
         answers.push(answer)?;
     }
@@ -259,7 +265,7 @@ fn a_queue_answers_as_the_manual_says(rt: HostRuntime) -> Result<(), Fail> {
 fn filled(alloc: Global, queue: &mut Queue, number: u64) -> Result<Answer, AllocError> {
     let mut last = Answer::At(0);
     for _ in 0..number {
-        last = send(queue, message(alloc, 1, 0)?);
+        last = send(queue, message(alloc, 1, 0)?, 60);
     }
     Ok(last)
 }
@@ -269,7 +275,7 @@ fn no_more_messages_wait_than_the_quota_has_bytes(rt: HostRuntime) -> Result<(),
     let mut queue = Queue::made(rt.alloc(), 7, 2, 50)?;
     let last = filled(rt.alloc(), &mut queue, 16384);
     let more = filled(rt.alloc(), &mut queue, 1);
-    let next = receive(&mut queue, 0, Selection::Any, false);
+    let next = receive(&mut queue, 0, Selection::Any, false, 80);
     let _ = queue.into_parts();
     assert_eq!(rt; last?, Answer::At(16384));
     assert_eq!(rt; more?, Answer::Refused(QueueError::Full));
@@ -304,7 +310,7 @@ fn front_of_hello(alloc: Global, queue: &mut Queue) -> Result<Received<VecBody>,
         tag: 70,
         body: VecBody::from_slice(alloc, b"hello")?,
     };
-    send(queue, hello);
+    send(queue, hello, 60);
     Ok(
         queue
             .receive(2, Selection::Any, true, 4, 80)
@@ -325,23 +331,25 @@ fn a_received_text_is_the_front_of_what_was_sent(rt: HostRuntime) -> Result<(), 
 
 /// A sending at the first moment, a receipt and a new quota at the second, and the same quota once
 /// more at the third, each by a seat of its own.
-fn visit(alloc: Global, queue: &mut Queue, moments: [u64; 3]) -> Result<(), Fail> {
+fn visit(alloc: Global, queue: &mut Queue, moments: [u64; 3]) -> Result<[Answer; 5], AllocError> {
     let [sent, received, changed] = moments;
-    queue
-        .send(message(alloc, 5, 5)?, sent)
-        .map_err(|_| "not sent")?;
-    queue
-        .receive(9, Selection::Exact(6), false, 4, received)
-        .map_err(|_| "refused")
-        .err()
-        .ok_or("there is no message of type 6")?;
-    queue
-        .receive(9, Selection::Any, false, 4, received)
-        .map_err(|_| "not received")?;
-    queue.set(100, 5, received).map_err(|_| "not set")?;
-    queue.set(100, 5, changed).map_err(|_| "not set")?;
-    Ok(())
+    Ok([
+        send(queue, message(alloc, 5, 5)?, sent),
+        receive(queue, 9, Selection::Exact(6), false, received),
+        receive(queue, 9, Selection::Any, false, received),
+        set(queue, 100, received),
+        set(queue, 100, changed),
+    ])
 }
+
+/// What a visit is answered.
+const VISITED: [Answer; 5] = [
+    Answer::At(1),
+    Answer::Refused(QueueError::NoMessage),
+    Answer::Got(2, 1, 5, 5),
+    Answer::At(3),
+    Answer::At(4),
+];
 
 #[test]
 fn figures_show_the_last_moment_whatever_it_is(rt: HostRuntime) -> Result<(), Fail> {
@@ -357,7 +365,7 @@ fn figures_show_the_last_moment_whatever_it_is(rt: HostRuntime) -> Result<(), Fa
         let visited = visit(rt.alloc(), &mut queue, moments);
         let figures = queue.figures();
         let _ = queue.into_parts();
-        visited?;
+        assert_eq!(rt; visited?, VISITED);
         let wanted = Figures {
             qnum: 0,
             cbytes: 0,
@@ -399,17 +407,26 @@ fn refusals_leave_log_and_figures(rt: HostRuntime) -> Result<(), Fail> {
     Ok(())
 }
 
+/// The log of a queue that is removed, at the second try where there was no memory.
+fn removed(queue: Queue, moment: u64) -> Log {
+    let answer = match queue.remove(2, moment) {
+        Err(queue) => queue.remove(2, moment),
+        answer => answer,
+    };
+    match answer {
+        Ok((log, _)) => log,
+        Err(queue) => queue.into_parts().0,
+    }
+}
+
 #[test]
 fn the_log_of_a_removed_queue_tells_all(rt: HostRuntime) -> Result<(), Fail> {
     let mut queue = Queue::made(rt.alloc(), 7, 2, 50)?;
     let visited = visit(rt.alloc(), &mut queue, [60, 70, 80]);
     let last = queue.event(4);
     let beyond = (queue.event(5), queue.event(u64::MAX));
-    let (log, _) = match queue.remove(2, 90) {
-        Ok(parts) => parts,
-        Err(queue) => queue.into_parts(),
-    };
-    visited?;
+    let log = removed(queue, 90);
+    assert_eq!(rt; visited?, VISITED);
     let changed = |moment: u64| Event::Changed {
         seat: 5,
         moment,

@@ -1,0 +1,36 @@
+use Rattle.std.proofs.Common.{◌≡◌, ◌++◌, ◌∷◌, [], rules, arith, length, map, reverse, sym, ap, ◌∙◌, length-append}
+use Rattle.std.proofs.lemmas.List.{nil_from_length}
+use Rattle.mq_tree.specs.LentSet.{Lending}
+use Rattle.mq_system.specs.Closed.{all_home, ending_of, ends}
+use Rattle.mq_system.specs.State.{State}
+use Rattle.mq_system.proofs.HomeLemmas.{last_home, endings_kept, none_left, reversed}
+use Rattle.mq_system.proofs.one_thread.OneThread.close.Goals as goal
+
+pub loop-slot-preserved : goal.loop-slot-preserved
+loop-slot-preserved g c =
+    let parted = c.in-Some.ensures.items in
+    let left = c.pop.new.self.items in
+    let inv = c.loop-slot.invariant in
+    let grown = c.push_reserved.ensures.items in
+    (
+      rw grown
+      (endings_kept left c.in-Some.slot c.loop-slot.closed.items c.end_slot.result (map ends c.self.inside.slots.items)
+      c.end_slot.ensures.slot (rw parted at inv.0)),
+      ap (λ (a : Lending). all_home left a) c.end_slot.ensures.arena
+      ∙ sym (last_home left c.in-Some.slot c.loop-slot.arena)
+      ∙ ap (λ ss. all_home ss c.loop-slot.arena) (sym parted)
+      ∙ inv.1,
+      omega (arith, ap length parted, length-append left (c.in-Some.slot ∷ []), ap length grown, length-append c.loop-slot.closed.items (c.end_slot.result ∷ []), inv.2, c.push_reserved.ensures.capacity),
+    )
+
+pub returns-clause-slots : goal.returns-clause-slots
+returns-clause-slots g c =
+    let none = nil_from_length c.loop-slot.slots.items (omega (arith, c.in_default.ensures.cases, c.loop-slot.slots.ok)) in
+    rw c.reverse.ensures.items (reversed c.loop-slot.closed.items ∙ rw none at c.loop-slot.invariant.0
+    ∙ ap (λ (s : State). map ends s.slots) c.self.view_is)
+
+pub returns-clause-arena : goal.returns-clause-arena
+returns-clause-arena g c =
+    let none = nil_from_length c.loop-slot.slots.items (omega (arith, c.in_default.ensures.cases, c.loop-slot.slots.ok)) in
+    sym (none_left c.loop-slot.arena) ∙ rw none at c.loop-slot.invariant.1
+    ∙ ap (λ (s : State). all_home s.slots s.arena) c.self.view_is

@@ -1,0 +1,9 @@
+pub mod Calls
+pub mod Closed
+pub mod Get
+pub mod Kept
+pub mod Limits
+pub mod Look
+pub mod Names
+pub mod State
+pub mod Texts

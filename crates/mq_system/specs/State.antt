@@ -1,0 +1,25 @@
+-- All that a queue system keeps.
+use Rattle.std.specs.Prelude.{ℕ, ℤ, List, slice_index_or, slice_set}
+use Rattle.mq_tree.specs.LentSet.{Lending}
+use Rattle.mq_message.specs.Text.{PlainText}
+use Rattle.mq_table.specs.Slot.{SlotState, empty_slot}
+
+-- what the arena has lent, the slots, the keys of the live queues with their ids in the order of
+-- making, and the seq with which a slot is used up (sysvipc(7))
+pub record State : Type 0 where
+  pub arena : Lending
+  pub slots : List (SlotState PlainText)
+  pub keys : List (ℤ × ℕ)
+  pub last_seq : ℕ
+
+-- the slot with this number
+abbrev pub slot_at : State → ℕ → SlotState PlainText
+slot_at s k = slice_index_or s.slots k (empty_slot k)
+
+-- the state with another arena, or with another slot k
+abbrev pub with_arena : State → Lending → State
+with_arena s arena = record { arena = arena; slots = s.slots; keys = s.keys; last_seq = s.last_seq }
+
+abbrev pub with_slot : State → ℕ → SlotState PlainText → State
+with_slot s k slot =
+    record { arena = s.arena; slots = slice_set s.slots k slot; keys = s.keys; last_seq = s.last_seq }

@@ -1,0 +1,67 @@
+ghost use Rattle.std.specs.Prelude.{◌≡◌};
+ghost use Rattle.mq_system.specs.Look.{errno_of, errno_of_id};
+ghost use Rattle.mq_system.specs.Names.{errno_name};
+
+use mq_queue::QueueError;
+use mq_table::IdRefusal;
+
+/// The manual's names of the refusals, errno(3).
+#[derive(Clone, Copy, Debug, PartialEq, Eq)]
+pub enum Errno {
+    EINVAL,
+    EIDRM,
+    EAGAIN,
+    ENOMEM,
+    ENOMSG,
+    E2BIG,
+    EPERM,
+    EEXIST,
+    ENOENT,
+    ENOSPC,
+}
+
+impl Errno {
+    /// Its letters, as the manual writes them.
+    pub fn name(self) -> &'static str
+        ensures { result.now ≡ errno_name self }
+    {
+        match self {
+            Errno::EINVAL => "EINVAL",
+            Errno::EIDRM => "EIDRM",
+            Errno::EAGAIN => "EAGAIN",
+            Errno::ENOMEM => "ENOMEM",
+            Errno::ENOMSG => "ENOMSG",
+            Errno::E2BIG => "E2BIG",
+            Errno::EPERM => "EPERM",
+            Errno::EEXIST => "EEXIST",
+            Errno::ENOENT => "ENOENT",
+            Errno::ENOSPC => "ENOSPC",
+        }
+    }
+}
+
+impl From<QueueError> for Errno {
+    ghost from_gives = { λ refusal errno. errno ≡ errno_of refusal };
+
+    fn from(refusal: QueueError) -> Errno {
+        match refusal {
+            QueueError::TypeInvalid | QueueError::TooLong => Errno::EINVAL,
+            QueueError::Full => Errno::EAGAIN,
+            QueueError::NoMessage => Errno::ENOMSG,
+            QueueError::TooBig => Errno::E2BIG,
+            QueueError::OverLimit => Errno::EPERM,
+            QueueError::Memory => Errno::ENOMEM,
+        }
+    }
+}
+
+impl From<IdRefusal> for Errno {
+    ghost from_gives = { λ refusal errno. errno ≡ errno_of_id refusal };
+
+    fn from(refusal: IdRefusal) -> Errno {
+        match refusal {
+            IdRefusal::Never => Errno::EINVAL,
+            IdRefusal::Removed => Errno::EIDRM,
+        }
+    }
+}

@@ -1,0 +1,42 @@
+-- What a map's look-up finds is the id in the list of keys.
+use Rattle.std.proofs.Common.{◌≡◌, ℕ, ℤ, Bool, true, false, List, [], ◌∷◌, ◌++◌, None, refl, ◌∙◌, ◌≢◌, pos, not, ◌==◌, map}
+use Rattle.std.specs.Ordering.{int_eq}
+use Rattle.std.specs.List.{IsDistinct}
+use Rattle.std.proofs.lemmas.List.Elements.{All-push, All-filter}
+use Rattle.std.specs.HashMap.{HashMap}
+use Rattle.std.specs.Map.{lookup}
+use Rattle.std.proofs.lemmas.Cmp.{int_eq_equiv}
+use Rattle.indexmap.specs.IndexMap.{insert_entry}
+use Rattle.indexmap.proofs.CallerLemmas.{insert_entry-new}
+use Rattle.mq_table.specs.Keys.{id_of_key, forget, AreKeys}
+
+-- the map's value at a key is what the list has for it
+pub lookup_is : (es : List (ℤ × ℕ)) (key : ℤ) → lookup (int_eq key) es ≡ id_of_key es key
+lookup_is [] key = refl
+lookup_is (e ∷ es) key = by (int_eq key e.0) refl (lookup_is es key)
+  where
+    by : (b : Bool) → int_eq key e.0 ≡ b → lookup (int_eq key) es ≡ id_of_key es key
+        → lookup (int_eq key) (e ∷ es) ≡ id_of_key (e ∷ es) key
+    by true same rest = rw (← int_eq_equiv.symm key e.0, same) refl
+    by false same rest = rw (← int_eq_equiv.symm key e.0, same) rest
+
+-- a key that the list has not goes last
+pub entered : {S : Type 0} (m : HashMap ℤ ℕ S) (key : ℤ) (id : ℕ) → id_of_key m.entries key ≡ None
+    → insert_entry int_eq m.entries key id ≡ m.entries ++ (key, id) ∷ []
+entered m key id absent = insert_entry-new int_eq m key id (lookup_is m.entries key ∙ absent)
+
+-- and the keys stay distinct, and none is 0
+pub keys_entered : (es es' : List (ℤ × ℕ)) (key : ℤ) (id : ℕ) → AreKeys es
+    → es' ≡ es ++ (key, id) ∷ [] → key ≢ pos 0 → IsDistinct int_eq (map (λ p. p.0) es') → AreKeys es'
+keys_entered es es' key id h grown named distinct = record {
+  distinct = distinct;
+  named = rw grown (All-push (λ p. p.0 ≢ pos 0) es (key, id) h.named named);
+}
+
+-- as they do where some are left
+pub keys_left : (es es' : List (ℤ × ℕ)) (id : ℕ) → AreKeys es
+    → es' ≡ forget id es → IsDistinct int_eq (map (λ p. p.0) es') → AreKeys es'
+keys_left es es' id h left distinct = record {
+  distinct = distinct;
+  named = rw left (All-filter (λ p. not (p.1 == id)) (λ p. p.0 ≢ pos 0) es h.named);
+}

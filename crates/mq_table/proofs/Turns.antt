@@ -1,0 +1,103 @@
+-- The calls of a slot are those of the queue that is in it.
+use Rattle.std.proofs.Common.{◌≡◌, ℕ, ◌+◌, Bool, true, List, [], ◌∷◌, ◌++◌, length, append_assoc, Option, None, Some, Result, Ok, Err, unwrap_or, refl, sym, ◌∙◌, subst, true≢false}
+use Rattle.std.proofs.lemmas.List.{length-append}
+use Rattle.mq_message.specs.declared.message.Message.{Message}
+use Rattle.mq_select.specs.declared.selection.Selection.{Selection}
+use Rattle.mq_select.specs.Waiting.{Entry, without}
+use Rattle.mq_queue.specs.declared.error.QueueError.{QueueError}
+use Rattle.mq_queue.specs.declared.error.QueueError.TheVariants.{Memory}
+use Rattle.mq_queue.specs.declared.event.Event.{Event}
+use Rattle.mq_queue.specs.declared.event.Event.TheVariants as event
+use Rattle.mq_queue.specs.Answer.{send_refusal, receive_answer, refusal_or_memory}
+use Rattle.mq_queue.specs.Queue.{Queue}
+use Rattle.mq_queue.specs.Room.{quota}
+use Rattle.mq_queue.specs.Waiting.{waiting}
+use Rattle.mq_table.specs.Calls.{goes_on, sends, receives, refusal_of, unless, received}
+use Rattle.mq_table.specs.Slot.{SlotState, IsSlot, slot_with}
+use Rattle.mq_table.specs.SlotList.{is_live, last_log}
+use Rattle.mq_table.proofs.Slots.{is_there, its_log}
+
+-- a call is refused for the reason that is named, or else for want of memory
+refusal_is : {B : Type 0} (s after : SlotState B) (o : Option QueueError)
+    → refusal_of (unless o s after) ≡ unwrap_or o Memory
+refusal_is s after None = refl
+refusal_is s after (Some e) = refl
+
+-- and so is a receipt
+receipt_refused : {B : Type 0} (s : SlotState B) (e : Entry → Event)
+    (answer : Result Entry QueueError) → refusal_of (received s e answer) ≡ refusal_or_memory answer
+receipt_refused s e (Ok m) = refl
+receipt_refused s e (Err refusal) = refl
+
+module _ {B : Type 0} (bytes : B → List ℕ) (number made : ℕ) (past : List Event)
+    (live : Option (Queue B)) (s : SlotState B) (h : IsSlot bytes number made past live)
+    (view : slot_with number past live ≡ s) where
+  -- a queue is there where the slot list says so
+  pub not_none : is_live s.events ≡ true → live ≡ None → ⊥
+  not_none there none =
+      let said = rw (← view) at there in
+      let here = is_there bytes number made past live h ∙ said in
+      true≢false (sym (rw none at here))
+
+  module _ (q : Queue B) (is : live ≡ Some q) where
+    -- its log is the last one
+    pub log_is : last_log s.events ≡ q.log
+    log_is =
+        let h' = subst (IsSlot bytes number made past) is h in
+        rw (← view, is) (its_log bytes number made past q h')
+
+    pub refused_send : (m : Message B) (moment : ℕ) → refusal_of (sends bytes s m moment)
+        ≡ unwrap_or (send_refusal (waiting q.log) (quota q.log) m.mtype (length (bytes m.body)))
+        Memory
+    refused_send m moment =
+        let n = length (bytes m.body) in
+        let sent = event.Sent m.sender moment m.tag m.mtype n in
+        let after = goes_on s sent (s.messages ++ (length q.log, m) ∷ []) in
+        rw log_is (refusal_is s after (send_refusal (waiting q.log) (quota q.log) m.mtype n))
+
+    pub refused_receive : (size : ℕ) (selection : Selection) (noerror : Bool) (seat moment : ℕ)
+        → refusal_of (receives s size selection noerror seat moment)
+        ≡ refusal_or_memory (receive_answer (waiting q.log) size selection noerror)
+    refused_receive size selection noerror seat moment =
+        rw log_is
+        (receipt_refused s (λ m. event.Received seat moment m.place selection size noerror)
+        (receive_answer (waiting q.log) size selection noerror))
+
+    module _ (q' : Queue B) (entry : ℕ) (placed : entry ≡ length past + length q.log) where
+      pub sent_is : (m : Message B) (moment : ℕ)
+          → send_refusal (waiting q.log) (quota q.log) m.mtype (length (bytes m.body)) ≡ None
+          → q'.log ≡ q.log ++ event.Sent m.sender moment m.tag m.mtype (length (bytes m.body)) ∷ []
+          → q'.messages ≡ q.messages ++ (length q.log, m) ∷ []
+          → sends bytes s m moment ≡ Ok (entry, slot_with number past (Some q'))
+      sent_is m moment taken log messages =
+          rw (
+            log_is,
+            taken,
+            ← view,
+            is,
+            log,
+            messages,
+            placed,
+            length-append past q.log,
+            append_assoc past q.log _,
+          ) refl
+
+      pub received_is : (m : Entry) (size : ℕ) (selection : Selection) (noerror : Bool)
+          (seat moment : ℕ)
+          → receive_answer (waiting q.log) size selection noerror ≡ Ok m
+          → q'.log ≡ q.log ++ event.Received seat moment m.place selection size noerror ∷ []
+          → q'.messages ≡ without m.place q.messages
+          → receives s size selection noerror seat moment
+          ≡ Ok (record { entry = entry; message = m }, slot_with number past (Some q'))
+      received_is m size selection noerror seat moment taken log messages =
+          rw (
+            log_is,
+            taken,
+            ← view,
+            is,
+            log,
+            messages,
+            placed,
+            length-append past q.log,
+            append_assoc past q.log _,
+          ) refl

@@ -1,0 +1,24 @@
+use Rattle.std.proofs.Common.{rules, ◌∙◌}
+use mir.Val.{SFits}
+use mir.Syntax.{w32}
+use Rattle.std.proofs.lemmas.Int.{to_z-of_z}
+use Rattle.mq_table.proofs.Found.{entered, keys_entered}
+use Rattle.mq_table.proofs.keys.KeyTable.enter.Goals as goal
+
+pub invariant_of-self-2 : goal.invariant_of-self-2
+invariant_of-self-2 c =
+    let fits : SFits w32 c.args.key = search rules in
+    let told = simp to_z-of_z at c.in_ok-insert.ensures.entries in
+    let absent = rw (← c.self.view_is) at c.requires.absent in
+    let grown = told ∙ entered c.self.inside.ids c.args.key c.args.id absent in
+    keys_entered _ _ c.args.key c.args.id c.self.invariant grown c.requires.key c.in_ok-insert.ensures.unique
+
+pub returns-clause-keys : goal.returns-clause-keys
+returns-clause-keys c = invariant_of-self-2 c
+
+pub returns-clause-ok : goal.returns-clause-ok
+returns-clause-ok c =
+    let fits : SFits w32 c.args.key = search rules in
+    let told = simp to_z-of_z at c.in_ok-insert.ensures.entries in
+    let absent = rw (← c.self.view_is) at c.requires.absent in
+    rw (← c.self.view_is) (told ∙ entered c.self.inside.ids c.args.key c.args.id absent)

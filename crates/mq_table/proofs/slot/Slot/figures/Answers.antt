@@ -1,0 +1,13 @@
+use Rattle.std.proofs.Common.{ap, sym, ◌∙◌}
+use Rattle.mq_queue.specs.Figures.{figures}
+use Rattle.mq_table.proofs.Turns.{not_none, log_is}
+use Rattle.mq_table.proofs.slot.Slot.figures.Goals as goal
+
+pub unreachable-requires : goal.unreachable-requires
+unreachable-requires g c =
+    not_none _ _ _ _ _ _ c.self.invariant c.self.view_is c.requires.live c.in-None.is
+
+pub returns : goal.returns
+returns g c =
+    c.figures.ensures.value
+    ∙ ap figures (sym (log_is _ _ _ _ _ _ c.self.invariant c.self.view_is _ c.in-Some.is))

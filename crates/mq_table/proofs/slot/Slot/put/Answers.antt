@@ -1,0 +1,10 @@
+use Rattle.mq_table.proofs.Slots.{put_into, list_of}
+use Rattle.mq_table.proofs.slot.Slot.put.Goals as goal
+
+pub invariant_of-self : goal.invariant_of-self
+invariant_of-self g c =
+    put_into _ _ _ _ _ c.self.invariant _ c.self.view_is c.requires.empty c.requires.unused
+    c.args.queue c.requires.sound _ c.put_in.ensures
+
+pub returns-clause-lawful : goal.returns-clause-lawful
+returns-clause-lawful g c = list_of _ _ _ _ _ (invariant_of-self g c)

@@ -1,0 +1,38 @@
+use Rattle.std.proofs.Common.{rules, ◌≡◌, ◌+◌, length}
+use mir.Val.{SFits}
+use mir.Syntax.{w64}
+use Rattle.std.proofs.lemmas.Int.{to_z-of_z}
+use Rattle.mq_table.proofs.Pasts.{list_of_live}
+use Rattle.mq_table.proofs.Turns.{not_none, refused_receive, received_is}
+use Rattle.mq_table.proofs.slot.Slot.receive.Goals as goal
+
+pub unreachable-requires : goal.unreachable-requires
+unreachable-requires g c =
+    not_none _ _ _ _ _ _ c.self.invariant c.self.view_is c.requires.live c.in_default.is
+
+pub returns-in_err-received-clause-refused : goal.returns-in_err-received-clause-refused
+returns-in_err-received-clause-refused g c =
+    let told = refused_receive _ _ _ _ _ _ c.self.invariant c.self.view_is _ c.in-Some.is
+    c.args.size c.args.selection c.args.noerror c.args.seat c.args.moment in
+    rw told (search rules)
+
+pub returns-in_err-received-clause-lawful : goal.returns-in_err-received-clause-lawful
+returns-in_err-received-clause-lawful g c =
+    list_of_live _ _ c.self.invariant.ended c.receive.ensures.sound.lawful
+
+pub returns-clause-ok : goal.returns-clause-ok
+returns-clause-ok g c =
+    let entry :
+    c.len-past.result + c.log_len.result
+    ≡ length c.self.inside.past.items + length c.in-Some.queue.log = search rules in
+    let h = c.in_ok-received.ensures in
+    let fits : SFits w64 c.in_ok-received.received.mtype = search rules in
+    simp to_z-of_z
+    (received_is _ _ _ _ _ _ c.self.invariant c.self.view_is _ c.in-Some.is
+    c.receive.new.self _ entry _
+    c.args.size c.args.selection c.args.noerror c.args.seat c.args.moment
+    h.accepted h.log h.messages)
+
+pub returns-clause-lawful : goal.returns-clause-lawful
+returns-clause-lawful g c =
+    list_of_live _ _ c.self.invariant.ended c.receive.ensures.sound.lawful

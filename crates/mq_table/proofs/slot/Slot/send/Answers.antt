@@ -1,0 +1,31 @@
+use Rattle.std.proofs.Common.{rules, ◌≡◌, ◌+◌, length}
+use Rattle.mq_table.proofs.Pasts.{list_of_live}
+use Rattle.mq_table.proofs.Turns.{not_none, refused_send, sent_is}
+use Rattle.mq_table.proofs.slot.Slot.send.Goals as goal
+
+pub unreachable-requires : goal.unreachable-requires
+unreachable-requires g c =
+    not_none _ _ _ _ _ _ c.self.invariant c.self.view_is c.requires.live c.in_default.is
+
+pub returns-in_err-send-clause-refused : goal.returns-in_err-send-clause-refused
+returns-in_err-send-clause-refused g c =
+    let told = refused_send _ _ _ _ _ _ c.self.invariant c.self.view_is _ c.in-Some.is
+    c.args.message c.args.moment in
+    rw told (search rules)
+
+pub returns-in_err-send-clause-lawful : goal.returns-in_err-send-clause-lawful
+returns-in_err-send-clause-lawful g c =
+    list_of_live _ _ c.self.invariant.ended c.send.ensures.sound.lawful
+
+pub returns-clause-ok : goal.returns-clause-ok
+returns-clause-ok g c =
+    let entry :
+    c.len-past.result + c.log_len.result
+    ≡ length c.self.inside.past.items + length c.in-Some.queue.log = search rules in
+    sent_is _ _ _ _ _ _ c.self.invariant c.self.view_is _ c.in-Some.is
+    c.send.new.self _ entry c.args.message c.args.moment
+    c.in_ok-send.ensures.accepted c.in_ok-send.ensures.log c.in_ok-send.ensures.messages
+
+pub returns-clause-lawful : goal.returns-clause-lawful
+returns-clause-lawful g c =
+    list_of_live _ _ c.self.invariant.ended c.send.ensures.sound.lawful

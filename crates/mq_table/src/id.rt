@@ -1,0 +1,63 @@
+ghost use Rattle.std.specs.Prelude.{◌≡◌, ◌<◌, ◌≤◌};
+ghost use Rattle.mq_table.specs.Ids.{id_of, slot_of, seq_of};
+
+use std::marker::Model;
+
+/// What msgget(2) answers: the number of a slot, and how many queues were made in it before. It
+/// is seen as one number, and each number within u32 is an id.
+#[derive(Clone, Copy, Debug, PartialEq, Eq, Hash)]
+pub struct Id {
+    number: u32,
+}
+
+impl Model for Id {
+    ghost use Rattle.std.specs.Prelude.{ℕ};
+    ghost use Rattle.std.specs.Coded.{coded_ℕ};
+
+    ghost Value = { ℕ };
+
+    ghost coded = { coded_ℕ };
+
+    ghost view = { λ id. id.number };
+
+    ghost inverse = { λ number. record { number = number } };
+}
+
+impl Id {
+    /// The id of the queue in this slot before which `seq` queues were made there.
+    pub fn of(slot: u8, seq: u32) -> Id
+        requires slot { slot < 64 }
+        requires seq { seq ≤ 67108863 }
+        ensures { result ≡ id_of slot seq }
+    {
+        Id {
+            number: seq * 64 + u32::from(slot),
+        }
+    }
+
+    pub fn slot(self) -> u8
+        ensures value { result ≡ slot_of self }
+        ensures within { result < 64 }
+    {
+        (self.number % 64) as u8
+    }
+
+    pub fn seq(self) -> u32
+        ensures value { result ≡ seq_of self }
+        ensures within { result ≤ 67108863 }
+    {
+        self.number / 64
+    }
+
+    pub fn from_number(number: u32) -> Id
+        ensures { result ≡ number }
+    {
+        Id { number }
+    }
+
+    pub fn number(self) -> u32
+        ensures { result ≡ self }
+    {
+        self.number
+    }
+}

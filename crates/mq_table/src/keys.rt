@@ -1,0 +1,83 @@
+ghost use Rattle.std.specs.Prelude.{◌≡◌, ◌≢◌, ◌==◌, not, ◌++◌, ◌∷◌, [], None, Some, pos, length, slice_get};
+ghost use Rattle.std.specs.Prelude.{OnOk, OnErr};
+ghost use Rattle.std.specs.Option.{option_map};
+ghost use Rattle.mq_table.specs.Keys.{id_of_key, forget, AreKeys};
+
+use crate::{Id, KeyEntry};
+use indexmap::IndexMap;
+use std::alloc::{AllocError, Global};
+use std::marker::Model;
+
+/// The keys of the live queues, seen as the list of each key with its queue's id, in the order in
+/// which the queues were made.
+#[derive(Drop)]
+pub struct KeyTable {
+    ids: IndexMap<i32, Id>,
+}
+
+impl Model for KeyTable {
+    ghost use Rattle.std.specs.Prelude.{ℤ, ℕ, List};
+    ghost use Rattle.mq_table.specs.Keys.{AreKeys};
+
+    ghost Value = { List (ℤ × ℕ) };
+
+    ghost view = { λ table. table.ids.entries };
+
+    ghost invariant = { λ table. AreKeys table.ids.entries };
+}
+
+impl KeyTable {
+    pub fn new(alloc: Global) -> KeyTable
+        ensures { result ≡ [] }
+    {
+        KeyTable {
+            ids: IndexMap::new(alloc),
+        }
+    }
+
+    /// The id of the queue with this key, if there is one.
+    pub fn look(&self, key: i32) -> Option<Id>
+        ensures { result ≡ id_of_key self.now key }
+    {
+        self.ids.get(&key).copied()
+    }
+
+    /// Puts a key that is not in the table behind all others.
+    pub fn enter(&mut self, key: i32, id: Id) -> Result<(), AllocError>
+        requires key { key ≢ pos 0 }
+        requires absent { id_of_key self.old key ≡ None }
+        ensures ok { OnOk result (self.new ≡ self.old ++ (key, id) ∷ []) }
+        ensures unchanged { OnErr result (self.new ≡ self.old) }
+        ensures keys { AreKeys self.new }
+    {
+        self.ids.insert(key, id)?;
+        Ok(())
+    }
+
+    /// Takes out each entry with this id. The others keep their order.
+    pub fn forget(&mut self, id: Id)
+        ensures left { self.new ≡ forget id self.old }
+        ensures keys { AreKeys self.new }
+    {
+        self.ids.retain(
+            |_key: &i32, entry: &mut Id| -> bool
+                ensures { (result ≡ not (entry.old == id)) × (entry.new ≡ entry.old) }
+            { *entry != id },
+        );
+    }
+
+    pub fn len(&self) -> usize
+        ensures count { result ≡ length self.now }
+        ensures keys { AreKeys self.now }
+    {
+        self.ids.len()
+    }
+
+    /// The entry at an index.
+    pub fn entry(&self, i: usize) -> Option<KeyEntry>
+        ensures { option_map (λ e. (e.key, e.id)) result ≡ slice_get self.now i }
+    {
+        let (key, id) = self.ids.get_index(i)?;
+        Some(KeyEntry { key: *key, id: *id })
+    }
+}

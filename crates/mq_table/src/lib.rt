@@ -1,0 +1,24 @@
+//! The queues' ids and keys, and the slots in which queues are made and removed one after another.
+
+#![tactic(auto)]
+
+mod calls;
+mod id;
+mod key_entry;
+mod keys;
+pub mod laws;
+mod refusal;
+mod slot;
+#[cfg(test)]
+mod slot_tests;
+#[cfg(test)]
+mod tests;
+mod turnover;
+mod under;
+
+pub use id::Id;
+pub use key_entry::KeyEntry;
+pub use keys::KeyTable;
+pub use refusal::IdRefusal;
+pub use slot::Slot;
+pub use under::{make_under, remove_under};

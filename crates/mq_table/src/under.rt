@@ -1,0 +1,86 @@
+ghost use Rattle.std.specs.Prelude.{◌≡◌, ◌≢◌, ◌≤◌, [], None, pos, true, false};
+ghost use Rattle.std.specs.Prelude.{OnOk, OnErr, IfOk};
+ghost use Rattle.mq_table.specs.Calls.{makes, removes};
+ghost use Rattle.mq_table.specs.Keys.{id_of_key, entered, forget};
+ghost use Rattle.mq_table.specs.Slot.{next_id, last_id};
+ghost use Rattle.mq_table.specs.SlotList.{is_live, last_log, made_count, IsSlotList};
+
+use crate::{Id, KeyTable, Slot};
+use mq_message::Body;
+use mq_queue::{Log, QueueState};
+use mq_select::Waiting;
+use std::alloc::AllocError;
+
+/// Makes a queue in the slot, and enters its key, which is new or 0 (msgget(2), IPC_CREAT). An
+/// `Err` is want of memory.
+pub fn make_under<B: Body, W: Waiting<B>>(
+    keys: &mut KeyTable,
+    slot: &mut Slot<B, W>,
+    key: i32,
+    seat: u16,
+    moment: u64,
+) -> Result<Id, AllocError>
+    requires empty { is_live slot.old.events ≡ false }
+    requires unused { made_count slot.old.events ≤ 32767 }
+    requires absent { key ≢ pos 0 → id_of_key keys.old key ≡ None }
+    ensures id { IfOk result (λ id. id ≡ next_id slot.old) }
+    ensures made { OnOk result (slot.new ≡ makes slot.old key seat moment) }
+    ensures entered { IfOk result (λ id. keys.new ≡ entered key id keys.old) }
+    ensures unchanged { OnErr result ((slot.new ≡ slot.old) × (keys.new ≡ keys.old)) }
+    ensures lawful { IsSlotList slot.new.events }
+{
+    let id = Id::of(slot.number(), slot.made());
+    let queue = QueueState::made(slot.allocator(), key, seat, moment)?;
+    match enter_key(keys, key, id) {
+        Ok(()) => {
+            slot.put(queue);
+            Ok(id)
+        }
+        Err(refused) => {
+            give_up(queue);
+            Err(refused)
+        }
+    }
+}
+
+/// Enters a key that is not 0.
+fn enter_key(keys: &mut KeyTable, key: i32, id: Id) -> Result<(), AllocError>
+    requires { key ≢ pos 0 → id_of_key keys.old key ≡ None }
+    ensures ok { OnOk result (keys.new ≡ entered key id keys.old) }
+    ensures unchanged { OnErr result (keys.new ≡ keys.old) }
+{
+    if key == 0 {
+        return Ok(());
+    }
+    keys.enter(key, id)
+}
+
+/// Gives a queue up in which nothing waits.
+fn give_up<B: Body, W: Waiting<B>>(queue: QueueState<B, W>)
+    requires { queue.messages ≡ [] }
+{
+    let (_, waiting) = queue.into_parts();
+    waiting.end();
+}
+
+/// Removes the queue from the slot, and forgets its key (msgctl(2), IPC_RMID). The queue's log and
+/// what waited are handed out. An `Err` is want of memory.
+pub fn remove_under<B: Body, W: Waiting<B>>(
+    keys: &mut KeyTable,
+    slot: &mut Slot<B, W>,
+    seat: u16,
+    moment: u64,
+) -> Result<(Log, W), AllocError>
+    requires live { is_live slot.old.events ≡ true }
+    ensures removed { OnOk result (slot.new ≡ removes slot.old seat moment) }
+    ensures forgotten { OnOk result (keys.new ≡ forget (last_id slot.old) keys.old) }
+    ensures log { IfOk result (λ r. r.0 ≡ last_log slot.new.events) }
+    ensures messages { IfOk result (λ r. W.messages r.1 ≡ slot.old.messages) }
+    ensures unchanged { OnErr result ((slot.new ≡ slot.old) × (keys.new ≡ keys.old)) }
+    ensures lawful { IsSlotList slot.new.events }
+{
+    let id = Id::of(slot.number(), slot.made() - 1);
+    let removed = slot.take_out(seat, moment)?;
+    keys.forget(id);
+    Ok(removed)
+}
