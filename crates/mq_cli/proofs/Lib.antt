@@ -1,9 +1,9 @@
 pub mod DraftLemmas
-pub mod HomeLemmas
 pub mod LinesLemmas
 pub mod NumberLemmas
 pub mod PartsLemmas
+pub mod ReportLemmas
 pub mod Runs
-pub mod SlotLemmas
+pub mod Seats
 pub mod SpellingLemmas
 pub mod Transfers

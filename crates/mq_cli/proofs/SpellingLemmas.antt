@@ -1,6 +1,6 @@
 use Rattle.std.proofs.Common.{◌≡◌, ℕ, ℤ, pos, negsuc, ◌+◌, ◌-◌, ◌^◌, ◌<◌, ◌≤◌, ◌==◌, ◌&&◌, ◌||◌, nat_le, nat_lt, ◌*◌, Bool, true, false, cond, List, [], ◌∷◌, ◌++◌, length, get_or, drop, suc, Option, Some, None, Result, Ok, Err, codes, refl, sym, ap, subst, ◌∙◌, arith, lit<, lit≤, length-append}
 use Rattle.std.specs.Fmt.{decimal, signed_decimal}
-use Rattle.std.specs.Int.{w64}
+use Rattle.std.specs.Int.{w32, w64}
 use Rattle.std.specs.Int.RustNames.{FitsSigned}
 use Rattle.std.specs.List.{All, list_all, list_any, join_with_byte}
 use Rattle.std.specs.Option.{option_and_then, option_map}
@@ -14,13 +14,14 @@ use Rattle.std.proofs.lemmas.List.Sums.{AllPass-from_list_all}
 use Rattle.std.proofs.lemmas.Option.{cond_some, option_and_then_some}
 use Rattle.std.proofs.lemmas.Slice.Eq.{bytes_eq-Decides}
 use Rattle.std.proofs.lemmas.Str.Parse.{digit_from_value, not_in_digits}
+use Rattle.mq_system.specs.declared.results.GetFlags.{GetFlags}
 use Rattle.mq_cli.specs.declared.limits.TheConstants.{LINE_LIMIT}
 use Rattle.mq_cli.specs.declared.fault.Cause.{Cause}
 use Rattle.mq_cli.specs.declared.fault.Cause.TheVariants.{Words}
-use Rattle.mq_cli.specs.Commands.{Call, sit, show, get, snd, rcv, set, rm, stat, Text, plain, letters, Flags, ok_map, ◌>>=◌, worded, is_filled, is_plain, is_text, text_of, flags_of, seat_of, arena_of, get_of, set_of, remove_of, stat_of, send_of, receive_of, command_of, is_skipped, reading}
-use Rattle.mq_cli.specs.Laws.{flag_words, spelling, text_spelling, CanBeSpelled, Spells, ReadsBack, SpelledOneWay}
+use Rattle.mq_cli.specs.Commands.{Call, sit, show, get, snd, rcv, set, rm, stat, ipcs, Text, plain, letters, Flags, ok_map, ◌>>=◌, worded, is_filled, is_plain, is_text, text_of, flags_of, seat_of, arena_of, get_flags_of, get_of, set_of, remove_of, stat_of, ipcs_of, send_of, receive_of, command_of, is_skipped, reading}
+use Rattle.mq_cli.specs.Laws.{flag_words, get_flag_words, spelling, text_spelling, CanBeSpelled, Spells, ReadsBack, SpelledOneWay}
 use Rattle.mq_cli.specs.Lines.{is_printable, line_of, words_of}
-use Rattle.mq_cli.specs.Numbers.{number_of, integer_of, under, above_zero, below_zero}
+use Rattle.mq_cli.specs.Numbers.{number_of, integer_of, is_key, key_of, under, above_zero, below_zero}
 use Rattle.mq_cli.proofs.NumberLemmas.{number_of-decimal, number_of-Some, numerals}
 
 -- a byte of a word: printable, and no space
@@ -148,17 +149,6 @@ under-Some limit word n e = option_and_then_some _ _ n e (λ m read below.
     let spelled = number_of-Some word m read in
     (spelled.0 ∙ ap decimal is.1, omega (arith, ltb-true _ _ is.0, is.1)))
 
--- `0` is the one spelling of 0
-number_of_zero : number_of (codes "0") ≡ Some 0
-number_of_zero = ap number_of (sym (decimal_digit 0 (lit< tt))) ∙ number_of-decimal 0 (lit< tt)
-
--- and so it is below 1
-under_one : (word : List ℕ) (n : ℕ) → under 1 (number_of word) ≡ Some n → word ≡ codes "0"
-under_one word n e =
-    let read = under-Some 1 word n e in
-    let none : n ≡ 0 = omega arith in
-    read.0 ∙ ap decimal none ∙ decimal_digit 0 (lit< tt)
-
 -- a number with a sign is read from its spelling
 integer_of-signed_decimal : (z : ℤ) → FitsSigned w64 z → integer_of (signed_decimal z) ≡ Some z
 unfolding integer_of
@@ -249,19 +239,6 @@ rejoined : (line name text : List ℕ) (words : List (List ℕ)) → words_of li
 rejoined line name text words e named =
     sym (join_with_byte-slice_split 32 line) ∙ ap line_of (e ∙ ap (λ word. word ∷ words) ((bytes_eq-Decides name text).0 named))
 
--- get is read from its spelling alone
-got : (line : List ℕ) (words : List (List ℕ)) (call : Call) → line ≡ line_of (codes "get" ∷ words) → get_of words ≡ Ok call → Spells line call
-got line (key ∷ flags ∷ []) call is e =
-    let flag = needed (bytes_eq flags (codes "c")) (under 1 (number_of key) >>= λ n. Ok get) Words call e in
-    bind_ok (under 1 (number_of key)) (λ n. Ok get) call flag.1 (λ n read done.
-    let zeros = under_one key n read in
-    let letter = (bytes_eq-Decides flags (codes "c")).0 flag.0 in
-    let same : get ≡ call = cc done in
-    subst (Spells line) same (cc (is, zeros, letter), tt))
-got line [] call is e = absurd (cc e)
-got line (key ∷ []) call is e = absurd (cc e)
-got line (key ∷ flags ∷ more ∷ words) call is e = absurd (cc e)
-
 -- a seat's number is read from its spelling
 above_zero-decimal : (n : ℕ) → 1 ≤ n → n ≤ 16 → above_zero (under 17 (number_of (decimal n))) ≡ Some n
 above_zero-decimal n least most =
@@ -335,22 +312,78 @@ some_is : {A : Type 0} (x y : A) → Some x ≡ Some y → x ≡ y
 some_is x y e = cc e
 
 -- a word that passes the test is the word for those flags
-flag_word : (word text : List ℕ) (wanted flags : Flags) → bytes_eq word text ≡ true → wanted ≡ flags → flag_words wanted.except wanted.noerror ≡ text ∷ [] → word ∷ [] ≡ flag_words flags.except flags.noerror
-flag_word word text wanted flags test same spelled =
-    ap (λ w. w ∷ []) ((bytes_eq-Decides word text).0 test) ∙ sym spelled ∙ ap (λ (f : Flags). flag_words f.except f.noerror) same
+flag_word : {F : Type 0} (words_for : F → List (List ℕ)) (word text : List ℕ) (wanted flags : F) → bytes_eq word text ≡ true → wanted ≡ flags → words_for wanted ≡ text ∷ [] → word ∷ [] ≡ words_for flags
+flag_word words_for word text wanted flags test same spelled =
+    ap (λ w. w ∷ []) ((bytes_eq-Decides word text).0 test) ∙ sym spelled ∙ ap words_for same
 
 -- flags are read from their word alone
 flags_of-Some : (words : List (List ℕ)) (flags : Flags) → flags_of words ≡ Some flags → words ≡ flag_words flags.except flags.noerror
 flags_of-Some [] flags e = subst (λ (f : Flags). [] ≡ flag_words f.except f.noerror) (some_is _ _ e) refl
 flags_of-Some (word ∷ []) flags e =
     chosen _ _ _ _ e
-    (λ is_e found. flag_word word (codes "e") _ flags is_e (some_is _ _ found) refl)
+    (λ is_e found. flag_word (λ (f : Flags). flag_words f.except f.noerror) word (codes "e") _ flags is_e (some_is _ _ found) refl)
     (λ not_e others. chosen _ _ _ _ others
-    (λ is_n found. flag_word word (codes "n") _ flags is_n (some_is _ _ found) refl)
+    (λ is_n found. flag_word (λ (f : Flags). flag_words f.except f.noerror) word (codes "n") _ flags is_n (some_is _ _ found) refl)
     (λ not_n last. chosen _ _ _ _ last
-    (λ is_en found. flag_word word (codes "en") _ flags is_en (some_is _ _ found) refl)
+    (λ is_en found. flag_word (λ (f : Flags). flag_words f.except f.noerror) word (codes "en") _ flags is_en (some_is _ _ found) refl)
     (λ not_en none. absurd (cc none))))
 flags_of-Some (word ∷ more ∷ words) flags e = absurd (cc e)
+
+-- the same of the flags of get
+get_flags_of-Some : (words : List (List ℕ)) (flags : GetFlags) → get_flags_of words ≡ Some flags → words ≡ get_flag_words flags.create flags.exclusive
+get_flags_of-Some [] flags e = subst (λ (f : GetFlags). [] ≡ get_flag_words f.create f.exclusive) (some_is _ _ e) refl
+get_flags_of-Some (word ∷ []) flags e =
+    let words_for : GetFlags → List (List ℕ) = λ f. get_flag_words f.create f.exclusive in
+    chosen _ _ _ _ e
+    (λ is_c found. flag_word words_for word (codes "c") _ flags is_c (some_is _ _ found) refl)
+    (λ not_c others. chosen _ _ _ _ others
+    (λ is_x found. flag_word words_for word (codes "x") _ flags is_x (some_is _ _ found) refl)
+    (λ not_x last. chosen _ _ _ _ last
+    (λ is_cx found. flag_word words_for word (codes "cx") _ flags is_cx (some_is _ _ found) refl)
+    (λ not_cx none. absurd (cc none))))
+get_flags_of-Some (word ∷ more ∷ words) flags e = absurd (cc e)
+
+-- an i32 is a key, and an i64
+key_fits : (z : ℤ) → FitsSigned w32 z → (is_key z ≡ true) × FitsSigned w64 z
+key_fits (pos n) fits = (lt-ltb n (2 ^ 31) (omega (arith, fits.sfits)), record { sfits = omega (arith, fits.sfits) })
+key_fits (negsuc n) fits = (lt-ltb n (2 ^ 31) (omega (arith, fits.sfits)), record { sfits = omega (arith, fits.sfits) })
+
+-- and no other number is a key
+key_is : (z : ℤ) → is_key z ≡ true → FitsSigned w32 z
+key_is (pos n) h = let below = ltb-true n (2 ^ 31) h in record { sfits = omega (arith, below) }
+key_is (negsuc n) h = let below = ltb-true n (2 ^ 31) h in record { sfits = omega (arith, below) }
+
+-- a key is read from its spelling
+key_of-signed_decimal : (z : ℤ) → FitsSigned w32 z → key_of (signed_decimal z) ≡ Some z
+key_of-signed_decimal z fits =
+    let is = key_fits z fits in
+    rw (integer_of-signed_decimal z is.1) (cond-true _ _ _ is.0)
+
+-- and from nothing else
+key_of-Some : (word : List ℕ) (z : ℤ) → key_of word ≡ Some z → (word ≡ signed_decimal z) × FitsSigned w32 z
+key_of-Some word z e = option_and_then_some _ (integer_of word) z e (λ m read kept.
+    let is = cond_some _ _ _ kept in
+    let spelled = integer_of-Some word m read in
+    let P : ℤ → Type 0 = λ y. (word ≡ signed_decimal y) × FitsSigned w32 y in
+    subst P is.1 (spelled.0, key_is m is.0))
+
+-- and get
+got : (line : List ℕ) (words : List (List ℕ)) (call : Call) → line ≡ line_of (codes "get" ∷ words) → get_of words ≡ Ok call → Spells line call
+got line (key ∷ words) call is e =
+    worded_ok (get_flags_of words) _ call e (λ flags read_flags keyed.
+    bind_ok (key_of key) (λ k. Ok (get k flags)) call keyed (λ k read done.
+    let spelled = key_of-Some key k read in
+    let spelled_flags = get_flags_of-Some words flags read_flags in
+    let same : get k flags ≡ call = cc done in
+    subst (Spells line) same (cc (is, spelled.0, spelled_flags), spelled.1)))
+got line [] call is e = absurd (cc e)
+
+-- and ipcs
+reported : (line : List ℕ) (words : List (List ℕ)) (call : Call) → line ≡ line_of (codes "ipcs" ∷ words) → ipcs_of words ≡ Ok call → Spells line call
+reported line [] call is e =
+    let same : ipcs ≡ call = cc e in
+    subst (Spells line) same (is, tt)
+reported line (word ∷ words) call is e = absurd (cc e)
 
 -- and rcv
 received : (line : List ℕ) (words : List (List ℕ)) (call : Call) → line ≡ line_of (codes "rcv" ∷ words) → receive_of words ≡ Ok call → Spells line call
@@ -455,9 +488,11 @@ commanded line (name ∷ words) call are short printable e =
     (λ is_set sets. changed line words call (rejoined line name (codes "set") words are is_set) sets)
     (λ not_set rest. chosen _ _ _ _ rest
     (λ is_rm removes. removed line words call (rejoined line name (codes "rm") words are is_rm) removes)
-    (λ not_rm others.
+    (λ not_rm rest. chosen _ _ _ _ rest
+    (λ is_stat asks. asked line words call (rejoined line name (codes "stat") words are is_stat) asks)
+    (λ not_stat others.
     let last = needed _ _ _ _ others in
-    asked line words call (rejoined line name (codes "stat") words are last.0) last.1)))))))
+    reported line words call (rejoined line name (codes "ipcs") words are last.0) last.1))))))))
 
 -- a call is read from its spelling alone
 pub spelled_one_way : SpelledOneWay
@@ -488,9 +523,32 @@ reads_words words last call are is few letter command =
     reads words last call are (omega (arith, short, is.short, few)) (word_printable last is.bytes) letter
     (ap (λ rest. command_of (words ++ rest)) (words_of_word last is) ∙ command)
 
--- get is read back
-get_again : reading (spelling get) ≡ Ok (Some get)
-get_again = rw number_of_zero refl
+-- the words of get are read back
+get_again : (key : ℤ) (words : List (List ℕ)) (flags : GetFlags) → FitsSigned w32 key → list_all is_filled words ≡ true → get_flags_of words ≡ Some flags
+    → command_of (codes "get" ∷ signed_decimal key ∷ words) ≡ Ok (get key flags)
+get_again key words flags fits filled read =
+    let word = signed_word key (key_fits key fits).1 in
+    let all : list_all is_filled (signed_decimal key ∷ words) ≡ true = and_from _ _ word.filled filled in
+    let is : get_of (signed_decimal key ∷ words) ≡ Ok (get key flags) = rw (read, key_of-signed_decimal key fits) refl in
+    cond-false _ _ _ (not_from_true _ all) ∙ is
+
+-- with a word of flags
+flagged_get_again : (key : ℤ) (word : List ℕ) (flags : GetFlags) → IsWord word → get_flags_of (word ∷ []) ≡ Some flags → FitsSigned w32 key
+    → reading (line_of (codes "get" ∷ signed_decimal key ∷ word ∷ [])) ≡ Ok (Some (get key flags))
+flagged_get_again key word flags is read fits =
+    let key_word = signed_word key (key_fits key fits).1 in
+    reads_words (codes "get" ∷ signed_decimal key ∷ []) word (get key flags) (name_word (codes "get") refl, (key_word, tt)) is (lit≤ tt) refl
+    (get_again key (word ∷ []) flags fits (all_filled (word ∷ []) (is, tt)) read)
+
+-- and in each way
+key_again : (key : ℤ) (create exclusive : Bool) → FitsSigned w32 key
+    → reading (spelling (get key (record { create = create; exclusive = exclusive }))) ≡ Ok (Some (get key (record { create = create; exclusive = exclusive })))
+key_again key false false fits =
+    reads_words (codes "get" ∷ []) (signed_decimal key) (get key (record { create = false; exclusive = false })) (name_word (codes "get") refl, tt) (signed_word key (key_fits key fits).1) (lit≤ tt) refl
+    (get_again key [] (record { create = false; exclusive = false }) fits refl refl)
+key_again key true false fits = flagged_get_again key (codes "c") (record { create = true; exclusive = false }) (name_word (codes "c") refl) refl fits
+key_again key false true fits = flagged_get_again key (codes "x") (record { create = false; exclusive = true }) (name_word (codes "x") refl) refl fits
+key_again key true true fits = flagged_get_again key (codes "cx") (record { create = true; exclusive = true }) (name_word (codes "cx") refl) refl fits
 
 -- a seat is read back
 seat_again : (n : ℕ) → 1 ≤ n → n ≤ 16 → command_of (codes "seat" ∷ decimal n ∷ []) ≡ Ok (sit n)
@@ -576,7 +634,7 @@ reads_back (sit number) can =
     reads_words (codes "seat" ∷ []) (decimal number) (sit number) (name_word (codes "seat") refl, tt) (decimal_word number (omega (arith, can.1))) (lit≤ tt) refl
     (seat_again number can.0 can.1)
 reads_back show can = refl
-reads_back get can = get_again
+reads_back (get key flags) can = key_again key flags.create flags.exclusive can
 reads_back (snd id mtype (plain bytes)) can =
     let words = codes "snd" ∷ decimal id ∷ signed_decimal mtype ∷ [] in
     let id_word = decimal_word id (omega (arith, can.0)) in
@@ -610,3 +668,4 @@ reads_back (rm id) can =
     reads_words (codes "rm" ∷ []) (decimal id) (rm id) (name_word (codes "rm") refl, tt) (decimal_word id (omega (arith, can))) (lit≤ tt) refl (remove_again id can)
 reads_back (stat id) can =
     reads_words (codes "stat" ∷ []) (decimal id) (stat id) (name_word (codes "stat") refl, tt) (decimal_word id (omega (arith, can))) (lit≤ tt) refl (stat_again id can)
+reads_back ipcs can = refl

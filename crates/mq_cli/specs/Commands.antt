@@ -2,11 +2,12 @@ use Rattle.std.specs.Prelude.{ℕ, ℤ, Bool, true, false, ◌^◌, ◌==◌, na
 use Rattle.std.specs.List.{list_all, list_any}
 use Rattle.std.specs.Option.{option_map}
 use Rattle.std.specs.Str.{bytes_eq}
+use Rattle.mq_system.specs.declared.results.GetFlags.{GetFlags}
 use Rattle.mq_cli.specs.declared.limits.TheConstants.{LINE_LIMIT}
 use Rattle.mq_cli.specs.declared.fault.Cause.{Cause}
 use Rattle.mq_cli.specs.declared.fault.Cause.TheVariants.{Long, Byte, Words, Number}
 use Rattle.mq_cli.specs.Lines.{line_of, words_of, is_printable}
-use Rattle.mq_cli.specs.Numbers.{number_of, integer_of, under, above_zero}
+use Rattle.mq_cli.specs.Numbers.{number_of, integer_of, key_of, under, above_zero}
 
 -- the text of a message: these bytes, or that many letters
 pub data Text : Type 0 where
@@ -17,12 +18,13 @@ pub data Text : Type 0 where
 pub data Call : Type 0 where
   sit : (number : ℕ) → Call
   show : Call
-  get : Call
+  get : (key : ℤ) (flags : GetFlags) → Call
   snd : (id : ℕ) (mtype : ℤ) (text : Text) → Call
   rcv : (id size : ℕ) (mtype : ℤ) (except noerror : Bool) → Call
   set : (id qbytes : ℕ) → Call
   rm : (id : ℕ) → Call
   stat : (id : ℕ) → Call
+  ipcs : Call
 
 -- what was read, seen by f
 abbrev pub ok_map : {A B : Type 0} → (A → B) → Result A Cause → Result B Cause
@@ -53,10 +55,26 @@ abbrev pub arena_of : List (List ℕ) → Result Call Cause
 arena_of [] = Ok show
 arena_of _ = Err Words
 
--- msgget: a queue without a key, made
+-- IPC_CREAT and IPC_EXCL
+abbrev pub get_flags_of : List (List ℕ) → Option GetFlags
+get_flags_of [] = Some (record { create = false; exclusive = false })
+get_flags_of (word ∷ []) =
+    if bytes_eq word (codes "c") then Some (record { create = true; exclusive = false })
+    else (if bytes_eq word (codes "x") then Some (record { create = false; exclusive = true })
+    else (if bytes_eq word (codes "cx") then Some (record { create = true; exclusive = true })
+    else None))
+get_flags_of _ = None
+
+-- msgget
 abbrev pub get_of : List (List ℕ) → Result Call Cause
-get_of (key ∷ flags ∷ []) = if bytes_eq flags (codes "c") then (under 1 (number_of key) >>= λ _. Ok get) else Err Words
+get_of (key ∷ flags) =
+    worded (get_flags_of flags) (λ f. key_of key >>= λ k. Ok (get k f))
 get_of _ = Err Words
+
+-- a row for each live queue
+abbrev pub ipcs_of : List (List ℕ) → Result Call Cause
+ipcs_of [] = Ok ipcs
+ipcs_of _ = Err Words
 
 -- a text is `=` and the rest of the line, spaces and all, or one word that begins with `*`
 abbrev pub is_plain : List ℕ → Bool
@@ -127,7 +145,8 @@ command_of (name ∷ words) =
     else (if bytes_eq name (codes "set") then set_of words
     else (if bytes_eq name (codes "rm") then remove_of words
     else (if bytes_eq name (codes "stat") then stat_of words
-    else Err Words))))))))
+    else (if bytes_eq name (codes "ipcs") then ipcs_of words
+    else Err Words)))))))))
 
 -- an empty line or a comment
 abbrev pub is_skipped : List ℕ → Bool

@@ -1,16 +1,12 @@
--- Texts that are made of what a line says, in blocks of the arena, and that are given back.
-use Rattle.std.specs.Prelude.{ℕ, ◌+◌, ◌%◌, ◌==◌, nat_lt, if◌then◌else◌, Bool, false, not, List, length, filter, map, Option, Some, None, Result, Ok, Err}
-use Rattle.std.specs.List.{list_any, range_with_len}
-use Rattle.std.specs.Option.{option_map_or}
-use Rattle.mq_tree.specs.Blocks.{Block, is_block}
-use Rattle.mq_tree.specs.LentSet.{Lending}
-use Rattle.mq_arena.specs.Lent.{lend, gives_back, with_lent}
-use Rattle.mq_message.specs.Text.{PlainText, order_for}
-use Rattle.mq_message.specs.declared.message.Message.{Message}
-use Rattle.mq_queue.specs.declared.limits.TheConstants.{MSGMAX}
+-- Texts that are made of what a line says.
+use Rattle.std.specs.Prelude.{ℕ, ◌+◌, ◌%◌, List, length, map, Result, Ok, Err}
+use Rattle.std.specs.List.{range_with_len}
+use Rattle.mq_message.specs.Text.{PlainText}
+use Rattle.mq_system.specs.State.{State, with_arena}
+use Rattle.mq_system.specs.Texts.{drafts, draft_errno, spends}
+use Rattle.mq_system.specs.declared.draft_error.DraftError.{DraftError}
+use Rattle.mq_system.specs.declared.errno.Errno.{Errno}
 use Rattle.mq_cli.specs.Commands.{Text, plain, letters}
-use Rattle.mq_cli.specs.declared.errno.Errno.{Errno}
-use Rattle.mq_cli.specs.declared.errno.Errno.TheVariants.{EINVAL, ENOMEM}
 
 -- the letters a to z, over and over
 abbrev pub letter : ℕ → ℕ
@@ -24,27 +20,14 @@ abbrev pub length_of_text : Text → ℕ
 length_of_text (plain bytes) = length bytes
 length_of_text (letters count) = count
 
--- a text in the block that the arena lends for it, where one fits
-abbrev pub drafted : List ℕ → Option (Block × Lending) → Result (PlainText × Lending) Errno
-drafted bytes None = Err ENOMEM
-drafted bytes (Some lent) = Ok (record { bytes = bytes; block = Some lent.0 }, lent.1)
+-- a drafted text is filled with what the line says
+abbrev pub filled : Text → Result (PlainText × State) DraftError → Result (PlainText × State) Errno
+filled text (Ok made) = Ok (record { bytes = bytes_of_text text; block = made.0.block }, made.1)
+filled text (Err e) = Err (draft_errno e)
 
--- the text, where it is no longer than a message's: the empty one has no block
-abbrev pub drafts : Lending → Text → Result (PlainText × Lending) Errno
-drafts arena text =
-    if nat_lt MSGMAX (length_of_text text) then Err EINVAL
-    else (if length_of_text text == 0 then Ok (record { bytes = bytes_of_text text; block = None }, arena)
-    else drafted (bytes_of_text text) (lend arena (order_for (length_of_text text))))
+abbrev pub draft : State → Text → Result (PlainText × State) Errno
+draft queues text = filled text (drafts queues (length_of_text text))
 
--- the arena once the text's block, if it has one, is home
-abbrev pub spends : PlainText → Lending → Lending
-spends text arena = option_map_or (λ b. gives_back b arena) text.block arena
-
--- whether a text lies in this block
-abbrev pub lies_in : Block → PlainText → Bool
-lies_in b text = option_map_or (λ c. is_block c b) text.block false
-
--- the arena once the blocks of all these messages are home
-abbrev pub spends_all : List (ℕ × Message PlainText) → Lending → Lending
-spends_all messages arena =
-    with_lent arena (filter (λ b. not (list_any (λ m. lies_in b m.1.body) messages)) arena.lent)
+-- a text is given up
+abbrev pub spent : PlainText → State → State
+spent text queues = with_arena queues (spends text queues.arena)

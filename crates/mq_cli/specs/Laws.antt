@@ -1,9 +1,9 @@
 use Rattle.std.specs.Prelude.{◌≡◌, ◌<◌, ◌≤◌, ◌^◌, ℕ, Bool, true, false, IsTrue, FitsSigned, List, [], ◌∷◌, length, codes, Some, Ok}
 use Rattle.std.specs.Fmt.{decimal, signed_decimal}
-use Rattle.std.specs.Int.{w64}
+use Rattle.std.specs.Int.{w32, w64}
 use Rattle.std.specs.List.{list_all}
 use Rattle.mq_cli.specs.declared.limits.TheConstants.{LINE_LIMIT}
-use Rattle.mq_cli.specs.Commands.{Call, sit, show, get, snd, rcv, set, rm, stat, Text, plain, letters, reading}
+use Rattle.mq_cli.specs.Commands.{Call, sit, show, get, snd, rcv, set, rm, stat, ipcs, Text, plain, letters, reading}
 use Rattle.mq_cli.specs.Lines.{line_of, is_printable}
 
 -- a text has `=` before it, a number of letters `*`
@@ -18,28 +18,36 @@ flag_words true false = codes "e" ∷ []
 flag_words false true = codes "n" ∷ []
 flag_words true true = codes "en" ∷ []
 
+abbrev pub get_flag_words : Bool → Bool → List (List ℕ)
+get_flag_words false false = []
+get_flag_words true false = codes "c" ∷ []
+get_flag_words false true = codes "x" ∷ []
+get_flag_words true true = codes "cx" ∷ []
+
 -- the one line that asks for a call
 abbrev pub spelling : Call → List ℕ
 spelling (sit number) = line_of (codes "seat" ∷ decimal number ∷ [])
 spelling show = codes "arena"
-spelling get = codes "get 0 c"
+spelling (get key flags) = line_of (codes "get" ∷ signed_decimal key ∷ get_flag_words flags.create flags.exclusive)
 spelling (snd id mtype text) = line_of (codes "snd" ∷ decimal id ∷ signed_decimal mtype ∷ text_spelling text ∷ [])
 spelling (rcv id size mtype except noerror) = line_of (codes "rcv" ∷ decimal id ∷ decimal size ∷ signed_decimal mtype ∷ flag_words except noerror)
 spelling (set id qbytes) = line_of (codes "set" ∷ decimal id ∷ decimal qbytes ∷ [])
 spelling (rm id) = line_of (codes "rm" ∷ decimal id ∷ [])
 spelling (stat id) = line_of (codes "stat" ∷ decimal id ∷ [])
+spelling ipcs = codes "ipcs"
 
 -- the calls that a line can ask for: each number is in its range, and a text is printable and leaves the line short enough
 abbrev pub CanBeSpelled : Call → Type 0
 CanBeSpelled (sit number) = (1 ≤ number) × (number ≤ 16)
 CanBeSpelled show = Unit {0}
-CanBeSpelled get = Unit {0}
+CanBeSpelled (get key flags) = FitsSigned w32 key
 CanBeSpelled (snd id mtype (plain bytes)) = (id < 2 ^ 32) × FitsSigned w64 mtype × IsTrue (list_all is_printable bytes) × (length (spelling (snd id mtype (plain bytes))) ≤ LINE_LIMIT)
 CanBeSpelled (snd id mtype (letters count)) = (id < 2 ^ 32) × FitsSigned w64 mtype × (count < 2 ^ 64)
 CanBeSpelled (rcv id size mtype except noerror) = (id < 2 ^ 32) × (size < 2 ^ 64) × FitsSigned w64 mtype
 CanBeSpelled (set id qbytes) = (id < 2 ^ 32) × (qbytes < 2 ^ 64)
 CanBeSpelled (rm id) = id < 2 ^ 32
 CanBeSpelled (stat id) = id < 2 ^ 32
+CanBeSpelled ipcs = Unit {0}
 
 -- the line asks for the call, in the one way
 abbrev pub Spells : List ℕ → Call → Type 0

@@ -1,12 +1,12 @@
 pub mod Commands
 pub mod Drafts
+pub mod Kept
 pub mod Laws
 pub mod Lines
 pub mod Numbers
 pub mod Parts
+pub mod Reports
 pub mod Seen
 pub mod Serial
 pub mod Session
-pub mod Slot
 pub mod Transcript
-pub mod Turns

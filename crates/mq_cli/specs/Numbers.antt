@@ -1,4 +1,4 @@
-use Rattle.std.specs.Prelude.{ℕ, ℤ, pos, negsuc, ◌-◌, ◌^◌, ◌==◌, nat_lt, nat_le, ◌&&◌, if◌then◌else◌, List, drop, slice_index_or, Option, Some, None, option_and_then}
+use Rattle.std.specs.Prelude.{ℕ, ℤ, pos, negsuc, ◌-◌, ◌^◌, ◌==◌, nat_lt, nat_le, ◌&&◌, if◌then◌else◌, Bool, List, drop, slice_index_or, Option, Some, None, option_and_then}
 use Rattle.std.specs.Option.{option_map}
 use Rattle.std.specs.Fmt.{decimal}
 use Rattle.std.specs.Str.Parse.{digits_value}
@@ -28,3 +28,12 @@ integer_of word =
     if slice_index_or word 0 0 == 45
     then option_and_then below_zero (number_of (drop 1 word))
     else option_map pos (under (2 ^ 63) (number_of word))
+
+-- whether a number is an i32
+abbrev pub is_key : ℤ → Bool
+is_key (pos n) = nat_lt n (2 ^ 31)
+is_key (negsuc n) = nat_lt n (2 ^ 31)
+
+-- the i32 that a word spells
+abbrev pub key_of : List ℕ → Option ℤ
+key_of word = option_and_then (λ z. if is_key z then Some z else None) (integer_of word)

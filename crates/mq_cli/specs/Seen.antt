@@ -2,10 +2,10 @@ use Rattle.std.specs.Prelude.{Option, Result}
 use Rattle.std.specs.Option.{option_map}
 use Rattle.mq_cli.specs.declared.fault.Cause.{Cause}
 use Rattle.mq_cli.specs.declared.command.Command.{Command}
-use Rattle.mq_cli.specs.declared.command.Command.TheVariants.{Seat, Arena, Get, Send, Receive, Set, Remove, Stat}
+use Rattle.mq_cli.specs.declared.command.Command.TheVariants.{Seat, Arena, Get, Send, Receive, Set, Remove, Stat, Report}
 use Rattle.mq_cli.specs.declared.command.TextForm.{TextForm}
 use Rattle.mq_cli.specs.declared.command.TextForm.TheVariants.{Plain, Letters}
-use Rattle.mq_cli.specs.Commands.{Call, sit, show, get, snd, rcv, set, rm, stat, Text, plain, letters, Flags, ok_map}
+use Rattle.mq_cli.specs.Commands.{Call, sit, show, get, snd, rcv, set, rm, stat, ipcs, Text, plain, letters, Flags, ok_map}
 use Rattle.mq_cli.specs.declared.command.ReceiveFlags.{ReceiveFlags}
 
 abbrev pub text_seen : TextForm → Text
@@ -19,12 +19,13 @@ flags_seen flags = record { except = flags.except; noerror = flags.noerror }
 abbrev pub call_of : Command → Call
 call_of (Seat number) = sit number
 call_of Arena = show
-call_of Get = get
+call_of (Get call) = get call.key call.flags
 call_of (Send call) = snd call.id call.mtype (text_seen call.text)
 call_of (Receive call) = rcv call.id call.size call.mtype call.flags.except call.flags.noerror
 call_of (Set id qbytes) = set id qbytes
 call_of (Remove id) = rm id
 call_of (Stat id) = stat id
+call_of Report = ipcs
 
 abbrev pub seen : Result Command Cause → Result Call Cause
 seen read = ok_map call_of read

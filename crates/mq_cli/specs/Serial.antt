@@ -43,7 +43,7 @@ RunsLine old new number (Ok turn) s (Err Memory) = AppendsFront old new turn.0
 RunsLine old new number (Err cause) s (Err (Script line named)) = (line ≡ number) × (named ≡ cause) × Appends old new []
 RunsLine old new number _ s _ = ⊥
 
--- the reply of a call stands behind what the buffer held
-pub record Answered (turn : Reply × State) (old new : List ℕ) (s : State) : Type 0 where
+-- the reply of a call stands behind what the buffer held, and the call leaves this
+pub record Answered {S : Type 0} (turn : Reply × S) (old new : List ℕ) (s : S) : Type 0 where
   pub line : new ≡ old ++ output turn.0
   pub state : s ≡ turn.1

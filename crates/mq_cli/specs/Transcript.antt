@@ -1,18 +1,24 @@
-use Rattle.std.specs.Prelude.{ℕ, ℤ, Bool, ◌+◌, ◌^◌, List, [], ◌∷◌, ◌++◌, codes, Option, Some, None, Result, Ok, Err}
+use Rattle.std.specs.Prelude.{ℕ, ℤ, Bool, ◌+◌, ◌^◌, List, [], ◌∷◌, ◌++◌, length, codes, Option, Some, None, Result, Ok, Err}
 use Rattle.std.specs.Fmt.{decimal, signed_decimal}
 use Rattle.mq_tree.specs.Fit.{largest}
 use Rattle.mq_tree.specs.LentSet.{free_pages}
 use Rattle.mq_message.specs.Text.{PlainText}
-use Rattle.mq_message.specs.declared.message.Message.{Message}
 use Rattle.mq_queue.specs.declared.figures.Figures.{Figures}
-use Rattle.mq_queue.specs.declared.received.Received.{Received}
-use Rattle.mq_cli.specs.declared.errno.Errno.{Errno}
-use Rattle.mq_cli.specs.declared.errno.Errno.TheVariants.{EINVAL, EIDRM, EAGAIN, ENOMSG, E2BIG, EPERM, ENOSPC, ENOMEM}
+use Rattle.mq_system.specs.Calls.{msgsnd, msgrcv, rmid}
+use Rattle.mq_system.specs.Calls.{set as set_answer, stat as stat_answer}
+use Rattle.mq_system.specs.Get.{msgget}
+use Rattle.mq_system.specs.Names.{errno_name}
+use Rattle.mq_system.specs.State.{State as System}
+use Rattle.mq_system.specs.declared.config.Config.{Config}
+use Rattle.mq_system.specs.declared.errno.Errno.{Errno}
+use Rattle.mq_system.specs.declared.results.Delivered.{Delivered}
+use Rattle.mq_system.specs.declared.results.GetFlags.{GetFlags}
 use Rattle.mq_cli.specs.declared.fault.Cause.{Cause}
 use Rattle.mq_cli.specs.Lines.{lines_of}
-use Rattle.mq_cli.specs.Commands.{Call, sit, show, get, snd, rcv, set, rm, stat, Text, reading}
-use Rattle.mq_cli.specs.Session.{State, Answer, draft, spent, msgget, msgsnd, msgrcv, rmid}
-use Rattle.mq_cli.specs.Session.{set as set_answer, stat as stat_answer}
+use Rattle.mq_cli.specs.Commands.{Call, sit, show, get, snd, rcv, set, rm, stat, ipcs, Text, reading}
+use Rattle.mq_cli.specs.Drafts.{draft, spent}
+use Rattle.mq_cli.specs.Reports.{table_of}
+use Rattle.mq_cli.specs.Session.{State, by_errno, start}
 
 -- what a command answers, if it does
 pub data Reply : Type 0 where
@@ -20,20 +26,11 @@ pub data Reply : Type 0 where
   refused : (errno : Errno) → Reply
   given : (id : ℕ) → Reply
   at : (entry : ℕ) → Reply
-  message : (delivery : Received PlainText) → Reply
+  message : (delivery : Delivered PlainText) → Reply
   figures : (pages free : ℕ) (most : Option ℕ) → Reply
   gone : (entry events : ℕ) → Reply
   counted : (queue : Figures) → Reply
-
-abbrev pub errno_name : Errno → List ℕ
-errno_name EINVAL = codes "EINVAL"
-errno_name EIDRM = codes "EIDRM"
-errno_name EAGAIN = codes "EAGAIN"
-errno_name ENOMSG = codes "ENOMSG"
-errno_name E2BIG = codes "E2BIG"
-errno_name EPERM = codes "EPERM"
-errno_name ENOSPC = codes "ENOSPC"
-errno_name ENOMEM = codes "ENOMEM"
+  table : (queues : System) → Reply
 
 -- what is said of a message that is handed out, up to its text
 unfoldable pub head_of : ℤ → ℕ → ℕ → ℕ → List ℕ
@@ -72,65 +69,67 @@ text_of (at entry) = codes "at " ++ decimal entry
 text_of (figures pages free most) = pages_of pages free ++ order_name most
 text_of (gone entry events) = codes "at " ++ decimal entry ++ codes " events " ++ decimal events
 text_of (counted queue) = counts_of queue ++ callers_of queue ++ moments_of queue
-text_of (message m) = head_of m.mtype m.sender m.tag m.length ++ m.body.bytes
+text_of (table queues) = table_of queues
+text_of (message m) = head_of m.mtype m.sender m.tag m.length ++ m.text.bytes
 
 -- its line, where there is one
 abbrev pub output : Reply → List ℕ
 output silent = []
 output reply = text_of reply ++ 10 ∷ []
 
--- the reply of an answer, and the state that it leaves: a refused call leaves all
-abbrev pub told : {T : Type 0} → State → (T × State → Reply × State) → Answer T → Reply × State
-told s reply (Ok turn) = reply turn
-told s reply (Err e) = (refused e, s)
+-- the reply of an answer, and what it leaves: a refused call leaves all
+abbrev pub told : {T : Type 0} → System → (T × System → Reply × System) → Result (T × System) Errno → Reply × System
+told q reply (Ok turn) = reply turn
+told q reply (Err e) = (refused e, q)
 
--- the message of line n: its tag is the number of the line
-abbrev pub message_of : ℕ → ℕ → ℤ → PlainText → Message PlainText
-message_of n seat mtype text = record { mtype = mtype; sender = seat; tag = n; body = text }
-
--- what each command replies and leaves
-abbrev pub sit_step : State → ℕ → Reply × State
-sit_step s number = (silent, record { arena = s.arena; slot = s.slot; seat = number })
-
-abbrev pub arena_step : State → Reply × State
-arena_step s = (figures (2 ^ s.arena.height) (free_pages s.arena.height s.arena.lent) (largest s.arena.height s.arena.lent), s)
-
-abbrev pub get_step : ℕ → State → Reply × State
-get_step n s = told s (λ t. (given t.0, t.1)) (msgget s n)
+-- what the calls of line n, made by a seat, reply and leave
+abbrev pub get_step : ℕ → ℕ → System → ℤ → GetFlags → Reply × System
+get_step n seat q key flags = told q (λ t. (given t.0.id, t.1)) (msgget q seat key flags n)
 
 -- a text that cannot be made is refused whatever else the line says; a refused call leaves all
-abbrev pub send_step : ℕ → State → ℕ → ℤ → Text → Reply × State
-send_step n s id mtype text = told s (λ d. told s (λ t. (at t.0, t.1)) (msgsnd d.1 id (message_of n s.seat mtype d.0) n)) (draft s text)
+abbrev pub send_step : ℕ → ℕ → System → ℕ → ℤ → Text → Reply × System
+send_step n seat q id mtype text =
+    told q (λ d. told q (λ t. (at t.0, t.1)) (by_errno (msgsnd d.1 seat id mtype n d.0 n))) (draft q text)
 
 -- a text that was handed out is given up once it is written
-abbrev pub receive_step : ℕ → State → ℕ → ℕ → ℤ → Bool → Bool → Reply × State
-receive_step n s id size mtype except noerror =
-    told s (λ t. (message t.0, spent t.0.body t.1)) (msgrcv s id size mtype except noerror n)
+abbrev pub receive_step : ℕ → ℕ → System → ℕ → ℕ → ℤ → Bool → Bool → Reply × System
+receive_step n seat q id size mtype except noerror =
+    told q (λ t. (message t.0, spent t.0.text t.1))
+    (by_errno (msgrcv q seat id size mtype except noerror n))
 
-abbrev pub set_step : ℕ → State → ℕ → ℕ → Reply × State
-set_step n s id qbytes = told s (λ t. (at t.0, t.1)) (set_answer s id qbytes n)
+abbrev pub set_step : ℕ → ℕ → System → ℕ → ℕ → Reply × System
+set_step n seat q id qbytes = told q (λ t. (at t.0, t.1)) (by_errno (set_answer q seat id qbytes n))
 
-abbrev pub remove_step : ℕ → State → ℕ → Reply × State
-remove_step n s id = told s (λ t. (gone t.0.entry t.0.events, t.1)) (rmid s id n)
+abbrev pub remove_step : ℕ → ℕ → System → ℕ → Reply × System
+remove_step n seat q id =
+    told q (λ t. (gone t.0.entry (length t.0.log), t.1)) (by_errno (rmid q seat id n))
 
--- the figures change nothing
+-- what only shows changes nothing
 abbrev pub stat_reply : Result Figures Errno → Reply
 stat_reply (Ok queue) = counted queue
 stat_reply (Err errno) = refused errno
 
-abbrev pub stat_step : State → ℕ → Reply × State
-stat_step s id = (stat_reply (stat_answer s id), s)
+abbrev pub arena_reply : System → Reply
+arena_reply q =
+    figures (2 ^ q.arena.height) (free_pages q.arena.height q.arena.lent)
+    (largest q.arena.height q.arena.lent)
+
+-- the same of the whole run: the seat stays
+abbrev pub by_seat : State → Reply × System → Reply × State
+by_seat s turn = (turn.0, record { queues = turn.1; seat = s.seat })
 
 -- what the command of line n replies and leaves
 abbrev pub step : ℕ → State → Call → Reply × State
-step n s (sit number) = sit_step s number
-step n s show = arena_step s
-step n s get = get_step n s
-step n s (snd id mtype text) = send_step n s id mtype text
-step n s (rcv id size mtype except noerror) = receive_step n s id size mtype except noerror
-step n s (set id qbytes) = set_step n s id qbytes
-step n s (rm id) = remove_step n s id
-step n s (stat id) = stat_step s id
+step n s (sit number) = (silent, record { queues = s.queues; seat = number })
+step n s show = (arena_reply s.queues, s)
+step n s (get key flags) = by_seat s (get_step n s.seat s.queues key flags)
+step n s (snd id mtype text) = by_seat s (send_step n s.seat s.queues id mtype text)
+step n s (rcv id size mtype except noerror) =
+    by_seat s (receive_step n s.seat s.queues id size mtype except noerror)
+step n s (set id qbytes) = by_seat s (set_step n s.seat s.queues id qbytes)
+step n s (rm id) = by_seat s (remove_step n s.seat s.queues id)
+step n s (stat id) = (stat_reply (stat_answer s.queues id), s)
+step n s ipcs = (table s.queues, s)
 
 -- what a line writes and leaves, or why it is not well formed
 abbrev pub said : ℕ → State → Result (Option Call) Cause → Result (List ℕ × State) Cause
@@ -155,17 +154,13 @@ unfoldable pub run_from : ℕ → State → List (List ℕ) → Run
 run_from n s [] = record { written = []; fault = None }
 run_from n s (line ∷ lines) = goes_on n (said n s (reading line)) (λ t. run_from (n + 1) t lines)
 
--- nothing is lent in an arena of this height, no queue is made, and seat 1 makes the calls
-abbrev pub start : ℕ → State
-start height = record { arena = record { height = height; lent = [] }; slot = record { events = []; messages = [] }; seat = 1 }
+abbrev pub run_of : Config → List ℕ → Run
+run_of config script = run_from 1 (start config) (lines_of script)
 
-abbrev pub run_of : ℕ → List ℕ → Run
-run_of height script = run_from 1 (start height) (lines_of script)
-
--- all that a script writes, over an arena of this height
-abbrev pub transcript : ℕ → List ℕ → List ℕ
-transcript height script = (run_of height script).written
+-- all that a script writes, over a system of this size
+abbrev pub transcript : Config → List ℕ → List ℕ
+transcript config script = (run_of config script).written
 
 -- where a script is not well formed
-abbrev pub fault_of : ℕ → List ℕ → Option (ℕ × Cause)
-fault_of height script = (run_of height script).fault
+abbrev pub fault_of : Config → List ℕ → Option (ℕ × Cause)
+fault_of config script = (run_of config script).fault

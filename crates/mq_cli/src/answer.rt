@@ -1,179 +1,187 @@
-ghost use Rattle.std.specs.Prelude.{◌≡◌, OnOk};
+ghost use Rattle.std.specs.Prelude.{◌≡◌, ◌++◌, OnOk, map};
+ghost use Rattle.std.specs.List.{range_with_len};
+ghost use Rattle.mq_queue.specs.declared.limits.TheConstants.{MSGMAX};
+ghost use Rattle.mq_cli.specs.Drafts.{letter};
 ghost use Rattle.mq_cli.specs.Seen.{call_of, text_seen};
 ghost use Rattle.mq_cli.specs.Serial.{Answered};
-ghost use Rattle.mq_cli.specs.Transcript.{step, get_step, send_step, receive_step};
-ghost use Rattle.mq_cli.specs.Transcript.{remove_step, set_step, stat_step};
+ghost use Rattle.mq_cli.specs.Kept.{arena_shown};
+ghost use Rattle.mq_cli.specs.Transcript.{arena_reply, output, stat_reply, step};
+ghost use Rattle.mq_cli.specs.Transcript.{get_step, receive_step, remove_step, send_step, set_step};
+ghost use Rattle.mq_system.specs.Calls.{stat as stat_answer};
 
-use crate::command::{Command, ReceiveCall, ReceiveFlags, SendCall};
+use crate::command::{Command, GetCall, ReceiveCall, ReceiveFlags, SendCall};
+use crate::draft::draft;
 use crate::reply::{
-    write_arena, write_entry, write_errno, write_figures, write_id, write_message, write_refused,
-    write_removal,
+    ArenaFigures, write_arena, write_entry, write_errno, write_figures, write_id, write_message,
+    write_refused, write_removal,
 };
-use crate::session::{SendRefused, Session};
-use mq_message::{Message, Text};
-use mq_queue::Received;
-use std::alloc::{AllocError, Global};
+use crate::report::write_report;
+use crate::session::Session;
+use mq_message::Text;
+use mq_system::{Delivered, OneThread, Removal, SendRefused};
+use mq_table::Id;
+use std::alloc::AllocError;
 use std::sync::ledger::Ledger;
 
 /// Makes the call of the line with this number, and writes its answer line behind what the
 /// buffer holds. Want of memory has no line: it is the one `Err`.
 pub fn answer<L: Ledger>(
-    alloc: Global,
     session: &mut Session<L>,
     line: u64,
     command: Command<'_>,
     out: &mut Vec<u8>,
+    cell: &mut Vec<u8>,
 ) -> Result<(), AllocError>
     ensures { OnOk result (Answered (step line session.old (call_of command.entry))
         out.old.items out.new.items session.new) }
 {
+    let seat = session.seat;
     match command {
-        Command::Seat(seat) => {
-            session.sit(seat);
+        Command::Seat(number) => {
+            session.seat = number;
             Ok(())
         }
-        Command::Get => get(alloc, session, line, out),
-        Command::Arena => write_arena(out, session.figures()),
-        Command::Send(call) => send(session, line, call, out),
-        Command::Receive(call) => receive(session, line, call, out),
-        Command::Set { id, qbytes } => set(session, line, id, qbytes, out),
-        Command::Remove { id } => remove(session, line, id, out),
-        Command::Stat { id } => stat(session, id, out),
+        Command::Arena => write_arena(out, arena_figures(&session.queues)),
+        Command::Get(call) => get(&mut session.queues, seat, line, call, out),
+        Command::Send(call) => send(&mut session.queues, &session.letters, seat, line, call, out),
+        Command::Receive(call) => receive(&mut session.queues, seat, line, call, out),
+        Command::Set { id, qbytes } => set(&mut session.queues, seat, line, id, qbytes, out),
+        Command::Remove { id } => remove(&mut session.queues, seat, line, id, out),
+        Command::Stat { id } => stat(&session.queues, id, out),
+        Command::Report => write_report(out, cell, &session.queues),
+    }
+}
+
+fn arena_figures<L: Ledger>(queues: &OneThread<L>) -> ArenaFigures
+    ensures { arena_shown result ≡ arena_reply queues.now }
+{
+    ArenaFigures {
+        pages: queues.pages(),
+        free: queues.free_pages(),
+        largest: queues.largest(),
     }
 }
 
 fn get<L: Ledger>(
-    alloc: Global,
-    session: &mut Session<L>,
+    queues: &mut OneThread<L>,
+    seat: u16,
     line: u64,
+    call: GetCall,
     out: &mut Vec<u8>,
 ) -> Result<(), AllocError>
-    ensures { OnOk result
-        (Answered (get_step line session.old) out.old.items out.new.items session.new) }
+    ensures { OnOk result (Answered (get_step line seat queues.old call.key call.flags)
+        out.old.items out.new.items queues.new) }
 {
-    match session.msgget(alloc, line) {
-        Ok(id) => write_id(out, id),
+    match queues.msgget(seat, call.key, call.flags, line) {
+        Ok(got) => write_id(out, got.id.number()),
         Err(errno) => write_refused(out, errno),
     }
 }
 
 fn send<L: Ledger>(
-    session: &mut Session<L>,
+    queues: &mut OneThread<L>,
+    letters: &[u8],
+    seat: u16,
     line: u64,
     call: SendCall<'_>,
     out: &mut Vec<u8>,
 ) -> Result<(), AllocError>
-    ensures { OnOk result (Answered (send_step line session.old call.entry.id call.entry.mtype (text_seen call.entry.text))
-        out.old.items out.new.items session.new) }
+    requires letters { letters.now ≡ map letter (range_with_len 0 MSGMAX) }
+    ensures { OnOk result (Answered
+        (send_step line seat queues.old call.entry.id call.entry.mtype (text_seen call.entry.text))
+        out.old.items out.new.items queues.new) }
 {
-    let sender = session.seat();
-    let text = match session.draft(call.text) {
+    let text = match draft(queues, letters, call.text) {
         Ok(text) => text,
         Err(errno) => return write_errno(out, errno),
     };
-    let message = Message {
-        mtype: call.mtype,
-        sender,
-        tag: line,
-        body: text,
-    };
-    match session.msgsnd(call.id, message, line) {
+    match queues.msgsnd(seat, Id::from_number(call.id), call.mtype, line, text, line) {
         Ok(entry) => write_entry(out, entry),
-        Err(refused) => {
-            let SendRefused { errno, message } = refused;
-            session.spend(body_of(message));
-            write_refused(out, errno)
+        Err(refusal) => {
+            let SendRefused { refused, text } = refusal;
+            queues.spend(text);
+            write_refused(out, refused.errno)
         }
     }
 }
 
-/// The text of a message.
-fn body_of<L: Ledger>(message: Message<Text<L>>) -> Text<L>
-    ensures { result ≡ message.body }
-{
-    let Message {
-        mtype: _,
-        sender: _,
-        tag: _,
-        body,
-    } = message;
-    body
-}
-
 fn receive<L: Ledger>(
-    session: &mut Session<L>,
+    queues: &mut OneThread<L>,
+    seat: u16,
     line: u64,
     call: ReceiveCall,
     out: &mut Vec<u8>,
 ) -> Result<(), AllocError>
     ensures { OnOk result (Answered
-        (receive_step line session.old call.id call.size call.mtype call.flags.except call.flags.noerror)
-        out.old.items out.new.items session.new) }
+        (receive_step line seat queues.old call.id call.size call.mtype call.flags.except call.flags.noerror)
+        out.old.items out.new.items queues.new) }
 {
     let ReceiveFlags { except, noerror } = call.flags;
-    match session.msgrcv(call.id, call.size, call.mtype, except, noerror, line) {
-        Ok(received) => {
-            let written = write_message(out, &received);
-            session.spend(text_of_received(received));
+    let id = Id::from_number(call.id);
+    match queues.msgrcv(seat, id, call.size, call.mtype, except, noerror, line) {
+        Ok(delivered) => {
+            let written = write_message(out, &delivered);
+            queues.spend(text_of(delivered));
             written
         }
-        Err(errno) => write_refused(out, errno),
+        Err(refused) => write_refused(out, refused.errno),
     }
 }
 
+/// The text that was handed out.
+fn text_of<L: Ledger>(delivered: Delivered<Text<L>>) -> Text<L>
+    ensures { result ≡ delivered.text }
+{
+    let Delivered {
+        entry: _,
+        mtype: _,
+        sender: _,
+        tag: _,
+        length: _,
+        text,
+    } = delivered;
+    text
+}
+
 fn set<L: Ledger>(
-    session: &mut Session<L>,
+    queues: &mut OneThread<L>,
+    seat: u16,
     line: u64,
     id: u32,
     qbytes: u64,
     out: &mut Vec<u8>,
 ) -> Result<(), AllocError>
-    ensures { OnOk result
-        (Answered (set_step line session.old id qbytes) out.old.items out.new.items session.new) }
+    ensures { OnOk result (Answered (set_step line seat queues.old id qbytes)
+        out.old.items out.new.items queues.new) }
 {
-    match session.set(id, qbytes, line) {
+    match queues.set(seat, Id::from_number(id), qbytes, line) {
         Ok(entry) => write_entry(out, entry),
-        Err(errno) => write_refused(out, errno),
+        Err(refused) => write_refused(out, refused.errno),
     }
 }
 
 fn remove<L: Ledger>(
-    session: &mut Session<L>,
+    queues: &mut OneThread<L>,
+    seat: u16,
     line: u64,
     id: u32,
     out: &mut Vec<u8>,
 ) -> Result<(), AllocError>
-    ensures { OnOk result
-        (Answered (remove_step line session.old id) out.old.items out.new.items session.new) }
+    ensures { OnOk result (Answered (remove_step line seat queues.old id)
+        out.old.items out.new.items queues.new) }
 {
-    match session.rmid(id, line) {
-        Ok(removal) => write_removal(out, removal),
-        Err(errno) => write_refused(out, errno),
+    match queues.rmid(seat, Id::from_number(id), line) {
+        Ok(Removal { entry, log }) => write_removal(out, entry, log.len()),
+        Err(refused) => write_refused(out, refused.errno),
     }
 }
 
-fn stat<L: Ledger>(session: &Session<L>, id: u32, out: &mut Vec<u8>) -> Result<(), AllocError>
+fn stat<L: Ledger>(queues: &OneThread<L>, id: u32, out: &mut Vec<u8>) -> Result<(), AllocError>
     ensures { OnOk result
-        (Answered (stat_step session.now id) out.old.items out.new.items session.now) }
+        (out.new.items ≡ out.old.items ++ output (stat_reply (stat_answer queues.now id))) }
 {
-    match session.stat(id) {
+    match queues.stat(Id::from_number(id)) {
         Ok(figures) => write_figures(out, figures),
         Err(errno) => write_errno(out, errno),
     }
-}
-
-/// The text that was handed out.
-fn text_of_received<L: Ledger>(received: Received<Text<L>>) -> Text<L>
-    ensures { result ≡ received.body }
-{
-    let Received {
-        entry: _,
-        place: _,
-        mtype: _,
-        sender: _,
-        tag: _,
-        length: _,
-        body,
-    } = received;
-    body
 }

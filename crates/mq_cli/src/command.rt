@@ -1,7 +1,7 @@
 ghost use Rattle.std.specs.Prelude.{◌≡◌, ◌^◌, ◌==◌};
 ghost use Rattle.std.specs.List.{list_all, list_any};
 ghost use Rattle.std.specs.Option.{option_map};
-ghost use Rattle.mq_cli.specs.Commands.{arena_of, command_of, flags_of, get_of, is_filled, receive_of, reading};
+ghost use Rattle.mq_cli.specs.Commands.{arena_of, command_of, flags_of, get_flags_of, get_of, ipcs_of, is_filled, receive_of, reading};
 ghost use Rattle.mq_cli.specs.Commands.{remove_of, seat_of, send_of, set_of, stat_of, text_of};
 ghost use Rattle.mq_cli.specs.Commands.{is_skipped as is_skipped_line};
 ghost use Rattle.mq_cli.specs.Commands.{is_text as is_text_form};
@@ -11,9 +11,10 @@ ghost use Rattle.mq_cli.specs.Numbers.{above_zero, number_of, under};
 ghost use Rattle.mq_cli.specs.Parts.{parts_left};
 ghost use Rattle.mq_cli.specs.Seen.{flags_seen, seen, seen_line, text_seen};
 
-use crate::number::{integer, number};
+use crate::number::{integer, key, number};
 use crate::words::Words;
 use crate::{Cause, LINE_LIMIT};
+use mq_system::GetFlags;
 
 /// The text of a message as a line spells it.
 #[derive(Clone, Copy, Drop)]
@@ -29,6 +30,13 @@ pub enum TextForm<'a> {
 pub struct ReceiveFlags {
     pub except: bool,
     pub noerror: bool,
+}
+
+/// The arguments of msgget.
+#[derive(Clone, Copy)]
+pub struct GetCall {
+    pub key: i32,
+    pub flags: GetFlags,
 }
 
 /// The arguments of msgsnd.
@@ -55,7 +63,8 @@ pub enum Command<'a> {
     Seat(u16),
     /// The arena's figures.
     Arena,
-    Get,
+    /// msgget.
+    Get(GetCall),
     Send(SendCall<'a>),
     Receive(ReceiveCall),
     /// IPC_SET of the queue with this id.
@@ -64,6 +73,8 @@ pub enum Command<'a> {
     Remove { id: u32 },
     /// IPC_STAT.
     Stat { id: u32 },
+    /// A row for each live queue.
+    Report,
 }
 
 impl TextForm<'_> {
@@ -146,6 +157,9 @@ fn read_command(line: &[u8]) -> Result<Command<'_>, Cause>
     if name == b"stat".as_slice() {
         return read_stat(words);
     }
+    if name == b"ipcs".as_slice() {
+        return read_report(words);
+    }
     Err(Cause::Words)
 }
 
@@ -163,12 +177,37 @@ fn are_filled(line: &[u8]) -> bool
 fn read_get(mut words: Words<'_>) -> Result<Command<'_>, Cause>
     ensures { seen result ≡ get_of (parts_left 32 words.entry.rest) }
 {
-    match (words.next(), words.next(), words.next()) {
-        (Some(key), Some(b"c"), None) => match number(key) {
-            Some(0) => Ok(Command::Get),
-            _ => Err(Cause::Number),
-        },
-        _ => Err(Cause::Words),
+    let Some(word) = words.next() else {
+        return Err(Cause::Words);
+    };
+    let Some(flags) = read_get_flags(words) else {
+        return Err(Cause::Words);
+    };
+    match key(word) {
+        Some(key) => Ok(Command::Get(GetCall { key, flags })),
+        None => Err(Cause::Number),
+    }
+}
+
+fn read_get_flags(mut words: Words<'_>) -> Option<GetFlags>
+    ensures { result ≡ get_flags_of (parts_left 32 words.entry.rest) }
+{
+    let (create, exclusive) = match (words.next(), words.next()) {
+        (None, _) => (false, false),
+        (Some(word), None) if word == b"c".as_slice() => (true, false),
+        (Some(word), None) if word == b"x".as_slice() => (false, true),
+        (Some(word), None) if word == b"cx".as_slice() => (true, true),
+        _ => return None,
+    };
+    Some(GetFlags { create, exclusive })
+}
+
+fn read_report(mut words: Words<'_>) -> Result<Command<'_>, Cause>
+    ensures { seen result ≡ ipcs_of (parts_left 32 words.entry.rest) }
+{
+    match words.next() {
+        None => Ok(Command::Report),
+        Some(_) => Err(Cause::Words),
     }
 }
 

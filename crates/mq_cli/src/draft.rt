@@ -1,15 +1,14 @@
-ghost use Rattle.std.specs.Prelude.{◌≡◌, ◌≢◌, ◌≤◌, ℕ, Ok, Err, IfOk, IfErr, map, length};
+ghost use Rattle.std.specs.Prelude.{◌≡◌, ◌≤◌, ℕ, Ok, Err, IfOk, IfErr, OnErr, map, length};
 ghost use Rattle.std.specs.List.{range_with_len};
 ghost use Rattle.mq_queue.specs.declared.limits.TheConstants.{MSGMAX};
-ghost use Rattle.mq_cli.specs.Drafts.{bytes_of_text, length_of_text, drafts};
-ghost use Rattle.mq_cli.specs.Drafts.{letter as letter_at};
+ghost use Rattle.mq_cli.specs.Drafts.{bytes_of_text, length_of_text};
+ghost use Rattle.mq_cli.specs.Drafts.{draft as draft_answer, letter as letter_at};
 ghost use Rattle.mq_cli.specs.Seen.{text_seen};
 
 use crate::command::TextForm;
-use crate::errno::Errno;
-use mq_arena::ArenaState;
-use mq_message::{Text, order_for};
+use mq_message::Text;
 use mq_queue::MSGMAX;
+use mq_system::{Errno, OneThread};
 use std::alloc::{AllocError, Global};
 use std::sync::ledger::Ledger;
 
@@ -27,32 +26,25 @@ fn letter(place: u64) -> u8
     b'a' + (place % 26) as u8
 }
 
-/// Makes the text of a message in a block of the arena, written once, in place.
+/// Makes the text of a message, written once, in place.
 pub fn draft<L: Ledger>(
-    arena: &mut ArenaState<L>,
+    queues: &mut OneThread<L>,
     letters: &[u8],
     text: TextForm<'_>,
 ) -> Result<Text<L>, Errno>
     requires letters { letters.now ≡ map letter_at (range_with_len 0 MSGMAX) }
-    ensures ok { IfOk result (λ made. drafts arena.old (text_seen text.entry) ≡ Ok (made, arena.new)) }
-    ensures refused { IfErr result (λ errno. drafts arena.old (text_seen text.entry) ≡ Err errno) }
-    ensures unchanged { IfErr result (λ _. arena.new ≡ arena.old) }
+    ensures ok { IfOk result (λ made.
+        draft_answer queues.old (text_seen text.entry) ≡ Ok (made, queues.new)) }
+    ensures refused { IfErr result (λ errno.
+        draft_answer queues.old (text_seen text.entry) ≡ Err errno) }
+    ensures unchanged { OnErr result (queues.new ≡ queues.old) }
 {
-    let len = text.len();
-    if len > MSGMAX {
-        return Err(Errno::EINVAL);
-    }
-    let bytes = bytes_of(letters, text);
-    if len == 0 {
-        return Ok(Text::empty());
-    }
-    match arena.take(order_for(bytes.len())) {
-        Some(block) => {
-            let mut made = Text::of(block, bytes.len());
-            made.fill(bytes);
+    match queues.draft(text.len()) {
+        Ok(mut made) => {
+            made.fill(bytes_of(letters, text));
             Ok(made)
         }
-        None => Err(Errno::ENOMEM),
+        Err(refusal) => Err(refusal.errno()),
     }
 }
 

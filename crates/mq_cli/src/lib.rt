@@ -3,12 +3,9 @@
 #![tactic(auto)]
 
 mod answer;
-mod calls;
 mod command;
 mod draft;
-mod errno;
 mod fault;
-mod home;
 mod laws;
 mod limits;
 mod lines;
@@ -16,6 +13,7 @@ mod number;
 mod output;
 mod parts;
 mod reply;
+mod report;
 mod script;
 mod serial;
 mod session;

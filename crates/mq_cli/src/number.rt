@@ -1,5 +1,5 @@
 ghost use Rattle.std.specs.Prelude.{◌≡◌, ◌==◌, nat_lt, ◌&&◌, ◌||◌, length, slice_index};
-ghost use Rattle.mq_cli.specs.Numbers.{number_of, integer_of};
+ghost use Rattle.mq_cli.specs.Numbers.{number_of, integer_of, key_of};
 
 /// The number that a word spells in decimal digits, with no sign and no needless zero before it.
 pub fn number(word: &[u8]) -> Option<u64>
@@ -40,4 +40,11 @@ pub fn integer(word: &[u8]) -> Option<i64>
         }
         _ => i64::try_from(number(word)?).ok(),
     }
+}
+
+/// The key that a word spells.
+pub fn key(word: &[u8]) -> Option<i32>
+    ensures { result ≡ key_of word.now }
+{
+    i32::try_from(integer(word)?).ok()
 }

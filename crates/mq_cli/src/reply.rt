@@ -1,19 +1,27 @@
 ghost use Rattle.std.specs.Prelude.{◌≡◌, ◌≢◌, ◌++◌, ◌∷◌, [], OnOk};
+ghost use Rattle.mq_cli.specs.Kept.{arena_shown};
 ghost use Rattle.mq_cli.specs.Transcript.{callers_of, counts_of, head_of, moments_of, order_name, pages_of};
-ghost use Rattle.mq_cli.specs.Transcript.{output, refused, given, at, message, figures, gone, counted};
+ghost use Rattle.mq_cli.specs.Transcript.{output, refused, given, at, message, gone, counted};
 
-use crate::errno::Errno;
-use crate::session::{ArenaFigures, Removal};
 use mq_message::Text;
-use mq_queue::{Figures, Received};
+use mq_queue::Figures;
+use mq_system::{Delivered, Errno};
 use std::alloc::AllocError;
 use std::io::Write;
 use std::sync::ledger::Ledger;
 
+/// What `arena` answers.
+#[derive(Clone, Copy)]
+pub struct ArenaFigures {
+    pub pages: u32,
+    pub free: u32,
+    pub largest: Option<u8>,
+}
+
 /// `pages P free F largest K`
 pub fn write_arena(out: &mut Vec<u8>, f: ArenaFigures) -> Result<(), AllocError>
     ensures { OnOk result
-        (out.new.items ≡ out.old.items ++ output (figures f.pages f.free f.largest)) }
+        (out.new.items ≡ out.old.items ++ output (arena_shown f)) }
 {
     write_pages(out, f.pages, f.free)?;
     write_order(out, f.largest)
@@ -52,11 +60,9 @@ pub fn write_entry(out: &mut Vec<u8>, entry: u64) -> Result<(), AllocError>
 }
 
 /// `at E events K`
-pub fn write_removal(out: &mut Vec<u8>, removal: Removal) -> Result<(), AllocError>
-    ensures { OnOk result
-        (out.new.items ≡ out.old.items ++ output (gone removal.entry removal.events)) }
+pub fn write_removal(out: &mut Vec<u8>, entry: u64, events: u64) -> Result<(), AllocError>
+    ensures { OnOk result (out.new.items ≡ out.old.items ++ output (gone entry events)) }
 {
-    let Removal { entry, events } = removal;
     writeln!(out, "at {entry} events {events}").map_err(|_| AllocError)
 }
 
@@ -106,11 +112,11 @@ fn write_moments(out: &mut Vec<u8>, f: Figures) -> Result<(), AllocError>
 }
 
 /// `msg TYPE seat S tag T len L =BYTES`
-pub fn write_message<L: Ledger>(out: &mut Vec<u8>, m: &Received<Text<L>>) -> Result<(), AllocError>
+pub fn write_message<L: Ledger>(out: &mut Vec<u8>, m: &Delivered<Text<L>>) -> Result<(), AllocError>
     ensures { OnOk result (out.new.items ≡ out.old.items ++ output (message m.now)) }
 {
     write_head(out, m.mtype, m.sender, m.tag, m.length)?;
-    write_parts(out, &m.body)?;
+    write_parts(out, &m.text)?;
     out.push(b'\n')?;
     Ok(())
 }

@@ -1,6 +1,7 @@
-ghost use Rattle.std.specs.Prelude.{◌≡◌, ◌^◌, ◌<◌, ◌≤◌, ℕ, None, Some, Ok, OnOk, IfSome, IsErrOf, length};
+ghost use Rattle.std.specs.Prelude.{◌≡◌, ◌<◌, ◌≤◌, ℕ, true, None, Some, Ok, OnOk, IfSome, IsErrOf, length};
 ghost use Rattle.std.specs.Io.KnownBytes.{Appends, IsAtEnd, Keeps};
 ghost use Rattle.mq_cli.specs.Serial.{AppendsFront, ReadsMoreThan, ReadsUpTo, Runs, RunsLine};
+ghost use Rattle.mq_system.specs.Limits.{keeps_limits};
 ghost use Rattle.mq_cli.specs.Commands.{reading};
 ghost use Rattle.mq_cli.specs.Lines.{lines_of};
 ghost use Rattle.mq_cli.specs.Transcript.{fault_of, run_from, run_of, said, transcript};
@@ -13,7 +14,7 @@ use crate::output::{WriteFailed, write_bytes};
 use crate::script::read_script;
 use crate::session::Session;
 use crate::{RunFault, SCRIPT_LIMIT};
-use mq_arena::Unopened;
+use mq_system::Config;
 use std::alloc::{AllocError, Global};
 use std::io::{Read, Write};
 use std::marker::Brand;
@@ -24,21 +25,22 @@ pub fn run_serial<R: Read, W: Write>(
     alloc: Global,
     reader: &mut R,
     writer: &mut W,
-    height: u8,
+    config: Config,
 ) -> Result<(), RunFault>
-    requires { height ≤ 10 }
+    requires limits { keeps_limits config ≡ true }
+    requires seats { config.seats ≡ 16 }
 
     // Where the run comes to its end, all is read, and what is written is the transcript.
     ensures end { OnOk result (IsAtEnd (R.remaining reader.new)) }
     ensures ok { OnOk result (IfSome (R.remaining reader.old) (λ script.
-        (fault_of height script ≡ None)
-        × Appends (W.contents writer.old) (W.contents writer.new) (transcript height script))) }
+        (fault_of config script ≡ None)
+        × Appends (W.contents writer.old) (W.contents writer.new) (transcript config script))) }
 
     // The first line that is not well formed ends it, after the transcript of the lines before.
     ensures script { (line : ℕ) (cause : Cause) → IsErrOf result (RunFault.Script line cause) →
         IfSome (R.remaining reader.old) (λ script.
-        (fault_of height script ≡ Some (line, cause))
-        × Appends (W.contents writer.old) (W.contents writer.new) (transcript height script)) }
+        (fault_of config script ≡ Some (line, cause))
+        × Appends (W.contents writer.old) (W.contents writer.new) (transcript config script)) }
 
     // The reader gave more bytes than a script has just where the answer is `Size`.
     ensures size { IsErrOf result RunFault.Size →
@@ -50,15 +52,12 @@ pub fn run_serial<R: Read, W: Write>(
     ensures unwritten_size { IsErrOf result RunFault.Size → Keeps (W.contents writer.old) (W.contents writer.new) }
     ensures unwritten_read { IsErrOf result RunFault.Read → Keeps (W.contents writer.old) (W.contents writer.new) }
     ensures write { IsErrOf result RunFault.Write → IfSome (R.remaining reader.old) (λ script.
-        AppendsFront (W.contents writer.old) (W.contents writer.new) (transcript height script)) }
+        AppendsFront (W.contents writer.old) (W.contents writer.new) (transcript config script)) }
     ensures memory { IsErrOf result RunFault.Memory → IfSome (R.remaining reader.old) (λ script.
-        AppendsFront (W.contents writer.old) (W.contents writer.new) (transcript height script)) }
+        AppendsFront (W.contents writer.old) (W.contents writer.new) (transcript config script)) }
 {
     let script = read_script(alloc, reader)?;
-    let Ok(arena) = Unopened::new(alloc, height) else {
-        return Err(RunFault::Memory);
-    };
-    run_script::<Brand, W>(alloc, arena, Blank::new(LEDGER_PARTS), &script, writer)
+    run_script::<Brand, W>(alloc, config, Blank::new(LEDGER_PARTS), &script, writer)
 }
 
 /// More than an arena has pages.
@@ -68,7 +67,7 @@ const LEDGER_PARTS: u64 = 1025;
 /// at home again afterwards, however the run ends.
 fn run_script<L: Ledger, W: Write>(
     alloc: Global,
-    arena: Unopened,
+    config: Config,
     ledger: Blank,
     script: &[u8],
     writer: &mut W,
@@ -76,10 +75,10 @@ fn run_script<L: Ledger, W: Write>(
     requires fits { length script.now ≤ SCRIPT_LIMIT }
     requires name { ledger.name ≡ L.name }
     requires parts { ledger.parts ≡ L.parts }
-    requires enough { 2 ^ arena < ledger.parts }
-    ensures { Runs (W.contents writer.old) (W.contents writer.new) (run_of arena script.now) result }
+    requires enough { 1024 < ledger.parts }
+    ensures { Runs (W.contents writer.old) (W.contents writer.new) (run_of config script.now) result }
 {
-    let Ok(mut session) = Session::new(alloc, arena.open::<L>(ledger)) else {
+    let Ok(mut session) = Session::<L>::new(alloc, config, ledger) else {
         return Err(RunFault::Memory);
     };
     let outcome = run_lines(alloc, &mut session, script, writer);
@@ -103,9 +102,10 @@ fn run_lines<L: Ledger, W: Write>(
 {
     let mut number = 0;
     let mut out = Vec::new(alloc);
+    let mut cell = Vec::new(alloc);
     for line in Lines::new(script) {
         number += 1;
-        if let Err(fault) = run_line(alloc, session, number, line, &mut out, writer) {
+        if let Err(fault) = run_line(session, number, line, &mut out, &mut cell, writer) {
             return Err(fault);
         }
     }
@@ -114,11 +114,11 @@ fn run_lines<L: Ledger, W: Write>(
 
 /// Runs one line, and writes its answer by way of the buffer.
 fn run_line<L: Ledger, W: Write>(
-    alloc: Global,
     session: &mut Session<L>,
     number: u64,
     line: &[u8],
     out: &mut Vec<u8>,
+    cell: &mut Vec<u8>,
     writer: &mut W,
 ) -> Result<(), RunFault>
     ensures { RunsLine (W.contents writer.old) (W.contents writer.new) number
@@ -133,7 +133,7 @@ fn run_line<L: Ledger, W: Write>(
         }),
     };
     out.clear();
-    if let Err(AllocError) = answer(alloc, session, number, command, out) {
+    if let Err(AllocError) = answer(session, number, command, out, cell) {
         return Err(RunFault::Memory);
     }
     match write_bytes(writer, out) {

@@ -1,3 +1,4 @@
+use crate::sizes::DEFAULTS;
 use mq_cli::run_serial;
 use std::test::Fail;
 
@@ -23,10 +24,10 @@ const CHANGES: [(&str, &str); 9] = [
         "get 0 c\nsnd 0 1 *3000\nsnd 0 1 *3000\nsnd 0 2 =x\nrm 0\narena\nsnd 0 1 =a\nrcv 0 9 0\nstat 0\nsnd 5 1 =a\n",
         "id 0\nat 1\nat 2\nat 3\nat 4 events 5\npages 64 free 64 largest 6\nEIDRM\nEIDRM\nEIDRM\nEINVAL\n",
     ),
-    // A type below 1 is refused before the id is looked at; the slot's one id is used up.
+    // A type below 1 is refused before the id is looked at; a removed id is given no more.
     (
         "rm 0\nset 0 1\nstat 0\nget 0 c\nrm 0\nsnd 0 0 =a\nsnd 0 1 =a\nset 0 16385\nrm 0\nget 0 c\nrm 1\narena\n",
-        "EINVAL\nEINVAL\nEINVAL\nid 0\nat 1 events 2\nEINVAL\nEIDRM\nEIDRM\nEIDRM\nENOSPC\nEINVAL\npages 64 free 64 largest 6\n",
+        "EINVAL\nEINVAL\nEINVAL\nid 0\nat 1 events 2\nEINVAL\nEIDRM\nEIDRM\nEIDRM\nid 64\nEINVAL\npages 64 free 64 largest 6\n",
     ),
     // The figures, and who changed the queue last and when.
     (
@@ -51,7 +52,7 @@ const CHANGES: [(&str, &str); 9] = [
 fn each_change_of_a_queue_is_seen(rt: HostRuntime) -> Result<(), Fail> {
     for (script, output) in CHANGES {
         let mut written = Vec::new(rt.alloc());
-        let ended = run_serial(rt.alloc(), &mut script.as_bytes(), &mut written, 6);
+        let ended = run_serial(rt.alloc(), &mut script.as_bytes(), &mut written, DEFAULTS);
         assert_eq!(rt; ended, Ok(()), "{script}");
         assert_eq!(rt; written.as_slice(), output.as_bytes(), "{script}");
     }

@@ -1,4 +1,5 @@
 use crate::fakes::{Narrow, Trickle};
+use crate::sizes::DEFAULTS;
 use mq_cli::{RunFault, SCRIPT_LIMIT, run_serial};
 use std::test::Fail;
 
@@ -15,7 +16,7 @@ fn a_reader_that_fails_leaves_nothing_written(rt: HostRuntime) -> Result<(), Fai
             fails_at,
         };
         let mut written = Vec::new(rt.alloc());
-        let ended = run_serial(rt.alloc(), &mut reader, &mut written, 6);
+        let ended = run_serial(rt.alloc(), &mut reader, &mut written, DEFAULTS);
         // One call for each byte, and one that finds the end.
         if fails_at <= 48 {
             assert_eq!(rt; ended, Err(RunFault::Read), "at {fails_at}");
@@ -37,7 +38,7 @@ fn a_writer_that_gives_up_has_a_front_of_the_answers(rt: HostRuntime) -> Result<
                 room,
                 fails,
             };
-            let ended = run_serial(rt.alloc(), &mut SCRIPT.as_bytes(), &mut writer, 6);
+            let ended = run_serial(rt.alloc(), &mut SCRIPT.as_bytes(), &mut writer, DEFAULTS);
             let expected = if room < OUTPUT.len() {
                 Err(RunFault::Write)
             } else {
@@ -69,13 +70,13 @@ fn a_script_is_too_long_past_its_limit(rt: HostRuntime) -> Result<(), Fail> {
         fails_at: 0,
     };
     let mut written = Vec::new(rt.alloc());
-    let ended = run_serial(rt.alloc(), &mut reader, &mut written, 6);
+    let ended = run_serial(rt.alloc(), &mut reader, &mut written, DEFAULTS);
     assert_eq!(rt; ended, Ok(()));
     assert!(rt; written.is_empty());
     assert_eq!(rt; reader.calls, 1_048_577);
 
     script.push(b'#')?;
-    let ended = run_serial(rt.alloc(), &mut script.as_slice(), &mut written, 6);
+    let ended = run_serial(rt.alloc(), &mut script.as_slice(), &mut written, DEFAULTS);
     assert_eq!(rt; ended, Err(RunFault::Size));
     assert!(rt; written.is_empty());
     Ok(())

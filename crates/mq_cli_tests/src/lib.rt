@@ -10,3 +10,7 @@ mod fakes;
 mod faults;
 #[cfg(test)]
 mod scripts;
+#[cfg(test)]
+mod sizes;
+#[cfg(test)]
+mod systems;

@@ -1,8 +1,7 @@
+use crate::sizes::DEFAULTS;
 use mq_cli::{Cause, RunFault, run_serial};
+use mq_system::Config;
 use std::test::Fail;
-
-/// The height of the arena, where a case does not say another.
-const HEIGHT: u8 = 6;
 
 /// A script, what it writes, and the fault that ends it.
 type Case = (&'static str, &'static str, Option<(u64, Cause)>);
@@ -31,7 +30,7 @@ const CASES: [Case; 22] = [
     // Each refusal, which leaves all as it was.
     (
         "snd 0 1 =a\nrcv 0 1 0\nget 0 c\nget 0 c\nsnd 1 1 =a\nrcv 4294967295 1 0\n",
-        "EINVAL\nEINVAL\nid 0\nENOSPC\nEINVAL\nEINVAL\n",
+        "EINVAL\nEINVAL\nid 0\nid 1\nat 1\nEINVAL\n",
         None,
     ),
     (
@@ -126,7 +125,7 @@ const CASES: [Case; 22] = [
 fn each_script_writes_its_answers(rt: HostRuntime) -> Result<(), Fail> {
     for (script, output, fault) in CASES {
         let mut written = Vec::new(rt.alloc());
-        let ended = run_serial(rt.alloc(), &mut script.as_bytes(), &mut written, HEIGHT);
+        let ended = run_serial(rt.alloc(), &mut script.as_bytes(), &mut written, DEFAULTS);
         let expected = match fault {
             Some((line, cause)) => Err(RunFault::Script { line, cause }),
             None => Ok(()),
@@ -175,7 +174,8 @@ fn each_arena_lends_as_it_must(rt: HostRuntime) -> Result<(), Fail> {
     for (height, script, output) in ARENAS {
         let mut written = Vec::new(rt.alloc());
         assert!(rt; height <= 10);
-        let ended = run_serial(rt.alloc(), &mut script.as_bytes(), &mut written, height);
+        let config = Config { height, ..DEFAULTS };
+        let ended = run_serial(rt.alloc(), &mut script.as_bytes(), &mut written, config);
         assert_eq!(rt; ended, Ok(()), "{script}");
         assert_eq!(rt; written.as_slice(), output.as_bytes(), "{script}");
     }
@@ -183,7 +183,7 @@ fn each_arena_lends_as_it_must(rt: HostRuntime) -> Result<(), Fail> {
 }
 
 /// Lines that are not well formed, each with its cause.
-const CAUSES: [(&str, Cause); 68] = [
+const CAUSES: [(&str, Cause); 73] = [
     ("\tget 0 c", Cause::Byte),
     ("get 0 c\u{7f}", Cause::Byte),
     ("# caf\u{e9}", Cause::Byte),
@@ -196,12 +196,17 @@ const CAUSES: [(&str, Cause); 68] = [
     ("GET 0 c", Cause::Words),
     ("got 0 c", Cause::Words),
     ("get", Cause::Words),
-    ("get 0", Cause::Words),
-    ("get 0 x", Cause::Words),
-    ("get 0 cx", Cause::Words),
     ("get 0 c c", Cause::Words),
-    ("get 5 x", Cause::Words),
-    ("get 5 c", Cause::Number),
+    ("get 0 xc", Cause::Words),
+    ("get 0 C", Cause::Words),
+    ("get x cc", Cause::Words),
+    ("get 5 c ", Cause::Words),
+    ("get x c", Cause::Number),
+    ("get 2147483648", Cause::Number),
+    ("get -2147483649 c", Cause::Number),
+    ("get +5", Cause::Number),
+    ("ipcs 0", Cause::Words),
+    ("ipcs ", Cause::Words),
     ("get -0 c", Cause::Number),
     ("get 00 c", Cause::Number),
     ("snd", Cause::Words),
@@ -258,7 +263,7 @@ const CAUSES: [(&str, Cause); 68] = [
 fn a_line_that_is_not_well_formed_has_its_cause(rt: HostRuntime) -> Result<(), Fail> {
     for (line, cause) in CAUSES {
         let mut written = Vec::new(rt.alloc());
-        let ended = run_serial(rt.alloc(), &mut line.as_bytes(), &mut written, HEIGHT);
+        let ended = run_serial(rt.alloc(), &mut line.as_bytes(), &mut written, DEFAULTS);
         assert_eq!(rt; ended, Err(RunFault::Script { line: 1, cause }), "{line}");
         assert!(rt; written.is_empty(), "{line}");
     }
@@ -291,7 +296,7 @@ fn a_line_is_long_past_its_limit(rt: HostRuntime) -> Result<(), Fail> {
         let mut script = vec![in rt.alloc(); b'#'; count]?;
         script.extend_from_slice(end.as_bytes())?;
         let mut written = Vec::new(rt.alloc());
-        let ended = run_serial(rt.alloc(), &mut script.as_slice(), &mut written, HEIGHT);
+        let ended = run_serial(rt.alloc(), &mut script.as_slice(), &mut written, DEFAULTS);
         assert_eq!(rt; ended, expected);
     }
     Ok(())

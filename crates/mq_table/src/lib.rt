@@ -7,6 +7,8 @@ mod id;
 mod key_entry;
 mod keys;
 pub mod laws;
+#[cfg(test)]
+mod play_tests;
 mod refusal;
 mod slot;
 #[cfg(test)]

@@ -2,31 +2,70 @@
 
 #![tactic(auto)]
 
-use mq_cli::{RunFault, run_serial};
-use std::io;
-use std::io::BufWriter;
-use std::process::ExitCode;
+ghost use Rattle.std.specs.Prelude.{◌≡◌, ◌≢◌};
+ghost use Rattle.clap.specs.Values.{kind_of};
+ghost use Rattle.clap.specs.declared.error.kind.ErrorKind.TheVariants.{DisplayHelp, DisplayVersion};
 
-/// The arena has `2^6` pages.
-const HEIGHT: u8 = 6;
+mod command_line;
+mod serial;
+
+use clap::Error;
+use command_line::config_of;
+use mq_cli::RunFault;
+use serial::run;
+use std::env::Env;
+use std::process::ExitCode;
+use std::{env, io};
+
+/// The status of a fault in the command line, and of want of memory in reading it.
+const COMMAND_LINE: u8 = 2;
 
 fn main(rt: HostRuntime) -> ExitCode {
-    match run(&rt) {
-        Ok(()) => ExitCode::SUCCESS,
+    let status = match words(&rt) {
+        Ok(words) => answered(&rt, &words),
         Err(fault) => {
-            let _ = eprintln!(rt; "mqsim: {fault}");
-            ExitCode::from(status_of(fault))
+            let _ = eprintln!(rt; "mqsim: command line: {fault}");
+            COMMAND_LINE
         }
+    };
+    ExitCode::from(status)
+}
+
+/// The command line's words, of which the first is the program's name.
+fn words(rt: &(impl AllocGlobal + Env)) -> io::Result<Vec<String>> {
+    Ok(env::args(rt)?.collect(rt.alloc())?)
+}
+
+/// Does what the words say, and gives the exit status.
+fn answered(rt: &(impl AllocGlobal + Input + Print + Eprint), words: &[String]) -> u8 {
+    match config_of(rt.alloc(), words) {
+        Ok(config) => match run(rt, config) {
+            Ok(()) => 0,
+            Err(fault) => told(rt, fault),
+        },
+        Err(error) => shown(rt, &error),
     }
 }
 
-/// Runs the script of the standard input.
-fn run(rt: &(impl AllocGlobal + Input + Print)) -> Result<(), RunFault> {
-    let mut writer = match BufWriter::new(rt.alloc(), io::writer(rt)) {
-        Ok(writer) => writer,
-        Err(_) => return Err(RunFault::Memory),
-    };
-    run_serial(rt.alloc(), &mut rt.reader(), &mut writer, HEIGHT)
+/// Prints the help, or what is wrong with the words, and gives the exit status.
+fn shown(rt: &(impl Print + Eprint), error: &Error) -> u8
+    ensures { (kind_of error.now ≢ DisplayHelp) → (kind_of error.now ≢ DisplayVersion)
+        → result ≡ COMMAND_LINE }
+{
+    let printed = error.print(rt);
+    if error.use_stderr() {
+        COMMAND_LINE
+    } else if printed.is_err() {
+        told(rt, RunFault::Write)
+    } else {
+        0
+    }
+}
+
+/// Names a fault on standard error, and gives the exit status.
+fn told(rt: &impl Eprint, fault: RunFault) -> u8 {
+    let _ = eprintln!(rt; "mqsim: {fault}");
+    status_of(fault)
 }
 
 /// The exit status that tells a fault.

@@ -1,8 +1,6 @@
 use Rattle.std.proofs.Common.{ap, ◌∙◌, rules, w64}
 use Rattle.std.proofs.lemmas.Int.{to_z-of_z}
 use mir.Val.{SFits}
-use Rattle.mq_message.specs.Text.{PlainText}
-use Rattle.mq_message.specs.declared.message.Message.{Message}
 use Rattle.mq_cli.specs.Seen.{text_seen}
 use Rattle.mq_cli.proofs.DraftLemmas.{refused_leaves}
 use Rattle.mq_cli.proofs.answer.send.Goals as goal
@@ -11,12 +9,13 @@ pub returns-in-Err-msgsnd : goal.returns-in-Err-msgsnd
 returns-in-Err-msgsnd g c =
     let fits : SFits w64 c.args.call.mtype = search rules in
     let whole = simp to_z-of_z at c.in-Err-msgsnd.ensures.refused in
-    refused_leaves c.args.line c.args.session.now c.args.call.id c.args.call.mtype (text_seen c.args.call.text) c.in-Ok.text c.draft.new.self
-    c.in-Err-msgsnd.refused.errno c.body_of.result c.msgsnd.new.self c.spend.new.self c.args.out.now.items c.write_refused.new.out.items c.write_refused.result
+    let named = rw c.from_number.ensures at whole in
+    refused_leaves c.args.line c.args.seat c.args.queues.now c.args.call.id c.args.call.mtype (text_seen c.args.call.text) c.in-Ok.text c.draft.new.queues
+    c.in-Err-msgsnd.refusal.refused c.in-Err-msgsnd.refusal.text c.msgsnd.new.self c.spend.new.self c.args.out.now.items c.write_refused.new.out.items c.write_refused.result
     c.in-Ok.ensures.ok
-    (rw c.seat-sender.ensures at whole)
-    (c.body_of.ensures ∙ ap (λ (m : Message PlainText). m.body) c.in-Err-msgsnd.ensures.handed_back)
+    named
+    c.in-Err-msgsnd.ensures.handed_back
     c.in-Err-msgsnd.ensures.unchanged
-    c.spend.ensures
+    c.spend.ensures.back
     c.write_refused.ensures.ok
     c.write_refused.ensures.memory

@@ -1,10 +1,9 @@
-use Rattle.std.proofs.Common.{◌≡◌, ap, ◌∙◌}
-use Rattle.mq_tree.specs.LentSet.{Lending}
-use Rattle.mq_cli.specs.Transcript.{start}
+use Rattle.std.proofs.Common.{◌≡◌}
+use Rattle.mq_cli.specs.Session.{start}
 use Rattle.mq_cli.proofs.Runs.{front_kept, runs_front}
 use Rattle.mq_cli.proofs.serial.run_script.Goals as goal
 
 pub returns-in-Err : goal.returns-in-Err
 returns-in-Err g c =
-    let started : c.in-Ok.session ≡ start c.args.arena = c.in-Ok.ensures ∙ ap (λ (arena : Lending). start arena.height) c.open.ensures in
+    let started : c.in-Ok.session ≡ start c.args.config = c.in-Ok.ensures in
     front_kept _ _ _ _ (runs_front _ _ _ _ (rw started at c.run_lines-outcome.ensures)) c.in-Err.ensures.bytes

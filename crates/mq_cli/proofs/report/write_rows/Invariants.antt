@@ -1,0 +1,7 @@
+use Rattle.std.proofs.Common.{◌≡◌, ◌++◌}
+use Rattle.mq_cli.specs.Reports.{lines_to}
+use Rattle.mq_cli.proofs.report.write_rows.Given as goal
+
+-- the lines so far
+abbrev pub invariant-loop-slot : goal.invariant-loop-slot
+invariant-loop-slot g l = l.out.items ≡ l.initial.out.items ++ lines_to l.queues l.slot
