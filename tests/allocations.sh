@@ -1,6 +1,6 @@
 #!/usr/bin/env bash
-# Runs mqsim over each script of tests/scripts and its own first one, without words and with those
-# of the list below, with its Nth allocation refused, for N from 1 until a run makes fewer. Each run
+# Runs mqsim over each script of tests/scripts, three of examples/ and its own first one, without
+# words and with those of the list below, with its Nth allocation refused, for N from 1 until a run makes fewer. Each run
 # must end in one of these ways:
 #   status 2, `out of memory` on standard error and nothing written: the words were not read;
 #   status 5, `mqsim: out of memory` and a front of the answers written;
@@ -27,9 +27,10 @@ is_right() {
 }
 
 runs=0
-for words in '' 'serial --height 6 --slots 16 --last-seq 32767' '--help' 'serial --height 11'; do
+for words in '' 'serial --height 6 --slots 16 --last-seq 32767' 'serial --height 2 --slots 2' \
+    '--help' 'serial --height 11'; do
     read -ra list <<< "$words"
-    for script in crates/mqsim/stdin tests/scripts/*; do
+    for script in crates/mqsim/stdin tests/scripts/* examples/{keys,pages,quota}; do
         usual=0
         "$program" "${list[@]}" < "$script" > "$shim/whole" 2> "$shim/err" || usual=$?
         unread=0

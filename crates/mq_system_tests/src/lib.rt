@@ -1,0 +1,24 @@
+//! Tests of the queue system for one thread.
+
+#![tactic(auto)]
+
+#[cfg(test)]
+mod calls;
+#[cfg(test)]
+mod ending;
+#[cfg(test)]
+mod first;
+#[cfg(test)]
+mod ids;
+#[cfg(test)]
+mod keys;
+#[cfg(test)]
+mod life;
+#[cfg(test)]
+mod limits;
+#[cfg(test)]
+mod names;
+#[cfg(test)]
+mod steps;
+#[cfg(test)]
+mod texts;
