@@ -3,7 +3,7 @@ use Rattle.std.specs.Option.{option_map}
 use Rattle.std.specs.declared.alloc.AllocError.{AllocError}
 use Rattle.mq_tree.specs.Blocks.{Block, block}
 use Rattle.mq_tree.specs.Fit.{fit}
-use Rattle.mq_tree.specs.LentSet.{Lending, joined}
+use Rattle.mq_tree.specs.LentSet.{joined}
 use Rattle.mq_tree.proofs.Kept.{left_fit}
 use Rattle.mq_arena.specs.Lent.{lend, with_lent, gives_back}
 use Rattle.mq_message.specs.Text.{PlainText, no_text, order_for}
@@ -11,10 +11,9 @@ use Rattle.mq_queue.specs.declared.limits.TheConstants.{MSGMAX}
 use Rattle.mq_system.specs.Calls.{msgsnd}
 use Rattle.mq_system.specs.Look.{Answer, refused_or_memory}
 use Rattle.mq_system.specs.State.{State, with_arena}
-use Rattle.mq_system.specs.Texts.{drafts, in_block, spends}
+use Rattle.mq_system.specs.Texts.{drafts, in_block}
 use Rattle.mq_system.specs.declared.draft_error.DraftError.{DraftError}
 use Rattle.mq_system.specs.declared.draft_error.DraftError.TheVariants.{TooLong}
-use Rattle.mq_system.specs.declared.errno.Errno.{Errno}
 use Rattle.mq_system.specs.declared.errno.Errno.TheVariants.{ENOMEM}
 use Rattle.mq_system.specs.declared.results.Refused.{Refused}
 use Rattle.mq_cli.specs.Commands.{Text}

@@ -8,7 +8,7 @@ use Rattle.std.proofs.lemmas.Grind.{flat_map-append}
 use Rattle.std.proofs.lemmas.List.{map-append, reverse-append}
 use Rattle.std.proofs.lemmas.List.Folds.{list_any-append}
 use Rattle.mq_tree.specs.Blocks.{Block, is_block}
-use Rattle.mq_tree.specs.LentSet.{Lending, left}
+use Rattle.mq_tree.specs.LentSet.{Lending}
 use Rattle.mq_arena.specs.Lent.{gives_back, with_lent}
 use Rattle.mq_message.specs.Text.{PlainText}
 use Rattle.mq_message.specs.declared.message.Message.{Message}

@@ -1,4 +1,4 @@
-use Rattle.std.proofs.Common.{◌≡◌, ℕ, ◌+◌, ◌-◌, ◌<◌, ◌≤◌, nat_le, Bool, true, false, cond, List, [], ◌∷◌, ◌++◌, length, take, drop, map, arith, refl, sym, ap, ◌∙◌, get_or, append-nil, length-append}
+use Rattle.std.proofs.Common.{◌≡◌, ℕ, ◌<◌, ◌≤◌, nat_le, Bool, true, false, cond, List, [], ◌++◌, length, take, drop, arith, refl, sym, ap, ◌∙◌, get_or, length-append}
 use Rattle.std.proofs.lemmas.Bool.{and_parts, leb-true}
 use Rattle.std.proofs.lemmas.Grind.{common_steps}
 use Rattle.std.proofs.lemmas.List.{length-map}
@@ -11,7 +11,7 @@ use Rattle.mq_queue.specs.Queue.{Queue, IsSound}
 use Rattle.mq_queue.specs.Waiting.{entry_of}
 use Rattle.mq_table.specs.Slot.{SlotState, empty_slot}
 use Rattle.mq_table.specs.SlotList.{is_live, last_log, offset}
-use Rattle.mq_system.specs.Closed.{Ending, ends}
+use Rattle.mq_system.specs.Closed.{ends}
 use Rattle.mq_system.specs.Limits.{empty_slots, keeps_limits}
 use Rattle.mq_system.specs.declared.config.Config.{Config}
 

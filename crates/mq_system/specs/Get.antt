@@ -1,5 +1,5 @@
 -- What msgget answers and leaves.
-use Rattle.std.specs.Prelude.{ℕ, ℤ, pos, ◌&&◌, if◌then◌else◌, Bool, length, Option, Some, None, Result, Ok, Err, position}
+use Rattle.std.specs.Prelude.{ℕ, ℤ, pos, ◌&&◌, if◌then◌else◌, length, Option, Some, None, Result, Ok, Err, position}
 use Rattle.std.specs.Ordering.{int_eq}
 use Rattle.mq_table.specs.Calls.{makes}
 use Rattle.mq_table.specs.Keys.{id_of_key, entered}

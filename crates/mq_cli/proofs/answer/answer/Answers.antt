@@ -1,5 +1,4 @@
-use Rattle.std.proofs.Common.{rules, ap, ◌∙◌, sym}
-use Rattle.mq_cli.specs.Session.{State}
+use Rattle.std.proofs.Common.{rules}
 use Rattle.mq_cli.specs.Transcript.{receive_step}
 use Rattle.mq_cli.proofs.Seats.{seated}
 use Rattle.mq_cli.proofs.answer.answer.Goals as goal

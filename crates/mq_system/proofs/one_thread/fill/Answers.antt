@@ -1,4 +1,4 @@
-use Rattle.std.proofs.Common.{rules, arith, refl}
+use Rattle.std.proofs.Common.{rules, arith}
 use Rattle.std.proofs.lemmas.List.FromFn.{map-range_with_len_more}
 use Rattle.mq_table.specs.Slot.{empty_slot}
 use Rattle.mq_system.proofs.SlotLemmas.{length_new}
@@ -12,6 +12,6 @@ push_reserved-requires g c =
 
 pub loop-number-preserved : goal.loop-number-preserved
 loop-number-preserved g c = (
-    rw (map-range_with_len_more empty_slot 0 c.loop-number.number c.loop-number.number (omega arith)) (search rules),
-    search rules,
+  rw (map-range_with_len_more empty_slot 0 c.loop-number.number c.loop-number.number (omega arith)) (search rules),
+  search rules,
 )

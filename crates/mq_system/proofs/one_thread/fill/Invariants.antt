@@ -1,4 +1,4 @@
-use Rattle.std.proofs.Common.{◌≡◌, ◌≤◌, ◌-◌, ◌+◌, vec_capacity}
+use Rattle.std.proofs.Common.{◌≡◌, ◌≤◌, vec_capacity}
 use Rattle.mq_system.specs.Limits.{empty_slots}
 use Rattle.mq_system.proofs.one_thread.fill.Given as goal
 

@@ -1,7 +1,7 @@
-use Rattle.std.proofs.Common.{◌≡◌, ◌++◌, ◌∷◌, [], rules, arith, length, map, reverse, sym, ap, ◌∙◌, length-append}
+use Rattle.std.proofs.Common.{◌∷◌, [], arith, length, map, sym, ap, ◌∙◌, length-append}
 use Rattle.std.proofs.lemmas.List.{nil_from_length}
 use Rattle.mq_tree.specs.LentSet.{Lending}
-use Rattle.mq_system.specs.Closed.{all_home, ending_of, ends}
+use Rattle.mq_system.specs.Closed.{all_home, ends}
 use Rattle.mq_system.specs.State.{State}
 use Rattle.mq_system.proofs.HomeLemmas.{last_home, endings_kept, none_left, reversed}
 use Rattle.mq_system.proofs.one_thread.OneThread.close.Goals as goal
@@ -11,15 +11,14 @@ loop-slot-preserved g c =
     let parted = c.in-Some.ensures.items in
     let left = c.pop.new.self.items in
     let inv = c.loop-slot.invariant in
-    let grown = c.push_reserved.ensures.items in
-    (
+    let grown = c.push_reserved.ensures.items in (
       rw grown
-      (endings_kept left c.in-Some.slot c.loop-slot.closed.items c.end_slot.result (map ends c.self.inside.slots.items)
-      c.end_slot.ensures.slot (rw parted at inv.0)),
+          (endings_kept left c.in-Some.slot c.loop-slot.closed.items c.end_slot.result (map ends c.self.inside.slots.items)
+          c.end_slot.ensures.slot (rw parted at inv.0)),
       ap (λ (a : Lending). all_home left a) c.end_slot.ensures.arena
-      ∙ sym (last_home left c.in-Some.slot c.loop-slot.arena)
-      ∙ ap (λ ss. all_home ss c.loop-slot.arena) (sym parted)
-      ∙ inv.1,
+          ∙ sym (last_home left c.in-Some.slot c.loop-slot.arena)
+          ∙ ap (λ ss. all_home ss c.loop-slot.arena) (sym parted)
+          ∙ inv.1,
       omega (arith, ap length parted, length-append left (c.in-Some.slot ∷ []), ap length grown, length-append c.loop-slot.closed.items (c.end_slot.result ∷ []), inv.2, c.push_reserved.ensures.capacity),
     )
 

@@ -1,6 +1,5 @@
 use Rattle.std.proofs.Common.{rules, arith, ◌≡◌, ◌≤◌, ◌^◌, ap, ◌∙◌, length}
 use Rattle.mq_tree.proofs.Powers.{pow_le}
-use Rattle.mq_system.specs.Limits.{keeps_limits}
 use Rattle.mq_system.proofs.SlotLemmas.{length_new, placed_new, within_limits}
 use Rattle.mq_system.proofs.one_thread.OneThread.new.Goals as goal
 

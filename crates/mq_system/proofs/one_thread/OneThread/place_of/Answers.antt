@@ -1,4 +1,4 @@
-use Rattle.std.proofs.Common.{rules, sym, ap, ◌∙◌, ◌≡◌, ◌<◌, length, arith}
+use Rattle.std.proofs.Common.{rules, sym, ap, ◌∙◌, ◌<◌, length}
 use Rattle.std.proofs.lemmas.List.{get_or_default}
 use Rattle.mq_message.specs.Text.{PlainText}
 use Rattle.mq_table.specs.Slot.{SlotState, empty_slot}
