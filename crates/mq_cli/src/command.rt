@@ -108,10 +108,13 @@ pub fn read_line(line: &[u8]) -> Result<Option<Command<'_>>, Cause>
     }
 }
 
+// It has no early way out, so that many bytes are compared at a time.
 fn is_printable_line(line: &[u8]) -> bool
     ensures { result ≡ list_all is_printable line.now }
 {
-    line.iter().all(|b| *b >= 0x20 && *b <= 0x7e)
+    line.iter()
+        .copied()
+        .fold(true, |all, b| all & (b >= 0x20 && b <= 0x7e))
 }
 
 fn is_skipped(line: &[u8]) -> bool

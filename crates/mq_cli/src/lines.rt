@@ -3,7 +3,7 @@ ghost use Rattle.std.specs.Iterator.{YieldsFirstRef, item_count};
 ghost use Rattle.mq_cli.specs.Lines.{lines_of, without_return};
 ghost use Rattle.mq_cli.specs.Parts.{lines_left};
 
-use crate::parts::first_part;
+use crate::parts::first_long_part;
 
 /// The lines of a script, each without its LF and without one CR before that. What follows the
 /// last LF is a line too, an empty one where nothing does.
@@ -28,7 +28,7 @@ impl<'a> Iterator for Lines<'a> {
     ghost remaining = { item_count (λ lines. lines_left lines.rest) };
 
     fn next(&mut self) -> Option<&'a [u8]> {
-        let (line, rest) = first_part(b'\n', self.rest?);
+        let (line, rest) = first_long_part(b'\n', self.rest?);
         self.rest = rest;
         Some(trimmed(line))
     }

@@ -1,22 +1,49 @@
-ghost use Rattle.std.specs.Prelude.{◌≡◌, ◌==◌, ◌∷◌};
+ghost use Rattle.std.specs.Prelude.{◌≡◌, ◌==◌, ◌∷◌, ◌<◌, ℕ, length, IfSome};
 ghost use Rattle.std.specs.List.{position};
 ghost use Rattle.mq_cli.specs.Lines.{parts_of};
 ghost use Rattle.mq_cli.specs.Parts.{parts_left};
 
-#[tactic(auto, using(crate::proofs::PartsLemmas::split_taken, crate::proofs::PartsLemmas::split_where_none))]
+use memchr::memchr;
+
 /// The part before the first separator, and what stands behind that separator, if there is one.
 pub fn first_part(separator: u8, text: &[u8]) -> (&[u8], Option<&[u8]>)
     ensures { parts_of separator text.now ≡ result.0.now ∷ parts_left separator result.1 }
 {
-    match position_of(separator, text) {
-        Some(end) => (&text[..end], Some(&text[end + 1..])),
+    cut_at(text, position_of(separator, text))
+}
+
+/// The same by a search of many bytes at a time, which pays for itself where the part is long.
+pub fn first_long_part(separator: u8, text: &[u8]) -> (&[u8], Option<&[u8]>)
+    ensures { parts_of separator text.now ≡ result.0.now ∷ parts_left separator result.1 }
+{
+    cut_at(text, place_of(separator, text))
+}
+
+#[tactic(auto, using(crate::proofs::PartsLemmas::split_taken, crate::proofs::PartsLemmas::split_where_none))]
+/// What stands before that place and behind it, which is all where there is no place.
+fn cut_at(text: &[u8], place: Option<usize>) -> (&[u8], Option<&[u8]>)
+    requires within { IfSome place (λ place. place < length text.now) }
+    ensures { (separator : ℕ) → place ≡ position (λ b. b == separator) text.now
+        → parts_of separator text.now ≡ result.0.now ∷ parts_left separator result.1 }
+{
+    match place {
+        Some(place) => (&text[..place], Some(&text[place + 1..])),
         None => (text, None),
     }
 }
 
 /// The place of the first byte of this value.
 fn position_of(byte: u8, text: &[u8]) -> Option<usize>
-    ensures { result ≡ position (λ b. b == byte) text.now }
+    ensures value { result ≡ position (λ b. b == byte) text.now }
+    ensures within { IfSome result (λ place. place < length text.now) }
 {
     text.iter().position(|b| *b == byte)
+}
+
+/// The same, by a search of many bytes at a time.
+fn place_of(byte: u8, text: &[u8]) -> Option<usize>
+    ensures value { result ≡ position (λ b. b == byte) text.now }
+    ensures within { IfSome result (λ place. place < length text.now) }
+{
+    memchr(byte, text)
 }

@@ -3,12 +3,31 @@ ghost use Rattle.mq_cli.specs.Kept.{arena_shown};
 ghost use Rattle.mq_cli.specs.Transcript.{callers_of, counts_of, head_of, moments_of, order_name, pages_of};
 ghost use Rattle.mq_cli.specs.Transcript.{output, refused, given, at, message, gone, counted};
 
+use itoa::{Buffer, Integer};
 use mq_message::Text;
 use mq_queue::Figures;
 use mq_system::{Delivered, Errno};
 use std::alloc::AllocError;
-use std::io::Write;
 use std::sync::ledger::Ledger;
+
+/// Puts a word and the number that it names behind what the buffer holds.
+fn write_field<I: Integer>(out: &mut Vec<u8>, word: &[u8], number: I) -> Result<(), AllocError>
+    ensures { OnOk result (out.new.items ≡ out.old.items ++ word.now ++ I.text number) }
+{
+    let mut digits = Buffer::new();
+    out.extend_from_slice(word)?;
+    out.extend_from_slice(digits.format(number).as_bytes())
+}
+
+/// The same at the end of a line.
+fn write_last<I: Integer>(out: &mut Vec<u8>, word: &[u8], number: I) -> Result<(), AllocError>
+    ensures { OnOk result
+        (out.new.items ≡ out.old.items ++ word.now ++ I.text number ++ 10 ∷ []) }
+{
+    write_field(out, word, number)?;
+    out.push(b'\n')?;
+    Ok(())
+}
 
 /// What `arena` answers.
 #[derive(Clone, Copy)]
@@ -32,7 +51,9 @@ pub fn write_arena(out: &mut Vec<u8>, f: ArenaFigures) -> Result<(), AllocError>
 fn write_pages(out: &mut Vec<u8>, pages: u32, free: u32) -> Result<(), AllocError>
     ensures { OnOk result (out.new.items ≡ out.old.items ++ pages_of pages free) }
 {
-    write!(out, "pages {pages} free {free} largest ").map_err(|_| AllocError)
+    write_field(out, b"pages ", pages)?;
+    write_field(out, b" free ", free)?;
+    out.extend_from_slice(b" largest ")
 }
 
 /// The order, and the end of the line.
@@ -40,8 +61,8 @@ fn write_order(out: &mut Vec<u8>, order: Option<u8>) -> Result<(), AllocError>
     ensures { OnOk result (out.new.items ≡ out.old.items ++ order_name order ++ 10 ∷ []) }
 {
     match order {
-        Some(order) => writeln!(out, "{order}").map_err(|_| AllocError),
-        None => writeln!(out, "none").map_err(|_| AllocError),
+        Some(order) => write_last(out, b"", order),
+        None => out.extend_from_slice(b"none\n"),
     }
 }
 
@@ -49,21 +70,22 @@ fn write_order(out: &mut Vec<u8>, order: Option<u8>) -> Result<(), AllocError>
 pub fn write_id(out: &mut Vec<u8>, id: u32) -> Result<(), AllocError>
     ensures { OnOk result (out.new.items ≡ out.old.items ++ output (given id)) }
 {
-    writeln!(out, "id {id}").map_err(|_| AllocError)
+    write_last(out, b"id ", id)
 }
 
 /// `at E`
 pub fn write_entry(out: &mut Vec<u8>, entry: u64) -> Result<(), AllocError>
     ensures { OnOk result (out.new.items ≡ out.old.items ++ output (at entry)) }
 {
-    writeln!(out, "at {entry}").map_err(|_| AllocError)
+    write_last(out, b"at ", entry)
 }
 
 /// `at E events K`
 pub fn write_removal(out: &mut Vec<u8>, entry: u64, events: u64) -> Result<(), AllocError>
     ensures { OnOk result (out.new.items ≡ out.old.items ++ output (gone entry events)) }
 {
-    writeln!(out, "at {entry} events {events}").map_err(|_| AllocError)
+    write_field(out, b"at ", entry)?;
+    write_last(out, b" events ", events)
 }
 
 /// `qnum A cbytes B qbytes C lspid D lrpid E stime F rtime G ctime H`
@@ -81,34 +103,26 @@ pub fn write_figures(out: &mut Vec<u8>, f: Figures) -> Result<(), AllocError>
 fn write_counts(out: &mut Vec<u8>, f: Figures) -> Result<(), AllocError>
     ensures { OnOk result (out.new.items ≡ out.old.items ++ counts_of f) }
 {
-    let Figures {
-        qnum,
-        cbytes,
-        qbytes,
-        ..
-    } = f;
-    write!(out, "qnum {qnum} cbytes {cbytes} qbytes {qbytes}").map_err(|_| AllocError)
+    write_field(out, b"qnum ", f.qnum)?;
+    write_field(out, b" cbytes ", f.cbytes)?;
+    write_field(out, b" qbytes ", f.qbytes)
 }
 
 #[tactic(auto, unfolding(crate::specs::Transcript::callers_of))]
 fn write_callers(out: &mut Vec<u8>, f: Figures) -> Result<(), AllocError>
     ensures { OnOk result (out.new.items ≡ out.old.items ++ callers_of f) }
 {
-    let Figures { lspid, lrpid, .. } = f;
-    write!(out, " lspid {lspid} lrpid {lrpid}").map_err(|_| AllocError)
+    write_field(out, b" lspid ", f.lspid)?;
+    write_field(out, b" lrpid ", f.lrpid)
 }
 
 #[tactic(auto, unfolding(crate::specs::Transcript::moments_of))]
 fn write_moments(out: &mut Vec<u8>, f: Figures) -> Result<(), AllocError>
     ensures { OnOk result (out.new.items ≡ out.old.items ++ moments_of f) }
 {
-    let Figures {
-        stime,
-        rtime,
-        ctime,
-        ..
-    } = f;
-    write!(out, " stime {stime} rtime {rtime} ctime {ctime}").map_err(|_| AllocError)
+    write_field(out, b" stime ", f.stime)?;
+    write_field(out, b" rtime ", f.rtime)?;
+    write_field(out, b" ctime ", f.ctime)
 }
 
 /// `msg TYPE seat S tag T len L =BYTES`
@@ -142,14 +156,20 @@ fn write_head(
 ) -> Result<(), AllocError>
     ensures { OnOk result (out.new.items ≡ out.old.items ++ head_of mtype sender tag length) }
 {
-    write!(out, "msg {mtype} seat {sender} tag {tag} len {length} =").map_err(|_| AllocError)
+    write_field(out, b"msg ", mtype)?;
+    write_field(out, b" seat ", sender)?;
+    write_field(out, b" tag ", tag)?;
+    write_field(out, b" len ", length)?;
+    out.extend_from_slice(b" =")
 }
 
 /// The manual's name of a refusal.
 pub fn write_errno(out: &mut Vec<u8>, errno: Errno) -> Result<(), AllocError>
     ensures { OnOk result (out.new.items ≡ out.old.items ++ output (refused errno)) }
 {
-    writeln!(out, "{}", errno.name()).map_err(|_| AllocError)
+    out.extend_from_slice(errno.name().as_bytes())?;
+    out.push(b'\n')?;
+    Ok(())
 }
 
 /// The manual's name of the refusal of a call; `ENOMEM` has no line there.
