@@ -17,7 +17,8 @@ with_lent arena lent = record { height = arena.height; lent = lent }
 -- the block of that order that goes out next, and the arena once it is out; none where none fits
 abbrev pub lend : Lending → ℕ → Option (Block × Lending)
 lend arena order =
-    option_map (λ start. (block start order, with_lent arena (joined (block start order) arena.lent)))
+    option_map
+    (λ start. (block start order, with_lent arena (joined (block start order) arena.lent)))
     (fit arena.height arena.lent order)
 
 -- the arena once the block is home; one that is not lent changes nothing

@@ -81,17 +81,22 @@ abbrev pub is_plain : List ℕ → Bool
 is_plain text = slice_index_or text 0 0 == 61
 
 abbrev pub is_text : List ℕ → Bool
-is_text text = is_plain text || ((slice_index_or text 0 0 == 42) && not (list_any (λ b. b == 32) text))
+is_text text =
+    is_plain text || ((slice_index_or text 0 0 == 42) && not (list_any (λ b. b == 32) text))
 
 -- the bytes behind `=`, or as many letters as the number behind `*` says
 abbrev pub text_of : List ℕ → Option Text
-text_of text = if is_plain text then Some (plain (drop 1 text)) else option_map letters (number_of (drop 1 text))
+text_of text =
+    if is_plain text
+    then Some (plain (drop 1 text))
+    else option_map letters (number_of (drop 1 text))
 
 -- msgsnd
 abbrev pub send_of : List (List ℕ) → Result Call Cause
 send_of (id ∷ mtype ∷ text) =
     if is_filled id && is_filled mtype && is_text (line_of text)
-    then (under (2 ^ 32) (number_of id) >>= λ i. integer_of mtype >>= λ z. text_of (line_of text) >>= λ t. Ok (snd i z t))
+    then (under (2 ^ 32) (number_of id) >>= λ i. integer_of mtype >>= λ z.
+    text_of (line_of text) >>= λ t. Ok (snd i z t))
     else Err Words
 send_of _ = Err Words
 

@@ -28,22 +28,31 @@ get_flag_words true true = codes "cx" ∷ []
 abbrev pub spelling : Call → List ℕ
 spelling (sit number) = line_of (codes "seat" ∷ decimal number ∷ [])
 spelling show = codes "arena"
-spelling (get key flags) = line_of (codes "get" ∷ signed_decimal key ∷ get_flag_words flags.create flags.exclusive)
-spelling (snd id mtype text) = line_of (codes "snd" ∷ decimal id ∷ signed_decimal mtype ∷ text_spelling text ∷ [])
-spelling (rcv id size mtype except noerror) = line_of (codes "rcv" ∷ decimal id ∷ decimal size ∷ signed_decimal mtype ∷ flag_words except noerror)
+spelling (get key flags) =
+    line_of (codes "get" ∷ signed_decimal key ∷ get_flag_words flags.create flags.exclusive)
+spelling (snd id mtype text) =
+    line_of (codes "snd" ∷ decimal id ∷ signed_decimal mtype ∷ text_spelling text ∷ [])
+spelling (rcv id size mtype except noerror) =
+    line_of (codes "rcv" ∷ decimal id ∷ decimal size ∷ signed_decimal mtype
+    ∷ flag_words except noerror)
 spelling (set id qbytes) = line_of (codes "set" ∷ decimal id ∷ decimal qbytes ∷ [])
 spelling (rm id) = line_of (codes "rm" ∷ decimal id ∷ [])
 spelling (stat id) = line_of (codes "stat" ∷ decimal id ∷ [])
 spelling ipcs = codes "ipcs"
 
--- the calls that a line can ask for: each number is in its range, and a text is printable and leaves the line short enough
+-- the calls that a line can ask for: each number is in its range, and a text is printable and
+-- leaves the line short enough
 abbrev pub CanBeSpelled : Call → Type 0
 CanBeSpelled (sit number) = (1 ≤ number) × (number ≤ 16)
 CanBeSpelled show = Unit {0}
 CanBeSpelled (get key flags) = FitsSigned w32 key
-CanBeSpelled (snd id mtype (plain bytes)) = (id < 2 ^ 32) × FitsSigned w64 mtype × IsTrue (list_all is_printable bytes) × (length (spelling (snd id mtype (plain bytes))) ≤ LINE_LIMIT)
-CanBeSpelled (snd id mtype (letters count)) = (id < 2 ^ 32) × FitsSigned w64 mtype × (count < 2 ^ 64)
-CanBeSpelled (rcv id size mtype except noerror) = (id < 2 ^ 32) × (size < 2 ^ 64) × FitsSigned w64 mtype
+CanBeSpelled (snd id mtype (plain bytes)) =
+    (id < 2 ^ 32) × FitsSigned w64 mtype × IsTrue (list_all is_printable bytes)
+    × (length (spelling (snd id mtype (plain bytes))) ≤ LINE_LIMIT)
+CanBeSpelled (snd id mtype (letters count)) =
+    (id < 2 ^ 32) × FitsSigned w64 mtype × (count < 2 ^ 64)
+CanBeSpelled (rcv id size mtype except noerror) =
+    (id < 2 ^ 32) × (size < 2 ^ 64) × FitsSigned w64 mtype
 CanBeSpelled (set id qbytes) = (id < 2 ^ 32) × (qbytes < 2 ^ 64)
 CanBeSpelled (rm id) = id < 2 ^ 32
 CanBeSpelled (stat id) = id < 2 ^ 32

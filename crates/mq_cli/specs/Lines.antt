@@ -10,7 +10,8 @@ abbrev pub without_return : List ℕ → List ℕ
 without_return line =
     if slice_index_or line (length line - 1) 0 == 13 then take (length line - 1) line else line
 
--- the lines of a script, which LF ends; what follows the last LF is a line too, where it is empty one that says nothing
+-- the lines of a script, which LF ends; what follows the last LF is a line too, where it is empty
+-- one that says nothing
 abbrev pub lines_of : List ℕ → List (List ℕ)
 lines_of script = map without_return (parts_of 10 script)
 

@@ -27,20 +27,24 @@ IsInputFault Read = Unit {0}
 IsInputFault Memory = Unit {0}
 IsInputFault _ = ⊥
 
--- the writer took what the run writes, and the fault is the run's: or only a front, where a write or memory failed
+-- the writer took what the run writes, and the fault is the run's: or only a front, where a write
+-- or memory failed
 abbrev pub Runs : Option (List ℕ) → Option (List ℕ) → Run → Result (Unit {0}) RunFault → Type 0
 Runs old new run (Ok _) = (run.fault ≡ None) × Appends old new run.written
-Runs old new run (Err (Script line cause)) = (run.fault ≡ Some (line, cause)) × Appends old new run.written
+Runs old new run (Err (Script line cause)) =
+    (run.fault ≡ Some (line, cause)) × Appends old new run.written
 Runs old new run (Err Write) = AppendsFront old new run.written
 Runs old new run (Err Memory) = AppendsFront old new run.written
 Runs old new run (Err _) = ⊥
 
 -- the same of the line with this number, which leaves the state s
-abbrev pub RunsLine : Option (List ℕ) → Option (List ℕ) → ℕ → Result (List ℕ × State) Cause → State → Result (Unit {0}) RunFault → Type 0
+abbrev pub RunsLine : Option (List ℕ) → Option (List ℕ) → ℕ → Result (List ℕ × State) Cause
+    → State → Result (Unit {0}) RunFault → Type 0
 RunsLine old new number (Ok turn) s (Ok _) = (s ≡ turn.1) × Appends old new turn.0
 RunsLine old new number (Ok turn) s (Err Write) = AppendsFront old new turn.0
 RunsLine old new number (Ok turn) s (Err Memory) = AppendsFront old new turn.0
-RunsLine old new number (Err cause) s (Err (Script line named)) = (line ≡ number) × (named ≡ cause) × Appends old new []
+RunsLine old new number (Err cause) s (Err (Script line named)) =
+    (line ≡ number) × (named ≡ cause) × Appends old new []
 RunsLine old new number _ s _ = ⊥
 
 -- the reply of a call stands behind what the buffer held, and the call leaves this

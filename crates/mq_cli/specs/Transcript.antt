@@ -35,12 +35,13 @@ pub data Reply : Type 0 where
 -- what is said of a message that is handed out, up to its text
 unfoldable pub head_of : ℤ → ℕ → ℕ → ℕ → List ℕ
 head_of mtype sender tag n =
-    codes "msg " ++ signed_decimal mtype ++ codes " seat " ++ decimal sender ++ codes " tag " ++ decimal tag
-    ++ codes " len " ++ decimal n ++ codes " ="
+    codes "msg " ++ signed_decimal mtype ++ codes " seat " ++ decimal sender
+    ++ codes " tag " ++ decimal tag ++ codes " len " ++ decimal n ++ codes " ="
 
 -- what is said of the arena, up to the largest order that fits
 unfoldable pub pages_of : ℕ → ℕ → List ℕ
-pages_of pages free = codes "pages " ++ decimal pages ++ codes " free " ++ decimal free ++ codes " largest "
+pages_of pages free =
+    codes "pages " ++ decimal pages ++ codes " free " ++ decimal free ++ codes " largest "
 
 abbrev pub order_name : Option ℕ → List ℕ
 order_name None = codes "none"
@@ -78,7 +79,8 @@ output silent = []
 output reply = text_of reply ++ 10 ∷ []
 
 -- the reply of an answer, and what it leaves: a refused call leaves all
-abbrev pub told : {T : Type 0} → System → (T × System → Reply × System) → Result (T × System) Errno → Reply × System
+abbrev pub told : {T : Type 0} → System → (T × System → Reply × System) → Result (T × System) Errno
+    → Reply × System
 told q reply (Ok turn) = reply turn
 told q reply (Err e) = (refused e, q)
 
@@ -89,7 +91,8 @@ get_step n seat q key flags = told q (λ t. (given t.0.id, t.1)) (msgget q seat 
 -- a text that cannot be made is refused whatever else the line says; a refused call leaves all
 abbrev pub send_step : ℕ → ℕ → System → ℕ → ℤ → Text → Reply × System
 send_step n seat q id mtype text =
-    told q (λ d. told q (λ t. (at t.0, t.1)) (by_errno (msgsnd d.1 seat id mtype n d.0 n))) (draft q text)
+    told q (λ d. told q (λ t. (at t.0, t.1)) (by_errno (msgsnd d.1 seat id mtype n d.0 n)))
+    (draft q text)
 
 -- a text that was handed out is given up once it is written
 abbrev pub receive_step : ℕ → ℕ → System → ℕ → ℕ → ℤ → Bool → Bool → Reply × System

@@ -113,7 +113,8 @@ fn receive<L: Ledger>(
     out: &mut Vec<u8>,
 ) -> Result<(), AllocError>
     ensures { OnOk result (Answered
-        (receive_step line seat queues.old call.id call.size call.mtype call.flags.except call.flags.noerror)
+        (receive_step line seat queues.old call.id call.size call.mtype
+        call.flags.except call.flags.noerror)
         out.old.items out.new.items queues.new) }
 {
     let ReceiveFlags { except, noerror } = call.flags;

@@ -12,7 +12,8 @@ pub struct WriteFailed;
 /// std's `write_all` it asks no second time.
 pub fn write_bytes<W: Write>(writer: &mut W, bytes: &[u8]) -> Result<(), WriteFailed>
     ensures ok { OnOk result (Appends (W.contents writer.old) (W.contents writer.new) bytes.now) }
-    ensures err { OnErr result (AppendsFront (W.contents writer.old) (W.contents writer.new) bytes.now) }
+    ensures err { OnErr result
+        (AppendsFront (W.contents writer.old) (W.contents writer.new) bytes.now) }
 {
     let mut rest = bytes;
     while !rest.is_empty() {

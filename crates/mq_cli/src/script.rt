@@ -10,7 +10,8 @@ use std::io::Read;
 /// All that the reader gives, which is a script where it is no longer than one may be. Each
 /// error of a read call is a fault.
 pub fn read_script<R: Read>(alloc: Global, reader: &mut R) -> Result<Vec<u8>, RunFault>
-    ensures whole { IfOk result (λ script. Consumes (R.remaining reader.old) (R.remaining reader.new) script.items) }
+    ensures whole { IfOk result (λ script.
+        Consumes (R.remaining reader.old) (R.remaining reader.new) script.items) }
     ensures end { OnOk result (IsAtEnd (R.remaining reader.new)) }
     ensures fits { IfOk result (λ script. vec_len script ≤ SCRIPT_LIMIT) }
     ensures faults { IfErr result IsInputFault }

@@ -49,8 +49,10 @@ pub fn run_serial<R: Read, W: Write>(
         ReadsUpTo SCRIPT_LIMIT (R.remaining reader.old) (R.remaining reader.new) }
 
     // Nothing is written before the script is read, and never more than the transcript.
-    ensures unwritten_size { IsErrOf result RunFault.Size → Keeps (W.contents writer.old) (W.contents writer.new) }
-    ensures unwritten_read { IsErrOf result RunFault.Read → Keeps (W.contents writer.old) (W.contents writer.new) }
+    ensures unwritten_size { IsErrOf result RunFault.Size →
+        Keeps (W.contents writer.old) (W.contents writer.new) }
+    ensures unwritten_read { IsErrOf result RunFault.Read →
+        Keeps (W.contents writer.old) (W.contents writer.new) }
     ensures write { IsErrOf result RunFault.Write → IfSome (R.remaining reader.old) (λ script.
         AppendsFront (W.contents writer.old) (W.contents writer.new) (transcript config script)) }
     ensures memory { IsErrOf result RunFault.Memory → IfSome (R.remaining reader.old) (λ script.
@@ -76,7 +78,8 @@ fn run_script<L: Ledger, W: Write>(
     requires name { ledger.name ≡ L.name }
     requires parts { ledger.parts ≡ L.parts }
     requires enough { 1024 < ledger.parts }
-    ensures { Runs (W.contents writer.old) (W.contents writer.new) (run_of config script.now) result }
+    ensures { Runs (W.contents writer.old) (W.contents writer.new)
+        (run_of config script.now) result }
 {
     let Ok(mut session) = Session::<L>::new(alloc, config, ledger) else {
         return Err(RunFault::Memory);

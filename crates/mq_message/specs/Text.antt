@@ -37,4 +37,5 @@ with_part text i part =
 
 -- the text once its bytes are the first ones of these pages
 abbrev pub with_front : PlainText → List (List ℕ) → PlainText
-with_front text pages = record { bytes = take (length text.bytes) (concat pages); block = text.block }
+with_front text pages =
+    record { bytes = take (length text.bytes) (concat pages); block = text.block }

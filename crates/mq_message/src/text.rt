@@ -104,7 +104,8 @@ impl<L: Ledger> Text<L> {
     /// The block, if it has one, with all its bytes: those of the text come first.
     pub fn into_block(self) -> Option<Block<L>>
         ensures block { option_map place result ≡ self.block }
-        ensures bytes { IfSome result (λ b. take (length self.bytes) (concat b.pages) ≡ self.bytes) }
+        ensures bytes { IfSome result
+            (λ b. take (length self.bytes) (concat b.pages) ≡ self.bytes) }
     {
         let Text { len: _, block } = self;
         block

@@ -37,7 +37,8 @@ delivered slot size r = record {
   text = cut_to size (text_at r.message.place slot.messages);
 }
 
-abbrev pub delivers : SlotState PlainText → ℕ → Turn PlainText Receipt → Turn PlainText (Delivered PlainText)
+abbrev pub delivers : SlotState PlainText → ℕ → Turn PlainText Receipt
+    → Turn PlainText (Delivered PlainText)
 delivers slot size (Ok turn) = Ok (delivered slot size turn.0, turn.1)
 delivers slot size (Err refusal) = Err refusal
 
@@ -52,8 +53,8 @@ set s seat id qbytes moment = in_queue s id (λ slot. sets slot qbytes seat mome
 
 -- the queue leaves its slot, its key is forgotten, and all that waited goes home (msgctl(2),
 -- IPC_RMID)
-abbrev pub removed : State → ℕ → ℕ → SlotState PlainText → SlotState PlainText → Removal × State
-removed s seat id slot after = (
+abbrev pub removed : State → ℕ → SlotState PlainText → SlotState PlainText → Removal × State
+removed s id slot after = (
   record { entry = length slot.events; log = last_log after.events },
   record {
     arena = spends_all slot.messages s.arena;
@@ -66,7 +67,7 @@ removed s seat id slot after = (
 abbrev pub rmid : State → ℕ → ℕ → ℕ → Answer Removal
 rmid s seat id moment =
     let slot = slot_at s (slot_of id) in
-    once (look s id) (Ok (removed s seat id slot (removes slot seat moment)))
+    once (look s id) (Ok (removed s id slot (removes slot seat moment)))
 
 -- what is shown of an id's queue (msgctl(2), IPC_STAT)
 abbrev pub shown : List Event → Result (Unit {0}) Refused → Result Figures Errno

@@ -23,7 +23,8 @@ bytes_of text = text.bytes
 -- a text of n zeros in the block that the arena lends for it, where one fits
 abbrev pub in_block : State → ℕ → Option (Block × Lending) → Result (PlainText × State) DraftError
 in_block s n None = Err NoRun
-in_block s n (Some lent) = Ok (record { bytes = replicate n 0; block = Some lent.0 }, with_arena s lent.1)
+in_block s n (Some lent) =
+    Ok (record { bytes = replicate n 0; block = Some lent.0 }, with_arena s lent.1)
 
 -- a text of n zeros, no longer than a message's: the empty one has no block
 abbrev pub drafts : State → ℕ → Result (PlainText × State) DraftError

@@ -71,8 +71,8 @@ impl<L: Ledger> OneThread<L> {
         noerror: bool,
         moment: u64,
     ) -> Result<Delivered<Text<L>>, Refused>
-        ensures ok { IfOk result (λ d. msgrcv_answer self.old seat id size msgtyp except noerror moment
-            ≡ Ok (d, self.new)) }
+        ensures ok { IfOk result (λ d.
+            msgrcv_answer self.old seat id size msgtyp except noerror moment ≡ Ok (d, self.new)) }
         ensures refused { IfErr result (λ r. r ≡ refused_or_memory self.old id
             (msgrcv_answer self.old seat id size msgtyp except noerror moment)) }
         ensures unchanged { OnErr result (self.new ≡ self.old) }
@@ -109,7 +109,8 @@ impl<L: Ledger> OneThread<L> {
     /// The refusal after all that has happened in the slot.
     pub(crate) fn refused(&self, k: usize, errno: Errno) -> Refused
         requires { k < length self.now.slots }
-        ensures { result ≡ record { errno = errno; entry = Some (length (slot_at self.now k).events) } }
+        ensures { result
+            ≡ record { errno = errno; entry = Some (length (slot_at self.now k).events) } }
     {
         Refused {
             errno,
@@ -120,7 +121,14 @@ impl<L: Ledger> OneThread<L> {
 
 /// What is handed out of what was received.
 fn delivery<L: Ledger>(received: Received<Text<L>>) -> Delivered<Text<L>>
-    ensures { result ≡ record { entry = received.entry; mtype = received.mtype; sender = received.sender; tag = received.tag; length = received.length; text = received.body } }
+    ensures { result ≡ record {
+      entry = received.entry;
+      mtype = received.mtype;
+      sender = received.sender;
+      tag = received.tag;
+      length = received.length;
+      text = received.body;
+    } }
 {
     let Received {
         entry,

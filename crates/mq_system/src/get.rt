@@ -10,8 +10,8 @@ use mq_table::make_under;
 use std::sync::ledger::Ledger;
 
 impl<L: Ledger> OneThread<L> {
-    /// The id of the queue with this key, or of a new queue (msgget(2)). Key 0 is IPC_PRIVATE. EEXIST,
-    /// ENOENT, ENOSPC, then ENOMEM.
+    /// The id of the queue with this key, or of a new queue (msgget(2)). Key 0 is IPC_PRIVATE.
+    /// EEXIST, ENOENT, ENOSPC, then ENOMEM.
     pub fn msgget(
         &mut self,
         seat: u16,

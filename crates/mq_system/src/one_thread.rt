@@ -46,7 +46,8 @@ impl<L: Ledger> Model for OneThread<L> {
     ghost view = { λ s.
         record { arena = s.arena; slots = s.slots.items; keys = s.keys; last_seq = s.last_seq } };
 
-    ghost invariant = { λ s. IsKept s.slots.items s.last_seq s.closed.items (vec_capacity s.closed) };
+    ghost invariant = { λ s.
+        IsKept s.slots.items s.last_seq s.closed.items (vec_capacity s.closed) };
 }
 
 /// Slots in which no queue was made, as many as there is room for.
