@@ -9,10 +9,8 @@ use Rattle.std.proofs.lemmas.Nat.{pow_pos}
 use Rattle.mq_tree.specs.Blocks.{Block, block, IsInArena, is_block, moved_up}
 use Rattle.mq_tree.specs.LentSet.{joined, left, is_lent}
 use Rattle.mq_tree.specs.Fit.{fit}
-use Rattle.mq_tree.specs.Nodes.{node_count, root, left_half, right_half, is_lent_whole}
+use Rattle.mq_tree.specs.Nodes.{Node, Lent, node_count, root, left_half, right_half, is_lent_whole, is_split}
 use Rattle.mq_tree.specs.Trees.{lent_blocks, IsTree}
-use Rattle.mq_tree.specs.declared.node.Node.{Node}
-use Rattle.mq_tree.specs.declared.node.Node.TheVariants.{Free, Lent}
 use Rattle.mq_tree.proofs.Powers.{order_le}
 use Rattle.mq_tree.proofs.Fits.{fit_passes, fit_order, fit_empty, fit_whole, fit_lent}
 use Rattle.mq_tree.proofs.Halving.{fit_split}
@@ -37,37 +35,34 @@ none_is (Some s) t = absurd (cc)
 pub order_in_room : (height : ℕ) (lent : List Block) (order : ℕ) → IsSome (fit height lent order) → order ≤ height
 order_in_room height lent order h = let s = some_is (fit height lent order) h in fit_order height lent order s.0 s.1
 
-front_is : (front : List Node) (d : Node) → length front ≡ 1 → front ≡ get_or front 0 d ∷ []
-front_is [] d l = absurd (omega arith)
-front_is (n ∷ []) d l = refl
-front_is (n ∷ m ∷ ns) d l = absurd (omega arith)
+rooted : (nodes front rest : List Node) (first : Node) → first ≡ root nodes → nodes ≡ front ++ rest → length front ≡ 1 → nodes ≡ first ∷ rest
+rooted nodes [] rest first e whole l = absurd (omega arith)
+rooted nodes (n ∷ []) rest first e whole l = whole ∙ ap (λ m. m ∷ rest) (sym (ap root whole) ∙ sym e)
+rooted nodes (n ∷ m ∷ ns) rest first e whole l = absurd (omega arith)
 
 -- the parts that a tree is taken into
-pub record Parts (height : ℕ) (nodes front l r : List Node) : Type 0 where
+pub record Parts (height : ℕ) (nodes : List Node) (first : Node) (l r : List Node) : Type 0 where
   pub height_is : suc (height - 1) ≡ height
   pub left_len : length l ≡ node_count (height - 1)
   pub right_len : length r ≡ node_count (height - 1)
-  pub root_first : get_or front 0 Free ≡ root nodes
-  pub tree : IsTree (suc (height - 1)) (get_or front 0 Free ∷ (l ++ r))
-  pub blocks : lent_blocks height nodes ≡ lent_blocks (suc (height - 1)) (get_or front 0 Free ∷ (l ++ r))
+  pub tree : IsTree (suc (height - 1)) (first ∷ (l ++ r))
+  pub blocks : lent_blocks height nodes ≡ lent_blocks (suc (height - 1)) (first ∷ (l ++ r))
 
-pub parts : (height : ℕ) (nodes front rest l r : List Node) → 1 ≤ height → IsTree height nodes
-    → nodes ≡ front ++ rest → length front ≡ 1 → rest ≡ l ++ r → length l ≡ length rest / 2 → Parts height nodes front l r
-parts height nodes front rest l r high tree whole one halves middle =
+pub parts : (height : ℕ) (nodes front rest l r : List Node) (first : Node) → first ≡ root nodes → 1 ≤ height → IsTree height nodes
+    → nodes ≡ front ++ rest → length front ≡ 1 → rest ≡ l ++ r → length l ≡ length rest / 2 → Parts height nodes first l r
+parts height nodes front rest l r first is_first high tree whole one halves middle =
     let h : suc (height - 1) ≡ height = omega arith in
     let n : length nodes ≡ node_count height = tree_length height nodes tree in
     let k : node_count height ≡ suc (node_count (height - 1) + node_count (height - 1)) = ap node_count (sym h) ∙ node_count_suc (height - 1) in
     let twice : length rest ≡ node_count (height - 1) + node_count (height - 1) = omega (arith, n, k, ap length whole, length-append front rest) in
     let ll : length l ≡ node_count (height - 1) = omega (arith, twice, middle) in
-    let are : nodes ≡ get_or front 0 Free ∷ (l ++ r) =
-    whole ∙ ap (λ f. f ++ rest) (front_is front Free one) ∙ ap (λ x. get_or front 0 Free ∷ x) halves in
-    let P : ℕ → Type 0 = λ h. IsTree h (get_or front 0 Free ∷ (l ++ r)) in
+    let are : nodes ≡ first ∷ (l ++ r) = rooted nodes front (l ++ r) first is_first (whole ∙ ap (λ x. front ++ x) halves) one in
+    let P : ℕ → Type 0 = λ h. IsTree h (first ∷ (l ++ r)) in
     let Q : List Node → Type 0 = λ x. IsTree height x in
     record {
       height_is = h;
       left_len = ll;
       right_len = omega (arith, twice, ll, ap length halves, length-append l r);
-      root_first = sym (ap root are);
       tree = subst P (sym h) (subst Q are tree);
       blocks = ap (λ h. lent_blocks h nodes) (sym h) ∙ ap (λ x. lent_blocks (suc (height - 1)) x) are;
     }
@@ -180,10 +175,20 @@ pub is_lent_absent : (b : Block) (lent : List Block) → All (λ c. is_block b c
 is_lent_absent b lent h = list_any_none (is_block b) lent h
 
 -- a lent run has no block of another order
-pub other_order_absent : (height : ℕ) (nodes : List Node) (b : Block) → root nodes ≡ Lent → (b.order ≡ height → ⊥) → All (λ c. is_block b c ≡ false) (lent_blocks height nodes)
+other_order_absent : (height : ℕ) (nodes : List Node) (b : Block) → root nodes ≡ Lent → (b.order ≡ height → ⊥) → All (λ c. is_block b c ≡ false) (lent_blocks height nodes)
 other_order_absent height nodes b e n =
     rw (lent_tree_blocks height nodes e)
     (All-cons (λ c. is_block b c ≡ false) (block 0 height) [] (is_block_order b (block 0 height) (λ f. n (sym f))) (All-nil (λ c. is_block b c ≡ false)))
+
+-- a run that is free, or lent as one block, has no block of another order
+pub unsplit_absent : (height : ℕ) (nodes : List Node) (b : Block) → is_split (root nodes) ≡ false → (b.order ≡ height → ⊥) → All (λ c. is_block b c ≡ false) (lent_blocks height nodes)
+unsplit_absent height nodes b f n = elim (cases_node (root nodes)) [
+  | inl e ↦ rw (free_blocks height nodes e) (All-nil (λ c. is_block b c ≡ false))
+  | inr s ↦ elim s [
+    | inl e ↦ other_order_absent height nodes b e n
+    | inr m ↦ absurd (both_ways (is_split (root nodes)) f (ap is_split m.1))
+  ]
+]
 
 -- a block of the whole run's order starts with it
 pub other_start_absent : (height : ℕ) (nodes : List Node) (start : ℕ) → IsTree height nodes → (start ≡ 0 → ⊥) → All (λ c. is_block (block start height) c ≡ false) (lent_blocks height nodes)

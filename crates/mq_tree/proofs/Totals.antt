@@ -5,10 +5,8 @@ use Rattle.std.proofs.lemmas.List.{take_at, take_all, length-replicate}
 use Rattle.mq_tree.specs.Blocks.{Block, block}
 use Rattle.mq_tree.specs.LentSet.{joined, left, is_lent, free_pages}
 use Rattle.mq_tree.specs.Fit.{fit, largest}
-use Rattle.mq_tree.specs.Nodes.{root, largest_under}
+use Rattle.mq_tree.specs.Nodes.{Node, Free, root, largest_under}
 use Rattle.mq_tree.specs.Trees.{lent_blocks, IsTree}
-use Rattle.mq_tree.specs.declared.node.Node.{Node}
-use Rattle.mq_tree.specs.declared.node.Node.TheVariants.{Free}
 use Rattle.mq_tree.proofs.Powers.{pow_le}
 use Rattle.mq_tree.proofs.FreePages.{free_joined, free_left, free_sum}
 use Rattle.mq_tree.proofs.Largest.{largest_is}
@@ -38,22 +36,22 @@ pub free_bound : (height : ℕ) (nodes : List Node) → height ≤ 10 → IsTree
 free_bound height nodes l t = omega (arith, free_sum height (lent_blocks height nodes) (tree_lent_set height nodes t), pow_le height 10 l)
 
 -- ---- a new tree
-root-replicate : (n : ℕ) → root (replicate n Free) ≡ Free
-root-replicate zero = refl
-root-replicate (suc n) = refl
+root-replicate : (n : ℕ) (v : Node) → v ≡ Free → root (replicate n v) ≡ Free
+root-replicate zero v e = refl
+root-replicate (suc n) v e = e
 
-filled : (n m : ℕ) (old items : List Node) → old ≡ [] → items ≡ take n old ++ replicate m Free → items ≡ replicate m Free
-filled n m old items e f = f ∙ ap (λ x. take n x ++ replicate m Free) e ∙ ap (λ x. x ++ replicate m Free) (take_all n [] (omega arith))
+filled : (n m : ℕ) (old items : List Node) (v : Node) → old ≡ [] → items ≡ take n old ++ replicate m v → items ≡ replicate m v
+filled n m old items v e f = f ∙ ap (λ x. take n x ++ replicate m v) e ∙ ap (λ x. x ++ replicate m v) (take_all n [] (omega arith))
 
-module _ (height pages n m : ℕ) (old items : List Node) (count : pages ≡ 2 ^ height) (twice : n ≡ 2 * pages - 1) (all : m ≡ n)
-    (none : old ≡ []) (are : items ≡ take n old ++ replicate m Free) where
+module _ (height pages n m : ℕ) (old items : List Node) (v : Node) (is_new : v ≡ Free) (count : pages ≡ 2 ^ height) (twice : n ≡ 2 * pages - 1) (all : m ≡ n)
+    (none : old ≡ []) (are : items ≡ take n old ++ replicate m v) where
   new_root : root items ≡ Free
-  new_root = ap root (filled n m old items none are) ∙ root-replicate m
+  new_root = ap root (filled n m old items v none are) ∙ root-replicate m v is_new
 
   pub new_tree : IsTree height items
   new_tree =
       free_tree height items
-      (let l : length items ≡ m = ap length (filled n m old items none are) ∙ length-replicate m Free in
+      (let l : length items ≡ m = ap length (filled n m old items v none are) ∙ length-replicate m v in
       omega (arith, l, count, twice, all, node_count_is height))
       new_root
 

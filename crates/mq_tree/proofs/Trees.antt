@@ -2,15 +2,13 @@
 use Rattle.std.proofs.Common.{◌≡◌, ℕ, ◌+◌, ◌^◌, ◌<◌, zero, suc, refl, sym, ap, ◌∙◌, arith, inl, inr, ◌⊎◌, true, false, ◌&&◌, ◌||◌, List, [], ◌∷◌, ◌++◌, length, get_or, set, Option, Some, None, leb, length-append}
 use Rattle.std.specs.List.{All}
 use Rattle.std.specs.Option.{is_some, option_or, option_map}
-use Rattle.std.proofs.lemmas.Bool.{cases_lt, cases_eq, le-leb, lt-leb, and_from, and_parts, both_ways}
+use Rattle.std.proofs.lemmas.Bool.{cases_Bool, cases_lt, cases_eq, cond-true, cond-false, le-leb, lt-leb, and_from, and_parts, both_ways}
 use Rattle.std.proofs.lemmas.List.{take_at, drop_at}
 use Rattle.mq_tree.specs.Blocks.{Block, block, IsInArena, moved_up}
 use Rattle.mq_tree.specs.LentSet.{IsLentSet}
 use Rattle.mq_tree.specs.Fit.{fit}
-use Rattle.mq_tree.specs.Nodes.{node_count, root, left_half, right_half, is_free, is_lent_whole, at_most, larger, largest_under}
+use Rattle.mq_tree.specs.Nodes.{Node, Free, Lent, Split, node_count, root, left_half, right_half, is_free, is_lent_whole, at_most, larger, largest_under, parent}
 use Rattle.mq_tree.specs.Trees.{lent_blocks, IsMarked, IsTree, AreHalves}
-use Rattle.mq_tree.specs.declared.node.Node.{Node}
-use Rattle.mq_tree.specs.declared.node.Node.TheVariants.{Free, Lent, Split}
 use Rattle.mq_tree.proofs.Powers.{pow_suc, pow_le}
 use Rattle.mq_tree.proofs.Fits.{fit_empty, fit_over, fit_lent, fit_whole}
 use Rattle.mq_tree.proofs.Halving.{fit_split}
@@ -298,3 +296,20 @@ module _ (half : ℕ) (l r : List Node) (lt : IsTree half l) (rt : IsTree half r
   pub parent_split_halves : (most : Option ℕ) → most ≡ larger (largest_under half (root l)) (largest_under half (root r)) → (is_free (root l) && is_free (root r)) ≡ false
       → AreHalves half l r (lent_blocks (suc half) (Split most ∷ (l ++ r)))
   parent_split_halves most e f = halves_of_split half (Split most) l r lens (parent_split most e f) refl (λ x. cc)
+
+  most : Option ℕ
+  most = larger (largest_under half (root l)) (largest_under half (root r))
+
+  pub parent_tree : (n : Node) → n ≡ parent half (root l) (root r) → IsTree (suc half) (n ∷ (l ++ r))
+  unfolding most
+  parent_tree n e = elim (cases_Bool (is_free (root l) && is_free (root r))) [
+    | inl t ↦ rw (e ∙ cond-true (is_free (root l) && is_free (root r)) Free (Split most) t) (parent_free t)
+    | inr f ↦ rw (e ∙ cond-false (is_free (root l) && is_free (root r)) Free (Split most) f) (parent_split most refl f)
+  ]
+
+  pub parent_halves : (n : Node) → n ≡ parent half (root l) (root r) → AreHalves half l r (lent_blocks (suc half) (n ∷ (l ++ r)))
+  unfolding most
+  parent_halves n e = elim (cases_Bool (is_free (root l) && is_free (root r))) [
+    | inl t ↦ rw (e ∙ cond-true (is_free (root l) && is_free (root r)) Free (Split most) t) (parent_free_halves t)
+    | inr f ↦ rw (e ∙ cond-false (is_free (root l) && is_free (root r)) Free (Split most) f) (parent_split_halves most refl f)
+  ]

@@ -2,5 +2,6 @@ pub mod Blocks
 pub mod LentSet
 pub mod Fit
 pub mod Nodes
+pub mod Codes
 pub mod Laws
 pub mod Trees

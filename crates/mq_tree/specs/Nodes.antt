@@ -1,8 +1,13 @@
 -- The nodes of a tree: each stands before those of its left half, and they before those of its
 -- right half.
-use Rattle.std.specs.Prelude.{ℕ, ◌+◌, zero, suc, Bool, true, false, nat_lt, nat_le, List, [], ◌∷◌, take, drop, Option, Some, None, if◌then◌else◌}
-use Rattle.mq_tree.specs.declared.node.Node.{Node}
-use Rattle.mq_tree.specs.declared.node.Node.TheVariants.{Free, Lent, Split}
+use Rattle.std.specs.Prelude.{ℕ, ◌+◌, zero, suc, Bool, true, false, ◌&&◌, nat_lt, nat_le, List, [], ◌∷◌, take, drop, Option, Some, None, if◌then◌else◌}
+
+-- what the tree knows of one run of pages: all are free, it is lent as one block, or a block
+-- within it is lent, with the largest order that still fits
+pub data Node : Type 0 where
+  Free : Node
+  Lent : Node
+  Split : (most : Option ℕ) → Node
 
 -- how many nodes a tree of that height has
 unfoldable pub node_count : ℕ → ℕ
@@ -33,6 +38,12 @@ is_lent_whole Free = false
 is_lent_whole Lent = true
 is_lent_whole (Split _) = false
 
+-- a block within a node is lent, and not the whole
+abbrev pub is_split : Node → Bool
+is_split Free = false
+is_split Lent = false
+is_split (Split _) = true
+
 -- whether an order is at most that one
 abbrev pub at_most : ℕ → Option ℕ → Bool
 at_most order None = false
@@ -49,3 +60,16 @@ abbrev pub largest_under : ℕ → Node → Option ℕ
 largest_under height Free = Some height
 largest_under height Lent = None
 largest_under height (Split most) = most
+
+-- a node's byte, where a free run counts as a split one with its own order as the largest
+abbrev pub room_under : ℕ → Node → ℕ
+room_under height Free = suc (suc height)
+room_under height Lent = 0
+room_under height (Split None) = 1
+room_under height (Split (Some most)) = suc (suc most)
+
+-- the node over two halves: free where both are
+abbrev pub parent : ℕ → Node → Node → Node
+parent half left right =
+    if is_free left && is_free right then Free
+    else Split (larger (largest_under half left) (largest_under half right))

@@ -2,9 +2,7 @@
 use Rattle.std.specs.Prelude.{◌≡◌, ℕ, ◌^◌, ◌≤◌, zero, suc, false, ◌&&◌, List, [], ◌∷◌, ◌++◌, length, Option}
 use Rattle.mq_tree.specs.Blocks.{Block, block, moved_up}
 use Rattle.mq_tree.specs.LentSet.{free_pages}
-use Rattle.mq_tree.specs.Nodes.{node_count, root, left_half, right_half, is_free, larger, largest_under}
-use Rattle.mq_tree.specs.declared.node.Node.{Node}
-use Rattle.mq_tree.specs.declared.node.Node.TheVariants.{Free, Lent, Split}
+use Rattle.mq_tree.specs.Nodes.{Node, Free, Lent, Split, node_count, root, left_half, right_half, is_free, larger, largest_under}
 
 -- the blocks that are lent under a node: the whole of it, or those of its halves
 abbrev pub blocks_under : Node → Block → List Block → List Block

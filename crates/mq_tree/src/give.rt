@@ -37,14 +37,15 @@ pub(crate) fn give_in(nodes: &mut [Node], height: u8, start: u32, order: u8) -> 
     if order == height {
         return give_whole(nodes, height, start);
     }
-    if root_of(nodes, height).is_lent() {
+    let node = root_of(nodes, height);
+    if !node.is_split() {
         return false;
     }
     let half = height - 1;
     let (root, rest) = nodes.split_at_mut(1);
     let middle = rest.len() / 2;
     let (left, right) = rest.split_at_mut(middle);
-    open_halves(root[0], left, right, half);
+    open_halves(node, left, right, half);
     let pages = pages_in(half);
     let given = if start < pages {
         give_in(left, half, start, order)

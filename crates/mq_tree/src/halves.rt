@@ -1,11 +1,10 @@
-ghost use Rattle.std.specs.Prelude.{◌≡◌, [], ◌∷◌, ◌++◌, ◌≢◌, suc, length, is_some};
+ghost use Rattle.std.specs.Prelude.{◌≡◌, [], ◌∷◌, ◌++◌, ◌≢◌, ◌≤◌, suc, length, is_some};
 ghost use Rattle.mq_tree.specs.Blocks.{block};
 ghost use Rattle.mq_tree.specs.Fit.{fit};
-ghost use Rattle.mq_tree.specs.Nodes.{node_count, root};
+ghost use Rattle.mq_tree.specs.Nodes.{Lent, node_count, root};
 ghost use Rattle.mq_tree.specs.Trees.{IsTree, AreHalves, lent_blocks};
-ghost use Rattle.mq_tree.specs.declared.node.Node.TheVariants.{Lent};
 
-use crate::node::{Node, both_free, larger_of};
+use crate::node::Node;
 
 // The node of the whole run.
 pub(crate) fn root_of(nodes: &[Node], height: u8) -> Node
@@ -21,7 +20,7 @@ pub(crate) fn clear(nodes: &mut [Node], height: u8)
     ensures tree { IsTree height nodes.new }
     ensures lent { lent_blocks height nodes.new ≡ [] }
 {
-    nodes[0] = Node::Free;
+    nodes[0] = Node::free();
 }
 
 // Marks the whole run as lent.
@@ -30,12 +29,14 @@ pub(crate) fn fill(nodes: &mut [Node], height: u8)
     ensures tree { IsTree height nodes.new }
     ensures lent { lent_blocks height nodes.new ≡ block 0 height ∷ [] }
 {
-    nodes[0] = Node::Lent;
+    nodes[0] = Node::lent();
 }
 
 // Whether a block of that order fits.
 pub(crate) fn has_room(nodes: &[Node], height: u8, order: u8) -> bool
-    requires { IsTree height nodes.now }
+    requires low { height ≤ 10 }
+    requires order { order ≤ height }
+    requires tree { IsTree height nodes.now }
     ensures { result ≡ is_some (fit height (lent_blocks height nodes.now) order) }
 {
     root_of(nodes, height).has_room(height, order)
@@ -58,17 +59,12 @@ pub(crate) fn open_halves(root: Node, left: &mut [Node], right: &mut [Node], hal
 
 // The node over two halves: free where both are.
 pub(crate) fn parent_of(left: &[Node], right: &[Node], half: u8) -> Node
+    requires low { half ≤ 10 }
     requires left_tree { IsTree half left.now }
     requires right_tree { IsTree half right.now }
     ensures tree { IsTree (suc half) (result ∷ (left.now ++ right.now)) }
     ensures halves { AreHalves half left.now right.now
         (lent_blocks (suc half) (result ∷ (left.now ++ right.now))) }
 {
-    let front = root_of(left, half);
-    let back = root_of(right, half);
-    if both_free(front, back) {
-        Node::Free
-    } else {
-        Node::Split(larger_of(front.largest(half), back.largest(half)))
-    }
+    Node::over(root_of(left, half), root_of(right, half), half)
 }

@@ -4,7 +4,7 @@ ghost use Rattle.mq_tree.specs.LentSet.{joined};
 ghost use Rattle.mq_tree.specs.Fit.{fit};
 ghost use Rattle.mq_tree.specs.Trees.{IsTree, lent_blocks};
 
-use crate::halves::{fill, has_room, open_halves, parent_of};
+use crate::halves::{fill, has_room, open_halves, parent_of, root_of};
 use crate::node::{Node, pages_in};
 
 // Lends the first block of that order that fits, by the largest orders on the way down.
@@ -22,10 +22,11 @@ pub(crate) fn lend_in(nodes: &mut [Node], height: u8, order: u8) -> u32
         return 0;
     }
     let half = height - 1;
+    let node = root_of(nodes, height);
     let (root, rest) = nodes.split_at_mut(1);
     let middle = rest.len() / 2;
     let (left, right) = rest.split_at_mut(middle);
-    open_halves(root[0], left, right, half);
+    open_halves(node, left, right, half);
     let start = if has_room(left, half, order) {
         lend_in(left, half, order)
     } else {

@@ -1,16 +1,28 @@
-ghost use Rattle.std.specs.Prelude.{◌≡◌, ◌^◌, ◌≤◌, ◌&&◌};
-ghost use Rattle.mq_tree.specs.Nodes.{larger, largest_under, is_free, is_lent_whole, at_most};
+ghost use Rattle.std.specs.Prelude.{◌≡◌, ◌^◌, ◌≤◌, ◌<◌};
+ghost use Rattle.mq_tree.specs.Nodes.{Free, Lent, largest_under, room_under, is_free, is_lent_whole, is_split, at_most, parent};
+
+use std::marker::Model;
 
 /// What the tree knows of one aligned run of pages. Below a node that is free or lent the nodes
 /// mean nothing.
 #[derive(Clone, Copy)]
-pub(crate) enum Node {
-    /// All its pages are free.
-    Free,
-    /// It is lent as one block.
-    Lent,
-    /// A block within it is lent; the largest order that still fits.
-    Split(Option<u8>),
+pub(crate) struct Node {
+    /// 0: the run is lent as one block. 255: all its pages are free. Else a block within it is
+    /// lent, and one less than this is how many orders still fit.
+    code: u8,
+}
+
+impl Model for Node {
+    ghost use Rattle.mq_tree.specs.Nodes.{Node as Status};
+    ghost use Rattle.mq_tree.specs.Codes.{node_of, code_of, code_of-node_of};
+
+    ghost Value = { Status };
+
+    ghost view = { λ n. node_of n.code };
+
+    ghost inverse = { λ n. record { code = code_of n } };
+
+    ghost inverse_ok = { λ n h i. record { code = code_of-node_of n.code i } };
 }
 
 // How many pages a block of this order has.
@@ -21,54 +33,78 @@ pub(crate) fn pages_in(order: u8) -> u32
     1 << order
 }
 
-// The larger of the two orders.
-pub(crate) fn larger_of(left: Option<u8>, right: Option<u8>) -> Option<u8>
-    ensures { result ≡ larger left right }
-{
-    match (left, right) {
-        (None, most) => most,
-        (most, None) => most,
-        (Some(a), Some(b)) => Some(if a < b { b } else { a }),
-    }
-}
-
-pub(crate) fn both_free(left: Node, right: Node) -> bool
-    ensures { result ≡ (is_free left && is_free right) }
-{
-    left.is_free() && right.is_free()
-}
-
 impl Node {
+    pub(crate) fn free() -> Node
+        ensures { result ≡ Free }
+    {
+        Node { code: 255 }
+    }
+
+    pub(crate) fn lent() -> Node
+        ensures { result ≡ Lent }
+    {
+        Node { code: 0 }
+    }
+
+    // The node over two halves: free where both are.
+    pub(crate) fn over(left: Node, right: Node, half: u8) -> Node
+        requires { half ≤ 10 }
+        ensures { result ≡ parent half left right }
+    {
+        if left.is_free() && right.is_free() {
+            return Node::free();
+        }
+        let most = left.room(half).max(right.room(half));
+        Node { code: most.max(1) }
+    }
+
+    // Its code, where a free run counts as a split one with its own order as the largest.
+    fn room(self, height: u8) -> u8
+        requires { height ≤ 10 }
+        ensures value { result ≡ room_under height self }
+        ensures below { result < 255 }
+    {
+        if self.is_free() {
+            height + 2
+        } else {
+            self.code
+        }
+    }
+
     // The largest order that fits under a node of this height.
     pub(crate) fn largest(self, height: u8) -> Option<u8>
+        requires { height ≤ 10 }
         ensures { result ≡ largest_under height self }
     {
-        match self {
-            Node::Free => Some(height),
-            Node::Lent => None,
-            Node::Split(most) => most,
-        }
+        let room = self.room(height);
+        if room < 2 { None } else { Some(room - 2) }
     }
 
     // Whether that order is at most the largest one.
     pub(crate) fn has_room(self, height: u8, order: u8) -> bool
+        requires low { height ≤ 10 }
+        requires order { order ≤ height }
         ensures { result ≡ at_most order (largest_under height self) }
     {
-        match self.largest(height) {
-            Some(most) => order <= most,
-            None => false,
-        }
+        self.code >= order + 2
     }
 
     pub(crate) fn is_free(self) -> bool
         ensures { result ≡ is_free self }
     {
-        matches!(self, Node::Free)
+        self.code == 255
+    }
+
+    // Whether a part of it is lent, and not the whole.
+    pub(crate) fn is_split(self) -> bool
+        ensures { result ≡ is_split self }
+    {
+        !self.is_free() && !self.is_lent()
     }
 
     pub(crate) fn is_lent(self) -> bool
         ensures { result ≡ is_lent_whole self }
     {
-        matches!(self, Node::Lent)
+        self.code == 0
     }
 }

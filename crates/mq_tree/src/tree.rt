@@ -45,7 +45,7 @@ impl OrderTree {
         }
         let pages = pages_in(height);
         let mut nodes = Vec::new(alloc);
-        if nodes.resize(2 * pages as usize - 1, Node::Free).is_err() {
+        if nodes.resize(2 * pages as usize - 1, Node::free()).is_err() {
             return Err(TreeError::Memory);
         }
         Ok(OrderTree {
@@ -69,6 +69,9 @@ impl OrderTree {
             (free_pages self.old.height self.old.lent
             ≡ free_pages self.old.height self.new.lent + 2 ^ order) }
     {
+        if order > self.height {
+            return None;
+        }
         if !has_room(self.nodes.as_slice(), self.height, order) {
             return None;
         }

@@ -1,25 +1,21 @@
 use Rattle.std.proofs.Common.{◌≡◌, ◌+◌, ◌-◌, ◌^◌, ◌<◌, ◌≤◌, sym, ap, ◌∙◌, arith, ◌++◌, set}
 use Rattle.mq_tree.specs.Blocks.{block, moved_up}
 use Rattle.mq_tree.specs.LentSet.{left as without, is_lent}
-use Rattle.mq_tree.specs.Nodes.{root}
 use Rattle.mq_tree.specs.Trees.{lent_blocks}
-use Rattle.mq_tree.specs.declared.node.Node.TheVariants.{Lent}
 use Rattle.mq_tree.proofs.LentSets.{left_absent}
-use Rattle.mq_tree.proofs.Trees.{tree_length, tree_lent_set, node_count_pos, lent_root}
-use Rattle.mq_tree.proofs.Steps.{parts, closed_blocks, is_lent_absent, other_order_absent, is_lent_left, is_lent_right, left_left, left_right}
+use Rattle.mq_tree.proofs.Trees.{tree_length, tree_lent_set, node_count_pos}
+use Rattle.mq_tree.proofs.Steps.{parts, closed_blocks, is_lent_absent, unsplit_absent, is_lent_left, is_lent_right, left_left, left_right}
 use Rattle.mq_tree.proofs.give.+give_in.Goals as goal
 use Rattle.mq_tree.proofs.give.+give_in.Goals.{then-start-pages, else-start-pages}
 
-pub returns-then-is_lent-clause-lent : goal.returns-then-is_lent-clause-lent
-returns-then-is_lent-clause-lent t c =
-    let lent : root c.args.nodes.now ≡ Lent = lent_root (root c.args.nodes.now) (cc) in
-    let absent = other_order_absent c.args.height c.args.nodes.now (block c.args.start c.args.order) lent c.if-order-height.false in
+pub returns-then-not-is_split-clause-lent : goal.returns-then-not-is_split-clause-lent
+returns-then-not-is_split-clause-lent t c =
+    let absent = unsplit_absent c.args.height c.args.nodes.now (block c.args.start c.args.order) (cc) c.if-order-height.false in
     sym (is_lent_absent (block c.args.start c.args.order) (lent_blocks c.args.height c.args.nodes.now) absent)
 
-pub returns-then-is_lent-clause-left : goal.returns-then-is_lent-clause-left
-returns-then-is_lent-clause-left t c =
-    let lent : root c.args.nodes.now ≡ Lent = lent_root (root c.args.nodes.now) (cc) in
-    let absent = other_order_absent c.args.height c.args.nodes.now (block c.args.start c.args.order) lent c.if-order-height.false in
+pub returns-then-not-is_split-clause-left : goal.returns-then-not-is_split-clause-left
+returns-then-not-is_split-clause-left t c =
+    let absent = unsplit_absent c.args.height c.args.nodes.now (block c.args.start c.args.order) (cc) c.if-order-height.false in
     sym (left_absent (block c.args.start c.args.order) (lent_blocks c.args.height c.args.nodes.now) absent)
 
 pub split_at_mut-root-requires : goal.split_at_mut-root-requires
@@ -30,21 +26,21 @@ pub open_halves-requires-clause-left_len : goal.open_halves-requires-clause-left
 open_halves-requires-clause-left_len t c =
     let high : 1 ≤ c.args.height = omega (arith, c.requires.order) in
     let p = parts c.args.height c.args.nodes.now c.split_at_mut-root.result.0.now c.split_at_mut-root.result.1.now c.split_at_mut-left.result.0.now c.split_at_mut-left.result.1.now
-    high c.requires.tree c.split_at_mut-root.ensures.value c.split_at_mut-root.ensures.front_len c.split_at_mut-left.ensures.value c.split_at_mut-left.ensures.front_len in
+    c.root_of-node.result c.root_of-node.ensures high c.requires.tree c.split_at_mut-root.ensures.value c.split_at_mut-root.ensures.front_len c.split_at_mut-left.ensures.value c.split_at_mut-left.ensures.front_len in
     p.left_len
 
 pub open_halves-requires-clause-right_len : goal.open_halves-requires-clause-right_len
 open_halves-requires-clause-right_len t c =
     let high : 1 ≤ c.args.height = omega (arith, c.requires.order) in
     let p = parts c.args.height c.args.nodes.now c.split_at_mut-root.result.0.now c.split_at_mut-root.result.1.now c.split_at_mut-left.result.0.now c.split_at_mut-left.result.1.now
-    high c.requires.tree c.split_at_mut-root.ensures.value c.split_at_mut-root.ensures.front_len c.split_at_mut-left.ensures.value c.split_at_mut-left.ensures.front_len in
+    c.root_of-node.result c.root_of-node.ensures high c.requires.tree c.split_at_mut-root.ensures.value c.split_at_mut-root.ensures.front_len c.split_at_mut-left.ensures.value c.split_at_mut-left.ensures.front_len in
     p.right_len
 
 pub returns-clause-lent : goal.returns-clause-lent
 returns-clause-lent t c =
     let high : 1 ≤ c.args.height = omega (arith, c.requires.order) in
     let p = parts c.args.height c.args.nodes.now c.split_at_mut-root.result.0.now c.split_at_mut-root.result.1.now c.split_at_mut-left.result.0.now c.split_at_mut-left.result.1.now
-    high c.requires.tree c.split_at_mut-root.ensures.value c.split_at_mut-root.ensures.front_len c.split_at_mut-left.ensures.value c.split_at_mut-left.ensures.front_len in
+    c.root_of-node.result c.root_of-node.ensures high c.requires.tree c.split_at_mut-root.ensures.value c.split_at_mut-root.ensures.front_len c.split_at_mut-left.ensures.value c.split_at_mut-left.ensures.front_len in
     let half = c.args.height - 1 in
     let xs = lent_blocks half c.open_halves.new.left in
     let ys = lent_blocks half c.open_halves.new.right in
@@ -68,7 +64,7 @@ pub returns-clause-left : goal.returns-clause-left
 returns-clause-left t c =
     let high : 1 ≤ c.args.height = omega (arith, c.requires.order) in
     let p = parts c.args.height c.args.nodes.now c.split_at_mut-root.result.0.now c.split_at_mut-root.result.1.now c.split_at_mut-left.result.0.now c.split_at_mut-left.result.1.now
-    high c.requires.tree c.split_at_mut-root.ensures.value c.split_at_mut-root.ensures.front_len c.split_at_mut-left.ensures.value c.split_at_mut-left.ensures.front_len in
+    c.root_of-node.result c.root_of-node.ensures high c.requires.tree c.split_at_mut-root.ensures.value c.split_at_mut-root.ensures.front_len c.split_at_mut-left.ensures.value c.split_at_mut-left.ensures.front_len in
     let half = c.args.height - 1 in
     let xs = lent_blocks half c.open_halves.new.left in
     let ys = lent_blocks half c.open_halves.new.right in

@@ -1,8 +1,7 @@
 use Rattle.std.proofs.Common.{◌≡◌, sym, ◌∙◌}
 use Rattle.mq_tree.specs.Blocks.{block}
-use Rattle.mq_tree.specs.Nodes.{root}
+use Rattle.mq_tree.specs.Nodes.{Lent, root}
 use Rattle.mq_tree.specs.Trees.{lent_blocks}
-use Rattle.mq_tree.specs.declared.node.Node.TheVariants.{Lent}
 use Rattle.mq_tree.proofs.LentSets.{left_absent}
 use Rattle.mq_tree.proofs.Trees.{tree_length, lent_root}
 use Rattle.mq_tree.proofs.Steps.{is_lent_absent, other_start_absent, not_whole_absent, whole_is_lent, whole_left}

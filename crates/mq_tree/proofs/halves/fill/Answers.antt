@@ -1,7 +1,6 @@
 use Rattle.std.proofs.Common.{◌<◌, length, set, arith, ◌∙◌}
 use Rattle.std.proofs.Math.ListN.{length-set}
 use Rattle.mq_tree.proofs.Trees.{node_count_pos, root-set, lent_tree, lent_tree_blocks}
-use Rattle.mq_tree.specs.declared.node.Node.TheVariants.{Lent}
 use Rattle.mq_tree.proofs.halves.fill.Goals as goal
 
 pub bounds-nodes-0 : goal.bounds-nodes-0
@@ -10,9 +9,9 @@ bounds-nodes-0 c = omega (arith, c.requires, node_count_pos c.args.height)
 pub returns-clause-tree : goal.returns-clause-tree
 returns-clause-tree c =
     let some : 0 < length c.args.nodes.now = omega (arith, c.requires, node_count_pos c.args.height) in
-    lent_tree c.args.height (set c.args.nodes.now 0 Lent) (length-set c.args.nodes.now 0 Lent ∙ c.requires) (root-set c.args.nodes.now Lent some)
+    lent_tree c.args.height (set c.args.nodes.now 0 c.lent.result) (length-set c.args.nodes.now 0 c.lent.result ∙ c.requires) (root-set c.args.nodes.now c.lent.result some ∙ c.lent.ensures)
 
 pub returns-clause-lent : goal.returns-clause-lent
 returns-clause-lent c =
     let some : 0 < length c.args.nodes.now = omega (arith, c.requires, node_count_pos c.args.height) in
-    lent_tree_blocks c.args.height (set c.args.nodes.now 0 Lent) (root-set c.args.nodes.now Lent some)
+    lent_tree_blocks c.args.height (set c.args.nodes.now 0 c.lent.result) (root-set c.args.nodes.now c.lent.result some ∙ c.lent.ensures)

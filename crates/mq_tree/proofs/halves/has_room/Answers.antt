@@ -7,4 +7,4 @@ pub returns : goal.returns
 returns c =
     c.has_room.ensures
     ∙ ap (λ n. at_most c.args.order (largest_under c.args.height n)) c.root_of.ensures
-    ∙ sym (root_is c.args.height c.args.nodes.now c.requires c.args.order)
+    ∙ sym (root_is c.args.height c.args.nodes.now c.requires.tree c.args.order)

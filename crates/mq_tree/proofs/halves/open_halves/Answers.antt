@@ -1,6 +1,6 @@
 use Rattle.std.proofs.Common.{◌≡◌, sym, ◌∙◌}
 use Rattle.mq_tree.proofs.Trees.{free_root, halves_of_free, halves_of_split}
-use Rattle.mq_tree.specs.declared.node.Node.TheVariants.{Free}
+use Rattle.mq_tree.specs.Nodes.{Free}
 use Rattle.mq_tree.proofs.halves.open_halves.Goals as goal
 
 pub returns-then-is_free : goal.returns-then-is_free

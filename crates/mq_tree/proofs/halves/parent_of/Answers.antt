@@ -1,18 +1,14 @@
-use Rattle.mq_tree.proofs.Trees.{parent_free, parent_free_halves, parent_split, parent_split_halves}
+use Rattle.std.proofs.Common.{ap, ◌∙◌}
+use Rattle.mq_tree.specs.Nodes.{root, parent}
+use Rattle.mq_tree.proofs.Trees.{parent_tree, parent_halves}
 use Rattle.mq_tree.proofs.halves.parent_of.Goals as goal
 
-pub returns-then-both_free-clause-tree : goal.returns-then-both_free-clause-tree
-returns-then-both_free-clause-tree c =
-    parent_free c.args.half c.args.left.now c.args.right.now c.requires.left_tree c.requires.right_tree (cc)
+pub returns-clause-tree : goal.returns-clause-tree
+returns-clause-tree c =
+    parent_tree c.args.half c.args.left.now c.args.right.now c.requires.left_tree c.requires.right_tree c.over.result
+    (c.over.ensures ∙ ap (λ n. parent c.args.half n c.root_of-2.result) c.root_of.ensures ∙ ap (λ n. parent c.args.half (root c.args.left.now) n) c.root_of-2.ensures)
 
-pub returns-then-both_free-clause-halves : goal.returns-then-both_free-clause-halves
-returns-then-both_free-clause-halves c =
-    parent_free_halves c.args.half c.args.left.now c.args.right.now c.requires.left_tree c.requires.right_tree (cc)
-
-pub returns-else-both_free-clause-tree : goal.returns-else-both_free-clause-tree
-returns-else-both_free-clause-tree c =
-    parent_split c.args.half c.args.left.now c.args.right.now c.requires.left_tree c.requires.right_tree c.larger_of.result (cc) (cc)
-
-pub returns-else-both_free-clause-halves : goal.returns-else-both_free-clause-halves
-returns-else-both_free-clause-halves c =
-    parent_split_halves c.args.half c.args.left.now c.args.right.now c.requires.left_tree c.requires.right_tree c.larger_of.result (cc) (cc)
+pub returns-clause-halves : goal.returns-clause-halves
+returns-clause-halves c =
+    parent_halves c.args.half c.args.left.now c.args.right.now c.requires.left_tree c.requires.right_tree c.over.result
+    (c.over.ensures ∙ ap (λ n. parent c.args.half n c.root_of-2.result) c.root_of.ensures ∙ ap (λ n. parent c.args.half (root c.args.left.now) n) c.root_of-2.ensures)

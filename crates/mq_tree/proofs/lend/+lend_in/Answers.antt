@@ -39,29 +39,33 @@ pub open_halves-requires-clause-tree : goal.open_halves-requires-clause-tree
 open_halves-requires-clause-tree t c =
     let high : 1 ≤ c.args.height = omega (arith, order_in_room c.args.height (lent_blocks c.args.height c.args.nodes.now) c.args.order c.requires.room) in
     let p = parts c.args.height c.args.nodes.now c.split_at_mut-root.result.0.now c.split_at_mut-root.result.1.now c.split_at_mut-left.result.0.now c.split_at_mut-left.result.1.now
-    high c.requires.tree c.split_at_mut-root.ensures.value c.split_at_mut-root.ensures.front_len c.split_at_mut-left.ensures.value c.split_at_mut-left.ensures.front_len in
+    c.root_of-node.result c.root_of-node.ensures high c.requires.tree c.split_at_mut-root.ensures.value c.split_at_mut-root.ensures.front_len c.split_at_mut-left.ensures.value c.split_at_mut-left.ensures.front_len in
     p.tree
 
 pub open_halves-requires-clause-left_len : goal.open_halves-requires-clause-left_len
 open_halves-requires-clause-left_len t c =
     let high : 1 ≤ c.args.height = omega (arith, order_in_room c.args.height (lent_blocks c.args.height c.args.nodes.now) c.args.order c.requires.room) in
     let p = parts c.args.height c.args.nodes.now c.split_at_mut-root.result.0.now c.split_at_mut-root.result.1.now c.split_at_mut-left.result.0.now c.split_at_mut-left.result.1.now
-    high c.requires.tree c.split_at_mut-root.ensures.value c.split_at_mut-root.ensures.front_len c.split_at_mut-left.ensures.value c.split_at_mut-left.ensures.front_len in
+    c.root_of-node.result c.root_of-node.ensures high c.requires.tree c.split_at_mut-root.ensures.value c.split_at_mut-root.ensures.front_len c.split_at_mut-left.ensures.value c.split_at_mut-left.ensures.front_len in
     p.left_len
 
 pub open_halves-requires-clause-right_len : goal.open_halves-requires-clause-right_len
 open_halves-requires-clause-right_len t c =
     let high : 1 ≤ c.args.height = omega (arith, order_in_room c.args.height (lent_blocks c.args.height c.args.nodes.now) c.args.order c.requires.room) in
     let p = parts c.args.height c.args.nodes.now c.split_at_mut-root.result.0.now c.split_at_mut-root.result.1.now c.split_at_mut-left.result.0.now c.split_at_mut-left.result.1.now
-    high c.requires.tree c.split_at_mut-root.ensures.value c.split_at_mut-root.ensures.front_len c.split_at_mut-left.ensures.value c.split_at_mut-left.ensures.front_len in
+    c.root_of-node.result c.root_of-node.ensures high c.requires.tree c.split_at_mut-root.ensures.value c.split_at_mut-root.ensures.front_len c.split_at_mut-left.ensures.value c.split_at_mut-left.ensures.front_len in
     p.right_len
 
 pub open_halves-requires-clause-room : goal.open_halves-requires-clause-room
 open_halves-requires-clause-room t c =
     let high : 1 ≤ c.args.height = omega (arith, order_in_room c.args.height (lent_blocks c.args.height c.args.nodes.now) c.args.order c.requires.room) in
     let p = parts c.args.height c.args.nodes.now c.split_at_mut-root.result.0.now c.split_at_mut-root.result.1.now c.split_at_mut-left.result.0.now c.split_at_mut-left.result.1.now
-    high c.requires.tree c.split_at_mut-root.ensures.value c.split_at_mut-root.ensures.front_len c.split_at_mut-left.ensures.value c.split_at_mut-left.ensures.front_len in
-    λ e. no_room_in_lent c.args.height c.args.nodes.now c.args.order (sym p.root_first ∙ e) c.requires.room
+    c.root_of-node.result c.root_of-node.ensures high c.requires.tree c.split_at_mut-root.ensures.value c.split_at_mut-root.ensures.front_len c.split_at_mut-left.ensures.value c.split_at_mut-left.ensures.front_len in
+    λ e. no_room_in_lent c.args.height c.args.nodes.now c.args.order (sym c.root_of-node.ensures ∙ e) c.requires.room
+
+pub has_room-requires-clause-order : goal.has_room-requires-clause-order
+has_room-requires-clause-order t c =
+    omega (arith, order_in_room c.args.height (lent_blocks c.args.height c.args.nodes.now) c.args.order c.requires.room)
 
 pub lend_in-start-requires : goal.lend_in-start-requires
 lend_in-start-requires t c =
@@ -72,7 +76,7 @@ pub lend_in-requires : goal.lend_in-requires
 lend_in-requires t c =
     let high : 1 ≤ c.args.height = omega (arith, order_in_room c.args.height (lent_blocks c.args.height c.args.nodes.now) c.args.order c.requires.room) in
     let p = parts c.args.height c.args.nodes.now c.split_at_mut-root.result.0.now c.split_at_mut-root.result.1.now c.split_at_mut-left.result.0.now c.split_at_mut-left.result.1.now
-    high c.requires.tree c.split_at_mut-root.ensures.value c.split_at_mut-root.ensures.front_len c.split_at_mut-left.ensures.value c.split_at_mut-left.ensures.front_len in
+    c.root_of-node.result c.root_of-node.ensures high c.requires.tree c.split_at_mut-root.ensures.value c.split_at_mut-root.ensures.front_len c.split_at_mut-left.ensures.value c.split_at_mut-left.ensures.front_len in
     let low : c.args.order ≤ c.args.height - 1 = omega (arith, order_in_room c.args.height (lent_blocks c.args.height c.args.nodes.now) c.args.order c.requires.room) in
     let xs = lent_blocks (c.args.height - 1) c.open_halves.new.left in
     let ys = lent_blocks (c.args.height - 1) c.open_halves.new.right in
@@ -101,14 +105,14 @@ pub returns-clause-tree : goal.returns-clause-tree
 returns-clause-tree t c =
     let high : 1 ≤ c.args.height = omega (arith, order_in_room c.args.height (lent_blocks c.args.height c.args.nodes.now) c.args.order c.requires.room) in
     let p = parts c.args.height c.args.nodes.now c.split_at_mut-root.result.0.now c.split_at_mut-root.result.1.now c.split_at_mut-left.result.0.now c.split_at_mut-left.result.1.now
-    high c.requires.tree c.split_at_mut-root.ensures.value c.split_at_mut-root.ensures.front_len c.split_at_mut-left.ensures.value c.split_at_mut-left.ensures.front_len in
+    c.root_of-node.result c.root_of-node.ensures high c.requires.tree c.split_at_mut-root.ensures.value c.split_at_mut-root.ensures.front_len c.split_at_mut-left.ensures.value c.split_at_mut-left.ensures.front_len in
     closed_tree c.args.height c.split_at_mut-root.result.0.now c.if-has_room.left c.if-has_room.right c.parent_of.result high c.split_at_mut-root.ensures.front_len c.parent_of.ensures.tree
 
 pub returns-clause-fit : goal.returns-clause-fit
 returns-clause-fit t c =
     let high : 1 ≤ c.args.height = omega (arith, order_in_room c.args.height (lent_blocks c.args.height c.args.nodes.now) c.args.order c.requires.room) in
     let p = parts c.args.height c.args.nodes.now c.split_at_mut-root.result.0.now c.split_at_mut-root.result.1.now c.split_at_mut-left.result.0.now c.split_at_mut-left.result.1.now
-    high c.requires.tree c.split_at_mut-root.ensures.value c.split_at_mut-root.ensures.front_len c.split_at_mut-left.ensures.value c.split_at_mut-left.ensures.front_len in
+    c.root_of-node.result c.root_of-node.ensures high c.requires.tree c.split_at_mut-root.ensures.value c.split_at_mut-root.ensures.front_len c.split_at_mut-left.ensures.value c.split_at_mut-left.ensures.front_len in
     let low : c.args.order ≤ c.args.height - 1 = omega (arith, order_in_room c.args.height (lent_blocks c.args.height c.args.nodes.now) c.args.order c.requires.room) in
     let xs = lent_blocks (c.args.height - 1) c.open_halves.new.left in
     let ys = lent_blocks (c.args.height - 1) c.open_halves.new.right in
@@ -128,7 +132,7 @@ pub returns-clause-lent : goal.returns-clause-lent
 returns-clause-lent t c =
     let high : 1 ≤ c.args.height = omega (arith, order_in_room c.args.height (lent_blocks c.args.height c.args.nodes.now) c.args.order c.requires.room) in
     let p = parts c.args.height c.args.nodes.now c.split_at_mut-root.result.0.now c.split_at_mut-root.result.1.now c.split_at_mut-left.result.0.now c.split_at_mut-left.result.1.now
-    high c.requires.tree c.split_at_mut-root.ensures.value c.split_at_mut-root.ensures.front_len c.split_at_mut-left.ensures.value c.split_at_mut-left.ensures.front_len in
+    c.root_of-node.result c.root_of-node.ensures high c.requires.tree c.split_at_mut-root.ensures.value c.split_at_mut-root.ensures.front_len c.split_at_mut-left.ensures.value c.split_at_mut-left.ensures.front_len in
     let low : c.args.order ≤ c.args.height - 1 = omega (arith, order_in_room c.args.height (lent_blocks c.args.height c.args.nodes.now) c.args.order c.requires.room) in
     let xs = lent_blocks (c.args.height - 1) c.open_halves.new.left in
     let ys = lent_blocks (c.args.height - 1) c.open_halves.new.right in

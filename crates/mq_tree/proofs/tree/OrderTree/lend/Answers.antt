@@ -1,10 +1,21 @@
-use Rattle.std.proofs.Common.{◌≡◌, ◌+◌, ◌^◌, ap, arith, ◌++◌, length, take, drop, subst}
+use Rattle.std.proofs.Common.{◌≡◌, ◌+◌, ◌^◌, ap, sym, ◌∙◌, arith, ◌++◌, length, take, drop, subst}
 use Rattle.mq_tree.specs.LentSet.{IsLentSet, Lending, free_pages}
+use Rattle.mq_tree.specs.Fit.{fit}
 use Rattle.mq_tree.specs.Trees.{lent_blocks}
-use Rattle.mq_tree.proofs.Fits.{fit_order}
+use Rattle.mq_tree.proofs.Fits.{fit_order, fit_over}
 use Rattle.mq_tree.proofs.Trees.{tree_lent_set}
 use Rattle.mq_tree.proofs.Totals.{refilled, free_after_lend}
 use Rattle.mq_tree.proofs.tree.OrderTree.lend.Goals as goal
+
+pub returns-then-order-self-clause-fit : goal.returns-then-order-self-clause-fit
+returns-then-order-self-clause-fit c =
+    sym (fit_over c.self.inside.height (lent_blocks c.self.inside.height c.self.inside.nodes.items) c.args.order c.if-order-self.true)
+    ∙ ap (λ v. fit v.height v.lent c.args.order) c.self.view_is
+
+pub returns-then-order-self-clause-lent_set : goal.returns-then-order-self-clause-lent_set
+returns-then-order-self-clause-lent_set c =
+    let P : Lending → Type 0 = λ v. IsLentSet v.height v.lent in
+    subst P c.self.view_is (tree_lent_set c.self.inside.height c.self.inside.nodes.items c.self.invariant.tree)
 
 pub returns-then-not-has_room-clause-lent_set : goal.returns-then-not-has_room-clause-lent_set
 returns-then-not-has_room-clause-lent_set c =
