@@ -3,7 +3,7 @@ ghost use Rattle.mq_tree.specs.Blocks.{block};
 ghost use Rattle.mq_tree.specs.LentSet.{left as without, is_lent};
 ghost use Rattle.mq_tree.specs.Trees.{IsTree, lent_blocks};
 
-use crate::halves::{clear, open_halves, parent_of, root_of};
+use crate::halves::{clear, parent_of, root_of};
 use crate::node::{Node, pages_in};
 
 // Takes the whole run of a node back, if it is lent as one block from page 0 on.
@@ -37,15 +37,13 @@ pub(crate) fn give_in(nodes: &mut [Node], height: u8, start: u32, order: u8) -> 
     if order == height {
         return give_whole(nodes, height, start);
     }
-    let node = root_of(nodes, height);
-    if !node.is_split() {
+    if !root_of(nodes, height).is_split() {
         return false;
     }
     let half = height - 1;
     let (root, rest) = nodes.split_at_mut(1);
     let middle = rest.len() / 2;
     let (left, right) = rest.split_at_mut(middle);
-    open_halves(node, left, right, half);
     let pages = pages_in(half);
     let given = if start < pages {
         give_in(left, half, start, order)
