@@ -2,6 +2,7 @@ use crate::{Event, Figures, Log, QueueError, QueueState, Received};
 use mq_message::{Message, VecBody};
 use mq_select::{ListWaiting, Selection};
 use std::alloc::{AllocError, Global};
+use std::process::Abort;
 use std::test::Fail;
 
 type Queue = QueueState<VecBody, ListWaiting<VecBody>>;
@@ -100,164 +101,220 @@ fn played(alloc: Global, steps: &[Step]) -> Result<Vec<Answer>, AllocError> {
     answers
 }
 
+/// Checks what a new queue answers to these calls, one after another.
+fn check(
+    rt: &impl Abort,
+    alloc: Global,
+    steps: &[Step],
+    answers: &[Answer],
+) -> Result<(), AllocError> {
+    assert_eq!(rt; played(alloc, steps)?.as_slice(), answers);
+    Ok(())
+}
+
+/// The longest text, and one byte more; the whole quota, and one byte more.
 #[test]
-fn a_queue_answers_as_the_manual_says(rt: HostRuntime) -> Result<(), Fail> {
-    let any = Selection::Any;
-    let cases: [(&[Step], &[Answer]); 8] = [
-        // The longest text, and one byte more; the whole quota, and one byte more.
-        (
-            &[
-                Step::Send(1, 8193),
-                Step::Send(1, 8192),
-                Step::Send(1, 8192),
-                Step::Send(1, 1),
-                Step::Send(1, 0),
-            ],
-            &[
-                Answer::Refused(QueueError::TooLong),
-                Answer::At(1),
-                Answer::At(2),
-                Answer::Refused(QueueError::Full),
-                Answer::At(3),
-            ],
-        ),
-        // A receipt makes room again, by as much as was sent and not by what was left of it.
-        (
-            &[
-                Step::Send(1, 8192),
-                Step::Send(1, 8192),
-                Step::Receive(1, any, true),
-                Step::Send(1, 8192),
-                Step::Send(1, 1),
-            ],
-            &[
-                Answer::At(1),
-                Answer::At(2),
-                Answer::Got(3, 1, 8192, 1),
-                Answer::At(4),
-                Answer::Refused(QueueError::Full),
-            ],
-        ),
-        // A size of 0 with MSG_NOERROR, for an empty text and a long one, and without.
-        (
-            &[
-                Step::Send(1, 0),
-                Step::Send(1, 8192),
-                Step::Send(1, 0),
-                Step::Receive(0, any, true),
-                Step::Receive(0, any, false),
-                Step::Receive(0, any, true),
-                Step::Receive(0, any, false),
-                Step::Receive(0, any, true),
-            ],
-            &[
-                Answer::At(1),
-                Answer::At(2),
-                Answer::At(3),
-                Answer::Got(4, 1, 0, 0),
-                Answer::Refused(QueueError::TooBig),
-                Answer::Got(5, 2, 8192, 0),
-                Answer::Got(6, 3, 0, 0),
-                Answer::Refused(QueueError::NoMessage),
-            ],
-        ),
-        // A type below 1, before the length is looked at; the first type and the last.
-        (
-            &[
-                Step::Send(0, 8193),
-                Step::Send(i64::MIN, 0),
-                Step::Send(i64::MAX, 2),
-                Step::Send(1, 3),
-                Step::Receive(u64::MAX, Selection::UpTo(u64::MAX), false),
-            ],
-            &[
-                Answer::Refused(QueueError::TypeInvalid),
-                Answer::Refused(QueueError::TypeInvalid),
-                Answer::At(1),
-                Answer::At(2),
-                Answer::Got(3, 2, 3, 3),
-            ],
-        ),
-        // The lowest type first, in the order of sending.
-        (
-            &[
-                Step::Send(3, 1),
-                Step::Send(1, 2),
-                Step::Send(2, 3),
-                Step::Send(1, 4),
-                Step::Receive(4, Selection::UpTo(2), false),
-                Step::Receive(3, Selection::UpTo(2), false),
-                Step::Receive(4, Selection::UpTo(2), false),
-                Step::Receive(4, Selection::Exact(1), false),
-                Step::Receive(4, Selection::Except(3), false),
-            ],
-            &[
-                Answer::At(1),
-                Answer::At(2),
-                Answer::At(3),
-                Answer::At(4),
-                Answer::Got(5, 2, 2, 2),
-                Answer::Refused(QueueError::TooBig),
-                Answer::Got(6, 4, 4, 4),
-                Answer::Refused(QueueError::NoMessage),
-                Answer::Got(7, 3, 3, 3),
-            ],
-        ),
-        // A quota by bytes and by count.
-        (
-            &[
-                Step::Send(1, 2),
-                Step::Send(1, 2),
-                Step::Set(4),
-                Step::Send(1, 2),
-                Step::Send(1, 0),
-                Step::Send(1, 0),
-                Step::Send(1, 0),
-            ],
-            &[
-                Answer::At(1),
-                Answer::At(2),
-                Answer::At(3),
-                Answer::Refused(QueueError::Full),
-                Answer::At(4),
-                Answer::At(5),
-                Answer::Refused(QueueError::Full),
-            ],
-        ),
-        // A queue over a quota that was lowered refuses an empty text too, until it is under it.
-        (
-            &[
-                Step::Send(1, 6),
-                Step::Set(4),
-                Step::Send(1, 0),
-                Step::Receive(6, any, false),
-                Step::Send(1, 0),
-                Step::Set(16385),
-                Step::Set(16384),
-                Step::Set(0),
-                Step::Send(1, 0),
-            ],
-            &[
-                Answer::At(1),
-                Answer::At(2),
-                Answer::Refused(QueueError::Full),
-                Answer::Got(3, 1, 6, 6),
-                Answer::At(4),
-                Answer::Refused(QueueError::OverLimit),
-                Answer::At(5),
-                Answer::At(6),
-                Answer::Refused(QueueError::Full),
-            ],
-        ),
-        // The quota that stands is set once more: an event all the same.
-        (
-            &[Step::Set(16384), Step::Set(16384), Step::Send(1, 1)],
-            &[Answer::At(1), Answer::At(2), Answer::At(3)],
-        ),
-    ];
-    for (steps, answers) in cases {
-        assert_eq!(rt; played(rt.alloc(), steps)?.as_slice(), answers);
-    }
+fn the_longest_text_and_the_whole_quota_are_taken(rt: HostRuntime) -> Result<(), Fail> {
+    check(
+        &rt,
+        rt.alloc(),
+        &[
+            Step::Send(1, 8193),
+            Step::Send(1, 8192),
+            Step::Send(1, 8192),
+            Step::Send(1, 1),
+            Step::Send(1, 0),
+        ],
+        &[
+            Answer::Refused(QueueError::TooLong),
+            Answer::At(1),
+            Answer::At(2),
+            Answer::Refused(QueueError::Full),
+            Answer::At(3),
+        ],
+    )?;
+    Ok(())
+}
+
+/// A receipt makes room again, by as much as was sent and not by what was left of it.
+#[test]
+fn a_receipt_makes_room_by_as_much_as_was_sent(rt: HostRuntime) -> Result<(), Fail> {
+    check(
+        &rt,
+        rt.alloc(),
+        &[
+            Step::Send(1, 8192),
+            Step::Send(1, 8192),
+            Step::Receive(1, Selection::Any, true),
+            Step::Send(1, 8192),
+            Step::Send(1, 1),
+        ],
+        &[
+            Answer::At(1),
+            Answer::At(2),
+            Answer::Got(3, 1, 8192, 1),
+            Answer::At(4),
+            Answer::Refused(QueueError::Full),
+        ],
+    )?;
+    Ok(())
+}
+
+/// A size of 0 with MSG_NOERROR, for an empty text and a long one, and without.
+#[test]
+fn a_size_of_zero_takes_an_empty_text_or_cuts(rt: HostRuntime) -> Result<(), Fail> {
+    check(
+        &rt,
+        rt.alloc(),
+        &[
+            Step::Send(1, 0),
+            Step::Send(1, 8192),
+            Step::Send(1, 0),
+            Step::Receive(0, Selection::Any, true),
+            Step::Receive(0, Selection::Any, false),
+            Step::Receive(0, Selection::Any, true),
+            Step::Receive(0, Selection::Any, false),
+            Step::Receive(0, Selection::Any, true),
+        ],
+        &[
+            Answer::At(1),
+            Answer::At(2),
+            Answer::At(3),
+            Answer::Got(4, 1, 0, 0),
+            Answer::Refused(QueueError::TooBig),
+            Answer::Got(5, 2, 8192, 0),
+            Answer::Got(6, 3, 0, 0),
+            Answer::Refused(QueueError::NoMessage),
+        ],
+    )?;
+    Ok(())
+}
+
+/// A type below 1, before the length is looked at; the first type and the last.
+#[test]
+fn a_type_below_one_is_refused_before_the_length(rt: HostRuntime) -> Result<(), Fail> {
+    check(
+        &rt,
+        rt.alloc(),
+        &[
+            Step::Send(0, 8193),
+            Step::Send(i64::MIN, 0),
+            Step::Send(i64::MAX, 2),
+            Step::Send(1, 3),
+            Step::Receive(u64::MAX, Selection::UpTo(u64::MAX), false),
+        ],
+        &[
+            Answer::Refused(QueueError::TypeInvalid),
+            Answer::Refused(QueueError::TypeInvalid),
+            Answer::At(1),
+            Answer::At(2),
+            Answer::Got(3, 2, 3, 3),
+        ],
+    )?;
+    Ok(())
+}
+
+/// The lowest type first, in the order of sending.
+#[test]
+fn the_lowest_type_comes_first_in_the_order_of_sending(rt: HostRuntime) -> Result<(), Fail> {
+    check(
+        &rt,
+        rt.alloc(),
+        &[
+            Step::Send(3, 1),
+            Step::Send(1, 2),
+            Step::Send(2, 3),
+            Step::Send(1, 4),
+            Step::Receive(4, Selection::UpTo(2), false),
+            Step::Receive(3, Selection::UpTo(2), false),
+            Step::Receive(4, Selection::UpTo(2), false),
+            Step::Receive(4, Selection::Exact(1), false),
+            Step::Receive(4, Selection::Except(3), false),
+        ],
+        &[
+            Answer::At(1),
+            Answer::At(2),
+            Answer::At(3),
+            Answer::At(4),
+            Answer::Got(5, 2, 2, 2),
+            Answer::Refused(QueueError::TooBig),
+            Answer::Got(6, 4, 4, 4),
+            Answer::Refused(QueueError::NoMessage),
+            Answer::Got(7, 3, 3, 3),
+        ],
+    )?;
+    Ok(())
+}
+
+/// A quota by bytes and by count.
+#[test]
+fn a_quota_limits_bytes_and_messages(rt: HostRuntime) -> Result<(), Fail> {
+    check(
+        &rt,
+        rt.alloc(),
+        &[
+            Step::Send(1, 2),
+            Step::Send(1, 2),
+            Step::Set(4),
+            Step::Send(1, 2),
+            Step::Send(1, 0),
+            Step::Send(1, 0),
+            Step::Send(1, 0),
+        ],
+        &[
+            Answer::At(1),
+            Answer::At(2),
+            Answer::At(3),
+            Answer::Refused(QueueError::Full),
+            Answer::At(4),
+            Answer::At(5),
+            Answer::Refused(QueueError::Full),
+        ],
+    )?;
+    Ok(())
+}
+
+/// A queue over a quota that was lowered refuses an empty text too, until it is under it.
+#[test]
+fn a_queue_over_a_lowered_quota_refuses_an_empty_text(rt: HostRuntime) -> Result<(), Fail> {
+    check(
+        &rt,
+        rt.alloc(),
+        &[
+            Step::Send(1, 6),
+            Step::Set(4),
+            Step::Send(1, 0),
+            Step::Receive(6, Selection::Any, false),
+            Step::Send(1, 0),
+            Step::Set(16385),
+            Step::Set(16384),
+            Step::Set(0),
+            Step::Send(1, 0),
+        ],
+        &[
+            Answer::At(1),
+            Answer::At(2),
+            Answer::Refused(QueueError::Full),
+            Answer::Got(3, 1, 6, 6),
+            Answer::At(4),
+            Answer::Refused(QueueError::OverLimit),
+            Answer::At(5),
+            Answer::At(6),
+            Answer::Refused(QueueError::Full),
+        ],
+    )?;
+    Ok(())
+}
+
+/// The quota that stands is set once more: an event all the same.
+#[test]
+fn the_quota_that_stands_is_set_once_more(rt: HostRuntime) -> Result<(), Fail> {
+    check(
+        &rt,
+        rt.alloc(),
+        &[Step::Set(16384), Step::Set(16384), Step::Send(1, 1)],
+        &[Answer::At(1), Answer::At(2), Answer::At(3)],
+    )?;
     Ok(())
 }
 

@@ -4,6 +4,7 @@ use mq_message::{Message, VecBody};
 use mq_queue::QueueError;
 use mq_select::Selection;
 use std::alloc::{AllocError, Global};
+use std::process::Abort;
 use std::test::Fail;
 
 #[derive(Clone, Copy, Debug, PartialEq, Eq)]
@@ -121,96 +122,119 @@ fn play(
     Ok(())
 }
 
+/// Checks what a new slot with this number answers to these calls, one after another.
+fn check(
+    rt: &impl Abort,
+    alloc: Global,
+    number: u8,
+    steps: &[Step],
+    answers: &[Answer],
+) -> Result<(), AllocError> {
+    assert_eq!(rt; played(alloc, number, steps)?.as_slice(), answers);
+    Ok(())
+}
+
+/// The entries go on from queue to queue, and the places of messages begin anew.
 #[test]
-fn a_slot_answers_by_all_that_happened_in_it(rt: HostRuntime) -> Result<(), Fail> {
-    let cases: [(u8, &[Step], &[Answer]); 3] = [
-        // The entries go on from queue to queue, and the places of messages begin anew.
-        (
-            0,
-            &[
-                Step::Send(1, 5),
-                Step::Make(9),
-                Step::Send(1, 5),
-                Step::Send(1, 4),
-                Step::Remove,
-                Step::Receive(5),
-                Step::Make(9),
-                Step::Receive(5),
-                Step::Send(1, 3),
-                Step::Receive(2),
-                Step::Receive(3),
-                Step::Set(4),
-                Step::Remove,
-            ],
-            &[
-                Answer::Unasked,
-                Answer::Id(0),
-                Answer::At(1),
-                Answer::At(2),
-                Answer::Events(4),
-                Answer::Unasked,
-                Answer::Id(64),
-                Answer::Refused(QueueError::NoMessage),
-                Answer::At(5),
-                Answer::Refused(QueueError::TooBig),
-                Answer::Got(6, 1, 3),
-                Answer::At(7),
-                Answer::Events(5),
-            ],
-        ),
-        // Three queues, and no more: the last seq is 2. A queue that is there takes no other.
-        (
-            63,
-            &[
-                Step::Make(0),
-                Step::Make(0),
-                Step::Remove,
-                Step::Make(7),
-                Step::Remove,
-                Step::Remove,
-                Step::Make(i32::MIN),
-                Step::Remove,
-                Step::Make(0),
-            ],
-            &[
-                Answer::Id(63),
-                Answer::Unasked,
-                Answer::Events(2),
-                Answer::Id(127),
-                Answer::Events(2),
-                Answer::Unasked,
-                Answer::Id(191),
-                Answer::Events(2),
-                Answer::Unasked,
-            ],
-        ),
-        // A removed queue's quota is not the next one's.
-        (
-            5,
-            &[
-                Step::Make(1),
-                Step::Set(0),
-                Step::Send(1, 0),
-                Step::Set(16385),
-                Step::Remove,
-                Step::Make(1),
-                Step::Send(0, 1),
-                Step::Send(1, 0),
-            ],
-            &[
-                Answer::Id(5),
-                Answer::At(1),
-                Answer::Refused(QueueError::Full),
-                Answer::Refused(QueueError::OverLimit),
-                Answer::Events(3),
-                Answer::Id(69),
-                Answer::Refused(QueueError::TypeInvalid),
-                Answer::At(4),
-            ],
-        ),
-    ];
-    for (number, steps, answers) in cases {
-        assert_eq!(rt; played(rt.alloc(), number, steps)?.as_slice(), answers);
-    }
+fn entries_go_on_from_queue_to_queue(rt: HostRuntime) -> Result<(), Fail> {
+    check(
+        &rt,
+        rt.alloc(),
+        0,
+        &[
+            Step::Send(1, 5),
+            Step::Make(9),
+            Step::Send(1, 5),
+            Step::Send(1, 4),
+            Step::Remove,
+            Step::Receive(5),
+            Step::Make(9),
+            Step::Receive(5),
+            Step::Send(1, 3),
+            Step::Receive(2),
+            Step::Receive(3),
+            Step::Set(4),
+            Step::Remove,
+        ],
+        &[
+            Answer::Unasked,
+            Answer::Id(0),
+            Answer::At(1),
+            Answer::At(2),
+            Answer::Events(4),
+            Answer::Unasked,
+            Answer::Id(64),
+            Answer::Refused(QueueError::NoMessage),
+            Answer::At(5),
+            Answer::Refused(QueueError::TooBig),
+            Answer::Got(6, 1, 3),
+            Answer::At(7),
+            Answer::Events(5),
+        ],
+    )?;
+    Ok(())
+}
+
+/// Three queues, and no more: the last seq is 2. A queue that is there takes no other.
+#[test]
+fn a_slot_takes_as_many_queues_as_its_seqs_allow(rt: HostRuntime) -> Result<(), Fail> {
+    check(
+        &rt,
+        rt.alloc(),
+        63,
+        &[
+            Step::Make(0),
+            Step::Make(0),
+            Step::Remove,
+            Step::Make(7),
+            Step::Remove,
+            Step::Remove,
+            Step::Make(i32::MIN),
+            Step::Remove,
+            Step::Make(0),
+        ],
+        &[
+            Answer::Id(63),
+            Answer::Unasked,
+            Answer::Events(2),
+            Answer::Id(127),
+            Answer::Events(2),
+            Answer::Unasked,
+            Answer::Id(191),
+            Answer::Events(2),
+            Answer::Unasked,
+        ],
+    )?;
+    Ok(())
+}
+
+/// A removed queue's quota is not the next one's.
+#[test]
+fn a_removed_queues_quota_is_not_the_next_ones(rt: HostRuntime) -> Result<(), Fail> {
+    check(
+        &rt,
+        rt.alloc(),
+        5,
+        &[
+            Step::Make(1),
+            Step::Set(0),
+            Step::Send(1, 0),
+            Step::Set(16385),
+            Step::Remove,
+            Step::Make(1),
+            Step::Send(0, 1),
+            Step::Send(1, 0),
+        ],
+        &[
+            Answer::Id(5),
+            Answer::At(1),
+            Answer::Refused(QueueError::Full),
+            Answer::Refused(QueueError::OverLimit),
+            Answer::Events(3),
+            Answer::Id(69),
+            Answer::Refused(QueueError::TypeInvalid),
+            Answer::At(4),
+        ],
+    )?;
     Ok(())
 }
