@@ -9,5 +9,9 @@ pub mod FreePages
 pub mod Largest
 pub mod Trees
 pub mod Steps
+pub mod Paths
+pub mod Closing
+pub mod Places
+pub mod Lending
 pub mod Totals
 pub mod LawLemmas

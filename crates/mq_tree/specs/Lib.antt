@@ -5,3 +5,4 @@ pub mod Nodes
 pub mod Codes
 pub mod Laws
 pub mod Trees
+pub mod Paths

@@ -2,10 +2,43 @@ ghost use Rattle.std.specs.Prelude.{◌≡◌, ◌≤◌, Some, IsSome};
 ghost use Rattle.mq_tree.specs.Blocks.{block};
 ghost use Rattle.mq_tree.specs.LentSet.{joined};
 ghost use Rattle.mq_tree.specs.Fit.{fit};
+ghost use Rattle.mq_tree.specs.Paths.{LendsOpen};
 ghost use Rattle.mq_tree.specs.Trees.{IsTree, lent_blocks};
 
-use crate::halves::{fill, has_room, open_halves, parent_of, root_of};
 use crate::node::{Node, pages_in};
+use crate::path::{Path, close_path, right_half};
+
+// Marks the first run of that order that is free, and opens the free runs above it. The nodes on
+// the path to it do not know of it yet.
+fn lend_open(nodes: &mut [Node], height: u8, order: u8, path: &mut Path) -> u32
+    requires tree { IsTree height nodes.old }
+    requires low { height ≤ 10 }
+    requires room { IsSome (fit height (lent_blocks height nodes.old) order) }
+    ensures { LendsOpen order height result path.new nodes.old nodes.new }
+{
+    let mut at = 0;
+    let mut start = 0;
+    let mut level = height;
+    'levels: while level > order {
+        let half = level - 1;
+        let left = at + 1;
+        let right = right_half(at, level);
+        path[half as usize] = at;
+        if nodes[at].is_free() {
+            nodes[left] = Node::free();
+            nodes[right] = Node::free();
+        }
+        if nodes[left].has_room(half, order) {
+            at = left;
+        } else {
+            at = right;
+            start += pages_in(half);
+        }
+        level = half;
+    }
+    nodes[at] = Node::lent();
+    start
+}
 
 // Lends the first block of that order that fits, by the largest orders on the way down.
 pub(crate) fn lend_in(nodes: &mut [Node], height: u8, order: u8) -> u32
@@ -17,21 +50,8 @@ pub(crate) fn lend_in(nodes: &mut [Node], height: u8, order: u8) -> u32
     ensures lent { lent_blocks height nodes.new
         ≡ joined (block result order) (lent_blocks height nodes.old) }
 {
-    if order == height {
-        fill(nodes, height);
-        return 0;
-    }
-    let half = height - 1;
-    let node = root_of(nodes, height);
-    let (root, rest) = nodes.split_at_mut(1);
-    let middle = rest.len() / 2;
-    let (left, right) = rest.split_at_mut(middle);
-    open_halves(node, left, right, half);
-    let start = if has_room(left, half, order) {
-        lend_in(left, half, order)
-    } else {
-        pages_in(half) + lend_in(right, half, order)
-    };
-    root[0] = parent_of(left, right, half);
+    let mut path = [0; 10];
+    let start = lend_open(nodes, height, order, &mut path);
+    close_path(nodes, height, order, &path);
     start
 }

@@ -8,6 +8,7 @@ mod halves;
 pub mod laws;
 mod lend;
 mod node;
+mod path;
 #[cfg(test)]
 mod tests;
 mod tree;

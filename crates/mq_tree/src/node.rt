@@ -1,4 +1,4 @@
-ghost use Rattle.std.specs.Prelude.{◌≡◌, ◌^◌, ◌≤◌, ◌<◌};
+ghost use Rattle.std.specs.Prelude.{◌≡◌, ◌^◌, ◌≤◌, ◌<◌, true};
 ghost use Rattle.mq_tree.specs.Nodes.{Free, Lent, largest_under, room_under, is_free, is_lent_whole, is_split, at_most, parent};
 
 use std::marker::Model;
@@ -54,8 +54,15 @@ impl Node {
         if left.is_free() && right.is_free() {
             return Node::free();
         }
-        let most = left.room(half).max(right.room(half));
-        Node { code: most.max(1) }
+        let most = left.room(half).max(right.room(half).max(1));
+        Node { code: most }
+    }
+
+    // Whether they are one.
+    pub(crate) fn is(self, other: Node) -> bool
+        ensures { result ≡ true → self ≡ other }
+    {
+        self.code == other.code
     }
 
     // Its code, where a free run counts as a split one with its own order as the largest.
