@@ -2,7 +2,8 @@
 use Rattle.std.proofs.Common.{◌≡◌, ℕ, ◌+◌, ◌^◌, ◌<◌, ◌≤◌, suc, refl, sym, ap, ◌∙◌, arith, List, [], ◌∷◌, ◌++◌, length, get_or, set, length-append}
 use Rattle.std.specs.Prelude.{slice_index}
 use Rattle.mq_tree.specs.Nodes.{Node, node_count, root, parent}
-use Rattle.mq_tree.specs.Paths.{Step, left_of, right_of, first_of, above, closed_above, around, closed, offset, over, AreOver, ToLeft, ToRight, IsPath, IsOpen}
+use Rattle.mq_tree.specs.Steps.{Step, left_of, right_of, first_of, above, closed_above, over, ToLeft, ToRight}
+use Rattle.mq_tree.specs.Paths.{around, closed, offset, AreOver, IsPath, IsOpen}
 use Rattle.mq_tree.proofs.Powers.{pow_suc, pow_le}
 use Rattle.mq_tree.proofs.Trees.{node_count_is, node_count_suc, node_count_pos}
 use Rattle.mq_tree.proofs.Paths.{length-around, get_or-around, set-around, length-joint, left_root, right_root, path_height}

@@ -1,19 +1,20 @@
 -- The way down to the first run of an order that is free.
-use Rattle.std.proofs.Common.{◌≡◌, ℕ, ◌+◌, ◌-◌, ◌^◌, ◌<◌, ◌≤◌, suc, refl, sym, ap, ◌∙◌, arith, true, false, List, [], ◌∷◌, ◌++◌, length, get_or, set, take, drop, subst, take-append-drop}
+use Rattle.std.proofs.Common.{◌≡◌, ℕ, ◌+◌, ◌-◌, ◌^◌, ◌<◌, ◌≤◌, suc, refl, sym, ap, ◌∙◌, arith, true, false, List, [], ◌∷◌, ◌++◌, length, get_or, set, subst}
 use Rattle.std.specs.List.{All}
 use Rattle.std.specs.Option.{is_some, IsSome}
-use Rattle.std.proofs.lemmas.List.{length-set, get_or-set_same, length-take, length-drop}
+use Rattle.std.proofs.lemmas.List.{length-set}
 use Rattle.mq_tree.specs.Blocks.{block, IsInArena, moved_up}
 use Rattle.mq_tree.specs.LentSet.{joined}
 use Rattle.mq_tree.specs.Fit.{fit}
 use Rattle.mq_tree.specs.Nodes.{Node, Free, Lent, node_count, root, is_free, at_most, largest_under, parent}
 use Rattle.mq_tree.specs.Trees.{IsTree, AreHalves, lent_blocks}
-use Rattle.mq_tree.specs.Paths.{Step, ToLeft, ToRight, around, closed, offset, IsPath, IsOpen, Lends, LendsOpen}
+use Rattle.mq_tree.specs.Steps.{ToRight}
+use Rattle.mq_tree.specs.Paths.{closed}
+use Rattle.mq_tree.specs.Changes.{Lends, LendsOpen}
 use Rattle.mq_tree.proofs.Powers.{pow_suc}
-use Rattle.mq_tree.proofs.Trees.{node_count_is, node_count_suc, node_count_pos, tree_length, tree_lent_set, free_tree, free_blocks, lent_tree, lent_tree_blocks, root_is, root-get_or, root-set, free_root, halves_of_free, halves_of_split, parent_tree, parent_halves}
+use Rattle.mq_tree.proofs.Trees.{node_count_pos, tree_length, tree_lent_set, lent_tree, lent_tree_blocks, root_is, root-set, free_root, parent_tree, parent_halves}
 use Rattle.mq_tree.proofs.Steps.{no_room_in_lent, whole_is_empty, whole_fit, order_in_room, fit_left, fit_right, room_right, lent_left, lent_right}
 use Rattle.mq_tree.proofs.Places.{IsAt, at_root, root_read, rewritten, Opened, opened_free, opened_split, left_read, at_left, at_right}
-use Rattle.mq_tree.proofs.Paths.{length-around, get_or-around, set-around, length-joint, left_root, set_left, set_right, path_height, IsPath-set}
 
 -- ---- lending in a half is lending in the whole
 module _ (half order s : ℕ) (part l r new : List Node) (halves : AreHalves half l r (lent_blocks (suc half) part)) (low : order ≤ half) where

@@ -13,5 +13,6 @@ pub mod Paths
 pub mod Closing
 pub mod Places
 pub mod Lending
+pub mod Giving
 pub mod Totals
 pub mod LawLemmas

@@ -2,7 +2,8 @@
 use Rattle.std.proofs.Common.{◌≡◌, ℕ, ◌+◌, ◌-◌, ◌^◌, ◌<◌, ◌≤◌, suc, refl, ap, ◌∙◌, arith, List, [], ◌∷◌, ◌++◌, length, get_or, set, length-append}
 use Rattle.std.proofs.lemmas.List.{get_or_append_left, get_or-append-add, set-append_left, set-append_right, get_or-set_other}
 use Rattle.mq_tree.specs.Nodes.{Node, node_count, root}
-use Rattle.mq_tree.specs.Paths.{Step, ToLeft, ToRight, skipped, above, around, offset, IsPath}
+use Rattle.mq_tree.specs.Steps.{Step, ToLeft, ToRight, skipped, above}
+use Rattle.mq_tree.specs.Paths.{around, offset, IsPath}
 use Rattle.mq_tree.proofs.Powers.{pow_suc}
 use Rattle.mq_tree.proofs.Trees.{node_count_is, node_count_pos, root-get_or}
 

@@ -1,10 +1,11 @@
 -- A place on a path: a part of the nodes that is a tree, and the steps down to it.
-use Rattle.std.proofs.Common.{◌≡◌, ℕ, ◌+◌, ◌-◌, ◌^◌, ◌<◌, ◌≤◌, suc, refl, sym, ap, ◌∙◌, arith, true, false, ◌&&◌, List, [], ◌∷◌, ◌++◌, length, get_or, set, take, drop, subst, take-append-drop}
+use Rattle.std.proofs.Common.{◌≡◌, ℕ, ◌+◌, ◌-◌, ◌^◌, ◌<◌, ◌≤◌, suc, refl, sym, ap, ◌∙◌, arith, false, ◌&&◌, List, [], ◌∷◌, ◌++◌, length, get_or, set, take, drop, subst, take-append-drop}
 use Rattle.std.proofs.lemmas.Bool.{cond-false}
 use Rattle.std.proofs.lemmas.List.{length-set, get_or-set_same, length-take, length-drop}
-use Rattle.mq_tree.specs.Nodes.{Node, Free, Lent, Split, node_count, root, left_half, right_half, is_free, larger, largest_under, parent}
+use Rattle.mq_tree.specs.Nodes.{Node, Free, Lent, Split, node_count, root, is_free, larger, largest_under, parent}
 use Rattle.mq_tree.specs.Trees.{IsTree, IsMarked, AreHalves, lent_blocks}
-use Rattle.mq_tree.specs.Paths.{Step, ToLeft, ToRight, around, offset, AreOver, IsPath, IsOpen}
+use Rattle.mq_tree.specs.Steps.{Step, ToLeft, ToRight}
+use Rattle.mq_tree.specs.Paths.{around, offset, AreOver, IsPath, IsOpen}
 use Rattle.mq_tree.proofs.Powers.{pow_suc}
 use Rattle.mq_tree.proofs.Trees.{node_count_is, node_count_suc, node_count_pos, tree_length, free_tree, free_blocks, split_tree, root-get_or, root-set, left_half-is, right_half-is, halves_of_free, halves_of_split}
 use Rattle.mq_tree.proofs.Paths.{length-around, get_or-around, set-around, length-joint, left_root, set_left, set_right, path_height, IsPath-set}

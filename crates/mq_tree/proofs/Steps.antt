@@ -1,5 +1,5 @@
--- A step of the recursion: a tree taken apart into its root and its halves, and put together again.
-use Rattle.std.proofs.Common.{◌≡◌, ℕ, ◌+◌, ◌-◌, ◌/◌, ◌^◌, ◌<◌, ◌≤◌, zero, suc, refl, sym, ap, ◌∙◌, arith, inl, inr, Bool, true, false, not, cond, ◌||◌, List, [], ◌∷◌, ◌++◌, length, get_or, set, Option, Some, None, length-append, subst}
+-- A level of the tree: what is lent in a half, and what is in the whole run of its root.
+use Rattle.std.proofs.Common.{◌≡◌, ℕ, ◌+◌, ◌^◌, ◌<◌, ◌≤◌, zero, suc, refl, sym, ap, ◌∙◌, arith, inl, inr, Bool, true, false, not, cond, ◌||◌, List, [], ◌∷◌, ◌++◌, get_or, Option, Some, None, subst}
 use Rattle.std.specs.List.{All}
 use Rattle.std.specs.Option.{is_some, IsSome, option_or, option_map}
 use Rattle.std.proofs.lemmas.Bool.{false_from_ne_true, both_ways}
@@ -9,13 +9,13 @@ use Rattle.std.proofs.lemmas.Nat.{pow_pos}
 use Rattle.mq_tree.specs.Blocks.{Block, block, IsInArena, is_block, moved_up}
 use Rattle.mq_tree.specs.LentSet.{joined, left, is_lent}
 use Rattle.mq_tree.specs.Fit.{fit}
-use Rattle.mq_tree.specs.Nodes.{Node, Lent, node_count, root, left_half, right_half, is_lent_whole, is_split}
+use Rattle.mq_tree.specs.Nodes.{Node, Lent, root, left_half, right_half, is_lent_whole, is_split}
 use Rattle.mq_tree.specs.Trees.{lent_blocks, IsTree}
 use Rattle.mq_tree.proofs.Powers.{order_le}
 use Rattle.mq_tree.proofs.Fits.{fit_passes, fit_order, fit_empty, fit_whole, fit_lent}
 use Rattle.mq_tree.proofs.Halving.{fit_split}
 use Rattle.mq_tree.proofs.LentSets.{is_block_start, is_block_order, is_block-true, is_block_itself, joined_left, joined_right, joined_moved, left_absent, left_moved, is_lent_moved}
-use Rattle.mq_tree.proofs.Trees.{tree_length, node_count_suc, tree_lent_set, free_blocks, lent_tree_blocks, split_tree, no_split_leaf, cases_node}
+use Rattle.mq_tree.proofs.Trees.{tree_lent_set, free_blocks, lent_tree_blocks, split_tree, no_split_leaf, cases_node}
 
 -- ---- options
 pub some_is : (o : Option ℕ) → IsSome o → (s : ℕ) × (o ≡ Some s)
@@ -34,57 +34,6 @@ none_is (Some s) t = absurd (cc)
 -- ---- lists
 pub order_in_room : (height : ℕ) (lent : List Block) (order : ℕ) → IsSome (fit height lent order) → order ≤ height
 order_in_room height lent order h = let s = some_is (fit height lent order) h in fit_order height lent order s.0 s.1
-
-rooted : (nodes front rest : List Node) (first : Node) → first ≡ root nodes → nodes ≡ front ++ rest → length front ≡ 1 → nodes ≡ first ∷ rest
-rooted nodes [] rest first e whole l = absurd (omega arith)
-rooted nodes (n ∷ []) rest first e whole l = whole ∙ ap (λ m. m ∷ rest) (sym (ap root whole) ∙ sym e)
-rooted nodes (n ∷ m ∷ ns) rest first e whole l = absurd (omega arith)
-
--- the parts that a tree is taken into
-pub record Parts (height : ℕ) (nodes : List Node) (first : Node) (l r : List Node) : Type 0 where
-  pub height_is : suc (height - 1) ≡ height
-  pub left_len : length l ≡ node_count (height - 1)
-  pub right_len : length r ≡ node_count (height - 1)
-  pub tree : IsTree (suc (height - 1)) (first ∷ (l ++ r))
-  pub blocks : lent_blocks height nodes ≡ lent_blocks (suc (height - 1)) (first ∷ (l ++ r))
-
-pub parts : (height : ℕ) (nodes front rest l r : List Node) (first : Node) → first ≡ root nodes → 1 ≤ height → IsTree height nodes
-    → nodes ≡ front ++ rest → length front ≡ 1 → rest ≡ l ++ r → length l ≡ length rest / 2 → Parts height nodes first l r
-parts height nodes front rest l r first is_first high tree whole one halves middle =
-    let h : suc (height - 1) ≡ height = omega arith in
-    let n : length nodes ≡ node_count height = tree_length height nodes tree in
-    let k : node_count height ≡ suc (node_count (height - 1) + node_count (height - 1)) = ap node_count (sym h) ∙ node_count_suc (height - 1) in
-    let twice : length rest ≡ node_count (height - 1) + node_count (height - 1) = omega (arith, n, k, ap length whole, length-append front rest) in
-    let ll : length l ≡ node_count (height - 1) = omega (arith, twice, middle) in
-    let are : nodes ≡ first ∷ (l ++ r) = rooted nodes front (l ++ r) first is_first (whole ∙ ap (λ x. front ++ x) halves) one in
-    let P : ℕ → Type 0 = λ h. IsTree h (first ∷ (l ++ r)) in
-    let Q : List Node → Type 0 = λ x. IsTree height x in
-    record {
-      height_is = h;
-      left_len = ll;
-      right_len = omega (arith, twice, ll, ap length halves, length-append l r);
-      tree = subst P (sym h) (subst Q are tree);
-      blocks = ap (λ h. lent_blocks h nodes) (sym h) ∙ ap (λ x. lent_blocks (suc (height - 1)) x) are;
-    }
-
--- put together again
-module _ (height : ℕ) (front l r : List Node) (parent : Node) (high : 1 ≤ height) (one : length front ≡ 1) where
-  joined_nodes : (f : List Node) → length f ≡ 1 → set f 0 parent ++ (l ++ r) ≡ parent ∷ (l ++ r)
-  joined_nodes [] e = absurd (omega arith)
-  joined_nodes (n ∷ []) e = refl
-  joined_nodes (n ∷ m ∷ ns) e = absurd (omega arith)
-
-  higher : suc (height - 1) ≡ height
-  higher = omega arith
-
-  pub closed_tree : IsTree (suc (height - 1)) (parent ∷ (l ++ r)) → IsTree height (set front 0 parent ++ (l ++ r))
-  closed_tree t =
-      let P : ℕ → Type 0 = λ h. IsTree h (parent ∷ (l ++ r)) in
-      let Q : List Node → Type 0 = λ x. IsTree height x in
-      subst Q (sym (joined_nodes front one)) (subst P higher t)
-
-  pub closed_blocks : lent_blocks height (set front 0 parent ++ (l ++ r)) ≡ lent_blocks (suc (height - 1)) (parent ∷ (l ++ r))
-  closed_blocks = ap (λ x. lent_blocks height x) (joined_nodes front one) ∙ ap (λ h. lent_blocks h (parent ∷ (l ++ r))) (sym higher)
 
 -- ---- a whole run
 pub no_room_in_lent : (height : ℕ) (nodes : List Node) (order : ℕ) → root nodes ≡ Lent → IsSome (fit height (lent_blocks height nodes) order) → ⊥

@@ -7,7 +7,7 @@ use Rattle.std.proofs.lemmas.List.{take_at, drop_at}
 use Rattle.mq_tree.specs.Blocks.{Block, block, IsInArena, moved_up}
 use Rattle.mq_tree.specs.LentSet.{IsLentSet}
 use Rattle.mq_tree.specs.Fit.{fit}
-use Rattle.mq_tree.specs.Nodes.{Node, Free, Lent, Split, node_count, root, left_half, right_half, is_free, is_lent_whole, is_split, at_most, larger, largest_under, parent}
+use Rattle.mq_tree.specs.Nodes.{Node, Free, Lent, Split, node_count, root, left_half, right_half, is_free, is_lent_whole, at_most, larger, largest_under, parent}
 use Rattle.mq_tree.specs.Trees.{lent_blocks, IsMarked, IsTree, AreHalves}
 use Rattle.mq_tree.proofs.Powers.{pow_suc, pow_le}
 use Rattle.mq_tree.proofs.Fits.{fit_empty, fit_over, fit_lent, fit_whole}
@@ -269,12 +269,6 @@ halves_of_split half (Split m) l r e t f g =
       right_tree = rw b at p.right_tree;
       lent_is = p.lent_is ∙ ap (λ x. lent_blocks half x ++ moved_up (2 ^ half) (lent_blocks half (right_half half (Split m ∷ (l ++ r))))) a ∙ ap (λ x. lent_blocks half l ++ moved_up (2 ^ half) (lent_blocks half x)) b;
     }
-
-pub halves_of_parted : (half : ℕ) (n : Node) (l r : List Node) → length l ≡ node_count half → IsTree (suc half) (n ∷ (l ++ r)) → is_split n ≡ true
-    → AreHalves half l r (lent_blocks (suc half) (n ∷ (l ++ r)))
-halves_of_parted half Free l r e t s = absurd (cc)
-halves_of_parted half Lent l r e t s = absurd (cc)
-halves_of_parted half (Split m) l r e t s = halves_of_split half (Split m) l r e t refl (λ f. cc)
 
 -- ---- the node over two halves
 module _ (half : ℕ) (l r : List Node) (lt : IsTree half l) (rt : IsTree half r) where

@@ -5,4 +5,6 @@ pub mod Nodes
 pub mod Codes
 pub mod Laws
 pub mod Trees
+pub mod Steps
 pub mod Paths
+pub mod Changes

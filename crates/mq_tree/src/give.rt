@@ -1,26 +1,47 @@
 ghost use Rattle.std.specs.Prelude.{◌≡◌, ◌≤◌};
+ghost use Rattle.std.specs.Bool.{OnTrue, OnFalse};
 ghost use Rattle.mq_tree.specs.Blocks.{block};
 ghost use Rattle.mq_tree.specs.LentSet.{left as without, is_lent};
+ghost use Rattle.mq_tree.specs.Changes.{GivesOpen};
 ghost use Rattle.mq_tree.specs.Trees.{IsTree, lent_blocks};
 
-use crate::halves::{clear, parent_of, root_of};
 use crate::node::{Node, pages_in};
+use crate::path::{Path, close_path, right_half};
 
-// Takes the whole run of a node back, if it is lent as one block from page 0 on.
-fn give_whole(nodes: &mut [Node], height: u8, start: u32) -> bool
-    requires { IsTree height nodes.old }
-    ensures tree { IsTree height nodes.new }
-    ensures lent { result ≡ is_lent (block start height) (lent_blocks height nodes.old) }
-    ensures left { lent_blocks height nodes.new
-        ≡ without (block start height) (lent_blocks height nodes.old) }
+// Marks that block as free, if it is lent. The nodes on the path to it do not know of it yet.
+fn give_open(nodes: &mut [Node], height: u8, start: u32, order: u8, path: &mut Path) -> bool
+    requires tree { IsTree height nodes.old }
+    requires low { height ≤ 10 }
+    requires order { order ≤ height }
+    ensures lent { result ≡ is_lent (block start order) (lent_blocks height nodes.old) }
+    ensures given { OnTrue result (GivesOpen order height start path.new nodes.old nodes.new) }
+    ensures kept { OnFalse result (nodes.new ≡ nodes.old) }
 {
-    if start != 0 {
+    let mut at = 0;
+    let mut rest = start;
+    let mut level = height;
+    'levels: while level > order {
+        if !nodes[at].is_split() {
+            return false;
+        }
+        let half = level - 1;
+        let pages = pages_in(half);
+        path[half as usize] = at;
+        if rest < pages {
+            at += 1;
+        } else {
+            at = right_half(at, level);
+            rest -= pages;
+        }
+        level = half;
+    }
+    if rest != 0 {
         return false;
     }
-    if !root_of(nodes, height).is_lent() {
+    if !nodes[at].is_lent() {
         return false;
     }
-    clear(nodes, height);
+    nodes[at] = Node::free();
     true
 }
 
@@ -34,22 +55,10 @@ pub(crate) fn give_in(nodes: &mut [Node], height: u8, start: u32, order: u8) -> 
     ensures left { lent_blocks height nodes.new
         ≡ without (block start order) (lent_blocks height nodes.old) }
 {
-    if order == height {
-        return give_whole(nodes, height, start);
-    }
-    if !root_of(nodes, height).is_split() {
+    let mut path = [0; 10];
+    if !give_open(nodes, height, start, order, &mut path) {
         return false;
     }
-    let half = height - 1;
-    let (root, rest) = nodes.split_at_mut(1);
-    let middle = rest.len() / 2;
-    let (left, right) = rest.split_at_mut(middle);
-    let pages = pages_in(half);
-    let given = if start < pages {
-        give_in(left, half, start, order)
-    } else {
-        give_in(right, half, start - pages, order)
-    };
-    root[0] = parent_of(left, right, half);
-    given
+    close_path(nodes, height, order, &path);
+    true
 }

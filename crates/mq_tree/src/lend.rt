@@ -2,7 +2,7 @@ ghost use Rattle.std.specs.Prelude.{◌≡◌, ◌≤◌, Some, IsSome};
 ghost use Rattle.mq_tree.specs.Blocks.{block};
 ghost use Rattle.mq_tree.specs.LentSet.{joined};
 ghost use Rattle.mq_tree.specs.Fit.{fit};
-ghost use Rattle.mq_tree.specs.Paths.{LendsOpen};
+ghost use Rattle.mq_tree.specs.Changes.{LendsOpen};
 ghost use Rattle.mq_tree.specs.Trees.{IsTree, lent_blocks};
 
 use crate::node::{Node, pages_in};

@@ -4,11 +4,11 @@
 
 mod error;
 mod give;
-mod halves;
 pub mod laws;
 mod lend;
 mod node;
 mod path;
+mod root;
 #[cfg(test)]
 mod tests;
 mod tree;

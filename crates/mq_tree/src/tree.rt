@@ -6,9 +6,9 @@ ghost use Rattle.mq_tree.specs.Fit.{fit, largest};
 
 use crate::error::TreeError;
 use crate::give::give_in;
-use crate::halves::{has_room, root_of};
 use crate::lend::lend_in;
 use crate::node::{Node, pages_in};
+use crate::root::{has_room, root_of};
 use std::alloc::Global;
 use std::marker::Model;
 

@@ -1,7 +1,7 @@
 use Rattle.std.proofs.Common.{ap, sym, ◌∙◌}
 use Rattle.mq_tree.specs.Nodes.{at_most, largest_under}
 use Rattle.mq_tree.proofs.Trees.{root_is}
-use Rattle.mq_tree.proofs.halves.has_room.Goals as goal
+use Rattle.mq_tree.proofs.root.has_room.Goals as goal
 
 pub returns : goal.returns
 returns c =
