@@ -6,7 +6,7 @@ ghost use Rattle.mq_tree.specs.Changes.{GivesOpen};
 ghost use Rattle.mq_tree.specs.Trees.{IsTree, lent_blocks};
 
 use crate::node::{Node, pages_in};
-use crate::path::{Path, close_path, right_half};
+use crate::path::{Path, close_path};
 
 // Marks that block as free, if it is lent. The nodes on the path to it do not know of it yet.
 fn give_open(nodes: &mut [Node], height: u8, start: u32, order: u8, path: &mut Path) -> bool
@@ -20,17 +20,19 @@ fn give_open(nodes: &mut [Node], height: u8, start: u32, order: u8, path: &mut P
     let mut at = 0;
     let mut rest = start;
     let mut level = height;
+    let mut pages = pages_in(height);
     'levels: while level > order {
         if !nodes[at].is_split() {
             return false;
         }
         let half = level - 1;
-        let pages = pages_in(half);
+        let right = at + pages as usize;
+        pages /= 2;
         path[half as usize] = at;
         if rest < pages {
             at += 1;
         } else {
-            at = right_half(at, level);
+            at = right;
             rest -= pages;
         }
         level = half;

@@ -6,7 +6,7 @@ ghost use Rattle.mq_tree.specs.Changes.{LendsOpen};
 ghost use Rattle.mq_tree.specs.Trees.{IsTree, lent_blocks};
 
 use crate::node::{Node, pages_in};
-use crate::path::{Path, close_path, right_half};
+use crate::path::{Path, close_path};
 
 // Marks the first run of that order that is free, and opens the free runs above it. The nodes on
 // the path to it do not know of it yet.
@@ -19,10 +19,12 @@ fn lend_open(nodes: &mut [Node], height: u8, order: u8, path: &mut Path) -> u32
     let mut at = 0;
     let mut start = 0;
     let mut level = height;
+    let mut pages = pages_in(height);
     'levels: while level > order {
         let half = level - 1;
         let left = at + 1;
-        let right = right_half(at, level);
+        let right = at + pages as usize;
+        pages /= 2;
         path[half as usize] = at;
         if nodes[at].is_free() {
             nodes[left] = Node::free();
@@ -32,7 +34,7 @@ fn lend_open(nodes: &mut [Node], height: u8, order: u8, path: &mut Path) -> u32
             at = left;
         } else {
             at = right;
-            start += pages_in(half);
+            start += pages;
         }
         level = half;
     }
