@@ -4,7 +4,7 @@
 `tests/refused_calls.py [CRATE ..]`, or without a name for mq_system_tests. A test makes a call that
 found no memory once more, so each run must end in one of these ways: all its checks passed, which
 says that the call made again answered as if nothing had happened; or the test ends by its own word
-that there was no memory, where it could not even begin. Wants the tests to be built (`rt test` in
+that memory was wanted, where it does not make the call twice. Wants the tests to be built (`rt test` in
 the crate's folder).
 """
 import os
@@ -57,7 +57,7 @@ def main():
             names = [line[:-6] for line in listed.stdout.splitlines() if line.endswith(": test")]
             results = [judge(program, name, shim, mark) for name in names]
             print(f"{crate}: {sum(r[0] for r in results)} runs passed, "
-                  f"{sum(r[1] for r in results)} found no memory to begin")
+                  f"{sum(r[1] for r in results)} ended by their own word that memory was wanted")
 
 
 main()
