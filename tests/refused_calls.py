@@ -4,8 +4,8 @@
 `tests/refused_calls.py [CRATE ..]`, or without a name for mq_system_tests. A test makes a call that
 found no memory once more, so each run must end in one of these ways: all its checks passed, which
 says that the call made again answered as if nothing had happened; or the test ends by its own word
-that memory was wanted, where it does not make the call twice. Wants the tests to be built (`rt test` in
-the crate's folder).
+that memory was wanted, where it does not make the call twice. Wants the tests to be built
+(`rt test` in the crate's folder).
 """
 import os
 import subprocess
