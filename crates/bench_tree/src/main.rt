@@ -24,7 +24,7 @@ fn half_full(tree: &mut OrderTree) {
     }
 }
 
-// That many lends of one page, each given back; how many of them were met.
+// That many lends of one page, each given back; how many of them were answered.
 fn pairs(tree: &mut OrderTree, count: u32) -> u32 {
     let mut met = 0u32;
     for _ in 0..count {

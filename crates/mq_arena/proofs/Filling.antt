@@ -82,7 +82,7 @@ pub length-over : (bytes page : List ℕ) → length bytes ≤ length page → l
 length-over bytes page within =
     omega (arith, length-append bytes (drop (length bytes) page), length-drop (length bytes) page)
 
--- the bytes of so many pages
+-- the bytes of that many pages
 pub length-concat : (n : ℕ) (pages : List (List ℕ)) → All (λ page. length page ≡ n) pages
     → length (concat pages) ≡ n * length pages
 length-concat n [] whole = omega arith

@@ -13,6 +13,7 @@ use Rattle.mq_tree.specs.LentSet.{Lending, IsLentSet, StartsBefore, free_pages, 
 use Rattle.mq_tree.specs.Fit.{fit, fits_at}
 use Rattle.mq_arena.specs.Homes.{AreHome, SameOutside}
 use Rattle.mq_arena.specs.Stocked.{IsStocked, IsArena, IsMade}
+use Rattle.mq_arena.specs.declared.limits.TheConstants.{MAX_ORDER, MAX_PAGES}
 use Rattle.mq_arena.specs.declared.page.TheConstants.{PAGE_LEN}
 
 -- both tests hold where they hold together
@@ -214,8 +215,8 @@ lent_inside arena homes order start stocked lent =
     ]
 
 -- a block of a low order fits in the inline places
-pub few_pages : (order : ℕ) → order ≤ 3 → 2 ^ order ≤ 8
-few_pages order low = pow_le order 3 low
+pub few_pages : (order : ℕ) → order ≤ MAX_ORDER → 2 ^ order ≤ MAX_PAGES
+few_pages order low = pow_le order MAX_ORDER low
 
 -- a slice put back in its vector
 pub put_back : (new rest : List (List ℕ)) (len : ℕ) → length new ≡ len → take len (new ++ rest) ≡ new

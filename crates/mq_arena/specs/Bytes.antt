@@ -6,7 +6,7 @@ use Rattle.mq_arena.specs.declared.page.TheConstants.{PAGE_LEN}
 abbrev pub AreWhole : List (List ℕ) → Type 0
 AreWhole pages = All (λ page. length page ≡ PAGE_LEN) pages
 
--- the pages that hold the first bytes, so many, with the last one cut where they end
+-- the pages of the first bytes, that many, with the last one cut where they end
 abbrev pub cut_parts : ℕ → List (List ℕ) → List (List ℕ)
 cut_parts len [] = []
 cut_parts len (page ∷ pages) =

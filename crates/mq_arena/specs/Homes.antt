@@ -6,7 +6,7 @@ use Rattle.mq_arena.specs.declared.page.TheConstants.{PAGE_LEN}
 abbrev pub IsHome : List (List ℕ) → ℕ → Type 0
 IsHome homes page = length (slice_index_or homes page []) ≡ PAGE_LEN
 
--- the pages from start on, so many, are at home
+-- that many pages from start on are at home
 abbrev pub AreHome : List (List ℕ) → ℕ → ℕ → Type 0
 AreHome homes start count = (page : ℕ) → start ≤ page → page < start + count → IsHome homes page
 

@@ -20,4 +20,5 @@ module _ (L : RattleType) (ledger : Ghosts L.Denot) (b : MutBor OwnedBlock) wher
   -- the block ends with the bytes that were left in page i
   abbrev pub LendsPart : ℕ → MutBor (List ℕ) → Fml
   LendsPart i r =
-      Lends (block.the_row L ledger) (Array u8 0) b r (λ bytes. record b.now { pages = with_part b.now.pages i bytes })
+      Lends (block.the_row L ledger) (Array u8 0) b r
+      (λ bytes. record b.now { pages = with_part b.now.pages i bytes })

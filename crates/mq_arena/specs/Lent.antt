@@ -1,4 +1,4 @@
--- What an arena has lent, before and after a block goes out or comes home.
+-- What an arena has lent, before and after a block is taken or put back.
 use Rattle.std.specs.Prelude.{ℕ, List, Option, sum_by}
 use Rattle.std.specs.Option.{option_map}
 use Rattle.mq_tree.specs.Blocks.{Block, block, page_count}
@@ -14,14 +14,14 @@ place b = block b.start b.order
 abbrev pub with_lent : Lending → List Block → Lending
 with_lent arena lent = record { height = arena.height; lent = lent }
 
--- the block of that order that goes out next, and the arena once it is out; none where none fits
+-- the block of that order that is taken next, and the arena without it; `None` where none fits
 abbrev pub lend : Lending → ℕ → Option (Block × Lending)
 lend arena order =
     option_map
     (λ start. (block start order, with_lent arena (joined (block start order) arena.lent)))
     (fit arena.height arena.lent order)
 
--- the arena once the block is home; one that is not lent changes nothing
+-- the arena once the block is back; one that is not lent changes nothing
 abbrev pub gives_back : Block → Lending → Lending
 gives_back b arena = with_lent arena (left b arena.lent)
 

@@ -1,5 +1,6 @@
--- A block in the hand of its owner.
+-- A block as its owner holds it.
 use Rattle.std.specs.Prelude.{◌≡◌, ℕ, ◌^◌, ◌≤◌, List, length}
+use Rattle.mq_arena.specs.declared.limits.TheConstants.{MAX_ORDER}
 use Rattle.mq_arena.specs.Bytes.{AreWhole}
 
 -- where a block starts, its order, and its pages with their bytes
@@ -12,9 +13,9 @@ pub record OwnedBlock : Type 0 where
 abbrev pub owned : ℕ → ℕ → List (List ℕ) → OwnedBlock
 owned start order pages = record { start = start; order = order; pages = pages }
 
--- a block of order k, at most 3, has 2^k pages, all of them whole
+-- a block of order k has 2 ^ k pages, all of them whole
 pub record IsBlock (b : OwnedBlock) : Type 0 where
-  pub low : b.order ≤ 3
+  pub low : b.order ≤ MAX_ORDER
   pub count : length b.pages ≡ 2 ^ b.order
   pub whole : AreWhole b.pages
 

@@ -1,6 +1,7 @@
 -- The pages of an arena: those of no lent block are at home, and all are counted.
 use Rattle.std.specs.Prelude.{◌≡◌, ℕ, ◌+◌, ◌^◌, ◌<◌, ◌≤◌, List, [], length, replicate, IsTrue}
 use Rattle.mq_tree.specs.LentSet.{Lending, IsLentSet, is_free_page, free_pages}
+use Rattle.mq_tree.specs.declared.limits.TheConstants.{MAX_HEIGHT}
 use Rattle.mq_arena.specs.Homes.{IsHome}
 use Rattle.mq_arena.specs.declared.page.TheConstants.{PAGE_LEN}
 
@@ -11,20 +12,20 @@ pub record IsStocked (arena : Lending) (homes : List (List ℕ)) : Type 0 where
   pub there : (page : ℕ) → page < 2 ^ arena.height → IsTrue (is_free_page arena.lent page)
       → IsHome homes page
 
--- the free pages and those of all blocks that are out, wherever they are, are the arena's pages;
--- a block takes a part of the ledger for each of its pages, so the arena keeps more parts than
--- it has free pages
+-- the free pages and those of all lent blocks, wherever they are, are the arena's pages; a block
+-- takes a part of the ledger for each of its pages, so the arena keeps more parts than it has free
+-- pages
 pub record AddsUp (arena : Lending) (out parts : ℕ) : Type 0 where
   pub pages : free_pages arena.height arena.lent + out ≡ 2 ^ arena.height
   pub parted : free_pages arena.height arena.lent < parts
 
--- both
+-- the pages are in their places, and their number is right
 pub record IsArena (arena : Lending) (homes : List (List ℕ)) (out parts : ℕ) : Type 0 where
   pub stocked : IsStocked arena homes
   pub adds_up : AddsUp arena out parts
 
--- an arena that has lent nothing yet: all its pages are at home
+-- an arena that has lent nothing yet: all its pages are at home, and zero
 pub record IsMade (arena : Lending) (homes : List (List ℕ)) : Type 0 where
-  pub low : arena.height ≤ 10
+  pub low : arena.height ≤ MAX_HEIGHT
   pub none : arena.lent ≡ []
   pub all : homes ≡ replicate (2 ^ arena.height) (replicate PAGE_LEN 0)

@@ -1,13 +1,14 @@
-//! The account of the pages that are out.
+//! The count of the pages that are lent.
 ghost use Rattle.std.specs.Prelude.{◌≡◌, ◌+◌, ◌^◌, ◌<◌, ◌≤◌};
 ghost use Rattle.mq_arena.specs.Account.{pages_of};
 
 use crate::block::Block;
+use crate::limits::MAX_ORDER;
 use std::sync::ledger::{Book, Ledger, Share};
 
 /// How many pages a block of that order has.
 pub(crate) fn page_count(order: u8) -> u32
-    requires { order ≤ 3 }
+    requires { order ≤ MAX_ORDER }
     ensures { result ≡ 2 ^ order }
 {
     1 << order

@@ -1,11 +1,12 @@
-//! A block: `2^order` pages in the hand of one owner.
-ghost use Rattle.std.specs.Prelude.{◌≡◌, ◌+◌, ◌-◌, ◌*◌, ◌^◌, ◌<◌, ◌≤◌, ℕ, List, [], ◌++◌, length, take, drop, slice_index_or};
+//! A block: `2 ^ order` pages that one owner holds.
+ghost use Rattle.std.specs.Prelude.{◌≡◌, ◌+◌, ◌-◌, ◌*◌, ◌^◌, ◌<◌, ◌≤◌, [], ◌++◌, length, take, drop, slice_index_or};
 ghost use Rattle.std.specs.List.{concat};
 ghost use Rattle.std.specs.Borrow.{sem};
 ghost use Rattle.mq_arena.specs.Bytes.{cut_parts};
-ghost use Rattle.mq_arena.specs.Halves.{Writes, TakesPages, KeepsPages};
+ghost use Rattle.mq_arena.specs.Halves.{AreWritten, TakesPages, KeepsPages};
 
 use crate::halves::write_both;
+use crate::limits::MAX_PAGES;
 use crate::page::{PAGE_LEN, Page};
 use crate::parts::Parts;
 use crate::writes;
@@ -14,12 +15,12 @@ use std::marker::Model;
 use std::sync::ledger::{Ledger, Share};
 use std::thread::{Threads, join_mut};
 
-/// A block of `2^order` pages that begins at the page `start` of its arena, with its share of the
+/// A block of `2 ^ order` pages that begins at the page `start` of its arena, with its share of the
 /// arena's count of lent pages. It can't be dropped: its owner gives it back to the arena.
 pub struct Block<L: Ledger> {
     pub(crate) start: u32,
     pub(crate) order: u8,
-    pub(crate) pages: SmallVec<Page, 8>,
+    pub(crate) pages: SmallVec<Page, MAX_PAGES>,
     pub(crate) share: Share<L>,
 }
 
@@ -84,8 +85,8 @@ impl<L: Ledger> Block<L> {
         }
     }
 
-    #[tactic(auto, using(crate::proofs::Cuts::cut_whole))]
     /// All pages in order.
+    #[tactic(auto, using(crate::proofs::Cuts::cut_whole))]
     pub fn parts(&self) -> Parts<'_>
         ensures { result ≡ self.now.pages }
     {
@@ -95,8 +96,8 @@ impl<L: Ledger> Block<L> {
         }
     }
 
-    #[tactic(auto, using(crate::proofs::Cuts::concat_cut_parts))]
     /// The pages of the first `len` bytes, the last one cut where they end.
+    #[tactic(auto, using(crate::proofs::Cuts::concat_cut_parts))]
     pub fn parts_to(&self, len: usize) -> Parts<'_>
         ensures parts { result ≡ cut_parts len self.now.pages }
         ensures bytes { concat result ≡ take len (concat self.now.pages) }
@@ -118,8 +119,8 @@ impl<L: Ledger> Block<L> {
         writes::fill(self.pages.as_mut_slice(), bytes);
     }
 
-    #[tactic(auto, using(crate::proofs::Filling::both_filled))]
     /// Fills the pages below `i` and those from `i` on, on two threads.
+    #[tactic(auto, using(crate::proofs::Filling::both_filled))]
     pub fn fill_halves(&mut self, rt: &impl Threads, i: usize, front: &[u8], back: &[u8])
         requires within { i ≤ 2 ^ self.old.order }
         requires front_fits { length front.now ≡ PAGE_LEN * i }
@@ -153,10 +154,8 @@ impl<L: Ledger> Block<L> {
         requires back_kept { KeepsPages (G.step g) (2 ^ self.old.order - i) }
         ensures start { self.new.start ≡ self.old.start }
         ensures order { self.new.order ≡ self.old.order }
-        ensures count { length self.old.pages ≡ 2 ^ self.old.order }
-        ensures halves { (front back : List (List ℕ)) × (self.new.pages ≡ front ++ back)
-            × Writes (F.step f) (take i self.old.pages) front
-            × Writes (G.step g) (drop i self.old.pages) back }
+        ensures block { IsBlock self.old }
+        ensures halves { AreWritten (F.step f) (G.step g) i self.old.pages self.new.pages }
     {
         write_both(rt, self.pages.as_mut_slice(), i, f, g);
     }

@@ -5,6 +5,6 @@
 pub enum Homecoming {
     /// Its pages are free again.
     Home,
-    /// The arena has no such block out: it is used up, and its pages stay counted as lent.
+    /// The arena has not lent that block: it is gone, and its pages stay counted as lent.
     Stray,
 }

@@ -4,6 +4,7 @@ ghost use Rattle.smallvec.specs.SmallVec.{small_vec_len};
 ghost use Rattle.mq_arena.specs.Bytes.{AreWhole};
 ghost use Rattle.mq_arena.specs.Homes.{AreHome, SameOutside};
 
+use crate::limits::MAX_PAGES;
 use crate::page::{PAGE_LEN, Page};
 use smallvec::SmallVec;
 use std::alloc::Global;
@@ -16,8 +17,8 @@ pub(crate) fn take_pages(
     homes: &mut [Page],
     start: usize,
     count: usize,
-) -> SmallVec<Page, 8>
-    requires inline { count ≤ 8 }
+) -> SmallVec<Page, MAX_PAGES>
+    requires inline { count ≤ MAX_PAGES }
     requires within { start + count ≤ length homes.old }
     requires there { AreHome homes.old start count }
     ensures pages { result.items ≡ replicate count (replicate PAGE_LEN 0) }
@@ -33,7 +34,7 @@ pub(crate) fn take_pages(
 }
 
 /// Puts the pages back to their homes from `start` on.
-pub(crate) fn put_pages(homes: &mut [Page], start: usize, mut pages: SmallVec<Page, 8>)
+pub(crate) fn put_pages(homes: &mut [Page], start: usize, mut pages: SmallVec<Page, MAX_PAGES>)
     requires within { start + small_vec_len pages ≤ length homes.old }
     requires whole { AreWhole pages.items }
     ensures there { AreHome homes.new start (small_vec_len pages) }

@@ -1,4 +1,4 @@
-//! Pages of 1,024 bytes, blocks of `2^order` pages, and their two halves written on two threads.
+//! Pages, blocks of `2 ^ order` pages, and their two halves written on two threads.
 #![tactic(auto)]
 
 mod account;
@@ -6,6 +6,7 @@ mod block;
 mod halves;
 mod homecoming;
 mod homes;
+mod limits;
 mod page;
 mod parts;
 mod state;
@@ -16,7 +17,8 @@ mod writes;
 
 pub use block::Block;
 pub use homecoming::Homecoming;
-pub use page::Page;
+pub use limits::{LEDGER_PARTS, MAX_ORDER, MAX_PAGES};
+pub use page::{PAGE_LEN, Page};
 pub use parts::Parts;
 pub use state::ArenaState;
 pub use unopened::Unopened;

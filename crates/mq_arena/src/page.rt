@@ -6,11 +6,11 @@ use std::alloc::{AllocError, Global};
 use std::default::MadeWith;
 use std::marker::Model;
 
-/// The bytes of a page.
+/// How many bytes a page has.
 pub const PAGE_LEN: usize = 1024;
 
-/// A page of memory of its own, seen as its bytes. Each page of a block has 1,024 of them; a blank
-/// page, which fills an unused place of a vector and takes no memory, has none.
+/// A page of memory of its own, seen as its bytes. Each page of a block has `PAGE_LEN` of them; a
+/// blank page, which fills an unused place of a vector and takes no memory, has none.
 #[derive(Drop)]
 pub struct Page {
     bytes: Vec<u8>,

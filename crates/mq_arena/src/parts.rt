@@ -6,7 +6,7 @@ use crate::page::{PAGE_LEN, Page};
 use std::iter::FusedIterator;
 use std::marker::Model;
 
-/// The parts that are left, each of 1,024 bytes but for the last one, which may be cut.
+/// The parts that are left, each a whole page but for the last one, which may be cut.
 #[derive(Drop)]
 pub struct Parts<'a> {
     pub(crate) pages: &'a [Page],

@@ -9,6 +9,7 @@ use crate::account::{audit, page_count};
 use crate::block::Block;
 use crate::homecoming::Homecoming;
 use crate::homes::{put_pages, take_pages};
+use crate::limits::MAX_ORDER;
 use crate::page::{PAGE_LEN, Page};
 use mq_tree::OrderTree;
 use std::marker::Model;
@@ -41,7 +42,7 @@ impl<L: Ledger> ArenaState<L> {
     /// Takes the block of that order with the least start, with all bytes zero. It takes no memory:
     /// the pages move into the block.
     pub fn take(&mut self, order: u8) -> Option<Block<L>>
-        requires { order ≤ 3 }
+        requires { order ≤ MAX_ORDER }
         ensures lent { IfSome result (λ b. lend self.old order ≡ Some (place b, self.new)) }
         ensures order { IfSome result (λ b. b.order ≡ order) }
         ensures zero { IfSome result (λ b. b.pages ≡ replicate (2 ^ order) (replicate PAGE_LEN 0)) }
@@ -108,7 +109,7 @@ impl<L: Ledger> ArenaState<L> {
         all - self.tree.free_pages()
     }
 
-    /// Shows that each block in anyone's hands is counted: the pages of these and the free ones are
+    /// Shows that every block is counted, whoever has it: the pages of these and the free ones are
     /// no more than the arena's. It changes nothing.
     pub fn account(&mut self, blocks: &mut [Block<L>])
         ensures counted { free_pages self.old.height self.old.lent + pages_of blocks.old
@@ -119,7 +120,7 @@ impl<L: Ledger> ArenaState<L> {
         audit(&mut self.out, &mut self.parts, blocks);
     }
 
-    /// The largest order of which `take` would find a block, where it is at most 3.
+    /// The largest order of which `take` would find a block, where it is at most `MAX_ORDER`.
     pub fn largest(&self) -> Option<u8>
         ensures { result ≡ largest self.now.height self.now.lent }
     {

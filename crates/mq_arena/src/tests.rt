@@ -12,10 +12,8 @@ use std::sync::ledger::{Blank, Ledger};
 use std::test::Fail;
 use std::thread::Threads;
 
-const PARTS: u64 = 1025;
-
 fn taken<L: Ledger>(rt: &impl Abort, arena: &mut ArenaState<L>, order: u8, start: u32) -> Block<L>
-    requires { order ≤ 3 }
+    requires { order ≤ MAX_ORDER }
     ensures { result.order ≡ order }
 {
     match arena.take(order) {
@@ -28,7 +26,7 @@ fn taken<L: Ledger>(rt: &impl Abort, arena: &mut ArenaState<L>, order: u8, start
 }
 
 fn finds_none<L: Ledger>(rt: &impl Abort, arena: &mut ArenaState<L>, order: u8)
-    requires { order ≤ 3 }
+    requires { order ≤ MAX_ORDER }
 {
     if let Some(block) = arena.take(order) {
         arena.put(block);
@@ -71,7 +69,7 @@ fn used_again<L: Ledger>(rt: &impl Abort, unopened: Unopened, ledger: Blank)
 #[test]
 fn a_page_is_zero_after_it_was_used(rt: HostRuntime) -> Result<(), Fail> {
     let unopened = Unopened::new(rt.alloc(), 1)?;
-    used_again::<Brand>(&rt, unopened, Blank::new(PARTS));
+    used_again::<Brand>(&rt, unopened, Blank::new(LEDGER_PARTS));
     Ok(())
 }
 
@@ -101,7 +99,7 @@ fn fills_up<L: Ledger>(rt: &impl Abort, unopened: Unopened, ledger: Blank)
 #[test]
 fn take_answers_none_where_nothing_fits(rt: HostRuntime) -> Result<(), Fail> {
     let unopened = Unopened::new(rt.alloc(), 2)?;
-    fills_up::<Brand>(&rt, unopened, Blank::new(PARTS));
+    fills_up::<Brand>(&rt, unopened, Blank::new(LEDGER_PARTS));
     Ok(())
 }
 
@@ -130,10 +128,10 @@ fn cut_at<L: Ledger, R: Abort + Threads>(
     requires second { length second.now ≡ 4096 }
     ensures { block.new.order ≡ 2 }
 {
-    block.fill_halves(rt, i, &first[..1024 * i], &second[1024 * i..]);
+    block.fill_halves(rt, i, &first[..PAGE_LEN * i], &second[PAGE_LEN * i..]);
     is_cut(rt, block, i, (b'A', b'B'));
-    let front = &second[..1024 * i];
-    let back = &first[1024 * i..];
+    let front = &second[..PAGE_LEN * i];
+    let back = &first[PAGE_LEN * i..];
     block.write_halves(
         rt,
         i,
@@ -170,7 +168,7 @@ fn two_threads_write_the_two_halves(rt: HostRuntime) -> Result<(), Fail> {
     let unopened = Unopened::new(rt.alloc(), 3)?;
     let first = vec![in rt.alloc(); b'A'; 4096]?;
     let second = vec![in rt.alloc(); b'B'; 4096]?;
-    halves::<Brand, HostRuntime>(&rt, unopened, Blank::new(PARTS), &first, &second);
+    halves::<Brand, HostRuntime>(&rt, unopened, Blank::new(LEDGER_PARTS), &first, &second);
     Ok(())
 }
 
@@ -217,7 +215,13 @@ fn goes_astray<L: Ledger, M: Ledger>(
 fn a_stray_stays_counted(rt: HostRuntime) -> Result<(), Fail> {
     let first = Unopened::new(rt.alloc(), 3)?;
     let second = Unopened::new(rt.alloc(), 3)?;
-    goes_astray::<Brand, Brand>(&rt, first, Blank::new(PARTS), second, Blank::new(PARTS));
+    goes_astray::<Brand, Brand>(
+        &rt,
+        first,
+        Blank::new(LEDGER_PARTS),
+        second,
+        Blank::new(LEDGER_PARTS),
+    );
     Ok(())
 }
 

@@ -1,9 +1,10 @@
 //! An arena that is made, and not yet opened.
 ghost use Rattle.std.specs.Prelude.{◌≡◌, ◌^◌, ◌<◌, ◌↔◌, [], replicate, IfOk, IsErrOf};
 
+use crate::limits::LEDGER_PARTS;
 use crate::page::{PAGE_LEN, Page};
 use crate::state::ArenaState;
-use mq_tree::{OrderTree, TreeError};
+use mq_tree::{MAX_HEIGHT, OrderTree, TreeError};
 use std::alloc::{AllocError, Global};
 use std::marker::Model;
 use std::sync::ledger::{Blank, Ledger};
@@ -38,10 +39,12 @@ fn made_pages(alloc: Global, count: u32) -> Result<Vec<Page>, AllocError>
 }
 
 impl Unopened {
-    /// An arena of `2 ^ height` pages. `Height` where the height is over 10, then `Memory`.
+    /// An arena of `2 ^ height` pages: fewer than `LEDGER_PARTS`. `Height` where the height is over
+    /// `MAX_HEIGHT`, then `Memory`.
     pub fn new(alloc: Global, height: u8) -> Result<Unopened, TreeError>
         ensures ok { IfOk result (λ unopened. unopened ≡ height) }
-        ensures err { IsErrOf result TreeError.Height ↔ (10 < height) }
+        ensures parts { IfOk result (λ unopened. 2 ^ unopened < LEDGER_PARTS) }
+        ensures err { IsErrOf result TreeError.Height ↔ (MAX_HEIGHT < height) }
     {
         let tree = OrderTree::new(alloc, height)?;
         match made_pages(alloc, tree.pages()) {

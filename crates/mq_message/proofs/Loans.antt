@@ -72,7 +72,7 @@ same_front pages i len one other whole within from long long-2 same =
           ap (λ page. take len (concat (set pages i page))) all
     ]
 
--- the text once these bytes stand in its part
+-- the text once these bytes are in its part
 part_written : (text : PlainText) (len i : ℕ) (b : OwnedBlock) (part : List ℕ)
     → IsPartOf text len i b → length part ≡ min PAGE_LEN (len - PAGE_LEN * i)
     → let page = part ++ drop (length part) (get_or b.pages i []) in

@@ -1,10 +1,11 @@
--- The order of a block that has room for so many bytes.
+-- The order of a block that has room for that many bytes.
 use Rattle.std.proofs.Common.{ℕ, ◌*◌, ◌^◌, ◌≤◌, zero, suc, arith}
 use Rattle.std.proofs.lemmas.Bool.Decides.{nat_tests}
 use Rattle.mq_message.specs.Text.{order_for}
 use Rattle.mq_arena.specs.declared.page.TheConstants.{PAGE_LEN}
+use Rattle.mq_message.specs.declared.order.TheConstants.{TEXT_LEN}
 
--- no less order has room
+-- no lower order has room
 pub order_least : (n order : ℕ) → n ≤ PAGE_LEN * 2 ^ order → order_for n ≤ order
 order_least n zero room = grind (arith, nat_tests)
 order_least n (suc zero) room = grind (arith, nat_tests)
@@ -12,5 +13,5 @@ order_least n (suc (suc zero)) room = grind (arith, nat_tests)
 order_least n (suc (suc (suc order))) room = grind (arith, nat_tests)
 
 -- it has room
-pub order_enough : (n : ℕ) → n ≤ 8192 → n ≤ PAGE_LEN * 2 ^ order_for n
+pub order_enough : (n : ℕ) → n ≤ TEXT_LEN → n ≤ PAGE_LEN * 2 ^ order_for n
 order_enough n most = grind (arith, nat_tests)

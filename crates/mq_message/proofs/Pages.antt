@@ -31,14 +31,14 @@ concat-set pages i page within =
     ∙ concat-append (take i pages) (page ∷ drop (suc i) pages)
     ∙ ap (λ k. concat (take i pages) ++ (page ++ concat (drop k pages))) (sym (add-one i))
 
--- what stands before page i
+-- what comes before page i
 pub take_before : (pages : List (List ℕ)) (i : ℕ) → AreWhole pages → i < length pages
     → take (PAGE_LEN * i) (concat pages) ≡ concat (take i pages)
 take_before pages i whole within =
     ap (take (PAGE_LEN * i)) (concat_at pages i within)
     ∙ take_at (concat (take i pages)) _ (PAGE_LEN * i) (length-before pages i whole (omega arith))
 
--- what stands from page i on
+-- what comes from page i on
 pub drop_before : (pages : List (List ℕ)) (i : ℕ) → AreWhole pages → i < length pages
     → drop (PAGE_LEN * i) (concat pages) ≡ get_or pages i [] ++ concat (drop (i + 1) pages)
 drop_before pages i whole within =
@@ -50,7 +50,7 @@ pub page_length : (pages : List (List ℕ)) (i : ℕ) → AreWhole pages → i <
     → length (get_or pages i []) ≡ PAGE_LEN
 page_length pages i whole within = All-get_or (λ p. length p ≡ PAGE_LEN) pages i [] within whole
 
--- what stands after the first n bytes of page i
+-- what comes after the first n bytes of page i
 pub drop_within : (pages : List (List ℕ)) (i n : ℕ) → AreWhole pages → i < length pages → n ≤ PAGE_LEN
     → drop (PAGE_LEN * i + n) (concat pages) ≡ drop n (get_or pages i []) ++ concat (drop (i + 1) pages)
 drop_within pages i n whole within short =

@@ -1,7 +1,9 @@
 -- Texts as those who send and receive them see them.
-use Rattle.std.specs.Prelude.{ℕ, ◌+◌, ◌-◌, ◌*◌, ◌/◌, ◌^◌, nat_lt, List, [], ◌∷◌, ◌++◌, length, take, drop, Option, None, count_by}
-use Rattle.std.specs.List.{concat}
+use Rattle.std.specs.Prelude.{◌≡◌, ℕ, ◌+◌, ◌-◌, ◌*◌, ◌/◌, ◌^◌, nat_lt, List, [], ◌++◌, length, take, drop, Option, None, IfSome, count_by}
+use Rattle.std.specs.List.{concat, range_with_len}
 use Rattle.mq_tree.specs.Blocks.{Block}
+use Rattle.mq_arena.specs.Bytes.{AreWhole}
+use Rattle.mq_arena.specs.declared.limits.TheConstants.{MAX_ORDER}
 use Rattle.mq_arena.specs.declared.page.TheConstants.{PAGE_LEN}
 
 -- a text: its bytes, and where its block lies if it has one
@@ -17,16 +19,16 @@ no_text = record { bytes = []; block = None }
 abbrev pub count_of : ℕ → ℕ
 count_of n = (n + (PAGE_LEN - 1)) / PAGE_LEN
 
--- the least order of a block with room for n bytes, where n is at most 8,192: as many orders
--- are too small
+-- the least order of a block with room for n bytes, where n is at most TEXT_LEN: the number of
+-- orders that are too small
 abbrev pub order_for : ℕ → ℕ
-order_for n = count_by (λ order. nat_lt (PAGE_LEN * 2 ^ order) n) (0 ∷ 1 ∷ 2 ∷ [])
+order_for n = count_by (λ order. nat_lt (PAGE_LEN * 2 ^ order) n) (range_with_len 0 MAX_ORDER)
 
 -- the bytes in part i: those of one page, fewer where they end
 abbrev pub text_part : List ℕ → ℕ → List ℕ
 text_part bytes i = take PAGE_LEN (drop (PAGE_LEN * i) bytes)
 
--- the text once these bytes stand in part i
+-- the text once these bytes are in part i
 abbrev pub with_part : PlainText → ℕ → List ℕ → PlainText
 with_part text i part =
     let before = PAGE_LEN * i in
@@ -35,7 +37,8 @@ with_part text i part =
       block = text.block;
     }
 
--- the text once its bytes are the first ones of these pages
-abbrev pub with_front : PlainText → List (List ℕ) → PlainText
-with_front text pages =
-    record { bytes = take (length text.bytes) (concat pages); block = text.block }
+-- the pages of a text's block: they are whole, and the text's bytes are their first ones
+pub record ArePagesOf (text : PlainText) (pages : List (List ℕ)) : Type 0 where
+  pub whole : AreWhole pages
+  pub count : IfSome text.block (λ b. length pages ≡ 2 ^ b.order)
+  pub bytes : text.bytes ≡ take (length text.bytes) (concat pages)

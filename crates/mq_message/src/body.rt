@@ -11,8 +11,8 @@ pub trait Body {
         ensures { result ≡ length (bytes self.now) };
 
     /// Keeps the first `n` bytes, or all where there are no more than `n`: what `MSG_NOERROR`
-    /// does to a text that is longer than the receiver's buffer (msgop(2)). What the body holds
-    /// beside its bytes stays, which `keeps` says.
+    /// does to a text that is longer than the receiver's buffer (msgop(2)). `keeps` says
+    /// what stays beside the bytes.
     fn cut(&mut self, n: u64)
         ensures front { bytes self.new ≡ take n (bytes self.old) }
         ensures kept { keeps self.old self.new };

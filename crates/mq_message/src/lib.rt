@@ -9,10 +9,12 @@ mod order;
 mod tests;
 mod text;
 mod text_writes;
+#[cfg(test)]
+mod thread_tests;
 mod vec_body;
 
 pub use body::Body;
 pub use message::Message;
-pub use order::order_for;
+pub use order::{TEXT_LEN, order_for};
 pub use text::Text;
 pub use vec_body::VecBody;

@@ -1,9 +1,9 @@
-/// A message as its sender hands it in. It can be dropped only where its body can.
+/// A message as its sender sends it. It can be dropped only where its body can.
 #[derive(Drop)]
 pub struct Message<B> {
     /// The message's type, which a queue takes from 1 on.
     pub mtype: i64,
-    /// The number of the sender's seat, from 1: it stands for the process id.
+    /// The number of the sender's seat, from 1, in place of the process id.
     pub sender: u16,
     /// A number of the sender's own, which no queue reads.
     pub tag: u64,

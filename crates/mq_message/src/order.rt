@@ -2,14 +2,13 @@
 ghost use Rattle.std.specs.Prelude.{◌≡◌, ℕ, ◌*◌, ◌^◌, ◌≤◌};
 ghost use Rattle.mq_message.specs.Text.{order_for};
 
-/// The bytes of a page.
-pub(crate) const PAGE_LEN: usize = 1024;
+use mq_arena::{MAX_ORDER, MAX_PAGES, PAGE_LEN};
 
-/// The bytes of the longest text.
-pub(crate) const TEXT_LEN: usize = 8192;
+/// How many bytes the longest text has: those of a block of the greatest order.
+pub const TEXT_LEN: usize = PAGE_LEN * MAX_PAGES;
 
+/// The order of the block that a text of that many bytes is drafted with.
 #[tactic(auto, using(crate::proofs::Orders::order_least))]
-/// The order of the block that a text of so many bytes is drafted with.
 pub fn order_for(len: usize) -> u8
     requires { len ≤ TEXT_LEN }
     ensures value { result ≡ order_for len }
@@ -23,6 +22,6 @@ pub fn order_for(len: usize) -> u8
     } else if len <= 4 * PAGE_LEN {
         2
     } else {
-        3
+        MAX_ORDER
     }
 }

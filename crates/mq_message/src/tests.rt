@@ -3,17 +3,17 @@ ghost use Rattle.std.specs.Prelude.{◌≡◌, ◌^◌, ◌<◌, ◌≤◌, leng
 ghost use Rattle.mq_message.specs.Text.{count_of, text_part, with_part};
 
 use super::*;
-use mq_arena::{ArenaState, Block, Homecoming, Page, Unopened, fill};
+use mq_arena::{
+    ArenaState, Block, Homecoming, LEDGER_PARTS, MAX_ORDER, PAGE_LEN, Page, Unopened, fill,
+};
 use std::marker::Brand;
 use std::process::Abort;
 use std::sync::ledger::{Blank, Ledger};
 use std::test::Fail;
 use std::thread::Threads;
 
-const PARTS: u64 = 1025;
-
 fn taken<L: Ledger>(rt: &impl Abort, arena: &mut ArenaState<L>, order: u8) -> Block<L>
-    requires { order ≤ 3 }
+    requires { order ≤ MAX_ORDER }
     ensures { result.order ≡ order }
 {
     match arena.take(order) {
@@ -56,7 +56,7 @@ fn filled_at<L: Ledger, R: Abort + Threads>(rt: &R, text: &mut Text<L>, i: usize
     requires within { i ≤ count_of (length text.old.bytes) }
     ensures { text.new ≡ record { bytes = bytes.now; block = text.old.block } }
 {
-    let (front, back) = bytes.split_at(bytes.len().min(1024 * i));
+    let (front, back) = bytes.split_at(bytes.len().min(PAGE_LEN * i));
     text.fill_halves(rt, i, front, back);
     shows(rt, text, bytes);
 }
@@ -111,7 +111,7 @@ fn two_threads_fill_the_two_halves(rt: HostRuntime) -> Result<(), Fail> {
     let unopened = Unopened::new(rt.alloc(), 3)?;
     let mut letters = vec![in rt.alloc(); b'B'; 2050]?;
     letters.as_mut_slice()[..1024].fill(b'A');
-    two_threads::<Brand, HostRuntime>(&rt, unopened, Blank::new(PARTS), &letters);
+    two_threads::<Brand, HostRuntime>(&rt, unopened, Blank::new(LEDGER_PARTS), &letters);
     Ok(())
 }
 
@@ -139,7 +139,7 @@ fn pages_lent<L: Ledger, R: Abort + Threads>(rt: &R, unopened: Unopened, ledger:
 #[test]
 fn two_threads_write_the_pages_of_the_two_halves(rt: HostRuntime) -> Result<(), Fail> {
     let unopened = Unopened::new(rt.alloc(), 1)?;
-    pages_lent::<Brand, HostRuntime>(&rt, unopened, Blank::new(PARTS));
+    pages_lent::<Brand, HostRuntime>(&rt, unopened, Blank::new(LEDGER_PARTS));
     Ok(())
 }
 
@@ -151,7 +151,7 @@ fn drafted<L: Ledger>(
     count: usize,
 )
     requires some { 0 < len }
-    requires most { len ≤ 8192 }
+    requires most { len ≤ TEXT_LEN }
 {
     assert_eq!(rt; order_for(len), order);
     let block = taken(rt, arena, order_for(len));
@@ -161,7 +161,7 @@ fn drafted<L: Ledger>(
         assert!(rt; part.iter().all(|byte| *byte == 0));
     }
     assert_eq!(rt; text.len(), len as u64);
-    let letters = [b'E'; 8192];
+    let letters = [b'E'; TEXT_LEN];
     text.fill(&letters[..len]);
     shows(rt, &text, &letters[..len]);
     home(rt, arena, text);
@@ -185,7 +185,7 @@ fn each_size<L: Ledger>(rt: &impl Abort, unopened: Unopened, ledger: Blank)
 #[test]
 fn a_drafted_text_is_zero_and_can_be_filled(rt: HostRuntime) -> Result<(), Fail> {
     let unopened = Unopened::new(rt.alloc(), 3)?;
-    each_size::<Brand>(&rt, unopened, Blank::new(PARTS));
+    each_size::<Brand>(&rt, unopened, Blank::new(LEDGER_PARTS));
     Ok(())
 }
 
@@ -217,7 +217,7 @@ fn cut_and_spent<L: Ledger>(rt: &impl Abort, unopened: Unopened, ledger: Blank)
 #[test]
 fn a_cut_text_keeps_its_block(rt: HostRuntime) -> Result<(), Fail> {
     let unopened = Unopened::new(rt.alloc(), 2)?;
-    cut_and_spent::<Brand>(&rt, unopened, Blank::new(PARTS));
+    cut_and_spent::<Brand>(&rt, unopened, Blank::new(LEDGER_PARTS));
     Ok(())
 }
 
@@ -242,7 +242,7 @@ fn has_nothing<L: Ledger, R: Abort + Threads>(rt: &R, unopened: Unopened, ledger
 #[test]
 fn the_empty_text_has_no_block_and_no_part(rt: HostRuntime) -> Result<(), Fail> {
     let unopened = Unopened::new(rt.alloc(), 0)?;
-    has_nothing::<Brand, HostRuntime>(&rt, unopened, Blank::new(PARTS));
+    has_nothing::<Brand, HostRuntime>(&rt, unopened, Blank::new(LEDGER_PARTS));
     Ok(())
 }
 

@@ -1,13 +1,13 @@
 //! A text: bytes in a block of pages.
-ghost use Rattle.std.specs.Prelude.{◌≡◌, ℕ, [], slice_index_or, ◌-◌, ◌*◌, ◌^◌, ◌<◌, ◌≤◌, length, take, replicate, min, Some, IfSome};
+ghost use Rattle.std.specs.Prelude.{◌≡◌, ℕ, [], slice_index_or, ◌-◌, ◌*◌, ◌^◌, ◌<◌, ◌≤◌, length, take, replicate, min, Some, IfSome, IfNone};
 ghost use Rattle.std.specs.List.{concat};
 ghost use Rattle.std.specs.Option.{option_map};
 ghost use Rattle.mq_arena.specs.Lent.{place};
 ghost use Rattle.mq_message.specs.Text.{no_text, count_of, order_for, text_part};
 
 use crate::Body;
-use crate::order::{PAGE_LEN, TEXT_LEN};
-use mq_arena::{Block, Parts};
+use crate::order::TEXT_LEN;
+use mq_arena::{Block, MAX_ORDER, PAGE_LEN, Parts};
 use std::marker::Model;
 use std::sync::ledger::Ledger;
 
@@ -40,9 +40,9 @@ impl<L: Ledger> Text<L> {
         }
     }
 
-    #[tactic(auto, using(crate::proofs::Drafts::zeros))]
     /// The first `len` bytes of the block, which has the order that `order_for` answers. Those of
     /// a block that was just taken are all zero.
+    #[tactic(auto, using(crate::proofs::Drafts::zeros))]
     pub fn of(block: Block<L>, len: usize) -> Text<L>
         requires some { 0 < len }
         requires most { len ≤ TEXT_LEN }
@@ -59,8 +59,8 @@ impl<L: Ledger> Text<L> {
         }
     }
 
-    #[tactic(auto, using(crate::proofs::Texts::text_length))]
     /// How many parts it has: one for each page that its bytes begin.
+    #[tactic(auto, using(crate::proofs::Texts::text_length))]
     pub fn count(&self) -> usize
         ensures { result ≡ count_of (length self.now.bytes) }
     {
@@ -97,6 +97,20 @@ impl<L: Ledger> Text<L> {
     {
         match &self.block {
             Some(block) => Some(block.start()),
+            None => None,
+        }
+    }
+
+    /// The order of the block, which has room for the text's bytes.
+    pub fn order(&self) -> Option<u8>
+        ensures value { result ≡ option_map (λ b. b.order) self.now.block }
+        ensures low { IfSome result (λ order. order ≤ MAX_ORDER) }
+        ensures room { IfSome self.now.block
+            (λ b. length self.now.bytes ≤ PAGE_LEN * 2 ^ b.order) }
+        ensures none { IfNone self.now.block (self.now.bytes ≡ []) }
+    {
+        match &self.block {
+            Some(block) => Some(block.order()),
             None => None,
         }
     }

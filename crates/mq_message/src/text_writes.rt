@@ -1,13 +1,12 @@
 //! What is written into a text.
-ghost use Rattle.std.specs.Prelude.{◌≡◌, ◌+◌, ◌*◌, ◌≤◌, ◌<◌, List, ℕ, ◌++◌, length, take, drop, min, ◌-◌, ◌^◌, IsSome, IfSome};
+ghost use Rattle.std.specs.Prelude.{◌≡◌, ◌+◌, ◌*◌, ◌≤◌, ◌<◌, List, ℕ, ◌++◌, length, min, ◌-◌, ◌^◌, IsSome, IfSome};
 ghost use Rattle.std.specs.Borrow.{sem};
-ghost use Rattle.mq_arena.specs.Halves.{Writes, TakesPages, KeepsPages};
+ghost use Rattle.mq_arena.specs.Halves.{AreWritten, TakesPages, KeepsPages};
 ghost use Rattle.mq_arena.specs.OwnedBlock.{IsBlock};
-ghost use Rattle.mq_message.specs.Text.{count_of, text_part, with_front};
+ghost use Rattle.mq_message.specs.Text.{count_of, text_part, ArePagesOf};
 
-use crate::order::PAGE_LEN;
 use crate::text::{Text, part_len};
-use mq_arena::{Block, Page};
+use mq_arena::{Block, PAGE_LEN, Page};
 use std::marker::Send;
 use std::sync::ledger::Ledger;
 use std::thread::Threads;
@@ -28,8 +27,8 @@ impl<L: Ledger> Text<L> {
         }
     }
 
-    #[tactic(auto, using(crate::proofs::Texts::text_length, crate::proofs::Written::filled_text))]
     /// Writes these bytes over the text's.
+    #[tactic(auto, using(crate::proofs::Texts::text_length, crate::proofs::Written::filled_text))]
     pub fn fill(&mut self, bytes: &[u8])
         requires { length bytes.now ≡ length self.old.bytes }
         ensures { self.new ≡ record { bytes = bytes.now; block = self.old.block } }
@@ -41,8 +40,8 @@ impl<L: Ledger> Text<L> {
         still_whole(block);
     }
 
-    #[tactic(auto, using(crate::proofs::Texts::text_length, crate::proofs::Written::filled_text))]
     /// Fills the parts below `i` and those from `i` on, on two threads unless `back` is empty.
+    #[tactic(auto, using(crate::proofs::Texts::text_length, crate::proofs::Written::filled_text))]
     pub fn fill_halves(&mut self, rt: &impl Threads, i: usize, front: &[u8], back: &[u8])
         requires within { i ≤ count_of (length self.old.bytes) }
         requires front_fits { length front.now ≡ min (PAGE_LEN * i) (length self.old.bytes) }
@@ -60,8 +59,8 @@ impl<L: Ledger> Text<L> {
         still_whole(block);
     }
 
-    /// Lends the pages below `i` to `f` and those from `i` on to `g`, on two threads. The text's
-    /// bytes are the first ones of these pages.
+    /// Lends the block's pages below `i` to `f` and those from `i` on to `g`, on two threads. The
+    /// text's bytes are the first ones of these pages.
     pub fn write_halves<R: Threads, F: FnMut(&mut [Page]) + Send, G: FnMut(&mut [Page])>(
         &mut self,
         rt: &R,
@@ -76,9 +75,9 @@ impl<L: Ledger> Text<L> {
         requires back_taken { IfSome self.old.block (λ b. TakesPages (G.pre g) (2 ^ b.order - i)) }
         requires back_kept { IfSome self.old.block (λ b. KeepsPages (G.step g) (2 ^ b.order - i)) }
         ensures len { length self.new.bytes ≡ length self.old.bytes }
-        ensures halves { (pages front back : List (List ℕ)) × (self.old ≡ with_front self.old pages)
-            × (self.new ≡ with_front self.old (front ++ back))
-            × Writes (F.step f) (take i pages) front × Writes (G.step g) (drop i pages) back }
+        ensures block { self.new.block ≡ self.old.block }
+        ensures halves { (old new : List (List ℕ)) × ArePagesOf self.old old
+            × ArePagesOf self.new new × AreWritten (F.step f) (G.step g) i old new }
     {
         let Some(block) = &mut self.block else {
             unreachable!()

@@ -1,8 +1,8 @@
-//! A text that is sent on and on lies in its own block.
+//! A text that is sent on and on stays in its own block.
 ghost use Rattle.std.specs.Prelude.{◌≡◌, ◌^◌, ◌<◌, length};
 ghost use Rattle.mq_message.specs.Text.{count_of};
 
-use mq_arena::{ArenaState, Homecoming, Unopened};
+use mq_arena::{ArenaState, Homecoming, LEDGER_PARTS, PAGE_LEN, Page, Unopened, fill};
 use mq_message::{Body, Message, Text};
 use mq_queue::{QueueState, Received};
 use mq_select::{ListWaiting, Selection, Waiting};
@@ -12,8 +12,6 @@ use std::process::Abort;
 use std::sync::ledger::{Blank, Ledger};
 use std::test::Fail;
 use std::thread::Threads;
-
-const PARTS: u64 = 1025;
 
 const LEN: usize = 2050;
 
@@ -72,7 +70,7 @@ fn received<L: Ledger>(rt: &impl Abort, queue: &mut Queue<L>) -> Text<L> {
     }
 }
 
-fn given_up<L: Ledger>(rt: &impl Abort, queue: Queue<L>) {
+fn ended<L: Ledger>(rt: &impl Abort, queue: Queue<L>) {
     let (_, mut waiting) = queue.into_parts();
     match waiting.pop_any() {
         None => waiting.end(),
@@ -84,20 +82,21 @@ fn holds(part: &[u8], len: usize, letter: u8) -> bool {
     part.len() == len && part.iter().all(|byte| *byte == letter)
 }
 
-/// Whether the text has the letters that were filled in, and lies where it lay.
+/// Whether the text has the one letter in its first part, and the other in the rest.
+fn has_letters<L: Ledger>(text: &Text<L>, first: u8, rest: u8) -> bool {
+    text.count() == 3
+        && holds(text.part(0), PAGE_LEN, first)
+        && holds(text.part(1), PAGE_LEN, rest)
+        && holds(text.part(2), 2, rest)
+}
+
+/// Whether the text has the letters that were filled in, and is in the block where it was.
 fn is_as_filled<L: Ledger>(text: &Text<L>, start: Option<u32>) -> bool {
-    text.start() == start
-        && text.count() == 3
-        && holds(text.part(0), 1024, b'A')
-        && holds(text.part(1), 1024, b'B')
-        && holds(text.part(2), 2, b'B')
+    text.start() == start && has_letters(text, b'A', b'B')
 }
 
 fn is_zero<L: Ledger>(text: &Text<L>) -> bool {
-    text.count() == 3
-        && holds(text.part(0), 1024, 0)
-        && holds(text.part(1), 1024, 0)
-        && holds(text.part(2), 2, 0)
+    has_letters(text, 0, 0)
 }
 
 /// A text in the arena's second block of its order, filled by two threads.
@@ -106,8 +105,22 @@ fn filled<L: Ledger, R: Abort + Threads>(rt: &R, arena: &mut ArenaState<L>) -> T
     let mut text = drafted(rt, arena);
     spent(rt, arena, before);
     assert!(rt; is_zero(&text));
-    text.fill_halves(rt, 1, &[b'A'; 1024], &[b'B'; 1026]);
+    text.fill_halves(rt, 1, &[b'A'; PAGE_LEN], &[b'B'; 1026]);
     text
+}
+
+/// Writes this letter over all pages, the first on one thread and the rest on another, whatever the
+/// order of the text's block is.
+fn written_over<L: Ledger>(rt: &impl Threads, text: &mut Text<L>, letter: u8) {
+    if text.order() != Some(2) || text.count() == 0 {
+        return;
+    }
+    text.write_halves(
+        rt,
+        1,
+        |pages: &mut [Page]| fill(pages, &[letter; PAGE_LEN]),
+        |pages: &mut [Page]| fill(pages, &[letter; 3 * PAGE_LEN]),
+    );
 }
 
 fn handed_on<L: Ledger>(rt: &impl Abort, queue: &mut Queue<L>, text: Text<L>) -> Text<L> {
@@ -131,16 +144,19 @@ fn sent_on<L: Ledger, R: Abort + Threads>(rt: &R, alloc: Global, unopened: Unope
     let text = handed_on(rt, &mut second, text);
     assert!(rt; is_as_filled(&text, start));
     assert_eq!(rt; arena.free_pages(), 60);
+    let mut text = text;
+    written_over(rt, &mut text, b'C');
+    assert!(rt; has_letters(&text, b'C', b'C'));
     spent(rt, &mut arena, text);
     assert_eq!(rt; arena.free_pages(), 64);
-    given_up(rt, first);
-    given_up(rt, second);
+    ended(rt, first);
+    ended(rt, second);
 }
 
 #[test]
 fn a_text_is_sent_and_received_in_its_own_block(rt: HostRuntime) -> Result<(), Fail> {
     let unopened = Unopened::new(rt.alloc(), 6)?;
-    sent_on::<Brand, HostRuntime>(&rt, rt.alloc(), unopened, Blank::new(PARTS));
+    sent_on::<Brand, HostRuntime>(&rt, rt.alloc(), unopened, Blank::new(LEDGER_PARTS));
     Ok(())
 }
 
@@ -189,13 +205,13 @@ fn copied_on_its_way<L: Ledger, R: Abort + Threads>(
     assert!(rt; is_as_filled(&text, text.start()));
     spent(rt, &mut arena, text);
     assert_eq!(rt; arena.free_pages(), 64);
-    given_up(rt, first);
-    given_up(rt, second);
+    ended(rt, first);
+    ended(rt, second);
 }
 
 #[test]
 fn a_text_that_was_copied_on_its_way_is_found_out(rt: HostRuntime) -> Result<(), Fail> {
     let unopened = Unopened::new(rt.alloc(), 6)?;
-    copied_on_its_way::<Brand, HostRuntime>(&rt, rt.alloc(), unopened, Blank::new(PARTS));
+    copied_on_its_way::<Brand, HostRuntime>(&rt, rt.alloc(), unopened, Blank::new(LEDGER_PARTS));
     Ok(())
 }

@@ -44,7 +44,7 @@ pub right_in_bounds : (height half : ℕ) (path : List ℕ) (nodes : List Node) 
 right_in_bounds height half path nodes o b =
     rw o.nodes_is (right_inside height half o.steps path o.part b o.path_is o.part_len)
 
--- the node over the halves is the one that stands there, where the part has that root
+-- the parent of the halves is the node that is there, where the part has that root
 over_root : (half : ℕ) (step : Step) (part : List Node) → parent half (root (left_of step part)) (root (right_of step part)) ≡ over half step (root part)
 over_root half (ToLeft first right) part = refl
 over_root half (ToRight first left) part = refl

@@ -53,7 +53,7 @@ fits_below height lent order start f = omega (arith, f.in_arena, pow_pos order)
 pub fit_passes : (height : ℕ) (lent : List Block) (order start : ℕ) → fit height lent order ≡ Some start → Passes height lent order start
 fit_passes height lent order start e = passes height lent order start (fit_first height lent order start e).passes
 
--- the answer of `fit` fits, and no less start does
+-- the answer of `fit` fits, and no smaller start does
 pub fit_is : (height : ℕ) (lent : List Block) (order start : ℕ) → fit height lent order ≡ Some start → IsFit height lent order start
 fit_is height lent order start e =
     let first = fit_first height lent order start e in

@@ -40,7 +40,7 @@ AreApart a b = (page : ℕ) → HasPage a page → ¬ HasPage b page
 abbrev pub are_apart : Block → Block → Bool
 are_apart a b = nat_le (a.start + 2 ^ a.order) b.start || nat_le (b.start + 2 ^ b.order) a.start
 
--- whether the two are one block
+-- whether the two blocks are the same
 abbrev pub is_block : Block → Block → Bool
 is_block a b = (b.start == a.start) && (b.order == a.order)
 

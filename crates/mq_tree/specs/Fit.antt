@@ -33,7 +33,7 @@ pub record Fits (height : ℕ) (lent : List Block) (order start : ℕ) : Type 0 
   pub in_arena : IsInArena height (block start order)
   pub free : (page : ℕ) → HasPage (block start order) page → IsFreePage lent page
 
--- it fits there, and at no lesser start
+-- it fits there, and at no smaller start
 pub record IsFit (height : ℕ) (lent : List Block) (order start : ℕ) : Type 0 where
   pub fits : Fits height lent order start
   pub least : (other : ℕ) → Fits height lent order other → start ≤ other

@@ -4,13 +4,13 @@ use Rattle.mq_tree.specs.Blocks.{Block, block, HasPage, page_count}
 use Rattle.mq_tree.specs.LentSet.{IsLentSet, joined, left, is_lent, free_pages}
 use Rattle.mq_tree.specs.Fit.{fit, largest, IsFit, HasNoFit}
 
--- what `fit` answers is aligned, in the arena and free, and no lesser start is
+-- the start that `fit` answers is aligned, in the arena and free, and no smaller one is
 abbrev pub FitIsLeast : Type 0
 FitIsLeast =
     (height : ℕ) (lent : List Block) (order start : ℕ)
     → fit height lent order ≡ Some start → IsFit height lent order start
 
--- and it answers none only where no start is
+-- it answers `None` only where no start is
 abbrev pub NoneHasNoFit : Type 0
 NoneHasNoFit =
     (height : ℕ) (lent : List Block) (order : ℕ)
@@ -43,13 +43,13 @@ FreePagesAddUp =
     (height : ℕ) (lent : List Block)
     → IsLentSet height lent → free_pages height lent + sum_by page_count lent ≡ 2 ^ height
 
--- a block that is lent and given back leaves all as it was
+-- a block that is lent and given back leaves the lent set as it was
 abbrev pub LentAndGivenBack : Type 0
 LentAndGivenBack =
     (height : ℕ) (lent : List Block) (order start : ℕ) → fit height lent order ≡ Some start
     → left (block start order) (joined (block start order) lent) ≡ lent
 
--- a lent set stays one, with a block more that fits and with a block less
+-- a lent set with one more block that fits, or with one less, is a lent set
 abbrev pub StaysLentSet : Type 0
 StaysLentSet =
     (height : ℕ) (lent : List Block) → IsLentSet height lent

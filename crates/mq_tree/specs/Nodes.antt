@@ -1,5 +1,4 @@
--- The nodes of a tree: each stands before those of its left half, and they before those of its
--- right half.
+-- The nodes of a tree in preorder: a node, then those of its left half, then those of its right.
 use Rattle.std.specs.Prelude.{ℕ, ◌+◌, zero, suc, Bool, true, false, ◌&&◌, nat_lt, nat_le, List, [], ◌∷◌, take, drop, Option, Some, None, if◌then◌else◌}
 
 -- what the tree knows of one run of pages: all are free, it is lent as one block, or a block
@@ -68,7 +67,7 @@ room_under height Lent = 0
 room_under height (Split None) = 1
 room_under height (Split (Some most)) = suc (suc most)
 
--- the node over two halves: free where both are
+-- the parent of two halves: free where both are
 abbrev pub parent : ℕ → Node → Node → Node
 parent half left right =
     if is_free left && is_free right then Free

@@ -8,7 +8,7 @@ abbrev pub around : List Step → List Node → List Node
 around [] part = part
 around (step ∷ steps) part = around steps (above step part)
 
--- the same with each node on the path right over its halves, where the part has that height
+-- the same with each node on the path the parent of its halves, where the part has that height
 abbrev pub closed : ℕ → List Step → List Node → List Node
 closed height [] part = part
 closed height (step ∷ steps) part = closed (suc height) steps (closed_above height step part)
@@ -27,7 +27,7 @@ IsPath height low (step ∷ steps) path =
     × (slice_index path low ≡ offset steps)
     × IsPath height (suc low) steps path
 
--- each node on the path is the one over its halves, where the part of that height has that root
+-- each node on the path is the parent of its halves, where the part of that height has that root
 abbrev pub AreOver : ℕ → List Step → Node → Type 0
 AreOver height [] part = Unit {0}
 AreOver height (step ∷ steps) part =

@@ -21,22 +21,22 @@ abbrev pub right_of : Step → List Node → List Node
 right_of (ToLeft first right) part = right
 right_of (ToRight first left) part = part
 
--- how many nodes stand before the part
+-- how many nodes come before the part
 abbrev pub skipped : Step → ℕ
 skipped (ToLeft first right) = 1
 skipped (ToRight first left) = suc (length left)
 
--- the part with the node over it and the other half
+-- the part with its parent and the other half
 abbrev pub above : Step → List Node → List Node
 above step part = first_of step ∷ (left_of step part ++ right_of step part)
 
--- the same with the node that is right over these halves
+-- the same where that node is the parent of these halves
 abbrev pub closed_above : ℕ → Step → List Node → List Node
 closed_above half step part =
     parent half (root (left_of step part)) (root (right_of step part))
     ∷ (left_of step part ++ right_of step part)
 
--- the node over a part with that root and the other half
+-- the parent of a part with that root and the other half
 abbrev pub over : ℕ → Step → Node → Node
 over half (ToLeft first right) part = parent half part (root right)
 over half (ToRight first left) part = parent half (root left) part

@@ -1,7 +1,8 @@
--- A tree of nodes, as a list: what is lent in it, and when the list is one.
+-- A tree as a list of nodes: what is lent in it, and when a list is a tree.
 use Rattle.std.specs.Prelude.{◌≡◌, ℕ, ◌^◌, ◌≤◌, zero, suc, false, ◌&&◌, List, [], ◌∷◌, ◌++◌, length, Option}
 use Rattle.mq_tree.specs.Blocks.{Block, block, moved_up}
 use Rattle.mq_tree.specs.LentSet.{free_pages}
+use Rattle.mq_tree.specs.declared.limits.TheConstants.{MAX_HEIGHT}
 use Rattle.mq_tree.specs.Nodes.{Node, Free, Lent, Split, node_count, root, left_half, right_half, is_free, larger, largest_under}
 
 -- the blocks that are lent under a node: the whole of it, or those of its halves
@@ -44,8 +45,8 @@ pub record AreHalves (half : ℕ) (left right : List Node) (lent : List Block) :
   pub right_tree : IsTree half right
   pub lent_is : lent ≡ lent_blocks half left ++ moved_up (2 ^ half) (lent_blocks half right)
 
--- what an `OrderTree` keeps: a tree of at most 1,024 pages, and how many are free
+-- what an `OrderTree` keeps: a tree no higher than the greatest height, and how many are free
 pub record IsWhole (height free : ℕ) (nodes : List Node) : Type 0 where
-  pub low : height ≤ 10
+  pub low : height ≤ MAX_HEIGHT
   pub tree : IsTree height nodes
   pub free_is : free ≡ free_pages height (lent_blocks height nodes)

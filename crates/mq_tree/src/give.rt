@@ -5,13 +5,14 @@ ghost use Rattle.mq_tree.specs.LentSet.{left as without, is_lent};
 ghost use Rattle.mq_tree.specs.Changes.{GivesOpen};
 ghost use Rattle.mq_tree.specs.Trees.{IsTree, lent_blocks};
 
+use crate::limits::MAX_HEIGHT;
 use crate::node::{Node, pages_in};
 use crate::path::{Path, close_path};
 
-// Marks that block as free, if it is lent. The nodes on the path to it do not know of it yet.
+// Marks that block as free, if it is lent. The nodes on the path to it are not yet updated.
 fn give_open(nodes: &mut [Node], height: u8, start: u32, order: u8, path: &mut Path) -> bool
     requires tree { IsTree height nodes.old }
-    requires low { height ≤ 10 }
+    requires low { height ≤ MAX_HEIGHT }
     requires order { order ≤ height }
     ensures lent { result ≡ is_lent (block start order) (lent_blocks height nodes.old) }
     ensures given { OnTrue result (GivesOpen order height start path.new nodes.old nodes.new) }
@@ -50,14 +51,14 @@ fn give_open(nodes: &mut [Node], height: u8, start: u32, order: u8, path: &mut P
 // Takes that block back, if it is lent, and merges buddies that are free on the way up.
 pub(crate) fn give_in(nodes: &mut [Node], height: u8, start: u32, order: u8) -> bool
     requires tree { IsTree height nodes.old }
-    requires low { height ≤ 10 }
+    requires low { height ≤ MAX_HEIGHT }
     requires order { order ≤ height }
     ensures tree { IsTree height nodes.new }
     ensures lent { result ≡ is_lent (block start order) (lent_blocks height nodes.old) }
     ensures left { lent_blocks height nodes.new
         ≡ without (block start order) (lent_blocks height nodes.old) }
 {
-    let mut path = [0; 10];
+    let mut path = [0; MAX_HEIGHT as usize];
     if !give_open(nodes, height, start, order, &mut path) {
         return false;
     }

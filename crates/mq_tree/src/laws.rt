@@ -5,7 +5,7 @@ pub fn fit_is_least()
     ensures { FitIsLeast }
 {}
 
-/// `fit` answers none only where a block fits nowhere.
+/// `fit` answers `None` only where a block fits nowhere.
 pub fn none_has_no_fit()
     ensures { NoneHasNoFit }
 {}
@@ -20,7 +20,7 @@ pub fn largest_fits()
     ensures { LargestFits }
 {}
 
-/// What is lent, and what is free, are all the pages of the arena.
+/// The lent pages and the free ones are all pages of the arena.
 pub fn free_pages_add_up()
     ensures { FreePagesAddUp }
 {}
@@ -35,7 +35,7 @@ pub fn lent_and_given_back()
     ensures { LentAndGivenBack }
 {}
 
-/// A lent set stays one when a block that fits is lent, and when a block is given back.
+/// A lent set with one more block that fits, or with one less, is a lent set.
 pub fn stays_lent_set()
     ensures { StaysLentSet }
 {}

@@ -5,14 +5,15 @@ ghost use Rattle.mq_tree.specs.Fit.{fit};
 ghost use Rattle.mq_tree.specs.Changes.{LendsOpen};
 ghost use Rattle.mq_tree.specs.Trees.{IsTree, lent_blocks};
 
+use crate::limits::MAX_HEIGHT;
 use crate::node::{Node, pages_in};
 use crate::path::{Path, close_path};
 
 // Marks the first run of that order that is free, and opens the free runs above it. The nodes on
-// the path to it do not know of it yet.
+// the path to it are not yet updated.
 fn lend_open(nodes: &mut [Node], height: u8, order: u8, path: &mut Path) -> u32
     requires tree { IsTree height nodes.old }
-    requires low { height ≤ 10 }
+    requires low { height ≤ MAX_HEIGHT }
     requires room { IsSome (fit height (lent_blocks height nodes.old) order) }
     ensures { LendsOpen order height result path.new nodes.old nodes.new }
 {
@@ -45,14 +46,14 @@ fn lend_open(nodes: &mut [Node], height: u8, order: u8, path: &mut Path) -> u32
 // Lends the first block of that order that fits, by the largest orders on the way down.
 pub(crate) fn lend_in(nodes: &mut [Node], height: u8, order: u8) -> u32
     requires tree { IsTree height nodes.old }
-    requires low { height ≤ 10 }
+    requires low { height ≤ MAX_HEIGHT }
     requires room { IsSome (fit height (lent_blocks height nodes.old) order) }
     ensures tree { IsTree height nodes.new }
     ensures fit { fit height (lent_blocks height nodes.old) order ≡ Some result }
     ensures lent { lent_blocks height nodes.new
         ≡ joined (block result order) (lent_blocks height nodes.old) }
 {
-    let mut path = [0; 10];
+    let mut path = [0; MAX_HEIGHT as usize];
     let start = lend_open(nodes, height, order, &mut path);
     close_path(nodes, height, order, &path);
     start

@@ -6,6 +6,7 @@ mod error;
 mod give;
 pub mod laws;
 mod lend;
+mod limits;
 mod node;
 mod path;
 mod root;
@@ -14,4 +15,5 @@ mod tests;
 mod tree;
 
 pub use error::TreeError;
+pub use limits::MAX_HEIGHT;
 pub use tree::OrderTree;

@@ -1,6 +1,7 @@
 ghost use Rattle.std.specs.Prelude.{◌≡◌, ◌^◌, ◌≤◌, ◌<◌, true};
 ghost use Rattle.mq_tree.specs.Nodes.{Free, Lent, largest_under, room_under, is_free, is_lent_whole, is_split, at_most, parent};
 
+use crate::limits::MAX_HEIGHT;
 use std::marker::Model;
 
 /// What the tree knows of one aligned run of pages. Below a node that is free or lent the nodes
@@ -8,7 +9,7 @@ use std::marker::Model;
 #[derive(Clone, Copy)]
 pub(crate) struct Node {
     /// 0: the run is lent as one block. 255: all its pages are free. Else a block within it is
-    /// lent, and one less than this is how many orders still fit.
+    /// lent, and orders below `code - 1` still fit.
     code: u8,
 }
 
@@ -27,7 +28,7 @@ impl Model for Node {
 
 // How many pages a block of this order has.
 pub(crate) fn pages_in(order: u8) -> u32
-    requires { order ≤ 10 }
+    requires { order ≤ MAX_HEIGHT }
     ensures { result ≡ 2 ^ order }
 {
     1 << order
@@ -46,9 +47,9 @@ impl Node {
         Node { code: 0 }
     }
 
-    // The node over two halves: free where both are.
+    // The parent of two halves: free where both are.
     pub(crate) fn over(left: Node, right: Node, half: u8) -> Node
-        requires { half ≤ 10 }
+        requires { half ≤ MAX_HEIGHT }
         ensures { result ≡ parent half left right }
     {
         if left.is_free() && right.is_free() {
@@ -58,7 +59,7 @@ impl Node {
         Node { code: most }
     }
 
-    // Whether they are one.
+    // Whether the two nodes are equal.
     pub(crate) fn is(self, other: Node) -> bool
         ensures { result ≡ true → self ≡ other }
     {
@@ -67,7 +68,7 @@ impl Node {
 
     // Its code, where a free run counts as a split one with its own order as the largest.
     fn room(self, height: u8) -> u8
-        requires { height ≤ 10 }
+        requires { height ≤ MAX_HEIGHT }
         ensures value { result ≡ room_under height self }
         ensures below { result < 255 }
     {
@@ -80,7 +81,7 @@ impl Node {
 
     // The largest order that fits under a node of this height.
     pub(crate) fn largest(self, height: u8) -> Option<u8>
-        requires { height ≤ 10 }
+        requires { height ≤ MAX_HEIGHT }
         ensures { result ≡ largest_under height self }
     {
         let room = self.room(height);
@@ -89,7 +90,7 @@ impl Node {
 
     // Whether that order is at most the largest one.
     pub(crate) fn has_room(self, height: u8, order: u8) -> bool
-        requires low { height ≤ 10 }
+        requires low { height ≤ MAX_HEIGHT }
         requires order { order ≤ height }
         ensures { result ≡ at_most order (largest_under height self) }
     {

@@ -3,6 +3,7 @@ ghost use Rattle.mq_tree.specs.Fit.{fit};
 ghost use Rattle.mq_tree.specs.Nodes.{root};
 ghost use Rattle.mq_tree.specs.Trees.{IsTree, lent_blocks};
 
+use crate::limits::MAX_HEIGHT;
 use crate::node::Node;
 
 // The node of the whole run.
@@ -15,7 +16,7 @@ pub(crate) fn root_of(nodes: &[Node], height: u8) -> Node
 
 // Whether a block of that order fits.
 pub(crate) fn has_room(nodes: &[Node], height: u8, order: u8) -> bool
-    requires low { height ≤ 10 }
+    requires low { height ≤ MAX_HEIGHT }
     requires order { order ≤ height }
     requires tree { IsTree height nodes.now }
     ensures { result ≡ is_some (fit height (lent_blocks height nodes.now) order) }

@@ -1,4 +1,4 @@
-use crate::{OrderTree, TreeError};
+use crate::{MAX_HEIGHT, OrderTree, TreeError};
 use std::alloc::Global;
 use std::process::Abort;
 
@@ -126,7 +126,7 @@ fn step(rt: &impl Abort, tree: &mut OrderTree, plain: &mut Plain, choice: u32) {
 
 #[test]
 fn a_height_over_ten_is_refused(rt: HostRuntime) {
-    for height in [11, 12, 32, 255] {
+    for height in [MAX_HEIGHT + 1, 12, 32, 255] {
         assert!(rt; matches!(OrderTree::new(rt.alloc(), height), Err(TreeError::Height)));
     }
     assert_eq!(rt;
@@ -201,7 +201,7 @@ fn each_short_run_answers_as_a_plain_set_of_pages(rt: HostRuntime) {
 
 #[test]
 fn the_largest_arena_lends_each_page_once(rt: HostRuntime) {
-    let mut tree = tree_of(&rt, rt.alloc(), 10);
+    let mut tree = tree_of(&rt, rt.alloc(), MAX_HEIGHT);
     assert_eq!(rt; tree.pages(), 1024);
     for page in 0..1024u32 {
         assert_eq!(rt; tree.lend(0), Some(page));
@@ -211,5 +211,5 @@ fn the_largest_arena_lends_each_page_once(rt: HostRuntime) {
     for page in 0..1024u32 {
         assert!(rt; tree.give(page ^ 0b1010101010, 0));
     }
-    assert_eq!(rt; tree.lend(10), Some(0));
+    assert_eq!(rt; tree.lend(MAX_HEIGHT), Some(0));
 }

@@ -7,6 +7,7 @@ ghost use Rattle.mq_tree.specs.Fit.{fit, largest};
 use crate::error::TreeError;
 use crate::give::give_in;
 use crate::lend::lend_in;
+use crate::limits::MAX_HEIGHT;
 use crate::node::{Node, pages_in};
 use crate::root::{has_room, root_of};
 use std::alloc::Global;
@@ -38,9 +39,9 @@ impl OrderTree {
     /// An arena of `2 ^ height` pages, none lent. The one call that takes memory.
     pub fn new(alloc: Global, height: u8) -> Result<OrderTree, TreeError>
         ensures ok { IfOk result (λ tree. tree ≡ record { height = height; lent = [] }) }
-        ensures err { IsErrOf result TreeError.Height ↔ (10 < height) }
+        ensures err { IsErrOf result TreeError.Height ↔ (MAX_HEIGHT < height) }
     {
-        if height > 10 {
+        if height > MAX_HEIGHT {
             return Err(TreeError::Height);
         }
         let pages = pages_in(height);
@@ -102,7 +103,7 @@ impl OrderTree {
         true
     }
 
-    /// The largest order that `lend` would meet.
+    /// The largest order of which `lend` would find a block.
     pub fn largest(&self) -> Option<u8>
         ensures value { result ≡ largest self.now.height self.now.lent }
     {

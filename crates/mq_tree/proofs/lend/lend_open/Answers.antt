@@ -1,6 +1,7 @@
-use Rattle.std.proofs.Common.{◌≡◌, ◌+◌, ◌-◌, ◌/◌, ◌^◌, ◌≤◌, sym, ap, ◌∙◌, arith, subst}
+use Rattle.std.proofs.Common.{◌≡◌, ◌+◌, ◌-◌, ◌/◌, ◌^◌, ◌≤◌, true, sym, ap, ◌∙◌, arith, subst}
 use Rattle.std.proofs.lemmas.Nat.{pow_pos}
 use Rattle.std.proofs.lemmas.List.{length-set}
+use Rattle.mq_tree.specs.Nodes.{at_most, largest_under}
 use Rattle.mq_tree.proofs.Powers.{pow_half}
 use Rattle.mq_tree.proofs.Closing.{open_count}
 use Rattle.mq_tree.proofs.Places.{Opened, is_open, level_low, at_inside, right_inside}
@@ -83,7 +84,9 @@ levels-preserved-then-has_room c =
           w.free.ensures w.free-then-is_free.ensures right_is (sym c.is_free.ensures ∙ w.if-is_free.true))
       | else-is_free w ↦ rw w.nodes-is (opens_split d below c.index-nodes-at.result c.index-nodes-at.is (sym c.is_free.ensures ∙ w.if-is_free.false))
     ] in
-    (goes_left d below o low c.index-nodes-left.result c.index-nodes-left.is (sym c.has_room.ensures ∙ c.if-has_room.true), halved)
+    let room : at_most c.args.order (largest_under (c.levels.level - 1) c.index-nodes-left.result) ≡ true =
+    rw (← c.has_room.ensures) c.if-has_room.true in
+    (goes_left d below o low c.index-nodes-left.result c.index-nodes-left.is room, halved)
 
 pub levels-preserved : goal.levels-preserved
 levels-preserved c =

@@ -4,6 +4,8 @@ use Rattle.mq_arena.proofs.unopened.Unopened.open.Goals as goal
 
 pub invariant_of-result : goal.invariant_of-result
 invariant_of-result g c =
+    let made =
     arena_made c.self.inside.tree c.self.inside.homes.items c.open-out.result.0.total c.open-out.result.1.parts
     c.self.invariant c.open-out.ensures.total
-    (omega (arith, ap (λ h. 2 ^ h) c.self.view_is, c.open-out.ensures.parts, c.requires.parts, c.requires.enough))
+    (omega (arith, ap (λ h. 2 ^ h) c.self.view_is, c.open-out.ensures.parts, c.requires.parts, c.requires.enough)) in
+    search made

@@ -1,4 +1,4 @@
-use Rattle.std.proofs.Common.{sym}
+use Rattle.std.proofs.Common.{refl}
 use Rattle.mq_message.proofs.Parts.{part_of, IsPartOf}
 use Rattle.mq_message.proofs.text.Text.part.Goals as goal
 
@@ -7,4 +7,4 @@ returns g c =
     let is : IsPartOf c.args.self.now c.self.inside.len c.args.i c.in-Some.block =
     part_of c.args.self.now c.self.inside.len c.args.i c.self.inside.block c.in-Some.block c.self.view_is
     c.in-Some.is c.self.invariant c.requires in
-    rw (c.part_len.ensures, c.part.ensures.value) (sym is.part)
+    rw (c.part_len.ensures, c.part.ensures.value, ← is.part) refl

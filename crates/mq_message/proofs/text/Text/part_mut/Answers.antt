@@ -1,4 +1,5 @@
-use Rattle.std.proofs.Common.{refl, sym}
+use Rattle.std.proofs.Common.{◌≡◌, refl}
+use Rattle.mq_message.specs.Text.{text_part}
 use Rattle.mq_message.proofs.Parts.{part_of, IsPartOf}
 use Rattle.mq_message.proofs.Loans.{part_left}
 use Rattle.mq_message.proofs.text.Text.part_mut.Goals as goal
@@ -11,13 +12,12 @@ returns g c =
     let b = c.in-Some.block in
     let is : IsPartOf text len i b =
     part_of text len i c.self.inside.block b c.self.view_is c.in-Some.is c.self.invariant
-    c.requires in (
+    c.requires in
+    let value : c.front_mut.result.now ≡ text_part text.bytes i =
+    rw (c.front_mut.ensures.value, c.in-Some.is, c.part_len-len.ensures, ← is.part) refl in (
       (
         refl {a = c.front_mut.result.ghost_name},
         λ w. rw c.in-Some.is (part_left text len i b w is),
       ),
-      record {
-        writes_back = tt;
-        value = rw (c.front_mut.ensures.value, c.in-Some.is, c.part_len-len.ensures) (sym is.part);
-      },
+      record { writes_back = tt; value = value },
     )
