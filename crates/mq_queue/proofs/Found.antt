@@ -5,13 +5,13 @@ use Rattle.std.proofs.lemmas.Option.{none-some, same_Some}
 use Rattle.mq_message.specs.declared.message.Message.{Message}
 use Rattle.mq_select.specs.declared.selection.Selection.{Selection}
 use Rattle.mq_select.specs.Selection.{pick, eligible}
-use Rattle.mq_select.specs.Waiting.{message_at, without, Entry}
+use Rattle.mq_select.specs.Waiting.{message_at, without, Header}
 use Rattle.mq_select.proofs.Places.{picked_waits}
 use Rattle.mq_queue.specs.declared.error.QueueError.TheVariants.{NoMessage, TooBig, Memory}
 use Rattle.mq_queue.specs.declared.event.Event.{Event}
 use Rattle.mq_queue.specs.Answer.{receive_answer, handed_out, refusal_or_memory}
 use Rattle.mq_queue.specs.Queue.{IsSound}
-use Rattle.mq_queue.specs.Waiting.{entry_of, entries_of, waiting}
+use Rattle.mq_queue.specs.Waiting.{header_of, headers_of, waiting}
 use Rattle.mq_queue.proofs.Places.{Rises, found_at, whole_at}
 use Rattle.mq_queue.proofs.Sound.{messages_rise}
 
@@ -39,14 +39,14 @@ map-map g f [] = refl
 map-map g f (x ∷ xs) = ap (λ ys. g (f x) ∷ ys) (map-map g f xs)
 
 -- a selection picks the same message with its body and without
-pick-entries : {B : Type 0} (bytes : B → List ℕ) (messages : List (ℕ × Message B)) (selection : Selection) → pick (λ m. m.mtype) (entries_of bytes messages) selection ≡ option_map (entry_of bytes) (pick (λ m. m.1.mtype) messages selection)
-pick-entries {B} bytes messages selection =
-    rw (map-map (λ (m : Entry). m.mtype) (entry_of bytes) messages)
-    (find-map (λ (m : Entry). eligible (map (λ m. m.1.mtype) messages) selection m.mtype) (entry_of bytes) messages)
+pick-headers : {B : Type 0} (bytes : B → List ℕ) (messages : List (ℕ × Message B)) (selection : Selection) → pick (λ m. m.mtype) (headers_of bytes messages) selection ≡ option_map (header_of bytes) (pick (λ m. m.1.mtype) messages selection)
+pick-headers {B} bytes messages selection =
+    rw (map-map (λ (m : Header). m.mtype) (header_of bytes) messages)
+    (find-map (λ (m : Header). eligible (map (λ m. m.1.mtype) messages) selection m.mtype) (header_of bytes) messages)
 
--- the messages without one are the entries without it
-pub entries_without : {B : Type 0} (bytes : B → List ℕ) (messages : List (ℕ × Message B)) (place : ℕ) → entries_of bytes (without place messages) ≡ filter (λ m. not (m.place == place)) (entries_of bytes messages)
-entries_without bytes messages place = sym (filter-map (λ (m : Entry). not (m.place == place)) (entry_of bytes) messages)
+-- the messages without one are the headers without it
+pub headers_without : {B : Type 0} (bytes : B → List ℕ) (messages : List (ℕ × Message B)) (place : ℕ) → headers_of bytes (without place messages) ≡ filter (λ m. not (m.place == place)) (headers_of bytes messages)
+headers_without bytes messages place = sym (filter-map (λ (m : Header). not (m.place == place)) (header_of bytes) messages)
 
 -- the message at the place that was found is the one that is picked
 picked_is : {B : Type 0} (messages : List (ℕ × Message B)) (selection : Selection) (place : ℕ) (m : Message B) → Rises (λ (m : ℕ × Message B). m.0) messages → Some place ≡ option_map (λ m. m.0) (pick (λ m. m.1.mtype) messages selection) → message_at place messages ≡ Some m → pick (λ m. m.1.mtype) messages selection ≡ Some (place, m)
@@ -61,37 +61,37 @@ picked_is {B} messages selection place m rises found at = by (pick (λ m. m.1.mt
         sym (subst At (sym same) there) ∙ whole_at place messages m at
 
 -- so it is in the log
-pub picked_entry : {B : Type 0} (bytes : B → List ℕ) (log : List Event) (messages : List (ℕ × Message B)) (selection : Selection) (place : ℕ) (m : Message B) → IsSound bytes log messages → Some place ≡ option_map (λ m. m.0) (pick (λ m. m.1.mtype) messages selection) → message_at place messages ≡ Some m → pick (λ m. m.mtype) (waiting log) selection ≡ Some (entry_of bytes (place, m))
-picked_entry bytes log messages selection place m sound found at =
-    let P : List Entry → Type 0 = λ entries. pick (λ m. m.mtype) entries selection ≡ Some (entry_of bytes (place, m)) in
-    subst P sound.waits (rw (pick-entries bytes messages selection, picked_is messages selection place m (messages_rise bytes log messages sound) found at) refl)
+pub picked_header : {B : Type 0} (bytes : B → List ℕ) (log : List Event) (messages : List (ℕ × Message B)) (selection : Selection) (place : ℕ) (m : Message B) → IsSound bytes log messages → Some place ≡ option_map (λ m. m.0) (pick (λ m. m.1.mtype) messages selection) → message_at place messages ≡ Some m → pick (λ m. m.mtype) (waiting log) selection ≡ Some (header_of bytes (place, m))
+picked_header bytes log messages selection place m sound found at =
+    let P : List Header → Type 0 = λ headers. pick (λ m. m.mtype) headers selection ≡ Some (header_of bytes (place, m)) in
+    subst P sound.waits (rw (pick-headers bytes messages selection, picked_is messages selection place m (messages_rise bytes log messages sound) found at) refl)
 
 -- where nothing is found there is no message
 pub none_refused : {B : Type 0} (bytes : B → List ℕ) (log : List Event) (messages : List (ℕ × Message B)) (size : ℕ) (selection : Selection) (noerror : Bool) → IsSound bytes log messages → None ≡ option_map (λ m. m.0) (pick (λ m. m.1.mtype) messages selection) → NoMessage ≡ refusal_or_memory (receive_answer (waiting log) size selection noerror)
 none_refused {B} bytes log messages size selection noerror sound found =
-    let P : List Entry → Type 0 = λ entries. NoMessage ≡ refusal_or_memory (receive_answer entries size selection noerror) in
-    subst P sound.waits (rw (pick-entries bytes messages selection) (by (pick (λ m. m.1.mtype) messages selection) found))
+    let P : List Header → Type 0 = λ headers. NoMessage ≡ refusal_or_memory (receive_answer headers size selection noerror) in
+    subst P sound.waits (rw (pick-headers bytes messages selection) (by (pick (λ m. m.1.mtype) messages selection) found))
   where
-    by : (o : Option (ℕ × Message B)) → None ≡ option_map (λ m. m.0) o → NoMessage ≡ refusal_or_memory (handed_out size noerror (option_map (entry_of bytes) o))
+    by : (o : Option (ℕ × Message B)) → None ≡ option_map (λ m. m.0) o → NoMessage ≡ refusal_or_memory (handed_out size noerror (option_map (header_of bytes) o))
     by None e = refl
     by (Some x) e = absurd (none-some x.0 e)
 
 -- where one is found the size decides
-answer_found : {B : Type 0} (bytes : B → List ℕ) (log : List Event) (messages : List (ℕ × Message B)) (size : ℕ) (selection : Selection) (noerror : Bool) (place n : ℕ) → IsSound bytes log messages → Some place ≡ option_map (λ m. m.0) (pick (λ m. m.1.mtype) messages selection) → IfSome (message_at place messages) (λ m. n ≡ length (bytes m.body)) → (m : Entry) × (receive_answer (waiting log) size selection noerror ≡ (if noerror || nat_le n size then Ok m else Err TooBig))
+answer_found : {B : Type 0} (bytes : B → List ℕ) (log : List Event) (messages : List (ℕ × Message B)) (size : ℕ) (selection : Selection) (noerror : Bool) (place n : ℕ) → IsSound bytes log messages → Some place ≡ option_map (λ m. m.0) (pick (λ m. m.1.mtype) messages selection) → IfSome (message_at place messages) (λ m. n ≡ length (bytes m.body)) → (m : Header) × (receive_answer (waiting log) size selection noerror ≡ (if noerror || nat_le n size then Ok m else Err TooBig))
 answer_found {B} bytes log messages size selection noerror place n sound found long =
     by (message_at place messages) refl (picked_waits (λ (m : ℕ × Message B). m.1.mtype) messages selection place (sym found)) long
   where
-    by : (o : Option (Message B)) → message_at place messages ≡ o → IsSome o → IfSome o (λ m. n ≡ length (bytes m.body)) → (m : Entry) × (receive_answer (waiting log) size selection noerror ≡ (if noerror || nat_le n size then Ok m else Err TooBig))
+    by : (o : Option (Message B)) → message_at place messages ≡ o → IsSome o → IfSome o (λ m. n ≡ length (bytes m.body)) → (m : Header) × (receive_answer (waiting log) size selection noerror ≡ (if noerror || nat_le n size then Ok m else Err TooBig))
     by None at there e = cc
     by (Some m) at there e =
-        (entry_of bytes (place, m), rw (picked_entry bytes log messages selection place m sound found at, e) refl)
+        (header_of bytes (place, m), rw (picked_header bytes log messages selection place m sound found at, e) refl)
 
 -- one that is too long is refused
 pub too_big_refused : {B : Type 0} (bytes : B → List ℕ) (log : List Event) (messages : List (ℕ × Message B)) (size : ℕ) (selection : Selection) (noerror : Bool) (place n : ℕ) → IsSound bytes log messages → Some place ≡ option_map (λ m. m.0) (pick (λ m. m.1.mtype) messages selection) → IfSome (message_at place messages) (λ m. n ≡ length (bytes m.body)) → false ≡ (noerror || nat_le n size) → TooBig ≡ refusal_or_memory (receive_answer (waiting log) size selection noerror)
 too_big_refused bytes log messages size selection noerror place n sound found long big =
     rw ((answer_found bytes log messages size selection noerror place n sound found long).1, ← big) refl
 
--- one that is not is refused for want of memory alone
+-- one that fits is refused only where there is no memory
 pub memory_refused : {B : Type 0} (bytes : B → List ℕ) (log : List Event) (messages : List (ℕ × Message B)) (size : ℕ) (selection : Selection) (noerror : Bool) (place n : ℕ) → IsSound bytes log messages → Some place ≡ option_map (λ m. m.0) (pick (λ m. m.1.mtype) messages selection) → IfSome (message_at place messages) (λ m. n ≡ length (bytes m.body)) → true ≡ (noerror || nat_le n size) → Memory ≡ refusal_or_memory (receive_answer (waiting log) size selection noerror)
 memory_refused bytes log messages size selection noerror place n sound found long fits =
     rw ((answer_found bytes log messages size selection noerror place n sound found long).1, ← fits) refl

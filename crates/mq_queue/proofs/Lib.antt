@@ -1,6 +1,7 @@
 pub mod Logs
 pub mod Sendings
 pub mod Steps
+pub mod Kept
 pub mod Lists
 pub mod Sound
 pub mod Changes

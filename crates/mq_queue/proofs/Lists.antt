@@ -1,15 +1,15 @@
--- Lists: what stands in the front part of one, and what a test finds first.
+-- Lists: what is in a prefix, and what a test finds first.
 use Rattle.std.proofs.Common.{◌≡◌, ℕ, ◌<◌, ◌≤◌, zero, suc, List, [], ◌∷◌, ◌++◌, length, filter, find, slice_get, Some, All, AllPairs, Bool, true, false, cond, refl, ap, sym, ◌∙◌, arith}
 use Rattle.std.proofs.lemmas.List.Elements.{All-nil, All-cons, All-head, All-tail, All-weaker}
 use Rattle.std.proofs.lemmas.Option.{none-some, same_Some}
 
--- what stands in the front part of a list
+-- an element of a prefix is the element of the list
 pub slice_get_front : {X : Type 0} (xs ys : List X) (k : ℕ) → k < length xs → slice_get (xs ++ ys) k ≡ slice_get xs k
 slice_get_front [] ys k within = absurd (omega arith)
 slice_get_front (x ∷ xs) ys zero within = refl
 slice_get_front (x ∷ xs) ys (suc k) within = slice_get_front xs ys k (omega arith)
 
--- a list that is cut before and after what stands at a place
+-- a list is cut before and after the element at an index
 pub cut_at : {X : Type 0} (xs : List X) (k : ℕ) (x : X) → slice_get xs k ≡ Some x → (front : List X) × (rest : List X) × (xs ≡ front ++ x ∷ rest) × (length front ≡ k)
 cut_at [] k x there = absurd (none-some x there)
 cut_at (y ∷ ys) zero x there = ([], ys, ap (λ z. z ∷ ys) (same_Some y x there), refl)

@@ -1,4 +1,4 @@
--- What stands at a place, in a list whose places rise.
+-- The element at a place, in a list whose places rise.
 use Rattle.std.proofs.Common.{◌≡◌, ℕ, ◌+◌, ◌<◌, ◌==◌, suc, List, [], ◌∷◌, length, map, find, filter, sum_by, All, AllPairs, Some, Bool, true, false, not, cond, refl, ap, subst, ◌∙◌, arith}
 use Rattle.std.specs.Option.{option_map}
 use lib.ListN.{get_or-map}
@@ -47,7 +47,7 @@ one_at {X} place at (y ∷ ys) x rises found = by (place y == at) refl found (on
         rw (none_at place at ys above) (ap (λ m. m ∷ []) (same_Some _ _ e))
     by false here e later = later e
 
--- what a test finds is what stands at its place
+-- what a test finds is the element at its place
 pub found_at : {X : Type 0} (place : X → ℕ) (p : X → Bool) (xs : List X) (x : X) → Rises place xs → find p xs ≡ Some x → find (λ m. place m == place x) xs ≡ Some x
 found_at place p [] x rises found = absurd (none-some x found)
 found_at {X} place p (y ∷ ys) x rises found = by (p y) found (found_at place p ys x (rest_rises place y ys rises))
@@ -71,7 +71,7 @@ whole_at {X} place (y ∷ ys) m found = by (y.0 == place) refl found (whole_at p
         whole
     by false here e later = later e
 
--- without what stands at a place there is one less
+-- without the element at a place the list is shorter by one
 pub length-without : {X : Type 0} (place : X → ℕ) (at : ℕ) (xs : List X) (x : X) → Rises place xs → find (λ m. place m == at) xs ≡ Some x → 1 + length (filter (λ m. not (place m == at)) xs) ≡ length xs
 length-without {X} place at xs x rises found =
     let both = length-filter_both (λ (m : X). place m == at) (λ m. not (place m == at)) (λ _. refl) xs in

@@ -47,5 +47,5 @@ play before (event ∷ events) none all = by (play (before ++ event ∷ []) even
           replies = ap₂ (λ (x : Reply) (xs : List Reply). x ∷ xs) (reply_given before event (event ∷ events) all.0) replies;
         }
 
-pub replay_is : (log : List Event) → AllFollow [] log → (state_after log ≡ record { entries = waiting log; quota = quota log }) × (replayed log ≡ map (given log) log)
+pub replay_is : (log : List Event) → AllFollow [] log → (state_after log ≡ record { headers = waiting log; quota = quota log }) × (replayed log ≡ map (given log) log)
 replay_is log all = let whole = play [] log (λ place past. refl) all in (whole.state, whole.replies)

@@ -4,7 +4,7 @@ use Rattle.std.specs.List.{cons_option}
 use Rattle.std.proofs.lemmas.List.Elements.{All-nil, All-cons, All-head, All-tail, All-weaker}
 use Rattle.std.proofs.lemmas.Option.{none-some, same_Some}
 use Rattle.std.proofs.lemmas.List.Kept.{AllPairs-cons}
-use Rattle.mq_select.specs.Waiting.{Entry}
+use Rattle.mq_select.specs.Waiting.{Header}
 use Rattle.mq_queue.specs.declared.event.Event.{Event}
 use Rattle.mq_queue.specs.declared.event.Event.TheVariants.{Sent}
 use Rattle.mq_queue.specs.Waiting.{sent_at, sent_from}
@@ -22,7 +22,7 @@ sent_from-append n (x ∷ xs) ys =
     rw later (cons_option-append (sent_at n x) _ _)
 
 -- a place among those of the events
-abbrev IsWithin : ℕ → List Event → Entry → Type 0
+abbrev IsWithin : ℕ → List Event → Header → Type 0
 IsWithin n xs m = (n ≤ m.place) × (m.place < n + length xs)
 
 -- each message that was sent has its place among those of the events
@@ -39,15 +39,15 @@ pub sent_rises : (n : ℕ) (xs : List Event) → AllPairs (λ a b. a.place < b.p
 sent_rises n [] = λ i j d less within. absurd (omega arith)
 sent_rises n (x ∷ xs) = by x (sent_rises (n + 1) xs)
   where
-    above : All (λ (m : Entry). n < m.place) (sent_from (n + 1) xs)
-    above = All-weaker (IsWithin (n + 1) xs) (λ (m : Entry). n < m.place) (λ m h. omega (arith, h.0)) (sent_from (n + 1) xs) (sent_within (n + 1) xs)
+    above : All (λ (m : Header). n < m.place) (sent_from (n + 1) xs)
+    above = All-weaker (IsWithin (n + 1) xs) (λ (m : Header). n < m.place) (λ m h. omega (arith, h.0)) (sent_from (n + 1) xs) (sent_within (n + 1) xs)
 
-    by : (event : Event) → AllPairs (λ (a b : Entry). a.place < b.place) (sent_from (n + 1) xs) → AllPairs (λ (a b : Entry). a.place < b.place) (cons_option (sent_at n event) (sent_from (n + 1) xs))
-    by (Sent seat moment tag mtype k) rest = AllPairs-cons (λ (a b : Entry). a.place < b.place) _ _ above rest
+    by : (event : Event) → AllPairs (λ (a b : Header). a.place < b.place) (sent_from (n + 1) xs) → AllPairs (λ (a b : Header). a.place < b.place) (cons_option (sent_at n event) (sent_from (n + 1) xs))
+    by (Sent seat moment tag mtype k) rest = AllPairs-cons (λ (a b : Header). a.place < b.place) _ _ above rest
     by _ rest = rest
 
 -- the event at its place is the sending of the message
-abbrev pub IsThere : ℕ → List Event → Entry → Type 0
+abbrev pub IsThere : ℕ → List Event → Header → Type 0
 IsThere n xs m = (k : ℕ) × (m.place ≡ n + k) × IsSomeAnd (slice_get xs k) (λ event. sent_at m.place event ≡ Some m)
 
 -- so it is for each message that was sent
@@ -69,7 +69,7 @@ tail_holds P None xs all = all
 tail_holds P (Some y) xs all = All-tail P y xs all
 
 -- what holds of all that were sent holds of the one that was sent by the event at a place
-pub sent_holds : (P : Entry → Type 0) (n : ℕ) (xs : List Event) (i : ℕ) (m : Entry) → All P (sent_from n xs) → IsSomeAnd (slice_get xs i) (λ event. sent_at (n + i) event ≡ Some m) → P m
+pub sent_holds : (P : Header → Type 0) (n : ℕ) (xs : List Event) (i : ℕ) (m : Header) → All P (sent_from n xs) → IsSomeAnd (slice_get xs i) (λ event. sent_at (n + i) event ≡ Some m) → P m
 sent_holds P n [] i m all there = absurd there
 sent_holds P n (x ∷ xs) zero m all there = head_holds P (sent_at n x) (sent_from (n + 1) xs) m (rw add-zero at there) all
 sent_holds P n (x ∷ xs) (suc i) m all there =

@@ -3,7 +3,7 @@ use Rattle.std.proofs.Common.{◌≡◌, ℕ, ℤ, pos, ◌+◌, ◌≤◌, ◌�
 use Rattle.std.proofs.lemmas.Bool.{leb-true}
 use Rattle.std.proofs.lemmas.List.Sums.{sum_by_push}
 use Rattle.mq_message.specs.declared.message.Message.{Message}
-use Rattle.mq_select.specs.Waiting.{Entry}
+use Rattle.mq_select.specs.Waiting.{Header}
 use Rattle.mq_queue.specs.declared.event.Event.{Event}
 use Rattle.mq_queue.specs.declared.event.Event.TheVariants.{Sent}
 use Rattle.mq_queue.specs.declared.figures.Figures.{Figures}
@@ -11,7 +11,7 @@ use Rattle.mq_queue.specs.declared.limits.TheConstants.{MSGMAX}
 use Rattle.mq_queue.specs.Lawful.{Lawful}
 use Rattle.mq_queue.specs.Queue.{AreFigures, IsSound}
 use Rattle.mq_queue.specs.Room.{has_room, quota}
-use Rattle.mq_queue.specs.Waiting.{entries_of, entry_of, waiting}
+use Rattle.mq_queue.specs.Waiting.{headers_of, header_of, waiting}
 use Rattle.mq_queue.proofs.Sound.{figures_more, sound_more}
 
 -- what the kept figures say of the room is what the log says
@@ -25,9 +25,9 @@ map_push f (y ∷ ys) x = ap (λ zs. f y ∷ zs) (map_push f ys x)
 -- with a message more, which has room, the queue is sound
 pub sent_sound : {B : Type 0} (bytes : B → List ℕ) (log log' : List Event) (kept : Figures) (messages messages' : List (ℕ × Message B)) (m : Message B) (moment n : ℕ) → IsSound bytes log messages → AreFigures log kept → pos 1 ≤ℤ m.mtype → n ≤ MSGMAX → true ≡ (nat_le (kept.cbytes + n) kept.qbytes && nat_le (kept.qnum + 1) kept.qbytes) → n ≡ length (bytes m.body) → log' ≡ log ++ Sent m.sender moment m.tag m.mtype n ∷ [] → messages' ≡ messages ++ (length log, m) ∷ [] → IsSound bytes log' messages'
 sent_sound bytes log log' kept messages messages' m moment n sound are low short room long grown added =
-    let entry : Entry = record { place = length log; seat = m.sender; tag = m.tag; mtype = m.mtype; length = n } in
-    let same : entry_of bytes (length log, m) ≡ entry = ap (λ k. record { place = length log; seat = m.sender; tag = m.tag; mtype = m.mtype; length = k }) (sym long) in
-    let waits : entries_of bytes messages' ≡ waiting log ++ entry ∷ [] = rw (added, map_push (entry_of bytes) messages (length log, m), same, sound.waits) refl in
+    let header : Header = record { place = length log; seat = m.sender; tag = m.tag; mtype = m.mtype; length = n } in
+    let same : header_of bytes (length log, m) ≡ header = ap (λ k. record { place = length log; seat = m.sender; tag = m.tag; mtype = m.mtype; length = k }) (sym long) in
+    let waits : headers_of bytes messages' ≡ waiting log ++ header ∷ [] = rw (added, map_push (header_of bytes) messages (length log, m), same, sound.waits) refl in
     sound_more bytes log log' (Sent m.sender moment m.tag m.mtype n) messages messages' grown sound refl refl (low, short, sym (room ∙ room_is log kept n are)) waits
 
 both_hold : (a b : Bool) → (a && b) ≡ true → (a ≡ true) × (b ≡ true)
@@ -38,13 +38,13 @@ both_hold false b e = cc
 pub sent_figures : (log log' : List Event) (kept : Figures) (seat moment tag : ℕ) (mtype : ℤ) (n : ℕ) → Lawful log → AreFigures log kept → true ≡ (nat_le (kept.cbytes + n) kept.qbytes && nat_le (kept.qnum + 1) kept.qbytes) → log' ≡ log ++ Sent seat moment tag mtype n ∷ [] → AreFigures log' (record kept { qnum = kept.qnum + 1; cbytes = kept.cbytes + n; stime = moment; lspid = seat })
 sent_figures log log' kept seat moment tag mtype n lawful are room grown =
     let step : Figures → Figures = λ f. record f { qnum = f.qnum + 1; cbytes = f.cbytes + n; stime = moment; lspid = seat } in
-    let entry : Entry = record { place = length log; seat = seat; tag = tag; mtype = mtype; length = n } in
+    let header : Header = record { place = length log; seat = seat; tag = tag; mtype = mtype; length = n } in
     let tests = both_hold _ _ (sym room) in
     let bytes : kept.cbytes + n ≤ kept.qbytes = leb-true _ _ tests.0 in
     let count : kept.qnum + 1 ≤ kept.qbytes = leb-true _ _ tests.1 in
     let limit = are.limit in
     record {
-      same = rw (figures_more log log' (Sent seat moment tag mtype n) grown lawful, length-append (waiting log) (entry ∷ []), sum_by_push (λ (m : Entry). m.length) (waiting log) entry) (ap step are.same);
+      same = rw (figures_more log log' (Sent seat moment tag mtype n) grown lawful, length-append (waiting log) (header ∷ []), sum_by_push (λ (m : Header). m.length) (waiting log) header) (ap step are.same);
       count = omega arith;
       bytes = omega arith;
       limit = are.limit;

@@ -2,7 +2,7 @@
 use Rattle.std.proofs.Common.{◌≡◌, ℕ, ◌<◌, List, [], ◌∷◌, ◌++◌, length, Option, unwrap_or, All, Bool, false, refl, sym, subst, ◌∙◌}
 use Rattle.std.proofs.lemmas.Grind.{fold-append}
 use Rattle.mq_message.specs.declared.message.Message.{Message}
-use Rattle.mq_select.specs.Waiting.{Entry}
+use Rattle.mq_select.specs.Waiting.{Header}
 use Rattle.mq_queue.specs.declared.event.Event.{Event}
 use Rattle.mq_queue.specs.declared.figures.Figures.{Figures}
 use Rattle.mq_queue.specs.Figures.{live_figures, sender_told, sending_told, receiver_told, receipt_told, change_told}
@@ -11,7 +11,7 @@ use Rattle.mq_queue.specs.Log.{is_empty, is_made, is_removed, ends_with_removed,
 use Rattle.mq_queue.specs.Queue.{IsSound}
 use Rattle.mq_queue.specs.Replay.{after_event}
 use Rattle.mq_queue.specs.Room.{bytes_of, quota}
-use Rattle.mq_queue.specs.Waiting.{entries_of, entry_of, waiting}
+use Rattle.mq_queue.specs.Waiting.{headers_of, header_of, waiting}
 use Rattle.mq_queue.proofs.Logs.{one_more_follows}
 use Rattle.mq_queue.proofs.Places.{Rises, all_unmapped, pairs_unmapped}
 use Rattle.mq_queue.proofs.Steps.{none_ahead, quota_after, state_of, waits_after, waits_rising, waits_within}
@@ -36,7 +36,7 @@ lawful_more log log' event grown lawful live later allowed = rw grown (record {
 })
 
 -- a sound queue is sound with an event that can happen, where just that was done to the messages
-pub sound_more : {B : Type 0} (bytes : B → List ℕ) (log log' : List Event) (event : Event) (messages messages' : List (ℕ × Message B)) → log' ≡ log ++ event ∷ [] → IsSound bytes log messages → is_made event ≡ false → is_removed event ≡ false → CanHappen (waiting log) (quota log) event → entries_of bytes messages' ≡ (after_event (length log) (state_of log) event).entries → IsSound bytes log' messages'
+pub sound_more : {B : Type 0} (bytes : B → List ℕ) (log log' : List Event) (event : Event) (messages messages' : List (ℕ × Message B)) → log' ≡ log ++ event ∷ [] → IsSound bytes log messages → is_made event ≡ false → is_removed event ≡ false → CanHappen (waiting log) (quota log) event → headers_of bytes messages' ≡ (after_event (length log) (state_of log) event).headers → IsSound bytes log' messages'
 sound_more bytes log log' event messages messages' grown sound later lives allowed waits = record {
   lawful = lawful_more log log' event grown sound.lawful sound.live later allowed;
   live = rw (grown, fold-append (λ (_ : Bool) event. is_removed event) false log (event ∷ [])) lives;
@@ -52,8 +52,8 @@ abbrev pub figures_after : List Event → Event → Figures
 figures_after log event =
     let s = after_event (length log) (state_of log) event in
     record {
-      qnum = length s.entries;
-      cbytes = bytes_of s.entries;
+      qnum = length s.headers;
+      cbytes = bytes_of s.headers;
       qbytes = s.quota;
       stime = unwrap_or (sending_told event) (last_told sending_told 0 log);
       rtime = unwrap_or (receipt_told event) (last_told receipt_told 0 log);
@@ -69,9 +69,9 @@ figures_more log log' event grown lawful =
 -- the places of the messages rise
 pub messages_rise : {B : Type 0} (bytes : B → List ℕ) (log : List Event) (messages : List (ℕ × Message B)) → IsSound bytes log messages → Rises (λ (m : ℕ × Message B). m.0) messages
 messages_rise bytes log messages sound =
-    pairs_unmapped (λ (a b : Entry). a.place < b.place) (entry_of bytes) messages (subst (Rises (λ (m : Entry). m.place)) (sym sound.waits) (waits_rising log))
+    pairs_unmapped (λ (a b : Header). a.place < b.place) (header_of bytes) messages (subst (Rises (λ (m : Header). m.place)) (sym sound.waits) (waits_rising log))
 
 -- and are within the log
 pub messages_within : {B : Type 0} (bytes : B → List ℕ) (log : List Event) (messages : List (ℕ × Message B)) → IsSound bytes log messages → All (λ m. m.0 < length log) messages
 messages_within bytes log messages sound =
-    all_unmapped (λ (m : Entry). m.place < length log) (entry_of bytes) messages (subst (All (λ (m : Entry). m.place < length log)) (sym sound.waits) (waits_within log))
+    all_unmapped (λ (m : Header). m.place < length log) (header_of bytes) messages (subst (All (λ (m : Header). m.place < length log)) (sym sound.waits) (waits_within log))

@@ -1,4 +1,4 @@
--- What msgctl(2) with IPC_STAT shows of a queue, as its log says.
+-- The figures of a queue, as its log says (msgctl(2), IPC_STAT).
 use Rattle.std.specs.Prelude.{ℕ, if◌then◌else◌, Option, Some, None, List, length}
 use Rattle.mq_queue.specs.declared.event.Event.{Event}
 use Rattle.mq_queue.specs.declared.event.Event.TheVariants.{Made, Sent, Received, Changed}
@@ -7,34 +7,34 @@ use Rattle.mq_queue.specs.Log.{ends_with_removed, last_told}
 use Rattle.mq_queue.specs.Room.{bytes_of, quota}
 use Rattle.mq_queue.specs.Waiting.{waiting}
 
--- who sent, if the event is a sending (msgctl(2), msg_lspid)
+-- who sent, if the event is a sending
 abbrev pub sender_told : Event → Option ℕ
 sender_told (Sent seat moment tag mtype n) = Some seat
 sender_told _ = None
 
--- when a message was sent, if the event is a sending (msgctl(2), msg_stime)
+-- when a message was sent, if the event is a sending
 abbrev pub sending_told : Event → Option ℕ
 sending_told (Sent seat moment tag mtype n) = Some moment
 sending_told _ = None
 
--- who received, if the event is a receipt (msgctl(2), msg_lrpid)
+-- who received, if the event is a receipt
 abbrev pub receiver_told : Event → Option ℕ
 receiver_told (Received seat moment place selection size noerror) = Some seat
 receiver_told _ = None
 
--- when a message was received, if the event is a receipt (msgctl(2), msg_rtime)
+-- when a message was received, if the event is a receipt
 abbrev pub receipt_told : Event → Option ℕ
 receipt_told (Received seat moment place selection size noerror) = Some moment
 receipt_told _ = None
 
--- when the queue was made or its quota set, if the event is that (msgctl(2), msg_ctime)
+-- when the queue was made or its quota set, if the event is one of these
 abbrev pub change_told : Event → Option ℕ
 change_told (Made seat moment key) = Some moment
 change_told (Changed seat moment qbytes) = Some moment
 change_told _ = None
 
--- the figures of a queue that was not removed; what has not yet happened is shown as 0
--- (msgctl(2), msqid_ds)
+-- the figures of a queue that is not removed, 0 for what has not yet happened (msgctl(2),
+-- msqid_ds)
 abbrev pub live_figures : List Event → Figures
 live_figures log = record {
   qnum = length (waiting log);
@@ -47,7 +47,7 @@ live_figures log = record {
   lrpid = last_told receiver_told 0 log;
 }
 
--- the figures where there is no queue (msgctl(2), IPC_RMID)
+-- the figures where there is no queue
 abbrev pub no_figures : Figures
 no_figures = record {
   qnum = 0;
@@ -60,6 +60,6 @@ no_figures = record {
   lrpid = 0;
 }
 
--- the figures of a queue, all 0 once it was removed (msgctl(2), msqid_ds)
+-- the figures of a queue, all 0 once it is removed
 abbrev pub figures : List Event → Figures
 figures log = if ends_with_removed log then no_figures else live_figures log

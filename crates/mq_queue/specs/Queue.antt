@@ -7,24 +7,22 @@ use Rattle.mq_queue.specs.declared.limits.TheConstants.{MSGMNB}
 use Rattle.mq_queue.specs.Figures.{live_figures}
 use Rattle.mq_queue.specs.Lawful.{Lawful}
 use Rattle.mq_queue.specs.Log.{ends_with_removed}
-use Rattle.mq_queue.specs.Waiting.{entries_of, waiting}
+use Rattle.mq_queue.specs.Waiting.{headers_of, waiting}
 
 -- a queue: its log, and the messages that wait, each with the place of its sending in the log
--- (sysvipc(7))
 pub record Queue (B : Type 0) : Type 0 where
   pub log : List Event
   pub messages : List (ℕ × Message B)
 
--- the log is that of a queue which was not removed, and the messages are those that wait by it
--- (msgop(2))
+-- the log is that of a queue which is not removed, and the messages are those that wait by it
 pub record IsSound {B : Type 0} (bytes : B → List ℕ)
     (log : List Event) (messages : List (ℕ × Message B)) : Type 0 where
   pub lawful : Lawful log
   pub live : ends_with_removed log ≡ false
-  pub waits : entries_of bytes messages ≡ waiting log
+  pub waits : headers_of bytes messages ≡ waiting log
 
--- the figures are those of a queue with this log, and each that bounds another is within the
--- greatest quota (msgctl(2), msqid_ds)
+-- the figures are those of a queue with this log, and its counts and its quota are within the
+-- greatest quota
 pub record AreFigures (log : List Event) (kept : Figures) : Type 0 where
   pub same : kept ≡ live_figures log
   pub count : kept.qnum ≤ MSGMNB

@@ -1,24 +1,24 @@
 -- The lists of the examples, in which seat 1 makes the queue and sends, and seat 2 receives.
 use Rattle.std.specs.Prelude.{ℕ, pos, false, List, [], ◌∷◌, ◌++◌}
 use Rattle.mq_select.specs.declared.selection.Selection.TheVariants.{Any, UpTo}
-use Rattle.mq_select.specs.Waiting.{Entry}
+use Rattle.mq_select.specs.Waiting.{Header}
 use Rattle.mq_queue.specs.declared.event.Event.{Event}
 use Rattle.mq_queue.specs.declared.event.Event.TheVariants.{Made, Sent, Received, Changed, Removed}
 
--- a waiting text of this type and length
-abbrev pub text : ℕ → ℕ → ℕ → Entry
+-- the header of a text of this type and length
+abbrev pub text : ℕ → ℕ → ℕ → Header
 text place mtype n = record { place = place; seat = 1; tag = 0; mtype = pos mtype; length = n }
 
 -- "ab" and "cd"
-abbrev pub ab_and_cd : List Entry
+abbrev pub ab_and_cd : List Header
 ab_and_cd = text 1 1 2 ∷ text 2 1 2 ∷ []
 
 -- "hello", then "hi"
-abbrev pub hello_and_hi : List Entry
+abbrev pub hello_and_hi : List Header
 hello_and_hi = text 1 5 5 ∷ text 2 6 2 ∷ []
 
 -- types 3, 1, 2, 1
-abbrev pub four_types : List Entry
+abbrev pub four_types : List Header
 four_types = text 1 3 1 ∷ text 2 1 1 ∷ text 3 2 1 ∷ text 4 1 1 ∷ []
 
 -- a making at this moment
@@ -33,7 +33,7 @@ sent moment mtype n = Sent 1 moment 0 (pos mtype) n
 abbrev pub received : ℕ → ℕ → Event
 received moment place = Received 2 moment place Any 9 false
 
--- the same, with the lowest type asked for
+-- a receipt that selects the lowest type up to 2
 abbrev pub lowest : ℕ → ℕ → Event
 lowest moment place = Received 2 moment place (UpTo 2) 9 false
 

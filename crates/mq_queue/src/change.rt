@@ -47,8 +47,8 @@ impl<B: Body, W: Waiting<B>> QueueState<B, W> {
         Ok(place)
     }
 
-    /// Removes the queue, and hands out its log and what waited (msgctl(2), IPC_RMID). An `Err` is
-    /// want of memory, and hands the queue back.
+    /// Removes the queue, and hands out its log and what waited (msgctl(2), IPC_RMID). `Err` means
+    /// out of memory, and hands the queue back.
     pub fn remove(self, seat: u16, moment: u64) -> Result<(Log, W), QueueState<B, W>>
         ensures handed_back { IfErr result (λ q. q ≡ self) }
 
@@ -56,20 +56,16 @@ impl<B: Body, W: Waiting<B>> QueueState<B, W> {
         ensures messages { IfOk result (λ r. W.messages r.1 ≡ self.messages) }
         ensures lawful { IfOk result (λ r. Lawful r.0) }
     {
+        let mut queue = self;
+        let Ok(()) = queue.log.reserve(1) else {
+            return Err(queue);
+        };
         let QueueState {
             mut log,
             waiting,
-            kept,
-            body,
-        } = self;
-        let Ok(()) = log.reserve(1) else {
-            return Err(QueueState {
-                log,
-                waiting,
-                kept,
-                body,
-            });
-        };
+            kept: _,
+            body: _,
+        } = queue;
         append(&mut log, Event::Removed { seat, moment });
         Ok((Log::of(log), waiting))
     }

@@ -12,7 +12,7 @@ pub enum QueueError {
     /// The bytes or the count of the messages would pass the queue's quota: `EAGAIN`.
     #[error("the queue is full")]
     Full,
-    /// No message waits that the selection asks for: `ENOMSG`.
+    /// No eligible message waits: `ENOMSG`.
     #[error("no message waits")]
     NoMessage,
     /// The text is longer than the receiver's size, and is not to be cut: `E2BIG`.
@@ -21,7 +21,7 @@ pub enum QueueError {
     /// The quota is above [`MSGMNB`](crate::MSGMNB): `EPERM`.
     #[error("the quota is above its limit")]
     OverLimit,
-    /// There is no memory for the change: `ENOMEM`.
+    /// Out of memory: `ENOMEM`.
     #[error("out of memory")]
     Memory,
 }

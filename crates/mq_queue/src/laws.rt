@@ -1,6 +1,7 @@
-//! What holds of each log, whatever happened: each law is the contract of an empty function.
+//! What holds of each lawful log: each law is the contract of an empty function.
 
-ghost use Rattle.mq_queue.specs.Laws.{ReceivesOnce, ReceivesInOrder, BeginningsAreLawful, IsReplayed};
+ghost use Rattle.mq_queue.specs.Laws.{ReceivesOnce, ReceivesInOrder, PrefixesAreLawful};
+ghost use Rattle.mq_queue.specs.Laws.{IsReplayed};
 
 /// No message is received twice.
 pub fn a_message_is_received_once()
@@ -12,12 +13,12 @@ pub fn messages_of_one_type_come_in_order()
     ensures { ReceivesInOrder }
 {}
 
-/// Each beginning of a log, with one event at least, is a log.
-pub fn each_beginning_is_lawful()
-    ensures { BeginningsAreLawful }
+/// Each prefix of a lawful log is lawful, but for the empty one.
+pub fn each_prefix_is_lawful()
+    ensures { PrefixesAreLawful }
 {}
 
-/// Who reads the log needs nothing else to know what waits and what each call was answered.
+/// A replay of the log finds what waits, and what each call was answered.
 pub fn a_log_is_replayed()
     ensures { IsReplayed }
 {}

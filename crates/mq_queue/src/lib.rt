@@ -9,6 +9,8 @@ mod figures;
 pub mod laws;
 mod limits;
 mod log;
+#[cfg(test)]
+mod log_tests;
 mod receive;
 mod received;
 mod send;

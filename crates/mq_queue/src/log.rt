@@ -3,7 +3,7 @@ ghost use Rattle.std.specs.Prelude.{◌≡◌, ◌<◌, ◌^◌, ◌++◌, ◌�
 use crate::Event;
 use std::marker::Model;
 
-/// The log of a queue that was given up, seen as the list of its events.
+/// The log of a queue that was taken apart, seen as the list of its events.
 #[derive(Drop)]
 pub struct Log {
     events: Vec<Event>,

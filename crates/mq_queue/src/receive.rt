@@ -1,7 +1,7 @@
 ghost use Rattle.std.specs.Prelude.{◌≡◌, ◌||◌, ◌++◌, ◌∷◌, [], length, min, take, nat_le, IsSomeAnd};
 ghost use Rattle.std.specs.Prelude.{OnOk, OnErr, IfOk, IfErr};
 ghost use Rattle.mq_select.specs.Waiting.{message_at, without};
-ghost use Rattle.mq_queue.specs.Answer.{receive_answer, refusal_or_memory};
+ghost use Rattle.mq_queue.specs.Answer.{receive_answer, received_header, refusal_or_memory};
 ghost use Rattle.mq_queue.specs.Queue.{IsSound};
 ghost use Rattle.mq_queue.specs.Waiting.{waiting};
 
@@ -18,8 +18,9 @@ fn is_handed_out(length: u64, size: u64, noerror: bool) -> bool
 }
 
 impl<B: Body, W: Waiting<B>> QueueState<B, W> {
-    /// Takes out the first message that the selection asks for (msgop(2), msgrcv with
-    /// IPC_NOWAIT). With `noerror`, the flag MSG_NOERROR, a longer text is cut to `size` bytes.
+    /// Takes out the message that the selection picks (msgop(2), msgrcv with IPC_NOWAIT). With
+    /// `noerror`, the flag MSG_NOERROR, a longer text is cut to `size` bytes. A receive adds an
+    /// event to the log, for which there may be no memory.
     pub fn receive(
         &mut self,
         size: u64,
@@ -34,13 +35,7 @@ impl<B: Body, W: Waiting<B>> QueueState<B, W> {
 
         ensures accepted { IfOk result (λ r.
             receive_answer (waiting self.old.log) size selection noerror
-            ≡ Ok (record {
-              place = r.place;
-              seat = r.sender;
-              tag = r.tag;
-              mtype = r.mtype;
-              length = r.length;
-            })) }
+            ≡ Ok (received_header r)) }
         ensures body { IfOk result (λ r. IsSomeAnd (message_at r.place self.old.messages) (λ m.
             (B.bytes r.body ≡ take size (B.bytes m.body)) × B.keeps m.body r.body)) }
         ensures length { IfOk result (λ r. length (B.bytes r.body) ≡ min r.length size) }

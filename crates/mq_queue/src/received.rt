@@ -1,7 +1,8 @@
 /// What a receiver gets.
 #[derive(Drop)]
 pub struct Received<B> {
-    /// The place of this receipt in the queue's log.
+    /// The place of this receipt in the queue's log, or its entry in the slot list where a slot
+    /// answers.
     pub entry: u64,
     /// The place at which the message was sent.
     pub place: u64,

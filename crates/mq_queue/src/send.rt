@@ -20,8 +20,8 @@ fn has_room(count: u64, bytes: u64, length: u64, quota: u64) -> bool
 }
 
 impl<B: Body, W: Waiting<B>> QueueState<B, W> {
-    /// Puts a message behind all that wait, and answers its place (msgop(2), msgsnd with
-    /// IPC_NOWAIT). A message that is refused is handed back.
+    /// Adds a message at the end, and answers its place (msgop(2), msgsnd with IPC_NOWAIT). A
+    /// message that is refused is handed back.
     pub fn send(
         &mut self,
         message: Message<B>,

@@ -10,11 +10,11 @@ use std::alloc::{AllocError, Global};
 use std::marker::{Model, PhantomData};
 
 /// A queue, seen as its log and the messages that wait, each with the place of its sending in the
-/// log. A queue is not dropped: `remove` or `into_parts` gives it up.
+/// log. A queue can't be dropped: `remove` or `into_parts` takes it.
 pub struct QueueState<B: Body, W: Waiting<B>> {
     pub(crate) log: Vec<Event>,
     pub(crate) waiting: W,
-    /// What the log says in sum, so that no call goes through it.
+    /// The figures of the log, so that no call goes through it.
     pub(crate) kept: Figures,
     pub(crate) body: PhantomData<B>,
 }
@@ -31,8 +31,7 @@ impl<B: Body, W: Waiting<B>> Model for QueueState<B, W> {
 }
 
 impl<B: Body, W: Waiting<B>> QueueState<B, W> {
-    /// A new queue, with no message (msgget(2), "Notes": a message queue is made empty). An `Err`
-    /// is want of memory.
+    /// A new queue, with no message and the greatest quota (msgget(2)). `Err` means out of memory.
     pub fn made(
         alloc: Global,
         key: i32,
@@ -86,7 +85,7 @@ impl<B: Body, W: Waiting<B>> QueueState<B, W> {
         event_at(&self.log, i)
     }
 
-    /// The log and the messages that wait. This is no change of the queue, and takes no memory.
+    /// The log and the messages that wait. It adds no event, and takes no memory.
     pub fn into_parts(self) -> (Log, W)
         ensures log { result.0 ≡ self.log }
         ensures messages { W.messages result.1 ≡ self.messages }

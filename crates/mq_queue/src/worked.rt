@@ -12,7 +12,7 @@ ghost use Rattle.mq_queue.specs.Room.{quota};
 ghost use Rattle.mq_queue.specs.Waiting.{waiting};
 ghost use Rattle.mq_queue.specs.Worked.{text, ab_and_cd, hello_and_hi, four_types};
 ghost use Rattle.mq_queue.specs.Worked.{quota_of_4, four_texts, over_quota, under_quota, shut};
-ghost use Rattle.mq_queue.specs.Worked.{hello_received, two_of_type_1, removed};
+ghost use Rattle.mq_queue.specs.Worked.{hello_received, two_of_type_1, made, removed};
 
 /// With a quota of 4, the bytes are at most 4, and so are the messages.
 pub fn room_by_quota()
@@ -55,6 +55,7 @@ pub fn selected()
 pub fn full_by_bytes_and_by_count()
     ensures waits { waiting quota_of_4 ≡ ab_and_cd }
     ensures quota { quota quota_of_4 ≡ 4 }
+    ensures made { quota (made 1 ∷ []) ≡ 16384 }
     ensures bytes { send_refusal (waiting quota_of_4) (quota quota_of_4) (pos 1) 2 ≡ Some Full }
     ensures empty { send_refusal (waiting quota_of_4) (quota quota_of_4) (pos 1) 0 ≡ None }
     ensures count { send_refusal (waiting four_texts) (quota four_texts) (pos 1) 0 ≡ Some Full }
@@ -98,9 +99,9 @@ pub fn figures_shown()
     ensures key { made_key hello_received ≡ pos 7 }
 {}
 
-/// A log that is played from its start: what is left, and what the last two receivers got.
+/// A log that is replayed: what is left, and what the last two receivers got.
 pub fn played_again()
-    ensures waits { (state_after two_of_type_1).entries ≡ text 1 3 1 ∷ text 3 2 1 ∷ [] }
+    ensures waits { (state_after two_of_type_1).headers ≡ text 1 3 1 ∷ text 3 2 1 ∷ [] }
     ensures answers { drop 5 (replayed two_of_type_1)
         ≡ Ok (Some (text 2 1 1)) ∷ Ok (Some (text 4 1 1)) ∷ [] }
 {}

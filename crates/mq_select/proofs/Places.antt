@@ -47,7 +47,7 @@ inside {X} place xs i h =
     let found : (nat_lt (position_or_len p xs) (length xs) ≡ true) × (position_or_len p xs ≡ i) = cond_some _ _ _ h in
     omega (arith, ltb-true _ _ found.0)
 
--- the message at a place is what stands at its index
+-- the message at a place is the one at its index
 pub at_index : {X : Type 0} (place : ℕ) (xs : List (ℕ × X)) (i : ℕ) (d : ℕ × X) → position (λ m. m.0 == place) xs ≡ Some i → message_at place xs ≡ Some (get_or xs i d).1
 at_index {X} place xs i d h =
     let p : ℕ × X → Bool = λ m. m.0 == place in

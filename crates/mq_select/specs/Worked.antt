@@ -1,11 +1,10 @@
+-- The lists of the examples, in which a waiting message is its place and its type.
 use Rattle.std.specs.Prelude.{ℕ, ℤ, Option, pos, ◌^◌, ◌-◌, List, [], ◌∷◌}
 use Rattle.std.specs.Option.{option_map}
 use Rattle.mq_select.specs.declared.selection.Selection.{Selection}
 use Rattle.mq_select.specs.Selection.{pick}
 
--- In the examples a waiting message is its place and its type.
-
--- the place of the message that a receive hands out (msgop(2), msgrcv)
+-- the place of the message that a receiver is handed
 abbrev pub picked : List (ℕ × ℤ) → Selection → Option ℕ
 picked messages selection = option_map (λ m. m.0) (pick (λ m. m.1) messages selection)
 

@@ -2,7 +2,7 @@
 
 ghost use Rattle.mq_select.specs.Laws.{FindsTheLowest};
 
-/// The lowest type within a bound waits, is within it, and none within it is lower.
+/// The lowest type within a bound is one of the types, is within it, and none within it is lower.
 pub fn lowest_type_is_least()
     ensures { FindsTheLowest }
 {}

@@ -13,4 +13,4 @@ pub mod worked;
 
 pub use list::ListWaiting;
 pub use selection::Selection;
-pub use waiting::Waiting;
+pub use waiting::{Waiting, discard};

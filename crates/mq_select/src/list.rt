@@ -11,9 +11,8 @@ use std::collections::VecDeque;
 use std::marker::Model;
 
 /// The waiting messages in one list, in the order of sending. To find and take the first message
-/// costs the same however many wait; any other selection reads the list from its front. It can be
-/// dropped only where its bodies can.
-#[derive(Drop)]
+/// costs the same however many wait; any other selection reads the list from its front. It can't
+/// be dropped, whatever its bodies are: `end` alone takes it.
 pub struct ListWaiting<B> {
     messages: VecDeque<(u64, Message<B>)>,
     /// The type for which there is room for one more message.
@@ -80,7 +79,7 @@ fn first_other<B>(messages: &VecDeque<Placed<B>>, other: i64) -> Option<u64>
     messages.iter().find(|m| m.1.mtype != other).map(|m| m.0)
 }
 
-/// The index at which this place stands.
+/// The index of the message at this place.
 fn index_of<B>(messages: &VecDeque<Placed<B>>, place: u64) -> Option<usize>
     ensures { result ≡ position (λ m. m.0 == place) messages.now.items }
 {

@@ -1,6 +1,6 @@
 ghost use Rattle.std.specs.Prelude.{◌≡◌};
 
-/// Which of the waiting messages a receiver asks for, by their types (msgop(2), msgrcv).
+/// Which of the waiting messages a receiver wants, by their types (msgop(2), msgrcv).
 #[derive(Clone, Copy, Debug, PartialEq, Eq)]
 pub enum Selection {
     /// The first message.
@@ -16,8 +16,8 @@ pub enum Selection {
 impl Selection {
     ghost use Rattle.mq_select.specs.Selection.{selection_of};
 
-    /// What `msgtyp` asks for, where `except` is the flag `MSG_EXCEPT` (msgop(2), msgrcv). The
-    /// flag says nothing where `msgtyp` is 0 or below.
+    /// What `msgtyp` selects, where `except` is the flag `MSG_EXCEPT` (msgop(2), msgrcv). The flag
+    /// changes nothing where `msgtyp` is 0 or below.
     pub fn read(msgtyp: i64, except: bool) -> Selection
         ensures { result ≡ selection_of msgtyp except }
     {

@@ -1,6 +1,6 @@
 ghost use Rattle.std.specs.Prelude.{◌+◌, ◌<◌, All, OnOk};
 
-use crate::{ListWaiting, Selection, Waiting};
+use crate::{ListWaiting, Selection, Waiting, discard};
 use mq_message::{Body, Message, VecBody};
 use std::alloc::{AllocError, Global};
 use std::test::Fail;
@@ -29,10 +29,13 @@ fn put<W: Waiting<VecBody>>(
 }
 
 /// A list in which messages of these types wait, at the places from 0 on.
-fn filled<W: Waiting<VecBody> + Drop>(alloc: Global, types: &[i64]) -> Result<W, AllocError> {
+fn filled<W: Waiting<VecBody>>(alloc: Global, types: &[i64]) -> Result<W, AllocError> {
     let mut list = W::fresh(alloc);
     for i in 0..types.len() {
-        put(alloc, &mut list, i as u64, types[i], b"text")?;
+        if let Err(refused) = put(alloc, &mut list, i as u64, types[i], b"text") {
+            discard(list);
+            return Err(refused);
+        }
     }
     Ok(list)
 }
@@ -42,18 +45,29 @@ fn receive<W: Waiting<VecBody>>(list: &mut W, selection: Selection) -> Option<Me
     Some(list.take(place))
 }
 
-/// Which of these messages the selections hand out, one after another, by their places.
-fn handed_out<W: Waiting<VecBody> + Drop>(
+/// Which messages the selections hand out, one after another, by their tags.
+fn handed_out<W: Waiting<VecBody>>(
+    alloc: Global,
+    list: &mut W,
+    selections: &[Selection],
+) -> Result<Vec<Option<u64>>, AllocError> {
+    let mut tags = Vec::new(alloc);
+    for selection in selections {
+        tags.push(receive(list, *selection).map(|m| m.tag))?;
+    }
+    Ok(tags)
+}
+
+/// Which of the messages of these types the selections hand out, by their places.
+fn places_of<W: Waiting<VecBody>>(
     alloc: Global,
     types: &[i64],
     selections: &[Selection],
 ) -> Result<Vec<Option<u64>>, AllocError> {
     let mut list: W = filled(alloc, types)?;
-    let mut places = Vec::new(alloc);
-    for selection in selections {
-        places.push(receive(&mut list, *selection).map(|m| m.tag))?;
-    }
-    Ok(places)
+    let places = handed_out(alloc, &mut list, selections);
+    discard(list);
+    places
 }
 
 /// The length of the message that a receive would hand out.
@@ -62,14 +76,12 @@ fn length_ahead<W: Waiting<VecBody>>(list: &W, selection: Selection) -> Option<u
     Some(list.length_of(place))
 }
 
-/// Takes out every message and ends the list: the tags, from the least on.
-fn emptied<W: Waiting<VecBody> + Drop>(alloc: Global, list: W) -> Result<Vec<u64>, AllocError> {
-    let mut list = list;
+/// Takes out every message: the tags, from the least on.
+fn popped<W: Waiting<VecBody>>(alloc: Global, list: &mut W) -> Result<Vec<u64>, AllocError> {
     let mut tags = Vec::new(alloc);
     while let Some(message) = list.pop_any() {
         tags.push(message.tag)?;
     }
-    list.end();
     tags.sort_unstable();
     Ok(tags)
 }
@@ -127,7 +139,7 @@ fn a_selection_hands_out_the_message_that_the_manual_names(rt: HostRuntime) -> R
         ),
     ];
     for (types, selections, places) in cases {
-        let got = handed_out::<ListWaiting<VecBody>>(rt.alloc(), types, selections)?;
+        let got = places_of::<ListWaiting<VecBody>>(rt.alloc(), types, selections)?;
         assert_eq!(rt; got.as_slice(), places);
     }
     Ok(())
@@ -164,13 +176,17 @@ fn a_msgtyp_is_read_as_the_manual_says(rt: HostRuntime) {
 #[test]
 fn a_message_comes_back_whole(rt: HostRuntime) -> Result<(), Fail> {
     let mut list = ListWaiting::<VecBody>::fresh(rt.alloc());
-    put(rt.alloc(), &mut list, 3, 5, b"first")?;
-    assert_eq!(rt; length_ahead(&list, Selection::Any), Some(5));
-    assert_eq!(rt; length_ahead(&list, Selection::Except(5)), None);
-    let message = receive(&mut list, Selection::Any).ok_or("nothing waits")?;
+    let put = put(rt.alloc(), &mut list, 3, 5, b"first");
+    let lengths = [Selection::Any, Selection::Except(5)].map(|s| length_ahead(&list, s));
+    let message = receive(&mut list, Selection::Any);
+    let more = list.find(Selection::Any);
+    discard(list);
+    put?;
+    let message = message.ok_or("nothing waits")?;
+    assert_eq!(rt; lengths, [Some(5), None]);
     assert_eq!(rt; (message.mtype, message.sender, message.tag), (5, 1, 3));
     assert_eq!(rt; message.body.bytes(), b"first".as_slice());
-    assert!(rt; receive(&mut list, Selection::Any).is_none());
+    assert_eq!(rt; more, None);
     Ok(())
 }
 
@@ -181,8 +197,10 @@ fn no_message_is_lost_on_the_way_out(rt: HostRuntime) -> Result<(), Fail> {
         (&[4][..], &[0][..]),
         (&[4, 1, 4][..], &[0, 1, 2][..]),
     ] {
-        let list: ListWaiting<VecBody> = filled(rt.alloc(), types)?;
-        assert_eq!(rt; emptied(rt.alloc(), list)?.as_slice(), tags);
+        let mut list: ListWaiting<VecBody> = filled(rt.alloc(), types)?;
+        let got = popped(rt.alloc(), &mut list);
+        discard(list);
+        assert_eq!(rt; got?.as_slice(), tags);
     }
     Ok(())
 }
@@ -192,12 +210,11 @@ fn a_refused_growth_leaves_the_list(rt: HostRuntime) -> Result<(), Fail> {
     let mut list: ListWaiting<VecBody> = filled(rt.alloc(), &[4, 4, 4, 4])?;
     // Whether there is memory for a fifth or not, the four stay, and no other is there.
     let _ = list.prepare(4);
-    for tag in 0..4 {
-        assert_eq!(rt;
-            receive(&mut list, Selection::Any).map(|m| m.tag),
-            Some(tag)
-        );
-    }
-    assert!(rt; list.find(Selection::Any).is_none());
+    let got = handed_out(rt.alloc(), &mut list, &[Selection::Any; 5]);
+    discard(list);
+    assert_eq!(rt;
+        got?.as_slice(),
+        [Some(0), Some(1), Some(2), Some(3), None].as_slice()
+    );
     Ok(())
 }

@@ -10,8 +10,8 @@ use crate::Selection;
 use mq_message::{Body, Message};
 use std::alloc::{AllocError, Global};
 
-/// The messages of a queue that wait for a receiver, each at its place: where its sending stands in
-/// the queue's log. A list takes memory in `prepare` alone.
+/// The messages of a queue that wait for a receiver, each at its place: the position of its sending
+/// in the queue's log. A list takes memory in `prepare` alone.
 pub trait Waiting<B: Body> {
     ghost messages: { Self → List (ℕ × Message B) };
 
@@ -22,13 +22,13 @@ pub trait Waiting<B: Body> {
         ensures empty { messages result ≡ [] }
         ensures unprepared { prepared result ≡ None };
 
-    /// The place of the first message that the selection asks for (msgop(2), msgrcv), or `None`
-    /// where there is no such message.
+    /// The place of the message that the selection picks (msgop(2), msgrcv), or `None` where no
+    /// message is eligible.
     fn find(&self, selection: Selection) -> Option<u64>
         ensures { result ≡ option_map (λ m. m.0)
             (pick (λ m. m.1.mtype) (messages self.now) selection) };
 
-    /// Takes the memory that one more message of this type needs. An `Err` is want of memory.
+    /// Takes the memory that one more message of this type needs. `Err` means out of memory.
     fn prepare(&mut self, mtype: i64) -> Result<(), AllocError>
         ensures unchanged { messages self.new ≡ messages self.old }
         ensures ok { OnOk result (prepared self.new ≡ Some mtype) }
@@ -54,15 +54,22 @@ pub trait Waiting<B: Body> {
         ensures { IfSome (message_at place (messages self.now)) (λ m.
             result ≡ length (B.bytes m.body)) };
 
-    /// Takes out some message, or answers `None` where nothing waits: for the way out of a queue
-    /// whose bodies cannot be dropped.
+    /// Takes out some message, or answers `None` where nothing waits: so a list is emptied whose
+    /// bodies can't be dropped.
     fn pop_any(&mut self) -> Option<Message<B>>
         ensures none { IfNone result ((messages self.old ≡ []) × (messages self.new ≡ [])) }
         ensures some { IfSome result (λ m.
             (place : ℕ) × IsPermutation ((place, m) ∷ messages self.new) (messages self.old)) }
         ensures unprepared { prepared self.new ≡ None };
 
-    /// Gives the memory of an empty list back.
+    /// Ends an empty list, and gives its memory back.
     fn end(self)
         requires { messages self ≡ [] };
+}
+
+/// Drops every message and ends the list, where bodies can be dropped.
+pub fn discard<B: Body + Drop, W: Waiting<B>>(waiting: W) {
+    let mut waiting = waiting;
+    while let Some(_message) = waiting.pop_any() {}
+    waiting.end();
 }

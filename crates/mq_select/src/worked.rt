@@ -24,7 +24,7 @@ pub fn other_types_first()
     ensures last { picked (without 1 (without 4 (without 2 two_of_type_7))) (UpTo 7) ≡ Some 3 }
 {}
 
-/// With one type asked for, the first message of that type comes.
+/// With one type selected, the first message of that type comes.
 pub fn one_type_alone()
     ensures first { picked two_of_type_7 (Exact (pos 7)) ≡ Some 1 }
     ensures second { picked (without 1 two_of_type_7) (Exact (pos 7)) ≡ Some 3 }
@@ -40,7 +40,7 @@ pub fn widest_bound()
     ensures below { picked (without 2 greatest_then_8) (UpTo (2 ^ 63 - 2)) ≡ None }
 {}
 
-/// What each kind of `msgtyp` asks for.
+/// What each kind of `msgtyp` selects.
 pub fn selections_read()
     ensures zero { selection_of (pos 0) false ≡ Any }
     ensures positive { selection_of (pos 7) false ≡ Exact (pos 7) }

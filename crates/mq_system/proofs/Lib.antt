@@ -1,2 +1,5 @@
+pub mod CloseLemmas
 pub mod HomeLemmas
+pub mod KeptLemmas
+pub mod NewLemmas
 pub mod SlotLemmas

@@ -1,3 +1,4 @@
+-- Slots at the start and at the end, and the limits of a configuration.
 use Rattle.std.proofs.Common.{◌≡◌, ℕ, ◌<◌, ◌≤◌, nat_le, Bool, true, false, cond, List, [], ◌++◌, length, take, drop, arith, refl, sym, ap, ◌∙◌, get_or, length-append}
 use Rattle.std.proofs.lemmas.Bool.{and_parts, leb-true}
 use Rattle.std.proofs.lemmas.Grind.{common_steps}
@@ -8,12 +9,14 @@ use Rattle.mq_queue.specs.declared.event.Event.{Event}
 use Rattle.mq_queue.specs.declared.figures.Figures.{Figures}
 use Rattle.mq_queue.specs.Figures.{figures, live_figures, no_figures}
 use Rattle.mq_queue.specs.Queue.{Queue, IsSound}
-use Rattle.mq_queue.specs.Waiting.{entry_of}
+use Rattle.mq_queue.specs.Waiting.{header_of}
 use Rattle.mq_table.specs.Slot.{SlotState, empty_slot}
 use Rattle.mq_table.specs.SlotList.{is_live, last_log, offset}
 use Rattle.mq_system.specs.Closed.{ends}
 use Rattle.mq_system.specs.Limits.{empty_slots, keeps_limits}
+use Rattle.mq_table.specs.declared.limits.TheConstants.{MAX_SLOTS, MAX_SEQ}
 use Rattle.mq_system.specs.declared.config.Config.{Config}
+use Rattle.mq_system.specs.declared.limits.TheConstants.{MAX_SEATS}
 
 -- a new slot stands at the place of its number
 pub placed_new : (count k : ℕ) → k < count → (get_or (empty_slots count) k (empty_slot k)).number ≡ k
@@ -59,23 +62,23 @@ count_of bytes queue kept e sound =
     ap (λ (f : Figures). f.qnum) e
     ∙ ap (λ (b : Bool). (cond b no_figures (live_figures queue.log)).qnum) sound.live
     ∙ ap length (sym sound.waits)
-    ∙ length-map queue.messages (entry_of bytes)
+    ∙ length-map queue.messages (header_of bytes)
 
 -- what the test of a configuration says
 pub record IsWithin (c : Config) : Type 0 where
   pub height : c.height ≤ 10
-  pub slots : c.slots ≤ 64
-  pub last_seq : c.last_seq ≤ 32767
+  pub slots : c.slots ≤ MAX_SLOTS
+  pub last_seq : c.last_seq ≤ MAX_SEQ
 
 pub within_limits : (c : Config) → keeps_limits c ≡ true → IsWithin c
 within_limits c h =
-    let seq = and_parts _ (nat_le c.last_seq 32767) h in
-    let seats = and_parts _ (nat_le c.seats 16) seq.0 in
+    let seq = and_parts _ (nat_le c.last_seq MAX_SEQ) h in
+    let seats = and_parts _ (nat_le c.seats MAX_SEATS) seq.0 in
     let seat = and_parts _ (nat_le 1 c.seats) seats.0 in
-    let slots = and_parts _ (nat_le c.slots 64) seat.0 in
+    let slots = and_parts _ (nat_le c.slots MAX_SLOTS) seat.0 in
     let slot = and_parts (nat_le c.height 10) (nat_le 1 c.slots) slots.0 in
     record {
       height = leb-true c.height 10 slot.0;
-      slots = leb-true c.slots 64 slots.1;
-      last_seq = leb-true c.last_seq 32767 seq.1;
+      slots = leb-true c.slots MAX_SLOTS slots.1;
+      last_seq = leb-true c.last_seq MAX_SEQ seq.1;
     }

@@ -1,4 +1,4 @@
--- What msgget answers and leaves.
+-- What msgget answers and leaves (msgget(2)).
 use Rattle.std.specs.Prelude.{ℕ, ℤ, pos, ◌&&◌, if◌then◌else◌, length, Option, Some, None, Result, Ok, Err, position}
 use Rattle.std.specs.Ordering.{int_eq}
 use Rattle.mq_table.specs.Calls.{makes}
@@ -16,25 +16,23 @@ abbrev pub GetAnswer : Type 0
 GetAnswer = Result (Got × State) Errno
 
 -- a queue is made in slot k: its id is the slot's next one, and its key, if it has one, is entered
--- behind all others (msgget(2), IPC_CREAT)
+-- last
 abbrev pub made_in : State → ℤ → ℕ → ℕ → Option ℕ → GetAnswer
 made_in s key seat moment None = Err ENOSPC
 made_in s key seat moment (Some k) =
     let slot = slot_at s k in
     Ok (
       record { id = next_id slot; made = Some (length slot.events) },
-      record {
-        arena = s.arena;
-        slots = (with_slot s k (makes slot key seat moment)).slots;
+      record (with_slot s k (makes slot key seat moment)) {
         keys = entered key (next_id slot) s.keys;
-        last_seq = s.last_seq;
       },
     )
 
--- the least slot with no queue, and with an id left
+-- the first slot in which no queue is and an id is left
 abbrev pub free_slot : State → Option ℕ
 free_slot s = position (λ slot. is_free s.last_seq slot.events) s.slots
 
+-- a queue is made in that slot
 abbrev pub makes_one : State → ℤ → ℕ → ℕ → GetAnswer
 makes_one s key seat moment = made_in s key seat moment (free_slot s)
 

@@ -1,6 +1,7 @@
 pub mod Calls
 pub mod Closed
 pub mod Get
+pub mod Holds
 pub mod Kept
 pub mod Limits
 pub mod Look

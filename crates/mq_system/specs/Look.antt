@@ -25,7 +25,7 @@ errno_of TooBig = E2BIG
 errno_of OverLimit = EPERM
 errno_of Memory = ENOMEM
 
--- and of an id's
+-- and of an id's (msgctl(2), EINVAL and EIDRM)
 abbrev pub errno_of_id : IdRefusal → Errno
 errno_of_id Never = EINVAL
 errno_of_id Removed = EIDRM
@@ -38,27 +38,29 @@ Answer T = Result (T × State) Refused
 abbrev pub refused_early : Errno → Refused
 refused_early errno = record { errno = errno; entry = None }
 
--- one that is decided after all that has happened in the id's slot
+-- a refusal that all that has happened in the id's slot decides
 abbrev pub refused_at : State → ℕ → Errno → Refused
 refused_at s id errno =
     record { errno = errno; entry = Some (length (slot_at s (slot_of id)).events) }
 
+-- whether the slot has the id's queue, or why not
 abbrev pub by_slot : State → ℕ → Result (Unit {0}) IdRefusal → Result (Unit {0}) Refused
 by_slot s id (Ok _) = Ok tt
 by_slot s id (Err refusal) = Err (refused_at s id (errno_of_id refusal))
 
--- whether an id's queue is there, or why not (msgctl(2), EINVAL and EIDRM)
+-- whether an id's queue is there, or why not
 abbrev pub look : State → ℕ → Result (Unit {0}) Refused
 look s id =
     if nat_lt (slot_of id) (length s.slots)
     then by_slot s id (by_standing (standing (slot_at s (slot_of id)).events (seq_of id)))
     else Err (refused_early EINVAL)
 
--- what a slot's call answers and leaves is what the whole does
+-- what the system answers and leaves, where one slot answers so
 abbrev pub in_slot : {T : Type 0} → State → ℕ → Turn PlainText T → Answer T
 in_slot s id (Ok turn) = Ok (turn.0, with_slot s (slot_of id) turn.1)
 in_slot s id (Err refusal) = Err (refused_at s id (errno_of refusal))
 
+-- the answer, unless the id is refused
 abbrev pub once : {T : Type 0} → Result (Unit {0}) Refused → Result T Refused → Result T Refused
 once (Ok _) answer = answer
 once (Err refused) answer = Err refused

@@ -5,7 +5,7 @@ use Rattle.mq_message.specs.Text.{PlainText}
 use Rattle.mq_table.specs.Slot.{SlotState, empty_slot}
 
 -- what the arena has lent, the slots, the keys of the live queues with their ids in the order of
--- making, and the seq with which a slot is used up (sysvipc(7))
+-- making, and the seq with which a slot is used up
 pub record State : Type 0 where
   pub arena : Lending
   pub slots : List (SlotState PlainText)
@@ -16,10 +16,10 @@ pub record State : Type 0 where
 abbrev pub slot_at : State → ℕ → SlotState PlainText
 slot_at s k = slice_index_or s.slots k (empty_slot k)
 
--- the state with another arena, or with another slot k
+-- the state with another arena
 abbrev pub with_arena : State → Lending → State
-with_arena s arena = record { arena = arena; slots = s.slots; keys = s.keys; last_seq = s.last_seq }
+with_arena s arena = record s { arena = arena }
 
+-- the state with another slot k
 abbrev pub with_slot : State → ℕ → SlotState PlainText → State
-with_slot s k slot =
-    record { arena = s.arena; slots = slice_set s.slots k slot; keys = s.keys; last_seq = s.last_seq }
+with_slot s k slot = record s { slots = slice_set s.slots k slot }

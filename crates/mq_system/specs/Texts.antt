@@ -17,6 +17,7 @@ use Rattle.mq_system.specs.declared.draft_error.DraftError.TheVariants.{TooLong,
 use Rattle.mq_system.specs.declared.errno.Errno.{Errno}
 use Rattle.mq_system.specs.declared.errno.Errno.TheVariants.{EINVAL, ENOMEM}
 
+-- the bytes of a text
 abbrev pub bytes_of : PlainText → List ℕ
 bytes_of text = text.bytes
 
@@ -49,6 +50,7 @@ abbrev pub at_home : Bool → Homecoming
 at_home true = Home
 at_home false = Stray
 
+-- what becomes of a text that is spent
 abbrev pub comes_home : PlainText → Lending → Homecoming
 comes_home text arena = at_home (option_map_or (λ b. is_lent b arena.lent) text.block true)
 
@@ -61,7 +63,7 @@ abbrev pub spends_all : List (ℕ × Message PlainText) → Lending → Lending
 spends_all messages arena =
     with_lent arena (filter (λ b. not (list_any (λ m. lies_in b m.1.body) messages)) arena.lent)
 
--- the manual's name of a draft's refusal (msgop(2), msgsnd)
+-- the manual's name of a draft's refusal
 abbrev pub draft_errno : DraftError → Errno
 draft_errno TooLong = EINVAL
 draft_errno NoRun = ENOMEM

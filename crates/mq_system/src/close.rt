@@ -1,5 +1,5 @@
-ghost use Rattle.std.specs.Prelude.{◌≡◌, map};
-ghost use Rattle.mq_system.specs.Closed.{all_home, ending_of, ends};
+ghost use Rattle.std.specs.Prelude.{◌≡◌, map, All};
+ghost use Rattle.mq_system.specs.Closed.{all_home, ending_of, ends, CountsWaiting, IsWhole};
 ghost use Rattle.mq_system.specs.Texts.{spends_all};
 
 use crate::home::take_home;
@@ -16,11 +16,11 @@ pub struct ClosedSlot {
     pub past: Vec<Event>,
     /// The log of the live queue, if one was there.
     pub last: Vec<Event>,
-    /// How many messages waited in it.
+    /// How many messages were waiting in it.
     pub left: u64,
 }
 
-/// What a system leaves at the end. The texts that waited have gone home.
+/// What a system leaves at the end. The blocks of all texts that waited are home.
 #[derive(Drop)]
 pub struct Closed<L: Ledger> {
     /// In the order of their numbers.
@@ -29,9 +29,11 @@ pub struct Closed<L: Ledger> {
 }
 
 impl<L: Ledger> OneThread<L> {
-    /// Gives the system up. It takes no memory.
+    /// Ends the system. It takes no memory.
     pub fn close(self) -> Closed<L>
         ensures slots { map ending_of result.slots.items ≡ map ends self.slots }
+        ensures lawful { All (IsWhole self.last_seq) result.slots.items }
+        ensures waits { All CountsWaiting result.slots.items }
         ensures arena { result.arena ≡ all_home self.slots self.arena }
     {
         let OneThread {
@@ -53,7 +55,7 @@ impl<L: Ledger> OneThread<L> {
     }
 }
 
-/// Gives a slot up, and the texts that wait in it.
+/// Ends a slot, and spends the texts that wait in it.
 fn end_slot<L: Ledger>(arena: &mut ArenaState<L>, slot: TextSlot<L>) -> ClosedSlot
     ensures slot { ending_of result ≡ ends slot }
     ensures arena { arena.new ≡ spends_all slot.messages arena.old }

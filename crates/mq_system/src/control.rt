@@ -25,7 +25,7 @@ impl<L: Ledger> OneThread<L> {
         }
     }
 
-    /// Removes the queue (msgctl(2), IPC_RMID), and gives up the texts that waited in it. EINVAL,
+    /// Removes the queue (msgctl(2), IPC_RMID), and spends the texts that waited in it. EINVAL,
     /// EIDRM, then ENOMEM.
     pub fn rmid(&mut self, seat: u16, id: Id, moment: u64) -> Result<Removal, Refused>
         ensures ok { IfOk result (λ removal.

@@ -1,11 +1,13 @@
 ghost use Rattle.std.specs.Prelude.{◌≡◌};
 ghost use Rattle.mq_system.specs.Look.{errno_of, errno_of_id};
-ghost use Rattle.mq_system.specs.Names.{errno_name};
+ghost use Rattle.mq_system.specs.Names.{errno_name, errno_number};
 
 use mq_queue::QueueError;
 use mq_table::IdRefusal;
+use std::error::Error;
+use std::fmt;
 
-/// The manual's names of the refusals, errno(3).
+/// The manual's names of the refusals (errno(3)). It is shown as its name.
 #[derive(Clone, Copy, Debug, PartialEq, Eq)]
 pub enum Errno {
     EINVAL,
@@ -38,7 +40,33 @@ impl Errno {
             Errno::ENOSPC => "ENOSPC",
         }
     }
+
+    /// The number that Linux has for it.
+    pub fn number(self) -> i32
+        ensures { result ≡ errno_number self }
+    {
+        match self {
+            Errno::EPERM => 1,
+            Errno::ENOENT => 2,
+            Errno::E2BIG => 7,
+            Errno::EAGAIN => 11,
+            Errno::ENOMEM => 12,
+            Errno::EEXIST => 17,
+            Errno::EINVAL => 22,
+            Errno::ENOSPC => 28,
+            Errno::ENOMSG => 42,
+            Errno::EIDRM => 43,
+        }
+    }
 }
+
+impl fmt::Display for Errno {
+    fn fmt<W: fmt::Write>(&self, f: &mut fmt::Formatter<W>) -> fmt::Result {
+        f.write_str(self.name())
+    }
+}
+
+impl Error for Errno {}
 
 impl From<QueueError> for Errno {
     ghost from_gives = { λ refusal errno. errno ≡ errno_of refusal };

@@ -6,7 +6,7 @@ ghost use Rattle.mq_system.specs.Get.{msgget as msgget_answer};
 ghost use Rattle.mq_system.specs.State.{slot_at};
 
 use crate::{Errno, GetFlags, Got, OneThread};
-use mq_table::make_under;
+use mq_table::{MAX_SEQ, make_under};
 use std::sync::ledger::Ledger;
 
 impl<L: Ledger> OneThread<L> {
@@ -61,7 +61,9 @@ impl<L: Ledger> OneThread<L> {
         ensures first { result ≡ free_slot self.now }
         ensures within { IfSome result (λ k. k < length self.now.slots) }
         ensures empty { IfSome result (λ k. is_live (slot_at self.now k).events ≡ false) }
-        ensures unused { IfSome result (λ k. made_count (slot_at self.now k).events ≤ 32767) }
+        ensures unused { IfSome result (λ k. made_count (slot_at self.now k).events ≤ MAX_SEQ) }
+        ensures left { IfSome result (λ k.
+            made_count (slot_at self.now k).events ≤ self.now.last_seq) }
     {
         let last_seq = self.last_seq;
         self.slots.iter().position(|slot| slot.is_free(last_seq))

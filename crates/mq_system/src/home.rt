@@ -6,7 +6,7 @@ use mq_message::{Message, Text};
 use mq_select::{ListWaiting, Waiting};
 use std::sync::ledger::Ledger;
 
-/// Gives a text up: its block goes home.
+/// Spends a text: its block goes home.
 pub fn take_back<L: Ledger>(arena: &mut ArenaState<L>, text: Text<L>) -> Homecoming
     ensures back { arena.new ≡ spends text arena.old }
     ensures home { result ≡ comes_home text arena.old }
@@ -17,7 +17,7 @@ pub fn take_back<L: Ledger>(arena: &mut ArenaState<L>, text: Text<L>) -> Homecom
     }
 }
 
-/// Gives up the texts of all that waits.
+/// Spends the texts of all that waits.
 pub fn take_home<L: Ledger>(arena: &mut ArenaState<L>, mut waiting: ListWaiting<Text<L>>)
     ensures { arena.new ≡ spends_all waiting.messages arena.old }
 {

@@ -2,7 +2,6 @@
 
 #![tactic(auto)]
 
-mod calls;
 mod close;
 mod config;
 mod control;
@@ -10,12 +9,19 @@ mod draft_error;
 mod errno;
 mod get;
 mod home;
+mod limits;
+mod messages;
 mod one_thread;
 mod results;
+mod shown;
+pub mod worked;
 
 pub use close::{Closed, ClosedSlot};
-pub use config::{Config, SysError};
+pub use config::{Config, DEFAULTS, SysError};
 pub use draft_error::DraftError;
 pub use errno::Errno;
+pub use limits::MAX_SEATS;
+pub use mq_table::{MAX_SEQ, MAX_SLOTS};
+pub use mq_tree::MAX_HEIGHT;
 pub use one_thread::OneThread;
 pub use results::{Delivered, GetFlags, Got, Refused, Removal, SendRefused};

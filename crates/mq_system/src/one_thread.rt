@@ -1,5 +1,5 @@
-ghost use Rattle.std.specs.Prelude.{◌≡◌, ◌↔◌, ◌<◌, ◌≤◌, ◌^◌, false, Some, Ok, length, replicate};
-ghost use Rattle.std.specs.Prelude.{IfOk, IfErr, OnErr, IsErrOf};
+ghost use Rattle.std.specs.Prelude.{◌≡◌, ◌↔◌, ◌<◌, ◌≤◌, ◌+◌, ◌^◌, false, Some, Ok, length, replicate};
+ghost use Rattle.std.specs.Prelude.{IfOk, IfErr, OnErr, IsErrOf, All};
 ghost use Rattle.std.specs.Prelude.{vec_len, vec_capacity};
 ghost use Rattle.mq_tree.specs.Fit.{largest};
 ghost use Rattle.mq_tree.specs.LentSet.{free_pages};
@@ -7,18 +7,21 @@ ghost use Rattle.mq_arena.specs.Lent.{place};
 ghost use Rattle.mq_arena.specs.declared.page.TheConstants.{PAGE_LEN};
 ghost use Rattle.mq_message.specs.Text.{order_for};
 ghost use Rattle.mq_table.specs.Shown.{row};
+ghost use Rattle.mq_table.specs.Slot.{Waits};
+ghost use Rattle.mq_table.specs.SlotList.{IsSlotList};
+ghost use Rattle.mq_system.specs.Holds.{AreKeysOf};
 ghost use Rattle.mq_system.specs.Limits.{keeps_limits, start, empty_slots};
 ghost use Rattle.mq_system.specs.State.{slot_at, with_arena};
-ghost use Rattle.mq_system.specs.Texts.{comes_home, drafts, spends};
+ghost use Rattle.mq_system.specs.Texts.{bytes_of, comes_home, drafts, spends};
 
 use crate::close::ClosedSlot;
 use crate::home::take_back;
 use crate::{Config, DraftError, SysError};
-use mq_arena::{ArenaState, Block, Homecoming, Unopened};
+use mq_arena::{ArenaState, Block, Homecoming, LEDGER_PARTS, Unopened};
 use mq_message::{Text, order_for};
 use mq_queue::{BoardRow, MSGMAX};
 use mq_select::ListWaiting;
-use mq_table::{KeyTable, Slot};
+use mq_table::{KeyTable, MAX_SEQ, MAX_SLOTS, Slot};
 use std::alloc::Global;
 use std::marker::Model;
 use std::sync::ledger::{Blank, Ledger};
@@ -26,7 +29,7 @@ use std::sync::ledger::{Blank, Ledger};
 pub(crate) type TextSlot<L> = Slot<Text<L>, ListWaiting<Text<L>>>;
 
 /// The queues of one thread, by the calls of the manual, of which none waits: a full queue answers
-/// EAGAIN, and a queue with no message to hand out ENOMSG. It is given up by `close`.
+/// EAGAIN, and a queue with no message to hand out ENOMSG. `close` ends it.
 pub struct OneThread<L: Ledger> {
     pub(crate) arena: ArenaState<L>,
     pub(crate) slots: Vec<TextSlot<L>>,
@@ -47,12 +50,12 @@ impl<L: Ledger> Model for OneThread<L> {
         record { arena = s.arena; slots = s.slots.items; keys = s.keys; last_seq = s.last_seq } };
 
     ghost invariant = { λ s.
-        IsKept s.slots.items s.last_seq s.closed.items (vec_capacity s.closed) };
+        IsKept s.slots.items s.keys s.last_seq s.closed.items (vec_capacity s.closed) };
 }
 
 /// Slots in which no queue was made, as many as there is room for.
 fn fill<L: Ledger>(alloc: Global, slots: &mut Vec<TextSlot<L>>, count: u8)
-    requires count { count ≤ 64 }
+    requires count { count ≤ MAX_SLOTS }
     requires empty { length slots.old.items ≡ 0 }
     requires room { count ≤ vec_capacity slots.old }
     ensures { slots.new.items ≡ empty_slots count }
@@ -79,7 +82,7 @@ impl<L: Ledger> OneThread<L> {
     pub fn new(alloc: Global, config: Config, ledger: Blank) -> Result<OneThread<L>, SysError>
         requires name { ledger.name ≡ L.name }
         requires parts { ledger.parts ≡ L.parts }
-        requires enough { 1024 < ledger.parts }
+        requires enough { LEDGER_PARTS ≤ ledger.parts }
         ensures ok { IfOk result (λ system. system ≡ start config) }
         ensures err { IsErrOf result SysError.Config ↔ (keeps_limits config ≡ false) }
     {
@@ -105,6 +108,16 @@ impl<L: Ledger> OneThread<L> {
         })
     }
 
+    /// What holds of each system: its slot lists have no more queues than its ids allow, what waits
+    /// is what they leave waiting, and the key table has the keys of the queues in its slots.
+    pub fn holds(&self)
+        ensures lawful { All (λ slot. IsSlotList self.now.last_seq slot.events) self.now.slots }
+        ensures waits { All (Waits bytes_of) self.now.slots }
+        ensures keys { AreKeysOf self.now.slots self.now.keys }
+    {
+        let _ = &self.keys;
+    }
+
     /// A text of so many zero bytes, to be filled in place.
     pub fn draft(&mut self, len: u64) -> Result<Text<L>, DraftError>
         ensures ok { IfOk result (λ text. drafts self.old len ≡ Ok (text, self.new)) }
@@ -124,7 +137,7 @@ impl<L: Ledger> OneThread<L> {
         Ok(zero_text(block, len))
     }
 
-    /// Gives a text up: its block goes home. A text without a block is at home.
+    /// Spends a text: its block goes home. A text without a block is at home.
     pub fn spend(&mut self, text: Text<L>) -> Homecoming
         ensures back { self.new ≡ with_arena self.old (spends text self.old.arena) }
         ensures home { result ≡ comes_home text self.old.arena }
@@ -155,7 +168,8 @@ impl<L: Ledger> OneThread<L> {
 
     /// How many slots there are.
     pub fn slots(&self) -> u8
-        ensures { result ≡ length self.now.slots }
+        ensures count { result ≡ length self.now.slots }
+        ensures within { result ≤ MAX_SLOTS }
     {
         self.slots.len() as u8
     }
@@ -163,7 +177,8 @@ impl<L: Ledger> OneThread<L> {
     /// What a report shows of a slot.
     pub fn row(&self, slot: u8) -> BoardRow
         requires { slot < length self.now.slots }
-        ensures { result ≡ row (slot_at self.now slot).events }
+        ensures value { result ≡ row (slot_at self.now slot).events }
+        ensures within { result.made ≤ MAX_SEQ + 1 }
     {
         self.slots[slot as usize].row()
     }

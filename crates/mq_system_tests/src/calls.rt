@@ -35,7 +35,7 @@ pub(crate) const NEW: GetFlags = GetFlags {
 };
 
 /// What a receiver asks for.
-#[derive(Clone, Copy, Debug, PartialEq, Eq)]
+#[derive(Clone, Copy, Debug)]
 pub(crate) struct Wanted {
     pub(crate) size: u64,
     pub(crate) msgtyp: i64,
@@ -202,7 +202,39 @@ pub(crate) fn written<L: Ledger>(
     }
 }
 
-/// Gives a text up that is the system's own.
+/// Sends a text that must be taken.
+pub(crate) fn taken<L: Ledger>(
+    rt: &impl Abort,
+    system: &mut OneThread<L>,
+    id: u32,
+    mtype: i64,
+    text: Text<L>,
+) -> u64 {
+    match send(system, id, mtype, text, 5) {
+        Ok(entry) => entry,
+        Err(
+            SendRefused {
+                refused,
+                text: _text,
+            },
+        ) => panic!(rt; "{refused}"),
+    }
+}
+
+/// Receives a message that must be there.
+pub(crate) fn delivered<L: Ledger>(
+    rt: &impl Abort,
+    system: &mut OneThread<L>,
+    id: u32,
+    wanted: Wanted,
+) -> Delivered<Text<L>> {
+    match receive(system, id, wanted, 6) {
+        Ok(delivered) => delivered,
+        Err(refused) => panic!(rt; "{refused}"),
+    }
+}
+
+/// Spends a text that is the system's own.
 pub(crate) fn spent<L: Ledger>(rt: &impl Abort, system: &mut OneThread<L>, text: Text<L>) {
     assert_eq!(rt; system.spend(text), Homecoming::Home);
 }

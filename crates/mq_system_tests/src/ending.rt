@@ -1,10 +1,10 @@
 //! What a system leaves at its end.
 ghost use Rattle.std.specs.Prelude.{◌≡◌, ◌<◌};
 
-use crate::calls::{CREATE, PARTS, config, first, get, made, receive, remove, send, written};
+use crate::calls::{CREATE, PARTS, config, delivered, first, get, made, remove, taken, written};
 use mq_arena::{ArenaState, Homecoming};
 use mq_message::Text;
-use mq_system::{Closed, ClosedSlot, Delivered, OneThread, SendRefused};
+use mq_system::{Closed, ClosedSlot, Delivered, OneThread};
 use std::alloc::Global;
 use std::marker::Brand;
 use std::process::Abort;
@@ -12,31 +12,7 @@ use std::sync::ledger::{Blank, Ledger};
 
 fn sent<L: Ledger>(rt: &impl Abort, system: &mut OneThread<L>, id: u32, bytes: &[u8]) {
     let text = written(rt, system, bytes);
-    match send(system, id, 1, text, 5) {
-        Ok(_) => (),
-        Err(
-            SendRefused {
-                refused,
-                text: _text,
-            },
-        ) => panic!(rt; "{refused:?}"),
-    }
-}
-
-fn received<L: Ledger>(rt: &impl Abort, system: &mut OneThread<L>, id: u32) -> Text<L> {
-    match receive(system, id, first(9), 6) {
-        Ok(
-            Delivered {
-                entry: _,
-                mtype: _,
-                sender: _,
-                tag: _,
-                length: _,
-                text,
-            },
-        ) => text,
-        Err(refused) => panic!(rt; "{refused:?}"),
-    }
+    taken(rt, system, id, 1, text);
 }
 
 /// Two texts wait in the first slot, of which one queue was removed, and none in the second; one
@@ -53,7 +29,15 @@ fn used<L: Ledger>(rt: &impl Abort, system: &mut OneThread<L>) -> Text<L> {
     sent(rt, system, 64, b"two");
     sent(rt, system, 2, b"outside");
     sent(rt, system, 2, b"four");
-    received(rt, system, 2)
+    let Delivered {
+        entry: _,
+        mtype: _,
+        sender: _,
+        tag: _,
+        length: _,
+        text,
+    } = delivered(rt, system, 2, first(9));
+    text
 }
 
 fn counts(slot: &ClosedSlot) -> (usize, usize, u64) {

@@ -2,7 +2,7 @@
 ghost use Rattle.std.specs.Prelude.{◌≡◌, ◌<◌};
 
 use crate::calls::{
-    NEW, NO_FLAG, PARTS, config, first, get, has, made, receive, remove, send, written,
+    NEW, NO_FLAG, PARTS, config, first, get, has, made, receive, remove, send, taken, written,
 };
 use mq_message::Text;
 use mq_queue::{BoardRow, Event, Figures};
@@ -75,15 +75,7 @@ fn refused<L: Ledger>(rt: &impl Abort, system: &mut OneThread<L>) -> Text<L> {
 }
 
 fn sent<L: Ledger>(rt: &impl Abort, system: &mut OneThread<L>, text: Text<L>) {
-    match send(system, 0, 1, text, 5) {
-        Ok(entry) => assert_eq!(rt; entry, 1),
-        Err(
-            SendRefused {
-                refused,
-                text: _text,
-            },
-        ) => panic!(rt; "{refused:?}"),
-    }
+    assert_eq!(rt; taken(rt, system, 0, 1, text), 1);
     assert_eq!(rt; system.stat(Id::from_number(0)), Ok(FIGURES));
     let row = row(rt, system, 0);
     assert_eq!(rt; (row.made, row.live, row.key), (1, true, 0));
@@ -144,15 +136,7 @@ fn rows_shown<L: Ledger, R: Abort>(rt: &R, alloc: Global, ledger: Blank)
     assert!(rt; get(&mut system, 0, NO_FLAG, 0).is_ok());
     assert!(rt; get(&mut system, -8, NEW, 4).is_ok());
     let text = written(rt, &mut system, b"hi");
-    match send(&mut system, 1, 1, text, 5) {
-        Ok(_) => (),
-        Err(
-            SendRefused {
-                refused,
-                text: _text,
-            },
-        ) => panic!(rt; "{refused:?}"),
-    }
+    taken(rt, &mut system, 1, 1, text);
     let first = row(rt, &system, 0);
     let second = row(rt, &system, 1);
     let third = row(rt, &system, 2);

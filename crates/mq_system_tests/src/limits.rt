@@ -2,7 +2,8 @@
 ghost use Rattle.std.specs.Prelude.{◌≡◌, ◌<◌};
 
 use crate::calls::PARTS;
-use mq_system::{Closed, Config, OneThread, SysError};
+use mq_system::{Closed, Config, MAX_SEATS, OneThread, SysError};
+use mq_table::{MAX_SEQ, MAX_SLOTS};
 use std::alloc::Global;
 use std::marker::Brand;
 use std::process::Abort;
@@ -42,9 +43,9 @@ const SMALL: Config = Config {
 
 const LARGE: Config = Config {
     height: 10,
-    slots: 64,
-    seats: 16,
-    last_seq: 32_767,
+    slots: MAX_SLOTS,
+    seats: MAX_SEATS,
+    last_seq: MAX_SEQ,
 };
 
 #[test]

@@ -12,7 +12,7 @@ use std::process::Abort;
 use std::sync::ledger::{Blank, Ledger};
 
 /// A call, at the moment that its number in the table says.
-#[derive(Clone, Copy, Debug, PartialEq, Eq)]
+#[derive(Clone, Copy, Debug)]
 pub(crate) enum Step {
     /// A key and flags.
     Get(i32, GetFlags),
@@ -42,7 +42,7 @@ pub(crate) enum Answer {
     /// How many messages and bytes wait, and may wait.
     Shown(u64, u64, u64),
     Free(u32, Option<u8>),
-    /// A text that was given up did not come home.
+    /// A text that was spent did not come home.
     Astray,
 }
 

@@ -1,12 +1,12 @@
-//! Texts that are drafted, sent, received and given up.
+//! Texts that are drafted, sent, received and spent.
 ghost use Rattle.std.specs.Prelude.{◌≡◌, ◌<◌};
 
 use crate::calls::{
-    CREATE, PARTS, Wanted, config, first, get, has, made, receive, send, spent, written,
+    CREATE, PARTS, Wanted, config, delivered, first, get, has, made, receive, spent, taken, written,
 };
 use crate::steps::{Answer, Step, plays};
 use mq_message::{Body, Text};
-use mq_system::{Closed, Delivered, DraftError, Errno, OneThread, Refused, SendRefused};
+use mq_system::{Closed, Delivered, DraftError, Errno, OneThread, Refused};
 use std::alloc::Global;
 use std::marker::Brand;
 use std::process::Abort;
@@ -104,31 +104,8 @@ fn a_draft_is_refused_where_it_is_too_long_or_no_run_is_free(rt: HostRuntime) {
     drafts_refused::<Brand, HostRuntime>(&rt, rt.alloc(), Blank::new(PARTS));
 }
 
-fn delivered<L: Ledger>(
-    rt: &impl Abort,
-    system: &mut OneThread<L>,
-    wanted: Wanted,
-) -> Delivered<Text<L>> {
-    match receive(system, 0, wanted, 6) {
-        Ok(delivered) => delivered,
-        Err(refused) => panic!(rt; "{refused:?}"),
-    }
-}
-
-fn sent<L: Ledger>(rt: &impl Abort, system: &mut OneThread<L>, mtype: i64, text: Text<L>) {
-    match send(system, 0, mtype, text, 5) {
-        Ok(_) => (),
-        Err(
-            SendRefused {
-                refused,
-                text: _text,
-            },
-        ) => panic!(rt; "{refused:?}"),
-    }
-}
-
 /// A message of type 3 and a tag of 7, the second event of its slot, that seat 1 sent.
-fn taken<L: Ledger>(rt: &impl Abort, delivered: Delivered<Text<L>>, length: u64) -> Text<L> {
+fn text_of<L: Ledger>(rt: &impl Abort, delivered: Delivered<Text<L>>, length: u64) -> Text<L> {
     let Delivered {
         entry,
         mtype,
@@ -152,7 +129,7 @@ fn hello_cut<L: Ledger, R: Abort>(rt: &R, alloc: Global, ledger: Blank)
     let before = written(rt, &mut system, b"before");
     let text = written(rt, &mut system, b"hello");
     spent(rt, &mut system, before);
-    sent(rt, &mut system, 3, text);
+    taken(rt, &mut system, 0, 3, text);
     match receive(&mut system, 0, first(4), 6) {
         Ok(_delivered) => panic!(rt; "a text that is too long was handed out"),
         Err(Refused { errno, entry }) => assert_eq!(rt; (errno, entry), (Errno::E2BIG, Some(2))),
@@ -161,8 +138,8 @@ fn hello_cut<L: Ledger, R: Abort>(rt: &R, alloc: Global, ledger: Blank)
         noerror: true,
         ..first(2)
     };
-    let delivered = delivered(rt, &mut system, cut);
-    let text = taken(rt, delivered, 5);
+    let delivered = delivered(rt, &mut system, 0, cut);
+    let text = text_of(rt, delivered, 5);
     assert!(rt; has(&text, b"he"));
     assert_eq!(rt; text.start(), Some(1));
     assert_eq!(rt; system.free_pages(), 1);

@@ -1,7 +1,9 @@
 pub mod Found
+pub mod Lasts
 pub mod Logs
 pub mod Pasts
 pub mod Removed
 pub mod Shown
 pub mod Slots
+pub mod Stays
 pub mod Turns

@@ -43,7 +43,7 @@ log_again before (e ∷ es) h =
     rw h.each.0.made_first (appended (e ∷ []) (e ∷ []) es refl h.each.1)
 
 -- a log has one making
-made_once : (log : List Event) → Lawful log → made_count log ≡ 1
+pub made_once : (log : List Event) → Lawful log → made_count log ≡ 1
 made_once [] h = absurd (true≢false h.begun)
 made_once (e ∷ es) h =
     let first : made_count (e ∷ []) ≡ 1 = rw h.each.0.made_first refl in

@@ -9,7 +9,7 @@ use Rattle.std.proofs.lemmas.List.Elements.{All-tail}
 use Rattle.mq_queue.specs.declared.event.Event.{Event}
 use Rattle.mq_queue.specs.Lawful.{Lawful, AllFollow}
 use Rattle.mq_queue.specs.Log.{is_empty, is_made, ends_with_removed}
-use Rattle.mq_table.specs.SlotList.{made_count, is_live, joined, IsSlotList, standing, Never, Live, Gone}
+use Rattle.mq_table.specs.SlotList.{made_count, is_live, joined, IsSlotList, standing, Never, Live, Removed}
 use Rattle.mq_table.proofs.Logs.{counted, ends_as}
 
 -- in these lists an event comes next after the events before it: it is a making, or comes after
@@ -82,22 +82,22 @@ differ a b below = by (eqb_tells a b)
     by (inr p) = p.0
 
 -- an id is removed where a later one was given
-gone_is : (events : List Event) (seq : ℕ) → seq + 1 < made_count events → standing events seq ≡ Gone
+gone_is : (events : List Event) (seq : ℕ) → seq + 1 < made_count events → standing events seq ≡ Removed
 gone_is events seq below =
     let none : nat_le (made_count events) seq ≡ false =
     lt-leb (made_count events) seq (omega arith) in
     rw (none, differ (seq + 1) (made_count events) below, and-false (is_live events)) refl
 
 -- a removed id was given
-given : (events : List Event) (seq : ℕ) → standing events seq ≡ Gone → seq < made_count events
+given : (events : List Event) (seq : ℕ) → standing events seq ≡ Removed → seq < made_count events
 given events seq gone = by (nat_le (made_count events) seq) refl
   where
     by : (b : Bool) → nat_le (made_count events) seq ≡ b → seq < made_count events
-    by true never = let said : Never ≡ Gone = rw never at gone in cc
+    by true never = let said : Never ≡ Removed = rw never at gone in cc
     by false never = leb-false (made_count events) seq never
 
 -- and no queue is there, or a later one was given
-no_more : (events : List Event) (seq : ℕ) → standing events seq ≡ Gone
+no_more : (events : List Event) (seq : ℕ) → standing events seq ≡ Removed
     → (is_live events ≡ false) ⊎ (seq + 1 < made_count events)
 no_more events seq gone = by (is_live events) refl (eqb_tells (seq + 1) (made_count events))
   where
@@ -108,16 +108,16 @@ no_more events seq gone = by (is_live events) refl (eqb_tells (seq + 1) (made_co
     by false live last = inl live
     by true live (inl p) =
         let below = lt-leb (made_count events) seq (given events seq gone) in
-        let said : Live ≡ Gone = rw (below, live, p.0) at gone in cc
+        let said : Live ≡ Removed = rw (below, live, p.0) at gone in cc
     by true live (inr p) = let below = given events seq gone in inr (omega (arith, p.1))
 
-pub stays : (events more : List Event) (seq : ℕ) → IsSlotList (events ++ more)
-    → standing events seq ≡ Gone → standing (events ++ more) seq ≡ Gone
-stays events [] seq h gone = rw (append-nil events) gone
-stays events (e ∷ rest) seq h gone = by (no_more events seq gone)
+pub stays : (last_seq : ℕ) (events more : List Event) (seq : ℕ) → IsSlotList last_seq (events ++ more)
+    → standing events seq ≡ Removed → standing (events ++ more) seq ≡ Removed
+stays last_seq events [] seq h gone = rw (append-nil events) gone
+stays last_seq events (e ∷ rest) seq h gone = by (no_more events seq gone)
   where
     by : (is_live events ≡ false) ⊎ (seq + 1 < made_count events)
-        → standing (events ++ e ∷ rest) seq ≡ Gone
+        → standing (events ++ e ∷ rest) seq ≡ Removed
     by (inl none) =
         let made : is_made e ≡ true = next_made h.logs events e rest h.lawful (sym h.whole) none in
         let one : made_count (e ∷ []) ≡ 1 = rw made refl in

@@ -6,7 +6,9 @@ use Rattle.mq_queue.specs.declared.event.Event.TheVariants as event
 use Rattle.mq_queue.specs.Lawful.{Lawful}
 use Rattle.mq_queue.specs.Log.{ends_with_removed}
 use Rattle.mq_queue.specs.Queue.{Queue, IsSound}
-use Rattle.mq_table.specs.Slot.{SlotState, IsSlot, slot_with, log_of}
+use Rattle.mq_queue.specs.Waiting.{waiting}
+use Rattle.mq_table.specs.Slot.{SlotState, IsSlot, Waits, slot_with, log_of}
+use Rattle.mq_table.specs.declared.limits.TheConstants.{MAX_SEQ}
 use Rattle.mq_table.specs.SlotList.{made_count, is_live, last_log, offset, IsSlotList}
 use Rattle.mq_table.proofs.Logs.{last_log_is, live_is, made_more, ends_as}
 use Rattle.mq_table.proofs.Pasts.{none_live, past_grows, list_of_past, list_of_live}
@@ -25,9 +27,20 @@ module _ {B : Type 0} (bytes : B → List ℕ) (number made : ℕ) (past : List 
 
   -- all that happened is a slot list
   pub list_of : (live : Option (Queue B)) → IsSlot bytes number made past live
-      → IsSlotList (past ++ log_of live)
-  list_of None h = rw append-nil (list_of_past past h.ended)
-  list_of (Some q) h = list_of_live past q.log h.ended h.sound.lawful
+      → IsSlotList MAX_SEQ (past ++ log_of live)
+  list_of None h =
+      rw append-nil
+      (list_of_past MAX_SEQ past h.ended
+      (omega (arith, h.few, h.counted, ap made_count (append-nil past))))
+  list_of (Some q) h =
+      list_of_live MAX_SEQ past q.log h.ended h.sound.lawful (omega (arith, h.few, h.counted))
+
+  -- what waits is what the log of the queue in it leaves waiting
+  pub waits_of : (live : Option (Queue B)) → IsSlot bytes number made past live
+      → Waits bytes (slot_with number past live)
+  waits_of None h = rw (append-nil past, none_live past h.ended) refl
+  waits_of (Some q) h =
+      rw (live_is past q.log h.sound.lawful h.sound.live, its_log q h) h.sound.waits
 
   -- a queue that is there has the last log
   pub logs_agree : (live : Option (Queue B)) → IsSlot bytes number made past live
@@ -52,7 +65,7 @@ module _ {B : Type 0} (bytes : B → List ℕ) (number made : ℕ) (past : List 
   -- a queue is put where none was
   pub put_into : (live : Option (Queue B)) → IsSlot bytes number made past live
       → (s : SlotState B) → slot_with number past live ≡ s
-      → is_live s.events ≡ false → made_count s.events ≤ 32767
+      → is_live s.events ≡ false → made_count s.events ≤ MAX_SEQ
       → (q : Queue B) → IsSound bytes q.log q.messages
       → (live' : Option (Queue B)) → live' ≡ Some q → IsSlot bytes number (made + 1) past live'
   put_into live h s view none few q sound live' is =

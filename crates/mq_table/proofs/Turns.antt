@@ -3,29 +3,30 @@ use Rattle.std.proofs.Common.{◌≡◌, ℕ, ◌+◌, Bool, true, List, [], ◌
 use Rattle.std.proofs.lemmas.List.{length-append}
 use Rattle.mq_message.specs.declared.message.Message.{Message}
 use Rattle.mq_select.specs.declared.selection.Selection.{Selection}
-use Rattle.mq_select.specs.Waiting.{Entry, without}
+use Rattle.mq_select.specs.Waiting.{Header, without}
 use Rattle.mq_queue.specs.declared.error.QueueError.{QueueError}
 use Rattle.mq_queue.specs.declared.error.QueueError.TheVariants.{Memory}
 use Rattle.mq_queue.specs.declared.event.Event.{Event}
 use Rattle.mq_queue.specs.declared.event.Event.TheVariants as event
 use Rattle.mq_queue.specs.Answer.{send_refusal, receive_answer, refusal_or_memory}
-use Rattle.mq_queue.specs.Queue.{Queue}
+use Rattle.mq_queue.specs.Queue.{Queue, IsSound}
 use Rattle.mq_queue.specs.Room.{quota}
 use Rattle.mq_queue.specs.Waiting.{waiting}
 use Rattle.mq_table.specs.Calls.{goes_on, sends, receives, refusal_of, unless, received}
-use Rattle.mq_table.specs.Slot.{SlotState, IsSlot, slot_with}
-use Rattle.mq_table.specs.SlotList.{is_live, last_log}
-use Rattle.mq_table.proofs.Slots.{is_there, its_log}
+use Rattle.mq_table.specs.Slot.{SlotState, IsSlot, Waits, slot_with}
+use Rattle.mq_table.specs.SlotList.{is_live, last_log, IsSlotList}
+use Rattle.mq_table.specs.declared.limits.TheConstants.{MAX_SEQ}
+use Rattle.mq_table.proofs.Slots.{is_there, its_log, kept, list_of, waits_of}
 
--- a call is refused for the reason that is named, or else for want of memory
+-- a call is refused for the reason that is named, or else because memory ran out
 refusal_is : {B : Type 0} (s after : SlotState B) (o : Option QueueError)
     → refusal_of (unless o s after) ≡ unwrap_or o Memory
 refusal_is s after None = refl
 refusal_is s after (Some e) = refl
 
 -- and so is a receipt
-receipt_refused : {B : Type 0} (s : SlotState B) (e : Entry → Event)
-    (answer : Result Entry QueueError) → refusal_of (received s e answer) ≡ refusal_or_memory answer
+receipt_refused : {B : Type 0} (s : SlotState B) (e : Header → Event)
+    (answer : Result Header QueueError) → refusal_of (received s e answer) ≡ refusal_or_memory answer
 receipt_refused s e (Ok m) = refl
 receipt_refused s e (Err refusal) = refl
 
@@ -63,7 +64,18 @@ module _ {B : Type 0} (bytes : B → List ℕ) (number made : ℕ) (past : List 
         (receipt_refused s (λ m. event.Received seat moment m.place selection size noerror)
         (receive_answer (waiting q.log) size selection noerror))
 
-    module _ (q' : Queue B) (entry : ℕ) (placed : entry ≡ length past + length q.log) where
+    -- and what it leaves is a slot
+    module _ (q' : Queue B) (sound : IsSound bytes q'.log q'.messages) where
+      next : IsSlot bytes number made past (Some q')
+      next = kept bytes number made past q q' (subst (IsSlot bytes number made past) is h) sound
+
+      pub next_lawful : IsSlotList MAX_SEQ (past ++ q'.log)
+      next_lawful = list_of bytes number made past (Some q') next
+
+      pub next_waits : Waits bytes (slot_with number past (Some q'))
+      next_waits = waits_of bytes number made past (Some q') next
+
+    module _ (q' : Queue B) (entry : ℕ) (placed : entry ≡ length s.events) where
       pub sent_is : (m : Message B) (moment : ℕ)
           → send_refusal (waiting q.log) (quota q.log) m.mtype (length (bytes m.body)) ≡ None
           → q'.log ≡ q.log ++ event.Sent m.sender moment m.tag m.mtype (length (bytes m.body)) ∷ []
@@ -78,11 +90,12 @@ module _ {B : Type 0} (bytes : B → List ℕ) (number made : ℕ) (past : List 
             log,
             messages,
             placed,
-            length-append past q.log,
+            ← view,
+            is,
             append_assoc past q.log _,
           ) refl
 
-      pub received_is : (m : Entry) (size : ℕ) (selection : Selection) (noerror : Bool)
+      pub received_is : (m : Header) (size : ℕ) (selection : Selection) (noerror : Bool)
           (seat moment : ℕ)
           → receive_answer (waiting q.log) size selection noerror ≡ Ok m
           → q'.log ≡ q.log ++ event.Received seat moment m.place selection size noerror ∷ []
@@ -98,6 +111,7 @@ module _ {B : Type 0} (bytes : B → List ℕ) (number made : ℕ) (past : List 
             log,
             messages,
             placed,
-            length-append past q.log,
+            ← view,
+            is,
             append_assoc past q.log _,
           ) refl

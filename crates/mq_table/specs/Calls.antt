@@ -1,8 +1,8 @@
--- What the calls of a slot answer and leave.
+-- What the calls of a slot answer and leave (msgget(2), msgop(2), msgctl(2)).
 use Rattle.std.specs.Prelude.{ℕ, ℤ, Bool, Option, Some, None, Result, Ok, Err, List, [], ◌∷◌, ◌++◌, length}
 use Rattle.mq_message.specs.declared.message.Message.{Message}
 use Rattle.mq_select.specs.declared.selection.Selection.{Selection}
-use Rattle.mq_select.specs.Waiting.{Entry, without}
+use Rattle.mq_select.specs.Waiting.{Header, without}
 use Rattle.mq_queue.specs.declared.error.QueueError.{QueueError}
 use Rattle.mq_queue.specs.declared.error.QueueError.TheVariants.{Memory}
 use Rattle.mq_queue.specs.declared.event.Event.{Event}
@@ -14,28 +14,26 @@ use Rattle.mq_queue.specs.Waiting.{waiting}
 use Rattle.mq_table.specs.Slot.{SlotState}
 use Rattle.mq_table.specs.SlotList.{last_log}
 
--- what a call answers, with the slot that it leaves; or why the call is refused (msgop(2),
--- msgctl(2))
+-- what a call answers, with the slot that it leaves; or why the call is refused
 abbrev pub Turn : Type 0 → Type 0 → Type 0
 Turn B T = Result (T × SlotState B) QueueError
 
--- why the call is refused: as above, or for want of memory (msgop(2), msgctl(2))
+-- why the call is refused: where nothing else refuses it, memory does
 abbrev pub refusal_of : {B T : Type 0} → Turn B T → QueueError
 refusal_of (Ok turn) = Memory
 refusal_of (Err e) = e
 
--- the slot with one more event, and with this waiting (msgop(2))
+-- the slot with one more event, and with this waiting
 abbrev pub goes_on : {B : Type 0} → SlotState B → Event → List (ℕ × Message B) → SlotState B
 goes_on s e messages =
     record { number = s.number; events = s.events ++ e ∷ []; messages = messages }
 
--- the place of the event that the call adds to the slot list, unless the call is refused
--- (msgop(2), msgctl(2))
+-- the entry of the event that the call adds to the slot list, unless the call is refused
 abbrev pub unless : {B : Type 0} → Option QueueError → SlotState B → SlotState B → Turn B ℕ
 unless None s after = Ok (length s.events, after)
 unless (Some e) s after = Err e
 
--- what msgsnd does in the slot's queue (msgop(2), msgsnd)
+-- what msgsnd does in the slot's queue
 abbrev pub sends : {B : Type 0} → (B → List ℕ) → SlotState B → Message B → ℕ → Turn B ℕ
 sends bytes s m moment =
     let log = last_log s.events in
@@ -43,13 +41,13 @@ sends bytes s m moment =
     unless (send_refusal (waiting log) (quota log) m.mtype n) s
     (goes_on s (event.Sent m.sender moment m.tag m.mtype n) (s.messages ++ (length log, m) ∷ []))
 
--- what a receiver is told beside the text: the place of the receipt in the slot list, and the
--- message as it was sent, with its place in the queue's log (msgop(2), msgrcv)
+-- what a receiver is told beside the text: the entry of the receipt in the slot list, and the
+-- message as it was sent, with its place in the queue's log
 pub record Receipt : Type 0 where
   pub entry : ℕ
-  pub message : Entry
+  pub message : Header
 
--- what such a receiver was told (msgop(2), msgrcv)
+-- the same, out of what a call answered
 abbrev pub receipt_of : {B : Type 0} → Received B → Receipt
 receipt_of r = record {
   entry = r.entry;
@@ -62,8 +60,8 @@ receipt_of r = record {
   };
 }
 
--- what msgrcv does in the slot's queue, for a receiver that was answered so (msgop(2), msgrcv)
-abbrev pub received : {B : Type 0} → SlotState B → (Entry → Event) → Result Entry QueueError
+-- what msgrcv does in the slot's queue, where the queue answers so
+abbrev pub received : {B : Type 0} → SlotState B → (Header → Event) → Result Header QueueError
     → Turn B Receipt
 received s e (Ok m) =
     Ok (
@@ -72,21 +70,21 @@ received s e (Ok m) =
     )
 received s e (Err refusal) = Err refusal
 
--- what msgrcv does in the slot's queue (msgop(2), msgrcv)
+-- what msgrcv does in the slot's queue
 abbrev pub receives : {B : Type 0} → SlotState B → ℕ → Selection → Bool → ℕ → ℕ → Turn B Receipt
 receives s size selection noerror seat moment =
     received s (λ m. event.Received seat moment m.place selection size noerror)
     (receive_answer (waiting (last_log s.events)) size selection noerror)
 
--- what IPC_SET does in the slot's queue (msgctl(2), IPC_SET)
+-- what IPC_SET does in the slot's queue
 abbrev pub sets : {B : Type 0} → SlotState B → ℕ → ℕ → ℕ → Turn B ℕ
 sets s qbytes seat moment =
     unless (set_refusal qbytes) s (goes_on s (event.Changed seat moment qbytes) s.messages)
 
--- the slot once a queue was made in it (msgget(2))
+-- the slot once a queue was made in it
 abbrev pub makes : {B : Type 0} → SlotState B → ℤ → ℕ → ℕ → SlotState B
 makes s key seat moment = goes_on s (event.Made seat moment key) []
 
--- the slot once its queue was removed (msgctl(2), IPC_RMID)
+-- the slot once its queue was removed
 abbrev pub removes : {B : Type 0} → SlotState B → ℕ → ℕ → SlotState B
 removes s seat moment = goes_on s (event.Removed seat moment) []

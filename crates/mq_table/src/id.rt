@@ -1,6 +1,7 @@
-ghost use Rattle.std.specs.Prelude.{◌≡◌, ◌<◌, ◌≤◌};
+ghost use Rattle.std.specs.Prelude.{◌≡◌, ◌<◌, ◌≤◌, ◌/◌};
 ghost use Rattle.mq_table.specs.Ids.{id_of, slot_of, seq_of};
 
+use crate::MAX_SLOTS;
 use std::marker::Model;
 
 /// What msgget(2) answers: the number of a slot, and how many queues were made in it before. It
@@ -26,27 +27,27 @@ impl Model for Id {
 impl Id {
     /// The id of the queue in this slot before which `seq` queues were made there.
     pub fn of(slot: u8, seq: u32) -> Id
-        requires slot { slot < 64 }
-        requires seq { seq ≤ 67108863 }
+        requires slot { slot < MAX_SLOTS }
+        requires seq { seq ≤ u32.MAX / MAX_SLOTS }
         ensures { result ≡ id_of slot seq }
     {
         Id {
-            number: seq * 64 + u32::from(slot),
+            number: seq * u32::from(MAX_SLOTS) + u32::from(slot),
         }
     }
 
     pub fn slot(self) -> u8
         ensures value { result ≡ slot_of self }
-        ensures within { result < 64 }
+        ensures within { result < MAX_SLOTS }
     {
-        (self.number % 64) as u8
+        (self.number % u32::from(MAX_SLOTS)) as u8
     }
 
     pub fn seq(self) -> u32
         ensures value { result ≡ seq_of self }
-        ensures within { result ≤ 67108863 }
+        ensures within { result ≤ u32.MAX / MAX_SLOTS }
     {
-        self.number / 64
+        self.number / u32::from(MAX_SLOTS)
     }
 
     pub fn from_number(number: u32) -> Id

@@ -42,7 +42,7 @@ impl KeyTable {
         self.ids.get(&key).copied()
     }
 
-    /// Puts a key that is not in the table behind all others.
+    /// Puts a key that is not in the table last.
     pub fn enter(&mut self, key: i32, id: Id) -> Result<(), AllocError>
         requires key { key ≢ pos 0 }
         requires absent { id_of_key self.old key ≡ None }

@@ -2,11 +2,12 @@
 
 #![tactic(auto)]
 
-mod calls;
 mod id;
 mod key_entry;
 mod keys;
 pub mod laws;
+mod limits;
+mod live;
 #[cfg(test)]
 mod play_tests;
 mod refusal;
@@ -21,6 +22,7 @@ mod under;
 pub use id::Id;
 pub use key_entry::KeyEntry;
 pub use keys::KeyTable;
+pub use limits::{MAX_SEQ, MAX_SLOTS};
 pub use refusal::IdRefusal;
 pub use slot::Slot;
 pub use under::{make_under, remove_under};

@@ -1,5 +1,5 @@
-use crate::KeyTable;
 use crate::slot_tests::{Place, close, make, message, remove};
+use crate::{KeyTable, MAX_SLOTS};
 use mq_message::{Message, VecBody};
 use mq_queue::QueueError;
 use mq_select::Selection;
@@ -86,7 +86,7 @@ fn played(alloc: Global, number: u8, steps: &[Step]) -> Result<Vec<Answer>, Allo
         Err(_) => Vec::with_capacity(alloc, steps.len())?,
     };
     let mut keys = KeyTable::new(alloc);
-    if number >= 64 {
+    if number >= MAX_SLOTS {
         return Ok(answers);
     }
     let mut slot = Place::new(alloc, number);

@@ -1,13 +1,13 @@
-ghost use Rattle.std.specs.Prelude.{◌≡◌, ◌<◌, ◌≤◌, ◌++◌, [], None, Some, true, false, length, slice_get, is_some};
+ghost use Rattle.std.specs.Prelude.{◌≡◌, ◌<◌, ◌≤◌, ◌+◌, ◌++◌, [], None, Some, true, false, length, slice_get, is_some};
 ghost use Rattle.std.specs.Prelude.{IsTrue, IfSome};
 ghost use Rattle.mq_queue.specs.Lawful.{Lawful};
 ghost use Rattle.mq_queue.specs.Log.{made_key};
 ghost use Rattle.mq_table.specs.Ids.{slot_of, seq_of};
 ghost use Rattle.mq_table.specs.Shown.{by_standing, row};
-ghost use Rattle.mq_table.specs.Slot.{empty_slot, log_of, messages_of};
+ghost use Rattle.mq_table.specs.Slot.{empty_slot, log_of, messages_of, Waits};
 ghost use Rattle.mq_table.specs.SlotList.{is_live, is_free, last_log, made_count, offset, standing, IsSlotList};
 
-use crate::{Id, IdRefusal};
+use crate::{Id, IdRefusal, MAX_SEQ, MAX_SLOTS};
 use mq_message::Body;
 use mq_queue::{BoardRow, Event, Figures, QueueState};
 use mq_select::Waiting;
@@ -15,7 +15,7 @@ use std::alloc::Global;
 use std::marker::Model;
 
 /// A place for one queue at a time, seen as its number, all that happened in it, and what waits in
-/// the queue that is in it. A slot is not dropped: `into_parts` gives it up.
+/// the queue that is in it. A slot is not dropped: `into_parts` ends it.
 pub struct Slot<B: Body, W: Waiting<B>> {
     pub(crate) number: u8,
     /// The events of the queues that were removed.
@@ -61,7 +61,7 @@ const NO_FIGURES: Figures = Figures {
 impl<B: Body, W: Waiting<B>> Slot<B, W> {
     /// A slot in which no queue was made.
     pub fn new(alloc: Global, number: u8) -> Slot<B, W>
-        requires { number < 64 }
+        requires { number < MAX_SLOTS }
         ensures { result ≡ empty_slot number }
     {
         Slot {
@@ -72,10 +72,21 @@ impl<B: Body, W: Waiting<B>> Slot<B, W> {
         }
     }
 
+    /// What holds of each slot: its list is one of at most `MAX_SEQ + 1` queues, and what waits is
+    /// what that list leaves waiting.
+    pub fn holds(&self)
+        ensures lawful { IsSlotList MAX_SEQ self.now.events }
+        ensures waits { Waits B.bytes self.now }
+        ensures numbered { self.now.number < MAX_SLOTS }
+    {
+        let _ = &self.number;
+    }
+
     pub fn number(&self) -> u8
         ensures value { result ≡ self.now.number }
-        ensures within { result < 64 }
-        ensures lawful { IsSlotList self.now.events }
+        ensures within { result < MAX_SLOTS }
+        ensures lawful { IsSlotList MAX_SEQ self.now.events }
+        ensures waits { Waits B.bytes self.now }
     {
         self.number
     }
@@ -90,7 +101,7 @@ impl<B: Body, W: Waiting<B>> Slot<B, W> {
     /// How many queues were made in the slot.
     pub fn made(&self) -> u32
         ensures value { result ≡ made_count self.now.events }
-        ensures within { result ≤ 32768 }
+        ensures within { result ≤ MAX_SEQ + 1 }
     {
         self.made
     }
@@ -121,7 +132,8 @@ impl<B: Body, W: Waiting<B>> Slot<B, W> {
 
     /// What a report shows of the slot: the figures of the queue that is in it, or all 0.
     pub fn row(&self) -> BoardRow
-        ensures { result ≡ row self.now.events }
+        ensures value { result ≡ row self.now.events }
+        ensures within { result.made ≤ MAX_SEQ + 1 }
     {
         let made = self.made;
         match &self.live {
@@ -176,7 +188,8 @@ impl<B: Body, W: Waiting<B>> Slot<B, W> {
         ensures messages { self.messages ≡ messages_of result.1 }
         ensures live { is_some result.1 ≡ is_live self.events }
         ensures log { IfSome result.1 (λ queue. queue.log ≡ last_log self.events) }
-        ensures lawful { IsSlotList self.events }
+        ensures lawful { IsSlotList MAX_SEQ self.events }
+        ensures waits { Waits B.bytes self }
     {
         let Slot {
             number: _,

@@ -1,18 +1,18 @@
 use crate::play_tests::{Answer, sent};
-use crate::{Id, IdRefusal, KeyEntry, KeyTable, Slot, make_under, remove_under};
+use crate::{Id, IdRefusal, KeyEntry, KeyTable, MAX_SEQ, Slot, make_under, remove_under};
 use mq_message::{Message, VecBody};
 use mq_queue::{BoardRow, Event, Figures, Log};
-use mq_select::ListWaiting;
+use mq_select::{ListWaiting, discard};
 use std::alloc::{AllocError, Global};
 use std::test::Fail;
 
 pub(crate) type Place = Slot<VecBody, ListWaiting<VecBody>>;
 
 /// Makes a queue in a slot that is free by this last seq.
-pub(crate) fn make(keys: &mut KeyTable, slot: &mut Place, key: i32, last_seq: u16) -> Option<Id> {
+pub(crate) fn make(keys: &mut KeyTable, slot: &mut Place, key: i32, last_seq: u32) -> Option<Id> {
     // Where there is no memory, the second call is as the first one would have been.
     for _ in 0..2 {
-        if last_seq > 32767 || !slot.is_free(u32::from(last_seq)) || keys.look(key).is_some() {
+        if last_seq > MAX_SEQ || !slot.is_free(last_seq) || keys.look(key).is_some() {
             return None;
         }
         let (events, count) = (slot.events(), keys.len());
@@ -35,7 +35,10 @@ pub(crate) fn remove(keys: &mut KeyTable, slot: &mut Place) -> Option<Log> {
         }
         let (events, count) = (slot.events(), keys.len());
         match remove_under(keys, slot, 2, 20) {
-            Ok((log, _)) => return Some(log),
+            Ok((log, waiting)) => {
+                discard(waiting);
+                return Some(log);
+            }
             Err(_) if slot.events() != events || keys.len() != count => return None,
             Err(_) => (),
         }
@@ -76,7 +79,8 @@ pub(crate) fn message(
 pub(crate) fn close(slot: Place) {
     let (_, live) = slot.into_parts();
     if let Some(queue) = live {
-        let _ = queue.into_parts();
+        let (_, waiting) = queue.into_parts();
+        discard(waiting);
     }
 }
 
@@ -89,7 +93,7 @@ fn an_id_is_never_given_then_live_then_removed_for_good(rt: HostRuntime) -> Resu
         let id = Id::of(63, seq);
         let next = Id::of(63, seq + 1);
         assert_eq!(rt; look(&slot, id), Some(Err(IdRefusal::Never)));
-        assert_eq!(rt; make(&mut keys, &mut slot, 0, 32_767), Some(id));
+        assert_eq!(rt; make(&mut keys, &mut slot, 0, MAX_SEQ), Some(id));
         assert_eq!(rt; look(&slot, id), Some(Ok(())));
         assert_eq!(rt; look(&slot, next), Some(Err(IdRefusal::Never)));
         assert_eq!(rt; look(&slot, last), Some(Err(IdRefusal::Never)));
@@ -227,7 +231,8 @@ fn a_slot_shows_the_queue_that_is_in_it(rt: HostRuntime) -> Result<(), Fail> {
     assert_eq!(rt; past[2], removed);
     assert!(rt; live.is_some());
     if let Some(queue) = live {
-        let (log, _) = queue.into_parts();
+        let (log, waiting) = queue.into_parts();
+        discard(waiting);
         assert_eq!(rt; log.get(0), Some(made));
     }
     Ok(())

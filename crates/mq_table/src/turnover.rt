@@ -2,9 +2,10 @@ ghost use Rattle.std.specs.Prelude.{◌≡◌, ◌+◌, ◌≤◌, ◌++◌, Non
 ghost use Rattle.std.specs.Prelude.{OnOk, OnErr, IfOk, vec_len, vec_capacity};
 ghost use Rattle.mq_queue.specs.Queue.{IsSound};
 ghost use Rattle.mq_table.specs.Calls.{removes};
+ghost use Rattle.mq_table.specs.Slot.{Waits};
 ghost use Rattle.mq_table.specs.SlotList.{is_live, last_log, made_count, IsSlotList};
 
-use crate::Slot;
+use crate::{MAX_SEQ, Slot};
 use mq_message::Body;
 use mq_queue::{Event, Log, QueueState};
 use mq_select::Waiting;
@@ -42,12 +43,13 @@ impl<B: Body, W: Waiting<B>> Slot<B, W> {
     /// Puts a new queue into the slot.
     pub(crate) fn put(&mut self, queue: QueueState<B, W>)
         requires empty { is_live self.old.events ≡ false }
-        requires unused { made_count self.old.events ≤ 32767 }
+        requires unused { made_count self.old.events ≤ MAX_SEQ }
         requires sound { IsSound B.bytes queue.log queue.messages }
         ensures events { self.new.events ≡ self.old.events ++ queue.log }
         ensures messages { self.new.messages ≡ queue.messages }
         ensures number { self.new.number ≡ self.old.number }
-        ensures lawful { IsSlotList self.new.events }
+        ensures lawful { IsSlotList MAX_SEQ self.new.events }
+        ensures waits { Waits B.bytes self.new }
     {
         self.made += 1;
         put_in(&mut self.live, queue);
@@ -60,7 +62,8 @@ impl<B: Body, W: Waiting<B>> Slot<B, W> {
         ensures log { IfOk result (λ r. r.0 ≡ last_log self.new.events) }
         ensures messages { IfOk result (λ r. W.messages r.1 ≡ self.old.messages) }
         ensures unchanged { OnErr result (self.new ≡ self.old) }
-        ensures lawful { IsSlotList self.new.events }
+        ensures lawful { IsSlotList MAX_SEQ self.new.events }
+        ensures waits { Waits B.bytes self.new }
     {
         let Some(queue) = &self.live else {
             unreachable!()

@@ -2,17 +2,17 @@ ghost use Rattle.std.specs.Prelude.{◌≡◌, ◌≢◌, ◌≤◌, [], None, p
 ghost use Rattle.std.specs.Prelude.{OnOk, OnErr, IfOk};
 ghost use Rattle.mq_table.specs.Calls.{makes, removes};
 ghost use Rattle.mq_table.specs.Keys.{id_of_key, entered, forget};
-ghost use Rattle.mq_table.specs.Slot.{next_id, last_id};
+ghost use Rattle.mq_table.specs.Slot.{next_id, last_id, Waits};
 ghost use Rattle.mq_table.specs.SlotList.{is_live, last_log, made_count, IsSlotList};
 
-use crate::{Id, KeyTable, Slot};
+use crate::{Id, KeyTable, MAX_SEQ, Slot};
 use mq_message::Body;
 use mq_queue::{Log, QueueState};
 use mq_select::Waiting;
 use std::alloc::AllocError;
 
 /// Makes a queue in the slot, and enters its key, which is new or 0 (msgget(2), IPC_CREAT). An
-/// `Err` is want of memory.
+/// `Err` means that memory ran out.
 pub fn make_under<B: Body, W: Waiting<B>>(
     keys: &mut KeyTable,
     slot: &mut Slot<B, W>,
@@ -21,13 +21,14 @@ pub fn make_under<B: Body, W: Waiting<B>>(
     moment: u64,
 ) -> Result<Id, AllocError>
     requires empty { is_live slot.old.events ≡ false }
-    requires unused { made_count slot.old.events ≤ 32767 }
+    requires unused { made_count slot.old.events ≤ MAX_SEQ }
     requires absent { key ≢ pos 0 → id_of_key keys.old key ≡ None }
     ensures id { IfOk result (λ id. id ≡ next_id slot.old) }
     ensures made { OnOk result (slot.new ≡ makes slot.old key seat moment) }
     ensures entered { IfOk result (λ id. keys.new ≡ entered key id keys.old) }
     ensures unchanged { OnErr result ((slot.new ≡ slot.old) × (keys.new ≡ keys.old)) }
-    ensures lawful { IsSlotList slot.new.events }
+    ensures lawful { IsSlotList MAX_SEQ slot.new.events }
+    ensures waits { Waits B.bytes slot.new }
 {
     let id = Id::of(slot.number(), slot.made());
     let queue = QueueState::made(slot.allocator(), key, seat, moment)?;
@@ -37,7 +38,7 @@ pub fn make_under<B: Body, W: Waiting<B>>(
             Ok(id)
         }
         Err(refused) => {
-            give_up(queue);
+            end(queue);
             Err(refused)
         }
     }
@@ -55,8 +56,8 @@ fn enter_key(keys: &mut KeyTable, key: i32, id: Id) -> Result<(), AllocError>
     keys.enter(key, id)
 }
 
-/// Gives a queue up in which nothing waits.
-fn give_up<B: Body, W: Waiting<B>>(queue: QueueState<B, W>)
+/// Ends a queue in which nothing waits.
+fn end<B: Body, W: Waiting<B>>(queue: QueueState<B, W>)
     requires { queue.messages ≡ [] }
 {
     let (_, waiting) = queue.into_parts();
@@ -64,7 +65,7 @@ fn give_up<B: Body, W: Waiting<B>>(queue: QueueState<B, W>)
 }
 
 /// Removes the queue from the slot, and forgets its key (msgctl(2), IPC_RMID). The queue's log and
-/// what waited are handed out. An `Err` is want of memory.
+/// what waited are handed out. An `Err` means that memory ran out.
 pub fn remove_under<B: Body, W: Waiting<B>>(
     keys: &mut KeyTable,
     slot: &mut Slot<B, W>,
@@ -77,7 +78,8 @@ pub fn remove_under<B: Body, W: Waiting<B>>(
     ensures log { IfOk result (λ r. r.0 ≡ last_log slot.new.events) }
     ensures messages { IfOk result (λ r. W.messages r.1 ≡ slot.old.messages) }
     ensures unchanged { OnErr result ((slot.new ≡ slot.old) × (keys.new ≡ keys.old)) }
-    ensures lawful { IsSlotList slot.new.events }
+    ensures lawful { IsSlotList MAX_SEQ slot.new.events }
+    ensures waits { Waits B.bytes slot.new }
 {
     let id = Id::of(slot.number(), slot.made() - 1);
     let removed = slot.take_out(seat, moment)?;

@@ -10,16 +10,19 @@ returns-in-Some-clause-slot g c =
     let messages = rw c.in-Some.is at c.into_parts-past.ensures.messages in
     let live = rw c.in-Some.is at c.into_parts-past.ensures.live in
     let log = rw c.in-Some.is at c.into_parts-past.ensures.log in
-    ended_live c.args.slot c.into_parts-past.result.0.items c.into_events.result.items c.in-Some.queue c.figures-left.result.qnum
+    let told = ended_live c.args.slot c.into_parts-past.result.0.items c.into_events.result.items c.in-Some.queue c.figures-left.result.qnum
     events messages live log (search rules)
-    (count_of bytes_of c.in-Some.queue c.figures-left.result c.figures-left.ensures.value c.figures-left.ensures.sound)
+    (count_of bytes_of c.in-Some.queue c.figures-left.result c.figures-left.ensures.value c.figures-left.ensures.sound) in
+    search (rules, told)
 
 pub returns-in-None-clause-slot : goal.returns-in-None-clause-slot
 returns-in-None-clause-slot g c =
     let events = rw c.in-None.is at c.into_parts-past.ensures.events in
     let messages = rw c.in-None.is at c.into_parts-past.ensures.messages in
     let live = rw c.in-None.is at c.into_parts-past.ensures.live in
-    ended_empty c.args.slot c.into_parts-past.result.0.items c.new-last.result.items 0 events messages live (search rules) refl
+    let told = ended_empty c.args.slot c.into_parts-past.result.0.items c.new-last.result.items 0
+    events messages live (search rules) refl in
+    search (rules, told)
 
 pub returns-in-None-clause-arena : goal.returns-in-None-clause-arena
 returns-in-None-clause-arena g c =

@@ -1,7 +1,8 @@
-use Rattle.std.proofs.Common.{rules, ◌≡◌, ◌++◌, ◌∷◌, [], w64}
+use Rattle.std.proofs.Common.{rules, arith, ◌≡◌, ◌++◌, ◌∷◌, [], w64}
 use Rattle.std.proofs.lemmas.Int.{to_z-of_z}
 use mir.Val.{SFits}
 use Rattle.mq_queue.specs.declared.event.Event.TheVariants.{Sent}
+use Rattle.mq_queue.proofs.Kept.{same_figures}
 use Rattle.mq_queue.proofs.Sends.{sent_figures, sent_sound}
 use Rattle.mq_queue.proofs.Sound.{messages_within}
 use Rattle.mq_queue.proofs.state.QueueState.send.Goals as goal
@@ -17,7 +18,7 @@ invariant_of-self-2 g c =
     let grown : c.append.new.events.items ≡ c.self.inside.log.items ++ Sent c.args.message.sender c.args.moment c.args.message.tag c.args.message.mtype c.len-length.result ∷ [] = rw (← c.reserve.ensures.items) told in
     let added = rw (c.count-place.ensures.value, c.reserve.ensures.items, c.prepare.ensures.unchanged) at c.put_prepared.ensures.added in (
       sent_sound g.B.Body.bytes _ _ _ _ _ _ _ _ c.self.invariant.0 c.self.invariant.1 (search rules) (search rules) c.if-not-has_room.ensures c.len-length.ensures grown added,
-      sent_figures _ _ _ _ _ _ _ _ c.self.invariant.0.lawful c.self.invariant.1 c.if-not-has_room.ensures grown,
+      same_figures _ _ _ (omega arith) (omega arith) (omega arith) (omega arith) (omega arith) (omega arith) (omega arith) (omega arith) (sent_figures _ _ _ _ _ _ _ _ c.self.invariant.0.lawful c.self.invariant.1 c.if-not-has_room.ensures grown),
     )
 
 pub returns-clause-sound : goal.returns-clause-sound

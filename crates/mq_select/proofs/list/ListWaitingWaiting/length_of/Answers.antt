@@ -1,4 +1,4 @@
-use Rattle.std.proofs.Common.{◌∙◌, sym}
+use Rattle.std.proofs.Common.{◌∙◌, sym, arith}
 use Rattle.mq_select.proofs.Places.{has_index, at_index}
 use Rattle.mq_select.proofs.list.ListWaitingWaiting.length_of.Goals as goal
 
@@ -11,5 +11,5 @@ pub returns : goal.returns
 returns g c =
     let index = sym c.index_of.ensures ∙ c.unwrap-index.ensures in
     let at = at_index c.args.place c.self.inside.messages.items c.unwrap-index.result c.index.result.now index in
-    let read = rw (← c.index.ensures) at at in
-    rw (← c.self.view_is, read) c.len.ensures
+    let len = rw c.index.ensures at c.len.ensures in
+    rw (← c.self.view_is, at) (omega (arith, len))

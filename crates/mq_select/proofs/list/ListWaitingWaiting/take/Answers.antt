@@ -1,4 +1,4 @@
-use Rattle.std.proofs.Common.{◌∙◌, sym, ap, Some}
+use Rattle.std.proofs.Common.{◌∙◌, sym, arith}
 use Rattle.std.proofs.lemmas.Option.{MatchOption-at_some, none-some}
 use Rattle.mq_select.proofs.Places.{has_index, at_index, without_is, rising_remove}
 use Rattle.mq_select.proofs.list.ListWaitingWaiting.take.Goals as goal
@@ -18,10 +18,12 @@ pub returns-clause-taken : goal.returns-clause-taken
 returns-clause-taken g c =
     let value = MatchOption-at_some _ _ _ c.unwrap-message.ensures c.remove.ensures.value in
     let index = sym c.index_of.ensures ∙ c.unwrap-index.ensures in
-    rw (← c.self.view_is) (at_index c.args.place c.self.inside.messages.items c.unwrap-index.result c.unwrap-message.result index ∙ ap (λ m. Some m.1) (sym value))
+    let at = at_index c.args.place c.self.inside.messages.items c.unwrap-index.result c.unwrap-message.result index in
+    rw (← c.self.view_is) (grind (arith, at, value))
 
 pub returns-clause-rest : goal.returns-clause-rest
 returns-clause-rest g c =
     let items = MatchOption-at_some _ _ _ c.unwrap-message.ensures c.remove.ensures.items in
     let index = sym c.index_of.ensures ∙ c.unwrap-index.ensures in
-    rw (← c.self.view_is, items) (without_is c.args.place c.self.inside.messages.items c.unwrap-index.result c.self.invariant.0 index)
+    let left = without_is c.args.place c.self.inside.messages.items c.unwrap-index.result c.self.invariant.0 index in
+    rw (← c.self.view_is) (grind (arith, left, items))

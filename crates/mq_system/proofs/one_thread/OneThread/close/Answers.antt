@@ -1,8 +1,12 @@
-use Rattle.std.proofs.Common.{◌∷◌, [], arith, length, map, sym, ap, ◌∙◌, length-append}
+use Rattle.std.proofs.Common.{◌∷◌, [], arith, length, map, sym, ap, subst, ◌∙◌, length-append, All}
 use Rattle.std.proofs.lemmas.List.{nil_from_length}
 use Rattle.mq_tree.specs.LentSet.{Lending}
 use Rattle.mq_system.specs.Closed.{all_home, ends}
+use Rattle.mq_table.specs.Slot.{Waits}
+use Rattle.mq_table.specs.SlotList.{IsSlotList}
 use Rattle.mq_system.specs.State.{State}
+use Rattle.mq_system.specs.Texts.{bytes_of}
+use Rattle.mq_system.proofs.CloseLemmas.{all_whole, all_counted}
 use Rattle.mq_system.proofs.HomeLemmas.{last_home, endings_kept, none_left, reversed}
 use Rattle.mq_system.proofs.one_thread.OneThread.close.Goals as goal
 
@@ -33,3 +37,15 @@ returns-clause-arena g c =
     let none = nil_from_length c.loop-slot.slots.items (omega (arith, c.in_default.ensures.cases, c.loop-slot.slots.ok)) in
     sym (none_left c.loop-slot.arena) ∙ rw none at c.loop-slot.invariant.1
     ∙ ap (λ (s : State). all_home s.slots s.arena) c.self.view_is
+
+pub returns-clause-lawful : goal.returns-clause-lawful
+returns-clause-lawful g c =
+    all_whole c.args.self.last_seq c.args.self.slots c.reverse.new.self.items
+    (returns-clause-slots g c)
+    (subst (λ (s : State). All (λ slot. IsSlotList s.last_seq slot.events) s.slots)
+    c.self.view_is c.self.invariant.lawful)
+
+pub returns-clause-waits : goal.returns-clause-waits
+returns-clause-waits g c =
+    all_counted c.args.self.slots c.reverse.new.self.items (returns-clause-slots g c)
+    (subst (λ (s : State). All (Waits bytes_of) s.slots) c.self.view_is c.self.invariant.waits)

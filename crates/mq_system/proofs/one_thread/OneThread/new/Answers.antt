@@ -1,5 +1,6 @@
 use Rattle.std.proofs.Common.{rules, arith, ◌≡◌, ◌≤◌, ◌^◌, ap, ◌∙◌, length}
 use Rattle.mq_tree.proofs.Powers.{pow_le}
+use Rattle.mq_system.proofs.NewLemmas.{keyed_new, lawful_new, waits_new}
 use Rattle.mq_system.proofs.SlotLemmas.{length_new, placed_new, within_limits}
 use Rattle.mq_system.proofs.one_thread.OneThread.new.Goals as goal
 
@@ -15,6 +16,9 @@ invariant_of-result g c =
     let many : length c.fill.new.slots.items ≡ c.args.config.slots = ap length c.fill.ensures ∙ length_new c.args.config.slots in
     record {
       placed = λ k within. rw c.fill.ensures (placed_new c.args.config.slots k (omega (arith, within, many)));
+      lawful = rw c.fill.ensures (lawful_new c.args.config.last_seq c.args.config.slots);
+      waits = rw c.fill.ensures (waits_new c.args.config.slots);
+      keyed = rw (c.fill.ensures, c.new-2.ensures) (keyed_new c.args.config.slots);
       few = omega (arith, many, limits);
       bounded = limits.last_seq;
       none_closed = c.in-Ok-with_capacity.ensures.items;

@@ -1,4 +1,4 @@
-use Rattle.std.proofs.Common.{rules, ◌∙◌}
+use Rattle.std.proofs.Common.{rules, ◌≡◌, ◌++◌, ◌∷◌, []}
 use mir.Val.{SFits}
 use mir.Syntax.{w32}
 use Rattle.std.proofs.lemmas.Int.{to_z-of_z}
@@ -10,7 +10,9 @@ invariant_of-self-2 c =
     let fits : SFits w32 c.args.key = search rules in
     let told = simp to_z-of_z at c.in_ok-insert.ensures.entries in
     let absent = rw (← c.self.view_is) at c.requires.absent in
-    let grown = told ∙ entered c.self.inside.ids c.args.key c.args.id absent in
+    let put = entered c.self.inside.ids c.args.key c.args.id absent in
+    let grown : c.insert.new.self.entries ≡ c.self.inside.ids.entries ++ (c.args.key, c.args.id) ∷ [] =
+    rw told (search (rules, put)) in
     keys_entered _ _ c.args.key c.args.id c.self.invariant grown c.requires.key c.in_ok-insert.ensures.unique
 
 pub returns-clause-keys : goal.returns-clause-keys
@@ -21,4 +23,5 @@ returns-clause-ok c =
     let fits : SFits w32 c.args.key = search rules in
     let told = simp to_z-of_z at c.in_ok-insert.ensures.entries in
     let absent = rw (← c.self.view_is) at c.requires.absent in
-    rw (← c.self.view_is) (told ∙ entered c.self.inside.ids c.args.key c.args.id absent)
+    let grown = entered c.self.inside.ids c.args.key c.args.id absent in
+    rw (← c.self.view_is) (rw told (search (rules, grown)))

@@ -14,6 +14,6 @@ returns-clause-keys c = invariant_of-self c
 
 pub returns-clause-left : goal.returns-clause-left
 returns-clause-left c =
-    rw (← c.self.view_is)
-    (filter-RetainsPairs _ (λ p. not (p.1 == c.args.id)) _
-    (λ k v b w g call. search rules) _ _ c.retain.ensures.filtered)
+    let left = filter-RetainsPairs _ (λ p. not (p.1 == c.args.id)) _
+    (λ k v b w g call. search rules) _ _ c.retain.ensures.filtered in
+    rw (← c.self.view_is) (cc (left))

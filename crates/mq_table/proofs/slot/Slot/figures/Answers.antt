@@ -1,5 +1,4 @@
-use Rattle.std.proofs.Common.{ap, sym, ◌∙◌}
-use Rattle.mq_queue.specs.Figures.{figures}
+use Rattle.std.proofs.Common.{rules}
 use Rattle.mq_table.proofs.Turns.{not_none, log_is}
 use Rattle.mq_table.proofs.slot.Slot.figures.Goals as goal
 
@@ -9,5 +8,4 @@ unreachable-requires g c =
 
 pub returns : goal.returns
 returns g c =
-    c.figures.ensures.value
-    ∙ ap figures (sym (log_is _ _ _ _ _ _ c.self.invariant c.self.view_is _ c.in-Some.is))
+    rw (log_is _ _ _ _ _ _ c.self.invariant c.self.view_is _ c.in-Some.is) (search rules)

@@ -1,9 +1,8 @@
-use Rattle.std.proofs.Common.{rules, ◌≡◌, ◌+◌, length}
+use Rattle.std.proofs.Common.{rules}
 use mir.Val.{SFits}
 use mir.Syntax.{w64}
 use Rattle.std.proofs.lemmas.Int.{to_z-of_z}
-use Rattle.mq_table.proofs.Pasts.{list_of_live}
-use Rattle.mq_table.proofs.Turns.{not_none, refused_receive, received_is}
+use Rattle.mq_table.proofs.Turns.{not_none, next_lawful, next_waits, refused_receive, received_is}
 use Rattle.mq_table.proofs.slot.Slot.receive.Goals as goal
 
 pub unreachable-requires : goal.unreachable-requires
@@ -18,21 +17,30 @@ returns-in_err-received-clause-refused g c =
 
 pub returns-in_err-received-clause-lawful : goal.returns-in_err-received-clause-lawful
 returns-in_err-received-clause-lawful g c =
-    list_of_live _ _ c.self.invariant.ended c.receive.ensures.sound.lawful
+    next_lawful _ _ _ _ _ _ c.self.invariant c.self.view_is _ c.in-Some.is
+    c.receive.new.self c.receive.ensures.sound
+
+pub returns-in_err-received-clause-waits : goal.returns-in_err-received-clause-waits
+returns-in_err-received-clause-waits g c =
+    next_waits _ _ _ _ _ _ c.self.invariant c.self.view_is _ c.in-Some.is
+    c.receive.new.self c.receive.ensures.sound
 
 pub returns-clause-ok : goal.returns-clause-ok
 returns-clause-ok g c =
-    let entry :
-    c.len-past.result + c.log_len.result
-    ≡ length c.self.inside.past.items + length c.in-Some.queue.log = search rules in
     let h = c.in_ok-received.ensures in
     let fits : SFits w64 c.in_ok-received.received.mtype = search rules in
-    simp to_z-of_z
-    (received_is _ _ _ _ _ _ c.self.invariant c.self.view_is _ c.in-Some.is
-    c.receive.new.self _ entry _
+    let told = received_is _ _ _ _ _ _ c.self.invariant c.self.view_is _ c.in-Some.is
+    c.receive.new.self _ c.events-entry.ensures _
     c.args.size c.args.selection c.args.noerror c.args.seat c.args.moment
-    h.accepted h.log h.messages)
+    h.accepted h.log h.messages in
+    simp to_z-of_z (search (rules, told))
 
 pub returns-clause-lawful : goal.returns-clause-lawful
 returns-clause-lawful g c =
-    list_of_live _ _ c.self.invariant.ended c.receive.ensures.sound.lawful
+    next_lawful _ _ _ _ _ _ c.self.invariant c.self.view_is _ c.in-Some.is
+    c.receive.new.self c.receive.ensures.sound
+
+pub returns-clause-waits : goal.returns-clause-waits
+returns-clause-waits g c =
+    next_waits _ _ _ _ _ _ c.self.invariant c.self.view_is _ c.in-Some.is
+    c.receive.new.self c.receive.ensures.sound

@@ -1,6 +1,5 @@
-use Rattle.std.proofs.Common.{rules, ◌≡◌, ◌+◌, length}
-use Rattle.mq_table.proofs.Pasts.{list_of_live}
-use Rattle.mq_table.proofs.Turns.{not_none, refused_send, sent_is}
+use Rattle.std.proofs.Common.{rules}
+use Rattle.mq_table.proofs.Turns.{not_none, next_lawful, next_waits, refused_send, sent_is}
 use Rattle.mq_table.proofs.slot.Slot.send.Goals as goal
 
 pub unreachable-requires : goal.unreachable-requires
@@ -15,17 +14,27 @@ returns-in_err-send-clause-refused g c =
 
 pub returns-in_err-send-clause-lawful : goal.returns-in_err-send-clause-lawful
 returns-in_err-send-clause-lawful g c =
-    list_of_live _ _ c.self.invariant.ended c.send.ensures.sound.lawful
+    next_lawful _ _ _ _ _ _ c.self.invariant c.self.view_is _ c.in-Some.is
+    c.send.new.self c.send.ensures.sound
+
+pub returns-in_err-send-clause-waits : goal.returns-in_err-send-clause-waits
+returns-in_err-send-clause-waits g c =
+    next_waits _ _ _ _ _ _ c.self.invariant c.self.view_is _ c.in-Some.is
+    c.send.new.self c.send.ensures.sound
 
 pub returns-clause-ok : goal.returns-clause-ok
 returns-clause-ok g c =
-    let entry :
-    c.len-past.result + c.log_len.result
-    ≡ length c.self.inside.past.items + length c.in-Some.queue.log = search rules in
-    sent_is _ _ _ _ _ _ c.self.invariant c.self.view_is _ c.in-Some.is
-    c.send.new.self _ entry c.args.message c.args.moment
-    c.in_ok-send.ensures.accepted c.in_ok-send.ensures.log c.in_ok-send.ensures.messages
+    let told = sent_is _ _ _ _ _ _ c.self.invariant c.self.view_is _ c.in-Some.is
+    c.send.new.self _ c.events-entry.ensures c.args.message c.args.moment
+    c.in_ok-send.ensures.accepted c.in_ok-send.ensures.log c.in_ok-send.ensures.messages in
+    search (rules, told)
 
 pub returns-clause-lawful : goal.returns-clause-lawful
 returns-clause-lawful g c =
-    list_of_live _ _ c.self.invariant.ended c.send.ensures.sound.lawful
+    next_lawful _ _ _ _ _ _ c.self.invariant c.self.view_is _ c.in-Some.is
+    c.send.new.self c.send.ensures.sound
+
+pub returns-clause-waits : goal.returns-clause-waits
+returns-clause-waits g c =
+    next_waits _ _ _ _ _ _ c.self.invariant c.self.view_is _ c.in-Some.is
+    c.send.new.self c.send.ensures.sound

@@ -1,5 +1,4 @@
-use Rattle.mq_table.proofs.Pasts.{list_of_live}
-use Rattle.mq_table.proofs.Turns.{not_none}
+use Rattle.mq_table.proofs.Turns.{not_none, next_lawful, next_waits}
 use Rattle.mq_table.proofs.slot.Slot.set.Goals as goal
 
 pub unreachable-requires : goal.unreachable-requires
@@ -8,8 +7,20 @@ unreachable-requires g c =
 
 pub returns-in_err-set-clause-lawful : goal.returns-in_err-set-clause-lawful
 returns-in_err-set-clause-lawful g c =
-    list_of_live _ _ c.self.invariant.ended c.set.ensures.sound.lawful
+    next_lawful _ _ _ _ _ _ c.self.invariant c.self.view_is _ c.in-Some.is
+    c.set.new.self c.set.ensures.sound
+
+pub returns-in_err-set-clause-waits : goal.returns-in_err-set-clause-waits
+returns-in_err-set-clause-waits g c =
+    next_waits _ _ _ _ _ _ c.self.invariant c.self.view_is _ c.in-Some.is
+    c.set.new.self c.set.ensures.sound
 
 pub returns-clause-lawful : goal.returns-clause-lawful
 returns-clause-lawful g c =
-    list_of_live _ _ c.self.invariant.ended c.set.ensures.sound.lawful
+    next_lawful _ _ _ _ _ _ c.self.invariant c.self.view_is _ c.in-Some.is
+    c.set.new.self c.set.ensures.sound
+
+pub returns-clause-waits : goal.returns-clause-waits
+returns-clause-waits g c =
+    next_waits _ _ _ _ _ _ c.self.invariant c.self.view_is _ c.in-Some.is
+    c.set.new.self c.set.ensures.sound

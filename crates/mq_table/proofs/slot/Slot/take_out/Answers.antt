@@ -1,5 +1,5 @@
 use Rattle.std.proofs.Common.{rules, ◌≡◌, ◌++◌, ap, sym, ◌∙◌}
-use Rattle.mq_table.proofs.Slots.{list_of, taken_out, log_left}
+use Rattle.mq_table.proofs.Slots.{list_of, waits_of, taken_out, log_left}
 use Rattle.mq_table.proofs.Turns.{not_none}
 use Rattle.mq_table.proofs.slot.Slot.take_out.Goals as goal
 
@@ -10,6 +10,10 @@ unreachable-requires g c =
 pub returns-in_err-reserve-clause-lawful : goal.returns-in_err-reserve-clause-lawful
 returns-in_err-reserve-clause-lawful g c =
     rw c.reserve.ensures.items (list_of _ _ _ _ _ c.self.invariant)
+
+pub returns-in_err-reserve-clause-waits : goal.returns-in_err-reserve-clause-waits
+returns-in_err-reserve-clause-waits g c =
+    rw c.reserve.ensures.items (waits_of _ _ _ _ _ c.self.invariant)
 
 pub invariant_of-self-in-Ok : goal.invariant_of-self-in-Ok
 invariant_of-self-in-Ok g c =
@@ -28,7 +32,15 @@ returns-in-Ok-clause-log g c =
 pub returns-in-Ok-clause-lawful : goal.returns-in-Ok-clause-lawful
 returns-in-Ok-clause-lawful g c = list_of _ _ _ _ _ (invariant_of-self-in-Ok g c)
 
+pub returns-in-Ok-clause-waits : goal.returns-in-Ok-clause-waits
+returns-in-Ok-clause-waits g c = waits_of _ _ _ _ _ (invariant_of-self-in-Ok g c)
+
 pub returns-in-Err-clause-lawful : goal.returns-in-Err-clause-lawful
 returns-in-Err-clause-lawful g c =
     let same : c.put_in.new.live ≡ c.self.inside.live = search rules in
     rw (c.reserve.ensures.items, same) (list_of _ _ _ _ _ c.self.invariant)
+
+pub returns-in-Err-clause-waits : goal.returns-in-Err-clause-waits
+returns-in-Err-clause-waits g c =
+    let same : c.put_in.new.live ≡ c.self.inside.live = search rules in
+    rw (c.reserve.ensures.items, same) (waits_of _ _ _ _ _ c.self.invariant)

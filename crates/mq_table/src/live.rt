@@ -1,0 +1,99 @@
+ghost use Rattle.std.specs.Prelude.{◌≡◌, true, Ok, length, min, take};
+ghost use Rattle.std.specs.Prelude.{OnErr, IfOk, IfErr, IsSomeAnd};
+ghost use Rattle.mq_queue.specs.Figures.{figures};
+ghost use Rattle.mq_select.specs.Waiting.{message_at};
+ghost use Rattle.mq_table.specs.Calls.{sends, receives, sets, refusal_of, receipt_of};
+ghost use Rattle.mq_table.specs.Slot.{Waits};
+ghost use Rattle.mq_table.specs.SlotList.{is_live, last_log, IsSlotList};
+
+use crate::{MAX_SEQ, Slot};
+use mq_message::{Body, Message};
+use mq_queue::{Figures, QueueError, Received};
+use mq_select::{Selection, Waiting};
+
+impl<B: Body, W: Waiting<B>> Slot<B, W> {
+    /// Sends a message to the queue that is in the slot, and answers the entry of the event in the
+    /// slot list (msgop(2), msgsnd with IPC_NOWAIT). A message that is refused is handed back.
+    pub fn send(
+        &mut self,
+        message: Message<B>,
+        moment: u64,
+    ) -> Result<u64, (QueueError, Message<B>)>
+        requires live { is_live self.old.events ≡ true }
+        ensures ok { IfOk result (λ entry.
+            sends B.bytes self.old message moment ≡ Ok (entry, self.new)) }
+        ensures refused { IfErr result (λ r.
+            r.0 ≡ refusal_of (sends B.bytes self.old message moment)) }
+        ensures handed_back { IfErr result (λ r. r.1 ≡ message) }
+        ensures unchanged { OnErr result (self.new ≡ self.old) }
+        ensures lawful { IsSlotList MAX_SEQ self.new.events }
+        ensures waits { Waits B.bytes self.new }
+    {
+        let entry = self.events();
+        let Some(queue) = &mut self.live else {
+            unreachable!()
+        };
+        queue.send(message, moment)?;
+        Ok(entry)
+    }
+
+    /// Receives a message from the queue that is in the slot (msgop(2), msgrcv with IPC_NOWAIT).
+    /// The entry that is answered counts from the beginning of the slot list.
+    pub fn receive(
+        &mut self,
+        size: u64,
+        selection: Selection,
+        noerror: bool,
+        seat: u16,
+        moment: u64,
+    ) -> Result<Received<B>, QueueError>
+        requires live { is_live self.old.events ≡ true }
+        ensures ok { IfOk result (λ r.
+            receives self.old size selection noerror seat moment ≡ Ok (receipt_of r, self.new)) }
+        ensures body { IfOk result (λ r. IsSomeAnd (message_at r.place self.old.messages) (λ m.
+            (B.bytes r.body ≡ take size (B.bytes m.body)) × B.keeps m.body r.body)) }
+        ensures length { IfOk result (λ r. length (B.bytes r.body) ≡ min r.length size) }
+        ensures refused { IfErr result (λ e.
+            e ≡ refusal_of (receives self.old size selection noerror seat moment)) }
+        ensures unchanged { OnErr result (self.new ≡ self.old) }
+        ensures lawful { IsSlotList MAX_SEQ self.new.events }
+        ensures waits { Waits B.bytes self.new }
+    {
+        let entry = self.events();
+        let Some(queue) = &mut self.live else {
+            unreachable!()
+        };
+        let received = queue.receive(size, selection, noerror, seat, moment)?;
+        Ok(Received { entry, ..received })
+    }
+
+    /// Sets the quota of the queue that is in the slot, and answers the entry of the event in the
+    /// slot list (msgctl(2), IPC_SET).
+    pub fn set(&mut self, qbytes: u64, seat: u16, moment: u64) -> Result<u64, QueueError>
+        requires live { is_live self.old.events ≡ true }
+        ensures ok { IfOk result (λ entry.
+            sets self.old qbytes seat moment ≡ Ok (entry, self.new)) }
+        ensures refused { IfErr result (λ e. e ≡ refusal_of (sets self.old qbytes seat moment)) }
+        ensures unchanged { OnErr result (self.new ≡ self.old) }
+        ensures lawful { IsSlotList MAX_SEQ self.new.events }
+        ensures waits { Waits B.bytes self.new }
+    {
+        let entry = self.events();
+        let Some(queue) = &mut self.live else {
+            unreachable!()
+        };
+        queue.set(qbytes, seat, moment)?;
+        Ok(entry)
+    }
+
+    /// What IPC_STAT shows of the queue that is in the slot (msgctl(2)).
+    pub fn figures(&self) -> Figures
+        requires live { is_live self.now.events ≡ true }
+        ensures { result ≡ figures (last_log self.now.events) }
+    {
+        match &self.live {
+            Some(queue) => queue.figures(),
+            None => unreachable!(),
+        }
+    }
+}
