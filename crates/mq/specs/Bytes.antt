@@ -1,0 +1,44 @@
+-- Texts that are sent and received whole, as bytes.
+use Rattle.std.specs.Prelude.{ℕ, ℤ, Bool, List, length, Result, Ok, Err}
+use Rattle.mq_message.specs.Text.{PlainText}
+use Rattle.mq_system.specs.Calls.{msgrcv, msgsnd}
+use Rattle.mq_system.specs.Look.{Answer, refused_early}
+use Rattle.mq_system.specs.State.{State, with_arena}
+use Rattle.mq_system.specs.Texts.{draft_errno, drafts, spends}
+use Rattle.mq_system.specs.declared.draft_error.DraftError.{DraftError}
+use Rattle.mq_system.specs.declared.results.Delivered.{Delivered}
+
+-- a text that was drafted is sent with these bytes
+abbrev pub sends_draft : ℕ → ℕ → ℤ → ℕ → List ℕ → ℕ → Result (PlainText × State) DraftError
+    → Answer ℕ
+sends_draft seat id mtype tag bytes moment (Ok d) =
+    msgsnd d.1 seat id mtype tag (record { bytes = bytes; block = d.0.block }) moment
+sends_draft seat id mtype tag bytes moment (Err e) = Err (refused_early (draft_errno e))
+
+-- these bytes are drafted, and sent
+abbrev pub sends_bytes : State → ℕ → ℕ → ℤ → ℕ → List ℕ → ℕ → Answer ℕ
+sends_bytes s seat id mtype tag bytes moment =
+    sends_draft seat id mtype tag bytes moment (drafts s (length bytes))
+
+-- what was received, with another form of its text
+abbrev pub with_text : {A B : Type 0} → Delivered A → B → Delivered B
+with_text d text = record {
+  entry = d.entry;
+  mtype = d.mtype;
+  sender = d.sender;
+  tag = d.tag;
+  length = d.length;
+  text = text;
+}
+
+-- a text that was received is copied out and spent
+abbrev pub copied_out : Answer (Delivered PlainText) → Answer (Delivered (List ℕ))
+copied_out (Ok turn) =
+    let text = turn.0.text in
+    Ok (with_text turn.0 text.bytes, with_arena turn.1 (spends text turn.1.arena))
+copied_out (Err refused) = Err refused
+
+-- the bytes of a message are received
+abbrev pub receives_bytes : State → ℕ → ℕ → ℕ → ℤ → Bool → Bool → ℕ → Answer (Delivered (List ℕ))
+receives_bytes s seat id size msgtyp except noerror moment =
+    copied_out (msgrcv s seat id size msgtyp except noerror moment)

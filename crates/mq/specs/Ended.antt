@@ -1,0 +1,17 @@
+-- What the queues of a program leave.
+use Rattle.std.specs.Prelude.{◌≡◌, ℕ, map}
+use Rattle.mq_tree.specs.LentSet.{Lending, free_pages}
+use Rattle.mq_system.specs.Closed.{all_home, ending_of, ends}
+use Rattle.mq_system.specs.State.{State}
+use Rattle.mq.specs.declared.ended.Ended.{Ended}
+
+-- how many pages are free once all that waits is home
+abbrev pub free_at_end : State → ℕ
+free_at_end s =
+    let home : Lending = all_home s.slots s.arena in
+    free_pages home.height home.lent
+
+-- the slots are those of the state in which the program ended, and so are the pages
+pub record Leaves {A : Type 0} (left : State) (ended : Ended A) : Type 0 where
+  pub slots : map ending_of ended.slots.items ≡ map ends left.slots
+  pub pages : ended.free_pages ≡ free_at_end left

@@ -1,0 +1,104 @@
+ghost use Rattle.std.specs.Prelude.{◌≡◌, ◌+◌, ◌≤◌, ◌⊎◌, ◌++◌, Ok, IfOk, IfErr, OnErr, length};
+ghost use Rattle.std.specs.Prelude.{vec_len, vec_capacity};
+ghost use Rattle.mq_system.specs.Look.{refused_or_memory};
+ghost use Rattle.mq_system.specs.declared.errno.Errno.TheVariants.{ENOMEM};
+ghost use Rattle.mq.specs.Bytes.{receives_bytes, sends_bytes, with_text};
+
+use mq_message::Text;
+use mq_system::{Delivered, Errno, OneThread, SendRefused};
+use mq_table::Id;
+use std::alloc::Global;
+use std::sync::ledger::Ledger;
+
+/// Drafts a text with these bytes and sends it, or spends it where it is refused. EINVAL and
+/// ENOMEM of the draft, then the refusals of `OneThread::msgsnd`.
+pub fn send_bytes<L: Ledger>(
+    queues: &mut OneThread<L>,
+    seat: u16,
+    id: Id,
+    mtype: i64,
+    tag: u64,
+    bytes: &[u8],
+    moment: u64,
+) -> Result<u64, Errno>
+    ensures ok { IfOk result (λ entry.
+        sends_bytes queues.old seat id mtype tag bytes.now moment ≡ Ok (entry, queues.new)) }
+    ensures refused { IfErr result (λ errno. errno ≡ (refused_or_memory queues.old id
+        (sends_bytes queues.old seat id mtype tag bytes.now moment)).errno) }
+    ensures unchanged { OnErr result (queues.new ≡ queues.old) }
+{
+    let mut text = match queues.draft(bytes.len() as u64) {
+        Ok(text) => text,
+        Err(error) => return Err(error.errno()),
+    };
+    text.fill(bytes);
+    match queues.msgsnd(seat, id, mtype, tag, text, moment) {
+        Ok(entry) => Ok(entry),
+        Err(refusal) => {
+            let SendRefused { refused, text } = refusal;
+            queues.spend(text);
+            Err(refused.errno)
+        }
+    }
+}
+
+/// Receives the first message that the selection names, with its bytes in a vector. Room for `size`
+/// bytes is made first, without which it answers ENOMEM; then the refusals of `OneThread::msgrcv`.
+pub fn receive_bytes<L: Ledger>(
+    alloc: Global,
+    queues: &mut OneThread<L>,
+    seat: u16,
+    id: Id,
+    size: u64,
+    msgtyp: i64,
+    except: bool,
+    noerror: bool,
+    moment: u64,
+) -> Result<Delivered<Vec<u8>>, Errno>
+    ensures ok { IfOk result (λ d.
+        receives_bytes queues.old seat id size msgtyp except noerror moment
+        ≡ Ok (with_text d d.text.items, queues.new)) }
+    ensures refused { IfErr result (λ errno. (errno ≡ ENOMEM)
+        ⊎ (errno ≡ (refused_or_memory queues.old id
+        (receives_bytes queues.old seat id size msgtyp except noerror moment)).errno)) }
+    ensures unchanged { OnErr result (queues.new ≡ queues.old) }
+{
+    let Ok(mut bytes) = Vec::with_capacity(alloc, size as usize) else {
+        return Err(Errno::ENOMEM);
+    };
+    let received = match queues.msgrcv(seat, id, size, msgtyp, except, noerror, moment) {
+        Ok(received) => received,
+        Err(refused) => return Err(refused.errno),
+    };
+    let Delivered {
+        entry,
+        mtype,
+        sender,
+        tag,
+        length,
+        text,
+    } = received;
+    copy_out(&text, &mut bytes);
+    queues.spend(text);
+    Ok(Delivered {
+        entry,
+        mtype,
+        sender,
+        tag,
+        length,
+        text: bytes,
+    })
+}
+
+/// Copies a text's bytes into a vector that has room for them.
+fn copy_out<L: Ledger>(text: &Text<L>, bytes: &mut Vec<u8>)
+    requires { vec_len bytes.old + length text.now.bytes ≤ vec_capacity bytes.old }
+    ensures { bytes.new.items ≡ bytes.old.items ++ text.now.bytes }
+{
+    for part in text.parts() {
+        match bytes.extend_from_slice(part) {
+            Ok(()) => (),
+            Err(_) => unreachable!(),
+        }
+    }
+}

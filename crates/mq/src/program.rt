@@ -1,0 +1,74 @@
+ghost use Rattle.std.specs.Prelude.{◌≡◌, ◌↔◌, ◌≤◌, true, false, IfOk, IsErrOf};
+ghost use Rattle.mq_system.specs.Limits.{keeps_limits, start};
+ghost use Rattle.mq_system.specs.State.{State};
+ghost use Rattle.mq_system.specs.declared.config.Config.{Config as Sizes};
+ghost use Rattle.mq.specs.Ended.{Leaves};
+
+use crate::Ended;
+use mq_arena::LEDGER_PARTS;
+use mq_system::{Closed, Config, OneThread, SysError};
+use std::alloc::Global;
+use std::marker::Brand;
+use std::sync::ledger::{Blank, Ledger};
+
+/// What is done with the queues of one thread. What it wants of the size is `before`, and what is
+/// known of its answer and of the state that it left is `after`. A program that promises nothing
+/// leaves both out.
+pub trait QueueProgram: Drop {
+    type Answer;
+
+    ghost before: { Self → Sizes → Type 0 } = { λ _ _. Unit {0} };
+
+    ghost after: { Self → Sizes → State → Self.Answer → Type 0 } = { λ _ _ _ _. Unit {0} };
+
+    /// Runs once. No queue is made yet, and no page is lent.
+    fn run<L: Ledger>(
+        self,
+        alloc: Global,
+        config: Config,
+        queues: &mut OneThread<L>,
+    ) -> Self::Answer
+        requires before { before self config }
+        requires limits { keeps_limits config ≡ true }
+        requires start { queues.old ≡ start config }
+        ensures after { after self config queues.new result };
+}
+
+/// Makes queues of this size, runs the program on them once, and closes them. Where the answer is
+/// `Err`, the program has not begun.
+pub fn with_queues<Q: QueueProgram>(
+    alloc: Global,
+    config: Config,
+    program: Q,
+) -> Result<Ended<Q::Answer>, SysError>
+    requires before { Q.before program config }
+    ensures ok { IfOk result (λ ended. (left : State)
+        × Q.after program config left ended.answer × Leaves left ended) }
+    ensures err { IsErrOf result SysError.Config ↔ (keeps_limits config ≡ false) }
+{
+    run_program::<Brand, Q>(alloc, config, Blank::new(LEDGER_PARTS), program)
+}
+
+fn run_program<L: Ledger, Q: QueueProgram>(
+    alloc: Global,
+    config: Config,
+    ledger: Blank,
+    program: Q,
+) -> Result<Ended<Q::Answer>, SysError>
+    requires name { ledger.name ≡ L.name }
+    requires parts { ledger.parts ≡ L.parts }
+    requires enough { LEDGER_PARTS ≤ ledger.parts }
+    requires before { Q.before program config }
+    ensures ok { IfOk result (λ ended. (left : State)
+        × Q.after program config left ended.answer × Leaves left ended) }
+    ensures err { IsErrOf result SysError.Config ↔ (keeps_limits config ≡ false) }
+{
+    let mut queues = OneThread::<L>::new(alloc, config, ledger)?;
+    let answer = program.run(alloc, config, &mut queues);
+    let Closed { slots, arena } = queues.close();
+    Ok(Ended {
+        answer,
+        slots,
+        free_pages: arena.free_pages(),
+    })
+}
