@@ -1,19 +1,37 @@
 #!/usr/bin/env bash
-# Runs mqsim with each command line of the table below, on a script of the one line `arena`, and
-# prints a line a case; it ends with status 1 where a case is wrong. Of each case the table has
-#   the status;
-#   what stands on standard output: `none`, `help`, or `pages N`, the arena that the script saw;
-#   what stands on standard error: `none`, `error` (the parser's), or `fault` (the program's own);
-#   the words.
-# Where no script is run, standard input must not have been read. Wants mqsim to be built (`rt run`).
-set -euo pipefail
+# The command lines of mqsim: what each is answered, and what each option does.
+# Wants mqsim to be built. Prints the cases that fail; the last line counts.
+#
+# Of the wrong bodies that the proofs let through it finds these, each of which was tried:
+#   the parser's error is not printed;
+#   an option that was read is passed over (`Config { height: DEFAULTS.height, ..options_of(given) }`);
+#   the parser's range of an option is narrower (`.range(1..=63)`);
+#   words without a subcommand have another default (`None => Ok(Config { height: 5, ..DEFAULTS })`).
+set -uo pipefail
 cd "$(dirname "$0")/.."
 program=$PWD/crates/mqsim/out/mqsim
 seen=$(mktemp -d)
 trap 'rm -rf "$seen"' EXIT
+passed=0
+failed=0
+
+# Counts a case with the words from $2 on, which passed if $1 is 0.
+count() {
+    if [ "$1" -eq 0 ]; then
+        passed=$((passed + 1))
+    else
+        failed=$((failed + 1))
+        printf 'command_lines: mqsim'
+        printf ' %q' "${@:2}"
+        echo ": status $status, standard error: $(head -c 300 "$seen/err")"
+    fi
+}
+
+# The table of the words, on a script of the one line `arena`: the status; what is on standard
+# output, `none`, `help`, or `pages N`, the arena that the script saw; what is on standard error,
+# `none`, `error` (the parser's) or `fault` (the program's own); and the words. Where no script is
+# run, standard input must not have been read.
 echo arena > "$seen/script"
-cases=0
-wrong=0
 
 # Whether the file $2 has what $1 says.
 has() {
@@ -21,28 +39,22 @@ has() {
         none) [ ! -s "$2" ] ;;
         help) grep -q '^Usage: mqsim' "$2" ;;
         error) grep -q '^error: ' "$2" ;;
-        fault) grep -q '^mqsim: ' "$2" ;;
+        fault) grep -q '^mqsim: command line: ' "$2" ;;
         pages\ *) [ "$(wc -l < "$2")" -eq 1 ] && grep -q "^$1 " "$2" ;;
     esac
 }
 
-# Runs the words from $4 on; $1 to $3 are the status and what the two outputs have.
 run() {
-    local status=0 verdict=ok left=$seen/script
+    local left=$seen/script
     {
-        "$program" "${@:4}" > "$seen/out" 2> "$seen/err" || status=$?
+        "$program" "${@:4}" > "$seen/out" 2> "$seen/err"
+        status=$?
         cat > "$seen/left"
     } < "$seen/script"
     [[ $2 == pages* ]] && left=/dev/null
-    if [ "$status" -ne "$1" ] || ! has "$2" "$seen/out" || ! has "$3" "$seen/err" \
-        || ! cmp -s "$seen/left" "$left"; then
-        verdict=WRONG
-        wrong=$((wrong + 1))
-    fi
-    cases=$((cases + 1))
-    printf '%-5s  status %s  mqsim' "$verdict" "$status"
-    [ $# -eq 3 ] || printf ' %q' "${@:4}"
-    echo
+    [ "$status" -eq "$1" ] && has "$2" "$seen/out" && has "$3" "$seen/err" \
+        && cmp -s "$seen/left" "$left"
+    count $? "${@:4}"
 }
 
 #   status  output       error  words
@@ -93,5 +105,74 @@ run 0       help         none   help serial
 run 0       help         none   serial --help
 run 0       help         none   serial --height 3 --help
 
-echo "$cases cases, $wrong wrong"
-[ "$wrong" -eq 0 ]
+# What the help names.
+for words in --help -h help; do
+    "$program" "$words" > "$seen/out" 2> "$seen/err"
+    status=$?
+    for name in --height --slots --last-seq docs/SCRIPT.md Ctrl-D; do
+        grep -q -e "$name" "$seen/out"
+        count $? "$words" "($name)"
+    done
+done
+
+# What each option does. The words from $1 on run a script that is in the file `script`, and must
+# answer what is in the file `wanted`.
+effect() {
+    "$program" "$@" < "$seen/script" > "$seen/out" 2> "$seen/err"
+    status=$?
+    [ "$status" -eq 0 ] && [ ! -s "$seen/err" ] && cmp -s "$seen/out" "$seen/wanted"
+    count $? "$@"
+}
+
+# A height is the arena's: 2^H pages, of which the largest block has order H.
+height() {
+    local pages=$((1 << $1))
+    echo arena > "$seen/script"
+    echo "pages $pages free $pages largest $1" > "$seen/wanted"
+    effect "${@:2}"
+}
+height 6
+height 6  serial
+for height in 0 1 5 6 7 10; do
+    height $height serial --height $height
+done
+
+# Of S slots, S + 1 queues find the last one used up.
+slots() {
+    yes 'get 0 c' | head -$(($1 + 1)) > "$seen/script"
+    { seq -f 'id %.0f' 0 $(($1 - 1)); echo ENOSPC; } > "$seen/wanted"
+    effect "${@:2}"
+}
+slots 16
+slots 16  serial
+for slots in 1 2 16 40 63 64; do
+    slots $slots serial --slots $slots
+done
+
+# In a slot whose last queue has seq Q, Q + 1 queues are made and removed, and no other. The first
+# word says how many slots there are: all but slot 0 keep their first queue.
+last_seq() {
+    local others=$(($1 - 1))
+    {
+        yes 'get 0 c' | head -"$1"
+        seq -f $'rm %.0f\nget 0 c' 0 64 $((64 * $2))
+    } > "$seen/script"
+    {
+        seq -f 'id %.0f' 0 $others
+        for ((seq = 1; seq <= $2; seq++)); do
+            echo "at $((2 * seq - 1)) events 2"
+            echo "id $((64 * seq))"
+        done
+        echo "at $((2 * $2 + 1)) events 2"
+        echo ENOSPC
+    } > "$seen/wanted"
+    effect "${@:3}"
+}
+last_seq 16 32767
+last_seq 16 32767  serial
+for last in 0 1 1000 32766 32767; do
+    last_seq 1 $last serial --slots 1 --last-seq $last
+done
+
+echo "command_lines: $passed passed, $failed failed"
+[ "$failed" -eq 0 ]

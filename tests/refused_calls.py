@@ -1,19 +1,46 @@
 #!/usr/bin/env python3
-"""Runs each test of some crates with its Nth allocation refused, for N from 1 until it makes fewer.
+"""Runs each test with its Nth allocation refused, for N from 1 until it makes fewer; of a test that
+makes more than 600, which repeats what it does, some of the later ones.
 
-`tests/refused_calls.py [CRATE ..]`, or without a name for mq_system_tests. A test makes a call that
-found no memory once more, so each run must end in one of these ways: all its checks passed, which
-says that the call made again answered as if nothing had happened; or the test ends by its own word
-that memory was wanted, where it does not make the call twice. Wants the tests to be built
-(`rt test` in the crate's folder).
+`tests/refused_calls.py [CRATE ..]`, or without a name for every crate that has tests. A test makes
+a call that found no memory once more, so each run must end in one of these ways: all its checks
+passed, which says that the call made again answered as if nothing had happened; or the test ends by
+its own word that memory was wanted, where it does not make the call twice. Wants the tests to be
+built, as crates/CRATE/out/CRATE_tests, and `cc`. Prints the runs that fail; the last line counts.
 """
+import concurrent.futures
+import glob
 import os
 import subprocess
 import sys
 import tempfile
 
 TOP = os.path.dirname(os.path.dirname(os.path.abspath(__file__)))
-NO_MEMORY = ("memory", "allocerror", "no page", "no queue", "not sent")
+NO_MEMORY = ("memory", "allocerror", "allocfailed", "no page", "no queue", "not sent")
+# The failures of a test that are told; the others are only counted.
+TOLD = 3
+# The allocations that are refused one by one; beyond them the steps grow.
+EACH = 600
+
+
+def crates_with_tests():
+    """The names of the crates with a `#[test]`."""
+    sources = glob.glob(f"{TOP}/crates/*/src/**/*.rt", recursive=True)
+    tested = [source for source in sources if "#[test]" in open(source, encoding="utf-8").read()]
+    return sorted({os.path.relpath(source, f"{TOP}/crates").split(os.sep)[0] for source in tested})
+
+
+def program_of(crate):
+    return f"{TOP}/crates/{crate}/out/{crate}_tests"
+
+
+def tests_of(crate):
+    """The names of a crate's tests; none where they are not built."""
+    try:
+        listed = subprocess.run([program_of(crate), "--list"], capture_output=True, text=True)
+    except OSError:
+        return []
+    return [line[:-6] for line in listed.stdout.splitlines() if line.endswith(": test")]
 
 
 def refused_run(command, shim, mark, nth):
@@ -30,34 +57,45 @@ def says_no_memory(run):
     return any(word in said for word in NO_MEMORY)
 
 
-def judge(program, name, shim, mark):
-    """How many runs of a test passed, and how many could not begin. Ends at any other."""
-    passed = not_begun = nth = 0
+def judge(crate, test, shim, mark):
+    """How many runs of a test ended well, and what is to be said of the others."""
+    passed = nth = 0
+    wrong = []
     while True:
-        nth += 1
-        run = refused_run([program, name], shim, mark, nth)
+        nth += 1 if nth < EACH else nth // 32
+        run = refused_run([program_of(crate), test], shim, mark, nth)
         if run is None:
-            return passed, not_begun
-        if run.returncode == 0:
+            return passed, wrong
+        if run.returncode == 0 or says_no_memory(run):
             passed += 1
-        elif says_no_memory(run):
-            not_begun += 1
         else:
-            sys.exit(f"{name}, allocation {nth}: status {run.returncode}\n{run.stdout}{run.stderr}")
+            said = " ".join((run.stdout + run.stderr).split())[:300]
+            wrong.append(f"refused_calls: {crate} {test}, allocation {nth}: "
+                         f"status {run.returncode}: {said}")
 
 
 def main():
+    crates = sys.argv[1:] or crates_with_tests()
+    tests = [(crate, test) for crate in crates for test in tests_of(crate)]
+    passed = failed = 0
+    for crate in crates:
+        if not any(crate == tested for tested, _ in tests):
+            failed += 1
+            print(f"refused_calls: {crate} has no tests built")
     with tempfile.TemporaryDirectory() as folder:
-        shim, mark = f"{folder}/refuse.so", f"{folder}/mark"
+        shim = f"{folder}/refuse.so"
         subprocess.run(["cc", "-shared", "-fPIC", "-O1", "-o", shim, f"{TOP}/tests/refuse_nth.c",
                         "-ldl"], check=True)
-        for crate in sys.argv[1:] or ["mq_system_tests"]:
-            program = f"{TOP}/crates/{crate}/out/{crate}_tests"
-            listed = subprocess.run([program, "--list"], capture_output=True, text=True, check=True)
-            names = [line[:-6] for line in listed.stdout.splitlines() if line.endswith(": test")]
-            results = [judge(program, name, shim, mark) for name in names]
-            print(f"{crate}: {sum(r[0] for r in results)} runs passed, "
-                  f"{sum(r[1] for r in results)} ended by their own word that memory was wanted")
+        with concurrent.futures.ThreadPoolExecutor(os.cpu_count()) as pool:
+            ends = [pool.submit(judge, *tested, shim, f"{folder}/mark{place}")
+                    for place, tested in enumerate(tests)]
+            for end in ends:
+                right, others = end.result()
+                passed, failed = passed + right, failed + len(others)
+                print(*others[:TOLD], sep="\n", end="\n" if others else "")
+    print(f"refused_calls: {passed} passed, {failed} failed")
+    return 1 if failed else 0
 
 
-main()
+if __name__ == "__main__":
+    sys.exit(main())

@@ -13,8 +13,8 @@ use Rattle.std.proofs.lemmas.Str.Parse.{IsNumeralModel, not_in_digits, numerals_
 use Rattle.mq_cli.specs.Numbers.{number_of}
 
 -- a plus, or a zero with more behind it
-abbrev pub has_needless_front : List ℕ → Bool
-has_needless_front word = (slice_index word 0 == 43) || ((slice_index word 0 == 48) && nat_lt 1 (length word))
+abbrev pub has_needless_prefix : List ℕ → Bool
+has_needless_prefix word = (slice_index word 0 == 43) || ((slice_index word 0 == 48) && nat_lt 1 (length word))
 
 -- the digits and their value, in std's words
 pub numerals : IsNumeralModel (AllDigits 10) (digits_value 10)
@@ -54,7 +54,7 @@ begins_with_zero zero fits e = ap length (decimal_digit 0 (lit< tt))
 begins_with_zero (suc n) fits e = let above = first_decimal (suc n) (omega arith) fits in absurd (omega arith)
 
 -- no number is spelled with a needless front
-pub needless : (word : List ℕ) → has_needless_front word ≡ true → None ≡ number_of word
+pub needless : (word : List ℕ) → has_needless_prefix word ≡ true → None ≡ number_of word
 needless word front = number_of-None word (λ n fits is. elim (or_cases _ _ (rw is at front)) [
   | inl plus ↦ begins_with_no_plus n fits (eqb-true _ _ plus)
   | inr zeros ↦
@@ -76,7 +76,7 @@ alone word filled front first = elim (and_cases _ _ front) [
 ]
 
 -- what `parse` gives of a word with no needless front is the number that it spells
-pub parsed : {E : Type 0} (word : List ℕ) (r : Result ℕ E) → has_needless_front word ≡ false → ParsesUnsigned 64 10 word r → result_ok r ≡ number_of word
+pub parsed : {E : Type 0} (word : List ℕ) (r : Result ℕ E) → has_needless_prefix word ≡ false → ParsesUnsigned 64 10 word r → result_ok r ≡ number_of word
 parsed {E} word (Ok n) plain h =
     let front = or_parts _ _ plain in
     let p = parse_plain numerals {E = E} 64 word (Ok n) h (eqb-false _ _ front.0) in

@@ -6,7 +6,7 @@ use Rattle.mq_cli.specs.declared.fault.RunFault.{RunFault}
 use Rattle.mq_cli.specs.declared.fault.RunFault.TheVariants.{Script, Size, Read, Write, Memory}
 use Rattle.mq_cli.specs.Commands.{reading}
 use Rattle.mq_cli.specs.Session.{State}
-use Rattle.mq_cli.specs.Serial.{AppendsFront, Runs, RunsLine}
+use Rattle.mq_cli.specs.Serial.{AppendsPrefix, Runs, RunsLine}
 use Rattle.mq_cli.specs.Transcript.{Run, before, goes_on, run_from, said}
 
 -- the writer took some text, and the whole run is that text before the rest of the run
@@ -40,9 +40,9 @@ so_far_step old now new n s t whole line lines so ran =
     line_done old now new n t whole (λ u. run_from (n + 1) u lines) (said n s (reading line)) so ran
 
 -- a front of what a line writes is a front of what the run writes
-front_before : (old now new : Option (List ℕ)) (whole run : Run) (part : List ℕ)
-    → SoFar old now whole (before part run) → AppendsFront now new part → AppendsFront old new whole.written
-front_before old now new whole run part so front =
+prefix_before : (old now new : Option (List ℕ)) (whole run : Run) (part : List ℕ)
+    → SoFar old now whole (before part run) → AppendsPrefix now new part → AppendsPrefix old new whole.written
+prefix_before old now new whole run part so front =
     let rest = front.1.0 in (
       so.text ++ front.0,
       (
@@ -57,8 +57,8 @@ front_before old now new whole run part so front =
 
 line_failed : (old now new : Option (List ℕ)) (n : ℕ) (s : State) (whole : Run) (rest : State → Run) (r : Result (List ℕ × State) Cause)
     (e : RunFault) → SoFar old now whole (goes_on n r rest) → RunsLine now new n r s (Err e) → Runs old new whole (Err e)
-line_failed old now new n s whole rest (Ok turn) Write so ran = front_before old now new whole (rest turn.1) turn.0 so ran
-line_failed old now new n s whole rest (Ok turn) Memory so ran = front_before old now new whole (rest turn.1) turn.0 so ran
+line_failed old now new n s whole rest (Ok turn) Write so ran = prefix_before old now new whole (rest turn.1) turn.0 so ran
+line_failed old now new n s whole rest (Ok turn) Memory so ran = prefix_before old now new whole (rest turn.1) turn.0 so ran
 line_failed old now new n s whole rest (Ok turn) (Script line cause) so ran = absurd ran
 line_failed old now new n s whole rest (Ok turn) Size so ran = absurd ran
 line_failed old now new n s whole rest (Ok turn) Read so ran = absurd ran
@@ -88,14 +88,14 @@ so_far_end old now n s whole so = (
 )
 
 -- however a run ended, a front of what it writes was written
-pub runs_front : (old now : Option (List ℕ)) (run : Run) (r : Result (Unit {0}) RunFault) → Runs old now run r → AppendsFront old now run.written
-runs_front old now run (Ok _) ran = (run.written, ([], sym (append-nil run.written)), ran.1)
-runs_front old now run (Err (Script line cause)) ran = (run.written, ([], sym (append-nil run.written)), ran.1)
-runs_front old now run (Err Write) ran = ran
-runs_front old now run (Err Memory) ran = ran
-runs_front old now run (Err Size) ran = absurd ran
-runs_front old now run (Err Read) ran = absurd ran
+pub runs_prefix : (old now : Option (List ℕ)) (run : Run) (r : Result (Unit {0}) RunFault) → Runs old now run r → AppendsPrefix old now run.written
+runs_prefix old now run (Ok _) ran = (run.written, ([], sym (append-nil run.written)), ran.1)
+runs_prefix old now run (Err (Script line cause)) ran = (run.written, ([], sym (append-nil run.written)), ran.1)
+runs_prefix old now run (Err Write) ran = ran
+runs_prefix old now run (Err Memory) ran = ran
+runs_prefix old now run (Err Size) ran = absurd ran
+runs_prefix old now run (Err Read) ran = absurd ran
 
 -- and a flush keeps it so
-pub front_kept : (old now new : Option (List ℕ)) (text : List ℕ) → AppendsFront old now text → Keeps now new → AppendsFront old new text
-front_kept old now new text front kept = (front.0, front.1, Appends-kept old now new front.0 front.2 kept)
+pub prefix_kept : (old now new : Option (List ℕ)) (text : List ℕ) → AppendsPrefix old now text → Keeps now new → AppendsPrefix old new text
+prefix_kept old now new text front kept = (front.0, front.1, Appends-kept old now new front.0 front.2 kept)

@@ -5,9 +5,9 @@ rest_whole : (n : ℕ) (xs : List ℕ) → take (length xs - n) (drop n xs) ≡ 
 rest_whole n xs = grind (arith, common_steps)
 
 -- n more bytes of the rest go to the front
-pub front_grown : (bytes front rest : List ℕ) (n : ℕ) → bytes ≡ front ++ rest
+pub prefix_grown : (bytes front rest : List ℕ) (n : ℕ) → bytes ≡ front ++ rest
     → bytes ≡ (front ++ take n rest) ++ take (length rest - n) (drop n rest)
-front_grown bytes front rest n e =
+prefix_grown bytes front rest n e =
     rw (rest_whole n rest, append_assoc, take-append-drop n rest) e
 
 pub length_read : (script chunk : List ℕ) (n : ℕ) → n ≤ length chunk → length (script ++ take n chunk) ≡ length script + n

@@ -1,4 +1,7 @@
-use Rattle.std.specs.Prelude.{ℕ, ℤ, Bool, true, false, ◌^◌, ◌==◌, nat_lt, ◌&&◌, ◌||◌, not, if◌then◌else◌, List, [], ◌∷◌, length, drop, slice_index_or, codes, Option, Some, None, Result, Ok, Err}
+-- The commands, and the lines that ask for them.
+use Rattle.std.specs.Prelude.{ℕ, ℤ, Bool, true, false, ◌^◌, ◌==◌, nat_lt, ◌&&◌, ◌||◌, not}
+use Rattle.std.specs.Prelude.{if◌then◌else◌, List, [], ◌∷◌, length, drop, slice_index_or, codes}
+use Rattle.std.specs.Prelude.{Option, Some, None, Result, Ok, Err}
 use Rattle.std.specs.List.{list_all, list_any}
 use Rattle.std.specs.Option.{option_map}
 use Rattle.std.specs.Str.{bytes_eq}
@@ -84,7 +87,7 @@ abbrev pub is_text : List ℕ → Bool
 is_text text =
     is_plain text || ((slice_index_or text 0 0 == 42) && not (list_any (λ b. b == 32) text))
 
--- the bytes behind `=`, or as many letters as the number behind `*` says
+-- the bytes after `=`, or as many letters as the number after `*` says
 abbrev pub text_of : List ℕ → Option Text
 text_of text =
     if is_plain text

@@ -28,6 +28,6 @@ filled text (Err e) = Err (draft_errno e)
 abbrev pub draft : State → Text → Result (PlainText × State) Errno
 draft queues text = filled text (drafts queues (length_of_text text))
 
--- a text is given up
+-- a text gives its pages back
 abbrev pub spent : PlainText → State → State
 spent text queues = with_arena queues (spends text queues.arena)

@@ -1,9 +1,12 @@
-use Rattle.std.specs.Prelude.{◌≡◌, ◌<◌, ◌≤◌, ◌^◌, ℕ, Bool, true, false, IsTrue, FitsSigned, List, [], ◌∷◌, length, codes, Some, Ok}
+-- The spelling of a command, which is its only line.
+use Rattle.std.specs.Prelude.{◌≡◌, ◌<◌, ◌≤◌, ◌^◌, ℕ, Bool, true, false, IsTrue, FitsSigned, List}
+use Rattle.std.specs.Prelude.{[], ◌∷◌, length, codes, Some, Ok}
 use Rattle.std.specs.Fmt.{decimal, signed_decimal}
 use Rattle.std.specs.Int.{w32, w64}
 use Rattle.std.specs.List.{list_all}
 use Rattle.mq_cli.specs.declared.limits.TheConstants.{LINE_LIMIT}
-use Rattle.mq_cli.specs.Commands.{Call, sit, show, get, snd, rcv, set, rm, stat, ipcs, Text, plain, letters, reading}
+use Rattle.mq_cli.specs.Commands.{Call, sit, show, get, snd, rcv, set, rm, stat, ipcs, Text, plain}
+use Rattle.mq_cli.specs.Commands.{letters, reading}
 use Rattle.mq_cli.specs.Lines.{line_of, is_printable}
 
 -- a text has `=` before it, a number of letters `*`

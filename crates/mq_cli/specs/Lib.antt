@@ -1,6 +1,5 @@
 pub mod Commands
 pub mod Drafts
-pub mod Kept
 pub mod Laws
 pub mod Lines
 pub mod Numbers

@@ -1,4 +1,6 @@
-use Rattle.std.specs.Prelude.{ℕ, Bool, ◌-◌, ◌==◌, nat_le, ◌&&◌, if◌then◌else◌, List, length, map, take, slice_index_or}
+-- The lines of a script, and the words of a line.
+use Rattle.std.specs.Prelude.{ℕ, Bool, ◌-◌, ◌==◌, nat_le, ◌&&◌, if◌then◌else◌, List, length, map}
+use Rattle.std.specs.Prelude.{take, slice_index_or}
 use Rattle.std.specs.List.{slice_split, join_with_byte}
 
 -- the parts of a text round a separator: one word for lines and for words

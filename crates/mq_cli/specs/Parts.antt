@@ -1,3 +1,4 @@
+-- What an iterator over lines or words has still to give.
 use Rattle.std.specs.Prelude.{ℕ, List, [], Option, map}
 use Rattle.std.specs.Option.{option_map_or}
 use Rattle.std.specs.Borrow.{Bor}

@@ -1,4 +1,6 @@
-use Rattle.std.specs.Prelude.{ℕ, ℤ, Bool, ◌+◌, ◌^◌, List, [], ◌∷◌, ◌++◌, length, codes, Option, Some, None, Result, Ok, Err}
+-- What a script writes.
+use Rattle.std.specs.Prelude.{ℕ, ℤ, Bool, ◌+◌, ◌^◌, List, [], ◌∷◌, ◌++◌, length, codes, Option}
+use Rattle.std.specs.Prelude.{Some, None, Result, Ok, Err}
 use Rattle.std.specs.Fmt.{decimal, signed_decimal}
 use Rattle.mq_tree.specs.Fit.{largest}
 use Rattle.mq_tree.specs.LentSet.{free_pages}
@@ -15,7 +17,8 @@ use Rattle.mq_system.specs.declared.results.Delivered.{Delivered}
 use Rattle.mq_system.specs.declared.results.GetFlags.{GetFlags}
 use Rattle.mq_cli.specs.declared.fault.Cause.{Cause}
 use Rattle.mq_cli.specs.Lines.{lines_of}
-use Rattle.mq_cli.specs.Commands.{Call, sit, show, get, snd, rcv, set, rm, stat, ipcs, Text, reading}
+use Rattle.mq_cli.specs.Commands.{Call, sit, show, get, snd, rcv, set, rm, stat, ipcs, Text}
+use Rattle.mq_cli.specs.Commands.{reading}
 use Rattle.mq_cli.specs.Drafts.{draft, spent}
 use Rattle.mq_cli.specs.Reports.{table_of}
 use Rattle.mq_cli.specs.Session.{State, by_errno, start}
@@ -27,18 +30,18 @@ pub data Reply : Type 0 where
   given : (id : ℕ) → Reply
   at : (entry : ℕ) → Reply
   message : (delivery : Delivered PlainText) → Reply
-  figures : (pages free : ℕ) (most : Option ℕ) → Reply
+  arena : (pages free : ℕ) (most : Option ℕ) → Reply
   gone : (entry events : ℕ) → Reply
-  counted : (queue : Figures) → Reply
+  figures : (queue : Figures) → Reply
   table : (queues : System) → Reply
 
--- what is said of a message that is handed out, up to its text
+-- the answer of msgrcv, up to the text
 unfoldable pub head_of : ℤ → ℕ → ℕ → ℕ → List ℕ
 head_of mtype sender tag n =
     codes "msg " ++ signed_decimal mtype ++ codes " seat " ++ decimal sender
     ++ codes " tag " ++ decimal tag ++ codes " len " ++ decimal n ++ codes " ="
 
--- what is said of the arena, up to the largest order that fits
+-- the answer of `arena`, up to the largest order that fits
 unfoldable pub pages_of : ℕ → ℕ → List ℕ
 pages_of pages free =
     codes "pages " ++ decimal pages ++ codes " free " ++ decimal free ++ codes " largest "
@@ -47,7 +50,7 @@ abbrev pub order_name : Option ℕ → List ℕ
 order_name None = codes "none"
 order_name (Some order) = decimal order
 
--- what is said of a queue: what waits and its quota, and then who changed it last and when
+-- the answer of `stat`: what waits and the quota, who changed the queue last, and when
 unfoldable pub counts_of : Figures → List ℕ
 counts_of f =
     codes "qnum " ++ decimal f.qnum ++ codes " cbytes " ++ decimal f.cbytes ++ codes " qbytes "
@@ -67,9 +70,9 @@ text_of silent = []
 text_of (refused errno) = errno_name errno
 text_of (given id) = codes "id " ++ decimal id
 text_of (at entry) = codes "at " ++ decimal entry
-text_of (figures pages free most) = pages_of pages free ++ order_name most
+text_of (arena pages free most) = pages_of pages free ++ order_name most
 text_of (gone entry events) = codes "at " ++ decimal entry ++ codes " events " ++ decimal events
-text_of (counted queue) = counts_of queue ++ callers_of queue ++ moments_of queue
+text_of (figures queue) = counts_of queue ++ callers_of queue ++ moments_of queue
 text_of (table queues) = table_of queues
 text_of (message m) = head_of m.mtype m.sender m.tag m.length ++ m.text.bytes
 
@@ -78,23 +81,23 @@ abbrev pub output : Reply → List ℕ
 output silent = []
 output reply = text_of reply ++ 10 ∷ []
 
--- the reply of an answer, and what it leaves: a refused call leaves all
+-- the reply of an answer, and the state after it: a refused call changes nothing
 abbrev pub told : {T : Type 0} → System → (T × System → Reply × System) → Result (T × System) Errno
     → Reply × System
 told q reply (Ok turn) = reply turn
 told q reply (Err e) = (refused e, q)
 
--- what the calls of line n, made by a seat, reply and leave
+-- what the calls of line n, made by a seat, reply, and the queues after them
 abbrev pub get_step : ℕ → ℕ → System → ℤ → GetFlags → Reply × System
 get_step n seat q key flags = told q (λ t. (given t.0.id, t.1)) (msgget q seat key flags n)
 
--- a text that cannot be made is refused whatever else the line says; a refused call leaves all
+-- a text that cannot be made is refused whatever else the line says
 abbrev pub send_step : ℕ → ℕ → System → ℕ → ℤ → Text → Reply × System
 send_step n seat q id mtype text =
     told q (λ d. told q (λ t. (at t.0, t.1)) (by_errno (msgsnd d.1 seat id mtype n d.0 n)))
     (draft q text)
 
--- a text that was handed out is given up once it is written
+-- a text that was handed out gives its pages back once it is written
 abbrev pub receive_step : ℕ → ℕ → System → ℕ → ℕ → ℤ → Bool → Bool → Reply × System
 receive_step n seat q id size mtype except noerror =
     told q (λ t. (message t.0, spent t.0.text t.1))
@@ -107,21 +110,21 @@ abbrev pub remove_step : ℕ → ℕ → System → ℕ → Reply × System
 remove_step n seat q id =
     told q (λ t. (gone t.0.entry (length t.0.log), t.1)) (by_errno (rmid q seat id n))
 
--- what only shows changes nothing
+-- calls that only show change nothing
 abbrev pub stat_reply : Result Figures Errno → Reply
-stat_reply (Ok queue) = counted queue
+stat_reply (Ok queue) = figures queue
 stat_reply (Err errno) = refused errno
 
 abbrev pub arena_reply : System → Reply
 arena_reply q =
-    figures (2 ^ q.arena.height) (free_pages q.arena.height q.arena.lent)
+    arena (2 ^ q.arena.height) (free_pages q.arena.height q.arena.lent)
     (largest q.arena.height q.arena.lent)
 
--- the same of the whole run: the seat stays
+-- the same for the whole run, whose seat is kept
 abbrev pub by_seat : State → Reply × System → Reply × State
 by_seat s turn = (turn.0, record { queues = turn.1; seat = s.seat })
 
--- what the command of line n replies and leaves
+-- what the command of line n replies, and the state after it
 abbrev pub step : ℕ → State → Call → Reply × State
 step n s (sit number) = (silent, record { queues = s.queues; seat = number })
 step n s show = (arena_reply s.queues, s)
@@ -134,7 +137,7 @@ step n s (rm id) = by_seat s (remove_step n s.seat s.queues id)
 step n s (stat id) = (stat_reply (stat_answer s.queues id), s)
 step n s ipcs = (table s.queues, s)
 
--- what a line writes and leaves, or why it is not well formed
+-- what a line writes and the state after it, or why it is not well formed
 abbrev pub said : ℕ → State → Result (Option Call) Cause → Result (List ℕ × State) Cause
 said n s (Ok None) = Ok ([], s)
 said n s (Ok (Some call)) = Ok (output (step n s call).0, (step n s call).1)
@@ -164,6 +167,6 @@ run_of config script = run_from 1 (start config) (lines_of script)
 abbrev pub transcript : Config → List ℕ → List ℕ
 transcript config script = (run_of config script).written
 
--- where a script is not well formed
+-- the first line of a script that is not well formed, with its cause
 abbrev pub fault_of : Config → List ℕ → Option (ℕ × Cause)
 fault_of config script = (run_of config script).fault

@@ -2,9 +2,8 @@ ghost use Rattle.std.specs.Prelude.{◌≡◌, ◌++◌, OnOk, map};
 ghost use Rattle.std.specs.List.{range_with_len};
 ghost use Rattle.mq_queue.specs.declared.limits.TheConstants.{MSGMAX};
 ghost use Rattle.mq_cli.specs.Drafts.{letter};
-ghost use Rattle.mq_cli.specs.Seen.{call_of, text_seen};
+ghost use Rattle.mq_cli.specs.Seen.{arena_shown, call_of, text_seen};
 ghost use Rattle.mq_cli.specs.Serial.{Answered};
-ghost use Rattle.mq_cli.specs.Kept.{arena_shown};
 ghost use Rattle.mq_cli.specs.Transcript.{arena_reply, output, stat_reply, step};
 ghost use Rattle.mq_cli.specs.Transcript.{get_step, receive_step, remove_step, send_step, set_step};
 ghost use Rattle.mq_system.specs.Calls.{stat as stat_answer};
@@ -23,14 +22,13 @@ use mq_table::Id;
 use std::alloc::AllocError;
 use std::sync::ledger::Ledger;
 
-/// Makes the call of the line with this number, and writes its answer line behind what the
-/// buffer holds. Want of memory has no line: it is the one `Err`.
+/// Makes the call of the line with this number, and appends its answer line to the buffer. Out of
+/// memory has no line: it is the one `Err`.
 pub fn answer<L: Ledger>(
     session: &mut Session<L>,
     line: u64,
     command: Command<'_>,
     out: &mut Vec<u8>,
-    cell: &mut Vec<u8>,
 ) -> Result<(), AllocError>
     ensures { OnOk result (Answered (step line session.old (call_of command.entry))
         out.old.items out.new.items session.new) }
@@ -48,7 +46,7 @@ pub fn answer<L: Ledger>(
         Command::Set { id, qbytes } => set(&mut session.queues, seat, line, id, qbytes, out),
         Command::Remove { id } => remove(&mut session.queues, seat, line, id, out),
         Command::Stat { id } => stat(&session.queues, id, out),
-        Command::Report => write_report(out, cell, &session.queues),
+        Command::Report => write_report(out, &session.queues),
     }
 }
 

@@ -1,7 +1,8 @@
 ghost use Rattle.std.specs.Prelude.{◌≡◌, ◌^◌, ◌==◌};
 ghost use Rattle.std.specs.List.{list_all, list_any};
 ghost use Rattle.std.specs.Option.{option_map};
-ghost use Rattle.mq_cli.specs.Commands.{arena_of, command_of, flags_of, get_flags_of, get_of, ipcs_of, is_filled, receive_of, reading};
+ghost use Rattle.mq_cli.specs.Commands.{arena_of, command_of, flags_of, get_flags_of, get_of};
+ghost use Rattle.mq_cli.specs.Commands.{ipcs_of, is_filled, receive_of, reading};
 ghost use Rattle.mq_cli.specs.Commands.{remove_of, seat_of, send_of, set_of, stat_of, text_of};
 ghost use Rattle.mq_cli.specs.Commands.{is_skipped as is_skipped_line};
 ghost use Rattle.mq_cli.specs.Commands.{is_text as is_text_form};
@@ -102,10 +103,7 @@ pub fn read_line(line: &[u8]) -> Result<Option<Command<'_>>, Cause>
     if is_skipped(line) {
         return Ok(None);
     }
-    match read_command(line) {
-        Ok(command) => Ok(Some(command)),
-        Err(cause) => Err(cause),
-    }
+    Ok(Some(read_command(line)?))
 }
 
 // It has no early way out, so that many bytes are compared at a time.

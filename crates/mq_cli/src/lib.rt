@@ -21,5 +21,5 @@ mod words;
 
 pub use fault::{Cause, RunFault};
 pub use laws::{a_command_is_spelled_one_way, a_spelled_command_is_read_back};
-pub use limits::{LINE_LIMIT, SCRIPT_LIMIT};
+pub use limits::{LINE_LIMIT, SCRIPT_LIMIT, the_limits};
 pub use serial::run_serial;

@@ -5,7 +5,7 @@ ghost use Rattle.mq_cli.specs.Numbers.{number_of, integer_of, key_of};
 pub fn number(word: &[u8]) -> Option<u64>
     ensures { result ≡ number_of word.now }
 {
-    if has_needless_front(word) {
+    if has_needless_prefix(word) {
         return None;
     }
     let Ok(digits) = std::str::from_utf8(word) else {
@@ -14,8 +14,8 @@ pub fn number(word: &[u8]) -> Option<u64>
     digits.parse().ok()
 }
 
-/// Whether the word begins with a sign or a zero that `parse` would pass over.
-fn has_needless_front(word: &[u8]) -> bool
+/// Whether the word begins with a plus or a zero that `parse` would pass over.
+fn has_needless_prefix(word: &[u8]) -> bool
     ensures { result ≡ ((slice_index word.now 0 == 43)
         || ((slice_index word.now 0 == 48) && nat_lt 1 (length word.now))) }
 {

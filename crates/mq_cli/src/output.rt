@@ -1,6 +1,6 @@
 ghost use Rattle.std.specs.Prelude.{OnOk, OnErr};
 ghost use Rattle.std.specs.Io.KnownBytes.{Appends};
-ghost use Rattle.mq_cli.specs.Serial.{AppendsFront};
+ghost use Rattle.mq_cli.specs.Serial.{AppendsPrefix};
 
 use std::io::Write;
 
@@ -8,12 +8,12 @@ use std::io::Write;
 #[derive(Clone, Copy, Debug)]
 pub struct WriteFailed;
 
-/// Writes all of these bytes, or a front of them where a write fails or takes nothing. Unlike
-/// std's `write_all` it asks no second time.
+/// Writes all of these bytes, or a prefix of them where a write fails or takes nothing. Unlike
+/// `write_all` of std it does not try again.
 pub fn write_bytes<W: Write>(writer: &mut W, bytes: &[u8]) -> Result<(), WriteFailed>
     ensures ok { OnOk result (Appends (W.contents writer.old) (W.contents writer.new) bytes.now) }
     ensures err { OnErr result
-        (AppendsFront (W.contents writer.old) (W.contents writer.new) bytes.now) }
+        (AppendsPrefix (W.contents writer.old) (W.contents writer.new) bytes.now) }
 {
     let mut rest = bytes;
     while !rest.is_empty() {

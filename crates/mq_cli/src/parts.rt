@@ -5,7 +5,7 @@ ghost use Rattle.mq_cli.specs.Parts.{parts_left};
 
 use memchr::memchr;
 
-/// The part before the first separator, and what stands behind that separator, if there is one.
+/// The part before the first separator, and the rest after that separator, if there is one.
 pub fn first_part(separator: u8, text: &[u8]) -> (&[u8], Option<&[u8]>)
     ensures { parts_of separator text.now ≡ result.0.now ∷ parts_left separator result.1 }
 {
@@ -19,8 +19,8 @@ pub fn first_long_part(separator: u8, text: &[u8]) -> (&[u8], Option<&[u8]>)
     cut_at(text, place_of(separator, text))
 }
 
+/// The parts before and after that place: the whole text where there is none.
 #[tactic(auto, using(crate::proofs::PartsLemmas::split_taken, crate::proofs::PartsLemmas::split_where_none))]
-/// What stands before that place and behind it, which is all where there is no place.
 fn cut_at(text: &[u8], place: Option<usize>) -> (&[u8], Option<&[u8]>)
     requires within { IfSome place (λ place. place < length text.now) }
     ensures { (separator : ℕ) → place ≡ position (λ b. b == separator) text.now

@@ -1,7 +1,8 @@
 ghost use Rattle.std.specs.Prelude.{◌≡◌, ◌≢◌, ◌++◌, ◌∷◌, [], OnOk};
-ghost use Rattle.mq_cli.specs.Kept.{arena_shown};
-ghost use Rattle.mq_cli.specs.Transcript.{callers_of, counts_of, head_of, moments_of, order_name, pages_of};
-ghost use Rattle.mq_cli.specs.Transcript.{output, refused, given, at, message, gone, counted};
+ghost use Rattle.mq_cli.specs.Seen.{arena_shown};
+ghost use Rattle.mq_cli.specs.Transcript.{callers_of, counts_of, head_of, moments_of};
+ghost use Rattle.mq_cli.specs.Transcript.{order_name, pages_of};
+ghost use Rattle.mq_cli.specs.Transcript.{output, refused, given, at, message, gone, figures};
 
 use itoa::{Buffer, Integer};
 use mq_message::Text;
@@ -10,7 +11,7 @@ use mq_system::{Delivered, Errno};
 use std::alloc::AllocError;
 use std::sync::ledger::Ledger;
 
-/// Puts a word and the number that it names behind what the buffer holds.
+/// Appends a word and the number that it names.
 fn write_field<I: Integer>(out: &mut Vec<u8>, word: &[u8], number: I) -> Result<(), AllocError>
     ensures { OnOk result (out.new.items ≡ out.old.items ++ word.now ++ I.text number) }
 {
@@ -19,7 +20,7 @@ fn write_field<I: Integer>(out: &mut Vec<u8>, word: &[u8], number: I) -> Result<
     out.extend_from_slice(digits.format(number).as_bytes())
 }
 
-/// The same at the end of a line.
+/// The same, and the end of the line.
 fn write_last<I: Integer>(out: &mut Vec<u8>, word: &[u8], number: I) -> Result<(), AllocError>
     ensures { OnOk result
         (out.new.items ≡ out.old.items ++ word.now ++ I.text number ++ 10 ∷ []) }
@@ -46,8 +47,8 @@ pub fn write_arena(out: &mut Vec<u8>, f: ArenaFigures) -> Result<(), AllocError>
     write_order(out, f.largest)
 }
 
-#[tactic(auto, unfolding(crate::specs::Transcript::pages_of))]
 /// All of that line before the order.
+#[tactic(auto, unfolding(crate::specs::Transcript::pages_of))]
 fn write_pages(out: &mut Vec<u8>, pages: u32, free: u32) -> Result<(), AllocError>
     ensures { OnOk result (out.new.items ≡ out.old.items ++ pages_of pages free) }
 {
@@ -90,7 +91,7 @@ pub fn write_removal(out: &mut Vec<u8>, entry: u64, events: u64) -> Result<(), A
 
 /// `qnum A cbytes B qbytes C lspid D lrpid E stime F rtime G ctime H`
 pub fn write_figures(out: &mut Vec<u8>, f: Figures) -> Result<(), AllocError>
-    ensures { OnOk result (out.new.items ≡ out.old.items ++ output (counted f)) }
+    ensures { OnOk result (out.new.items ≡ out.old.items ++ output (figures f)) }
 {
     write_counts(out, f)?;
     write_callers(out, f)?;
@@ -145,8 +146,8 @@ fn write_parts<L: Ledger>(out: &mut Vec<u8>, text: &Text<L>) -> Result<(), Alloc
     Ok(())
 }
 
-#[tactic(auto, unfolding(crate::specs::Transcript::head_of))]
 /// All of that line before the text.
+#[tactic(auto, unfolding(crate::specs::Transcript::head_of))]
 fn write_head(
     out: &mut Vec<u8>,
     mtype: i64,

@@ -1,30 +1,27 @@
-ghost use Rattle.std.specs.Prelude.{◌≡◌, ◌++◌, ◌∷◌, [], OnOk, length, replicate};
-ghost use Rattle.std.specs.Fmt.{decimal, signed_decimal};
-ghost use Rattle.mq_cli.specs.Reports.{filled_of, header, line_of_row, lines_to, named_of, right_aligned};
+ghost use Rattle.std.specs.Prelude.{◌≡◌, ◌<◌, ◌≤◌, ◌+◌, ◌++◌, ◌∷◌, [], OnOk, length, replicate};
+ghost use Rattle.mq_cli.specs.Reports.{filled_of, header, line_of_row, lines_to, named_of};
+ghost use Rattle.mq_cli.specs.Reports.{right_aligned};
 ghost use Rattle.mq_cli.specs.Transcript.{output, table};
 
+use itoa::{Buffer, Integer};
 use mq_queue::BoardRow;
-use mq_system::OneThread;
+use mq_system::{MAX_SEQ, MAX_SLOTS, OneThread};
+use mq_table::Id;
 use std::alloc::AllocError;
-use std::io::Write;
 use std::sync::ledger::Ledger;
 
-/// Writes the table of the live queues. The cell is room for the text of one column.
-pub fn write_report<L: Ledger>(
-    out: &mut Vec<u8>,
-    cell: &mut Vec<u8>,
-    queues: &OneThread<L>,
-) -> Result<(), AllocError>
+/// Writes the table of the live queues.
+pub fn write_report<L: Ledger>(out: &mut Vec<u8>, queues: &OneThread<L>) -> Result<(), AllocError>
     ensures { OnOk result (out.new.items ≡ out.old.items ++ output (table queues.now)) }
 {
     write_header(out)?;
-    write_rows(out, cell, queues)?;
+    write_rows(out, queues)?;
     out.push(b'\n')?;
     Ok(())
 }
 
-#[tactic(auto, unfolding(crate::specs::Reports::header))]
 /// The names of the columns.
+#[tactic(auto, unfolding(crate::specs::Reports::header))]
 fn write_header(out: &mut Vec<u8>) -> Result<(), AllocError>
     ensures { OnOk result (out.new.items ≡ out.old.items ++ header) }
 {
@@ -32,98 +29,61 @@ fn write_header(out: &mut Vec<u8>) -> Result<(), AllocError>
     Ok(())
 }
 
-fn write_rows<L: Ledger>(
-    out: &mut Vec<u8>,
-    cell: &mut Vec<u8>,
-    queues: &OneThread<L>,
-) -> Result<(), AllocError>
+fn write_rows<L: Ledger>(out: &mut Vec<u8>, queues: &OneThread<L>) -> Result<(), AllocError>
     ensures { OnOk result
         (out.new.items ≡ out.old.items ++ lines_to queues.now (length queues.now.slots)) }
 {
     for slot in 0..queues.slots() {
-        write_row(out, cell, slot, queues.row(slot))?;
+        write_row(out, slot, queues.row(slot))?;
     }
     Ok(())
 }
 
-/// The line of a slot, behind the end of the line before it.
-fn write_row(
-    out: &mut Vec<u8>,
-    cell: &mut Vec<u8>,
-    slot: u8,
-    row: BoardRow,
-) -> Result<(), AllocError>
+/// The line of a slot with a live queue, after the end of the line before it.
+fn write_row(out: &mut Vec<u8>, slot: u8, row: BoardRow) -> Result<(), AllocError>
+    requires slot { slot < MAX_SLOTS }
+    requires made { row.made ≤ MAX_SEQ + 1 }
     ensures { OnOk result (out.new.items ≡ out.old.items ++ line_of_row slot row) }
 {
     if !row.live {
         return Ok(());
     }
     out.push(b'\n')?;
-    write_named(out, cell, slot, row)?;
-    write_filled(out, cell, row)
+    write_named(out, slot, row)?;
+    write_filled(out, row)
 }
 
 #[tactic(auto, unfolding(crate::specs::Reports::named_of))]
-fn write_named(
-    out: &mut Vec<u8>,
-    cell: &mut Vec<u8>,
-    slot: u8,
-    row: BoardRow,
-) -> Result<(), AllocError>
+fn write_named(out: &mut Vec<u8>, slot: u8, row: BoardRow) -> Result<(), AllocError>
+    requires slot { slot < MAX_SLOTS }
+    requires made { row.made ≤ MAX_SEQ + 1 }
     ensures { OnOk result (out.new.items ≡ out.old.items ++ named_of slot row) }
 {
-    let id = u64::from(row.made.saturating_sub(1)) * 64 + u64::from(slot);
-    write_number(out, cell, 4, u64::from(slot))?;
-    write_number(out, cell, 8, id)?;
-    write_key(out, cell, 12, row)
+    let id = Id::of(slot, row.made.saturating_sub(1));
+    write_number(out, 4, slot)?;
+    write_number(out, 8, id.number())?;
+    write_number(out, 12, row.key)
 }
 
 #[tactic(auto, unfolding(crate::specs::Reports::filled_of))]
-fn write_filled(out: &mut Vec<u8>, cell: &mut Vec<u8>, row: BoardRow) -> Result<(), AllocError>
+fn write_filled(out: &mut Vec<u8>, row: BoardRow) -> Result<(), AllocError>
     ensures { OnOk result (out.new.items ≡ out.old.items ++ filled_of row) }
 {
-    write_number(out, cell, 7, row.figures.qnum)?;
-    write_number(out, cell, 8, row.figures.cbytes)?;
-    write_number(out, cell, 8, row.figures.qbytes)?;
-    write_number(out, cell, 6, u64::from(row.figures.lspid))?;
-    write_number(out, cell, 6, u64::from(row.figures.lrpid))
+    write_number(out, 7, row.figures.qnum)?;
+    write_number(out, 8, row.figures.cbytes)?;
+    write_number(out, 8, row.figures.qbytes)?;
+    write_number(out, 6, row.figures.lspid)?;
+    write_number(out, 6, row.figures.lrpid)
 }
 
-fn write_number(
-    out: &mut Vec<u8>,
-    cell: &mut Vec<u8>,
-    width: usize,
-    number: u64,
-) -> Result<(), AllocError>
-    ensures { OnOk result (out.new.items ≡ out.old.items ++ right_aligned width (decimal number)) }
+/// A number at the right end of its column.
+fn write_number<I: Integer>(out: &mut Vec<u8>, width: usize, number: I) -> Result<(), AllocError>
+    ensures { OnOk result (out.new.items ≡ out.old.items ++ right_aligned width (I.text number)) }
 {
-    cell.clear();
-    write!(cell, "{number}").map_err(|_| AllocError)?;
-    write_cell(out, width, cell)
-}
-
-fn write_key(
-    out: &mut Vec<u8>,
-    cell: &mut Vec<u8>,
-    width: usize,
-    row: BoardRow,
-) -> Result<(), AllocError>
-    ensures { OnOk result
-        (out.new.items ≡ out.old.items ++ right_aligned width (signed_decimal row.key)) }
-{
-    let key = row.key;
-    cell.clear();
-    write!(cell, "{key}").map_err(|_| AllocError)?;
-    write_cell(out, width, cell)
-}
-
-/// A text at the right end of its column.
-fn write_cell(out: &mut Vec<u8>, width: usize, text: &[u8]) -> Result<(), AllocError>
-    ensures { OnOk result (out.new.items ≡ out.old.items ++ right_aligned width text.now) }
-{
-    write_spaces(out, width.saturating_sub(text.len()))?;
-    out.extend_from_slice(text)?;
-    Ok(())
+    let mut buffer = Buffer::new();
+    let digits = buffer.format(number).as_bytes();
+    write_spaces(out, width.saturating_sub(digits.len()))?;
+    out.extend_from_slice(digits)
 }
 
 fn write_spaces(out: &mut Vec<u8>, count: usize) -> Result<(), AllocError>

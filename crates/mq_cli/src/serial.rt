@@ -1,6 +1,7 @@
-ghost use Rattle.std.specs.Prelude.{◌≡◌, ◌<◌, ◌≤◌, ℕ, true, None, Some, Ok, OnOk, IfSome, IsErrOf, length};
+ghost use Rattle.std.specs.Prelude.{◌≡◌, ◌<◌, ◌≤◌, ℕ, true, None, Some, Ok, OnOk, IfSome};
+ghost use Rattle.std.specs.Prelude.{IsErrOf, length};
 ghost use Rattle.std.specs.Io.KnownBytes.{Appends, IsAtEnd, Keeps};
-ghost use Rattle.mq_cli.specs.Serial.{AppendsFront, ReadsMoreThan, ReadsUpTo, Runs, RunsLine};
+ghost use Rattle.mq_cli.specs.Serial.{AppendsPrefix, ReadsMoreThan, ReadsUpTo, Runs, RunsLine};
 ghost use Rattle.mq_system.specs.Limits.{keeps_limits};
 ghost use Rattle.mq_cli.specs.Commands.{reading};
 ghost use Rattle.mq_cli.specs.Lines.{lines_of};
@@ -14,6 +15,7 @@ use crate::output::{WriteFailed, write_bytes};
 use crate::script::read_script;
 use crate::session::Session;
 use crate::{RunFault, SCRIPT_LIMIT};
+use mq_arena::LEDGER_PARTS;
 use mq_system::Config;
 use std::alloc::{AllocError, Global};
 use std::io::{Read, Write};
@@ -30,7 +32,7 @@ pub fn run_serial<R: Read, W: Write>(
     requires limits { keeps_limits config ≡ true }
     requires seats { config.seats ≡ 16 }
 
-    // Where the run comes to its end, all is read, and what is written is the transcript.
+    // A run that ends well has read all, and has written the transcript.
     ensures end { OnOk result (IsAtEnd (R.remaining reader.new)) }
     ensures ok { OnOk result (IfSome (R.remaining reader.old) (λ script.
         (fault_of config script ≡ None)
@@ -42,31 +44,28 @@ pub fn run_serial<R: Read, W: Write>(
         (fault_of config script ≡ Some (line, cause))
         × Appends (W.contents writer.old) (W.contents writer.new) (transcript config script)) }
 
-    // The reader gave more bytes than a script has just where the answer is `Size`.
+    // `Size` is answered exactly where the reader gave more bytes than a script may have.
     ensures size { IsErrOf result RunFault.Size →
         ReadsMoreThan SCRIPT_LIMIT (R.remaining reader.old) (R.remaining reader.new) }
     ensures within { ¬ IsErrOf result RunFault.Size →
         ReadsUpTo SCRIPT_LIMIT (R.remaining reader.old) (R.remaining reader.new) }
 
-    // Nothing is written before the script is read, and never more than the transcript.
+    // Nothing is written before the script is read, and never more than a prefix of the transcript.
     ensures unwritten_size { IsErrOf result RunFault.Size →
         Keeps (W.contents writer.old) (W.contents writer.new) }
     ensures unwritten_read { IsErrOf result RunFault.Read →
         Keeps (W.contents writer.old) (W.contents writer.new) }
     ensures write { IsErrOf result RunFault.Write → IfSome (R.remaining reader.old) (λ script.
-        AppendsFront (W.contents writer.old) (W.contents writer.new) (transcript config script)) }
+        AppendsPrefix (W.contents writer.old) (W.contents writer.new) (transcript config script)) }
     ensures memory { IsErrOf result RunFault.Memory → IfSome (R.remaining reader.old) (λ script.
-        AppendsFront (W.contents writer.old) (W.contents writer.new) (transcript config script)) }
+        AppendsPrefix (W.contents writer.old) (W.contents writer.new) (transcript config script)) }
 {
     let script = read_script(alloc, reader)?;
     run_script::<Brand, W>(alloc, config, Blank::new(LEDGER_PARTS), &script, writer)
 }
 
-/// More than an arena has pages.
-const LEDGER_PARTS: u64 = 1025;
-
-/// Runs a script that has been read, and has the writer hand on what it holds back. All texts are
-/// at home again afterwards, however the run ends.
+/// Runs a script that has been read, and flushes the writer. However the run ends, all texts have
+/// then given their pages back.
 fn run_script<L: Ledger, W: Write>(
     alloc: Global,
     config: Config,
@@ -77,7 +76,7 @@ fn run_script<L: Ledger, W: Write>(
     requires fits { length script.now ≤ SCRIPT_LIMIT }
     requires name { ledger.name ≡ L.name }
     requires parts { ledger.parts ≡ L.parts }
-    requires enough { 1024 < ledger.parts }
+    requires enough { LEDGER_PARTS ≤ ledger.parts }
     ensures { Runs (W.contents writer.old) (W.contents writer.new)
         (run_of config script.now) result }
 {
@@ -105,23 +104,21 @@ fn run_lines<L: Ledger, W: Write>(
 {
     let mut number = 0;
     let mut out = Vec::new(alloc);
-    let mut cell = Vec::new(alloc);
     for line in Lines::new(script) {
         number += 1;
-        if let Err(fault) = run_line(session, number, line, &mut out, &mut cell, writer) {
+        if let Err(fault) = run_line(session, number, line, &mut out, writer) {
             return Err(fault);
         }
     }
     Ok(())
 }
 
-/// Runs one line, and writes its answer by way of the buffer.
+/// Runs one line, and writes its answer, which is made in the buffer first.
 fn run_line<L: Ledger, W: Write>(
     session: &mut Session<L>,
     number: u64,
     line: &[u8],
     out: &mut Vec<u8>,
-    cell: &mut Vec<u8>,
     writer: &mut W,
 ) -> Result<(), RunFault>
     ensures { RunsLine (W.contents writer.old) (W.contents writer.new) number
@@ -136,7 +133,7 @@ fn run_line<L: Ledger, W: Write>(
         }),
     };
     out.clear();
-    if let Err(AllocError) = answer(session, number, command, out, cell) {
+    if let Err(AllocError) = answer(session, number, command, out) {
         return Err(RunFault::Memory);
     }
     match write_bytes(writer, out) {

@@ -1,14 +1,15 @@
-ghost use Rattle.std.specs.Prelude.{◌≡◌, ◌<◌, IfOk};
+ghost use Rattle.std.specs.Prelude.{◌≡◌, ◌≤◌, IfOk};
 ghost use Rattle.mq_cli.specs.Session.{start};
 
 use crate::draft::letters;
+use mq_arena::LEDGER_PARTS;
 use mq_system::{Config, OneThread};
 use std::alloc::{AllocError, Global};
 use std::marker::Model;
 use std::sync::ledger::{Blank, Ledger};
 
 /// What a run keeps: the queues, the letters that texts are made of, and the seat that makes the
-/// calls. It is given up by `close`.
+/// calls. `close` ends it.
 pub struct Session<L: Ledger> {
     pub(crate) queues: OneThread<L>,
     pub(crate) letters: Vec<u8>,
@@ -34,7 +35,7 @@ impl<L: Ledger> Session<L> {
     pub fn new(alloc: Global, config: Config, ledger: Blank) -> Result<Session<L>, AllocError>
         requires name { ledger.name ≡ L.name }
         requires parts { ledger.parts ≡ L.parts }
-        requires enough { 1024 < ledger.parts }
+        requires enough { LEDGER_PARTS ≤ ledger.parts }
         ensures { IfOk result (λ session. session ≡ start config) }
     {
         let letters = letters(alloc)?;
@@ -48,7 +49,7 @@ impl<L: Ledger> Session<L> {
         }
     }
 
-    /// Ends the run: all that waits goes home.
+    /// Ends the run: each waiting text gives its pages back.
     pub fn close(self) {
         let Session {
             queues,

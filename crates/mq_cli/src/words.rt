@@ -6,8 +6,7 @@ ghost use Rattle.mq_cli.specs.Parts.{parts_left};
 
 use crate::parts::first_part;
 
-/// The words of a line, which stand with one space between each two: two spaces have an empty
-/// word between them.
+/// The words of a line, with one space between each two: between two spaces is an empty word.
 #[derive(Drop)]
 pub struct Words<'a> {
     rest: Option<&'a [u8]>,

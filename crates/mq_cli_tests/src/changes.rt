@@ -19,7 +19,7 @@ const CHANGES: [(&str, &str); 9] = [
         "get 0 c\nset 0 16384\nset 0 16385\nset 0 18446744073709551615\nset 1 0\n",
         "id 0\nat 1\nEPERM\nEPERM\nEINVAL\n",
     ),
-    // A removal takes all that waits home, and no call finds the queue again.
+    // A removal gives the pages of all that waits back, and no call finds the queue again.
     (
         "get 0 c\nsnd 0 1 *3000\nsnd 0 1 *3000\nsnd 0 2 =x\nrm 0\narena\nsnd 0 1 =a\nrcv 0 9 0\nstat 0\nsnd 5 1 =a\n",
         "id 0\nat 1\nat 2\nat 3\nat 4 events 5\npages 64 free 64 largest 6\nEIDRM\nEIDRM\nEIDRM\nEINVAL\n",
@@ -34,7 +34,7 @@ const CHANGES: [(&str, &str); 9] = [
         "get 0 c\nsnd 0 5 =hello\nstat 0\nset 0 100\nrcv 0 5 -9\nstat 0\n",
         "id 0\nat 1\nqnum 1 cbytes 5 qbytes 16384 lspid 1 lrpid 0 stime 2 rtime 0 ctime 1\nat 2\nmsg 5 seat 1 tag 2 len 5 =hello\nqnum 0 cbytes 0 qbytes 100 lspid 1 lrpid 1 stime 2 rtime 5 ctime 4\n",
     ),
-    // A refused call leaves the figures; the quota that stands is set once more.
+    // A refused call leaves the figures; the same quota can be set once more.
     (
         "seat 3\nget 0 c\nseat 4\nsnd 0 1 =abc\nseat 5\nsnd 0 0 =a\nrcv 0 2 0\nrcv 0 9 2\nset 0 16385\nstat 0\nset 0 16384\nstat 0\n",
         "id 0\nat 1\nEINVAL\nE2BIG\nENOMSG\nEPERM\nqnum 1 cbytes 3 qbytes 16384 lspid 4 lrpid 0 stime 4 rtime 0 ctime 2\nat 2\nqnum 1 cbytes 3 qbytes 16384 lspid 4 lrpid 0 stime 4 rtime 0 ctime 11\n",
@@ -44,14 +44,14 @@ const CHANGES: [(&str, &str); 9] = [
         "get 0 c\nset 0 5\nsnd 0 1 =hello\nrcv 0 1 0 n\nstat 0\nsnd 0 1 =world\n",
         "id 0\nat 1\nat 2\nmsg 1 seat 1 tag 3 len 5 =h\nqnum 0 cbytes 0 qbytes 5 lspid 1 lrpid 1 stime 3 rtime 4 ctime 2\nat 4\n",
     ),
-    // A queue that is left at the end of a run goes home with it.
+    // A queue may be left with messages at the end of a run.
     ("get 0 c\nsnd 0 1 *8192\nset 0 0", "id 0\nat 1\nat 2\n"),
 ];
 
 #[test]
 fn each_change_of_a_queue_is_seen(rt: HostRuntime) -> Result<(), Fail> {
     for (script, output) in CHANGES {
-        let mut written = Vec::new(rt.alloc());
+        let mut written = Vec::with_capacity(rt.alloc(), output.len())?;
         let ended = run_serial(rt.alloc(), &mut script.as_bytes(), &mut written, DEFAULTS);
         assert_eq!(rt; ended, Ok(()), "{script}");
         assert_eq!(rt; written.as_slice(), output.as_bytes(), "{script}");

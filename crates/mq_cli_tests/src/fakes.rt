@@ -50,3 +50,56 @@ impl Write for Narrow {
         Ok(())
     }
 }
+
+/// A writer that takes all that it is given, counts its flushes, and may fail in each.
+#[derive(Drop)]
+pub struct Flushed {
+    pub taken: Vec<u8>,
+    /// The flushes so far.
+    pub flushes: u64,
+    /// What was taken before the last flush.
+    pub flushed: usize,
+    pub fails: bool,
+}
+
+impl Write for Flushed {
+    fn write(&mut self, buf: &[u8]) -> Result<usize> {
+        self.taken.extend_from_slice(buf)?;
+        Ok(buf.len())
+    }
+
+    fn flush(&mut self) -> Result<()> {
+        self.flushes = self.flushes.saturating_add(1);
+        self.flushed = self.taken.len();
+        if self.fails {
+            return Err(ErrorKind::Other.into());
+        }
+        Ok(())
+    }
+}
+
+/// A writer that fails at one call, and takes all at each other.
+#[derive(Drop)]
+pub struct FailsOnce {
+    pub taken: Vec<u8>,
+    /// The calls so far.
+    pub calls: u64,
+    /// The call that fails, from 1.
+    pub fails_at: u64,
+    pub kind: ErrorKind,
+}
+
+impl Write for FailsOnce {
+    fn write(&mut self, buf: &[u8]) -> Result<usize> {
+        self.calls = self.calls.saturating_add(1);
+        if self.calls == self.fails_at {
+            return Err(self.kind.into());
+        }
+        self.taken.extend_from_slice(buf)?;
+        Ok(buf.len())
+    }
+
+    fn flush(&mut self) -> Result<()> {
+        Ok(())
+    }
+}

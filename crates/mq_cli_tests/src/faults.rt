@@ -1,5 +1,5 @@
 use crate::fakes::{Narrow, Trickle};
-use crate::sizes::DEFAULTS;
+use crate::sizes::ONE_PAGE;
 use mq_cli::{RunFault, SCRIPT_LIMIT, run_serial};
 use std::test::Fail;
 
@@ -15,8 +15,8 @@ fn a_reader_that_fails_leaves_nothing_written(rt: HostRuntime) -> Result<(), Fai
             calls: 0,
             fails_at,
         };
-        let mut written = Vec::new(rt.alloc());
-        let ended = run_serial(rt.alloc(), &mut reader, &mut written, DEFAULTS);
+        let mut written = Vec::with_capacity(rt.alloc(), OUTPUT.len())?;
+        let ended = run_serial(rt.alloc(), &mut reader, &mut written, ONE_PAGE);
         // One call for each byte, and one that finds the end.
         if fails_at <= 48 {
             assert_eq!(rt; ended, Err(RunFault::Read), "at {fails_at}");
@@ -30,15 +30,15 @@ fn a_reader_that_fails_leaves_nothing_written(rt: HostRuntime) -> Result<(), Fai
 }
 
 #[test]
-fn a_writer_that_gives_up_has_a_front_of_the_answers(rt: HostRuntime) -> Result<(), Fail> {
+fn a_writer_that_fails_has_a_prefix_of_the_answers(rt: HostRuntime) -> Result<(), Fail> {
     for fails in [true, false] {
         for room in 0..=OUTPUT.len() {
             let mut writer = Narrow {
-                taken: Vec::new(rt.alloc()),
+                taken: Vec::with_capacity(rt.alloc(), OUTPUT.len())?,
                 room,
                 fails,
             };
-            let ended = run_serial(rt.alloc(), &mut SCRIPT.as_bytes(), &mut writer, DEFAULTS);
+            let ended = run_serial(rt.alloc(), &mut SCRIPT.as_bytes(), &mut writer, ONE_PAGE);
             let expected = if room < OUTPUT.len() {
                 Err(RunFault::Write)
             } else {
@@ -70,13 +70,13 @@ fn a_script_is_too_long_past_its_limit(rt: HostRuntime) -> Result<(), Fail> {
         fails_at: 0,
     };
     let mut written = Vec::new(rt.alloc());
-    let ended = run_serial(rt.alloc(), &mut reader, &mut written, DEFAULTS);
+    let ended = run_serial(rt.alloc(), &mut reader, &mut written, ONE_PAGE);
     assert_eq!(rt; ended, Ok(()));
     assert!(rt; written.is_empty());
     assert_eq!(rt; reader.calls, 1_048_577);
 
     script.push(b'#')?;
-    let ended = run_serial(rt.alloc(), &mut script.as_slice(), &mut written, DEFAULTS);
+    let ended = run_serial(rt.alloc(), &mut script.as_slice(), &mut written, ONE_PAGE);
     assert_eq!(rt; ended, Err(RunFault::Size));
     assert!(rt; written.is_empty());
     Ok(())

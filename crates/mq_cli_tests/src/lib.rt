@@ -9,8 +9,14 @@ mod fakes;
 #[cfg(test)]
 mod faults;
 #[cfg(test)]
+mod flushes;
+#[cfg(test)]
+mod long;
+#[cfg(test)]
 mod scripts;
 #[cfg(test)]
 mod sizes;
 #[cfg(test)]
 mod systems;
+#[cfg(test)]
+mod texts;

@@ -1,4 +1,4 @@
-use crate::sizes::DEFAULTS;
+use crate::sizes::{DEFAULTS, ONE_PAGE};
 use mq_cli::{Cause, RunFault, run_serial};
 use mq_system::Config;
 use std::test::Fail;
@@ -124,7 +124,7 @@ const CASES: [Case; 22] = [
 #[test]
 fn each_script_writes_its_answers(rt: HostRuntime) -> Result<(), Fail> {
     for (script, output, fault) in CASES {
-        let mut written = Vec::new(rt.alloc());
+        let mut written = Vec::with_capacity(rt.alloc(), output.len())?;
         let ended = run_serial(rt.alloc(), &mut script.as_bytes(), &mut written, DEFAULTS);
         let expected = match fault {
             Some((line, cause)) => Err(RunFault::Script { line, cause }),
@@ -172,7 +172,7 @@ const ARENAS: [(u8, &str, &str); 6] = [
 #[test]
 fn each_arena_lends_as_it_must(rt: HostRuntime) -> Result<(), Fail> {
     for (height, script, output) in ARENAS {
-        let mut written = Vec::new(rt.alloc());
+        let mut written = Vec::with_capacity(rt.alloc(), output.len())?;
         assert!(rt; height <= 10);
         let config = Config { height, ..DEFAULTS };
         let ended = run_serial(rt.alloc(), &mut script.as_bytes(), &mut written, config);
@@ -263,7 +263,7 @@ const CAUSES: [(&str, Cause); 73] = [
 fn a_line_that_is_not_well_formed_has_its_cause(rt: HostRuntime) -> Result<(), Fail> {
     for (line, cause) in CAUSES {
         let mut written = Vec::new(rt.alloc());
-        let ended = run_serial(rt.alloc(), &mut line.as_bytes(), &mut written, DEFAULTS);
+        let ended = run_serial(rt.alloc(), &mut line.as_bytes(), &mut written, ONE_PAGE);
         assert_eq!(rt; ended, Err(RunFault::Script { line: 1, cause }), "{line}");
         assert!(rt; written.is_empty(), "{line}");
     }
@@ -296,7 +296,7 @@ fn a_line_is_long_past_its_limit(rt: HostRuntime) -> Result<(), Fail> {
         let mut script = vec![in rt.alloc(); b'#'; count]?;
         script.extend_from_slice(end.as_bytes())?;
         let mut written = Vec::new(rt.alloc());
-        let ended = run_serial(rt.alloc(), &mut script.as_slice(), &mut written, DEFAULTS);
+        let ended = run_serial(rt.alloc(), &mut script.as_slice(), &mut written, ONE_PAGE);
         assert_eq!(rt; ended, expected);
     }
     Ok(())

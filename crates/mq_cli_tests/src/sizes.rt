@@ -1,9 +1,8 @@
 use mq_system::Config;
+pub use mq_system::DEFAULTS;
 
-/// The size of a run that is given none.
-pub const DEFAULTS: Config = Config {
-    height: 6,
-    slots: 16,
-    seats: 16,
-    last_seq: 32767,
+/// The same over one page, for runs that are repeated often.
+pub const ONE_PAGE: Config = Config {
+    height: 0,
+    ..DEFAULTS
 };

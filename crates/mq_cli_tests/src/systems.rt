@@ -81,7 +81,7 @@ fn each_system_gives_ids_and_keys_as_it_must(rt: HostRuntime) -> Result<(), Fail
             last_seq,
             ..DEFAULTS
         };
-        let mut written = Vec::new(rt.alloc());
+        let mut written = Vec::with_capacity(rt.alloc(), output.len())?;
         let ended = run_serial(rt.alloc(), &mut script.as_bytes(), &mut written, config);
         assert_eq!(rt; ended, Ok(()), "{script}");
         assert_eq!(rt; written.as_slice(), output.as_bytes(), "{script}");

@@ -1,17 +1,29 @@
-//! The words behind the program's name.
+//! The words after the program's name.
 
-ghost use Rattle.std.specs.Prelude.{◌≡◌, ◌≤◌, true, length, IfOk};
+ghost use Rattle.std.specs.Prelude.{◌≡◌, ◌≤◌, true, length, codes, IfOk, Ok};
+ghost use Rattle.clap.specs.Matches.{found_of, one_text};
 ghost use Rattle.mq_system.specs.Limits.{keeps_limits};
+ghost use Rattle.mqsim.specs.Options.{Means, defaults};
 
-use super::serial::DEFAULTS;
 use clap::{Arg, ArgMatches, Command, Error, value_parser};
-use mq_system::Config;
+use mq_system::{Config, DEFAULTS, MAX_HEIGHT, MAX_SEATS, MAX_SEQ, MAX_SLOTS};
 use std::alloc::{AllocError, Global};
 
+/// The end of the help.
+const NOTES: &str = "\
+Options of serial:
+      --height <H>    The arena has 2^H pages of 1,024 bytes; H is 0 to 10 [default: 6]
+      --slots <S>     At most S queues at a time; S is 1 to 64 [default: 16]
+      --last-seq <Q>  A slot has Q + 1 queues in turn; Q is 0 to 32767 [default: 32767]
+
+The script is read to its end before the first answer is written: at a terminal,
+type its lines and then Ctrl-D. docs/SCRIPT.md has the lines, the answers, the
+faults and the exit statuses.";
+
 /// Reads the words, of which the first is the program's name. An `Err` is a mistake in them, a call
-/// for the help, or want of memory.
+/// for the help, or no memory.
 pub fn config_of(alloc: Global, words: &[String]) -> Result<Config, Error>
-    ensures bare { length words.now ≤ 1 → result ≡ Ok DEFAULTS }
+    ensures bare { length words.now ≤ 1 → result ≡ Ok defaults }
     ensures limits { IfOk result (λ config. keeps_limits config ≡ true) }
     ensures seats { IfOk result (λ config. config.seats ≡ 16) }
 {
@@ -25,9 +37,13 @@ pub fn config_of(alloc: Global, words: &[String]) -> Result<Config, Error>
     }
 }
 
-/// What the words behind `serial` give, and the defaults for the rest. The parser takes no value
+/// What the words after `serial` give, and the defaults for the rest. The parser takes no value
 /// out of its range, so the bounds here change none.
 fn options_of(given: &ArgMatches<'_>) -> Config
+    ensures height { Means 0 10 6 (one_text (found_of given.now) (codes "height")) result.height }
+    ensures slots { Means 1 64 16 (one_text (found_of given.now) (codes "slots")) result.slots }
+    ensures last_seq { Means 0 32767 32767 (one_text (found_of given.now) (codes "last-seq"))
+        result.last_seq }
     ensures limits { keeps_limits result ≡ true }
     ensures seats { result.seats ≡ 16 }
 {
@@ -35,10 +51,10 @@ fn options_of(given: &ArgMatches<'_>) -> Config
     let slots: u8 = given.get_one("slots").unwrap_or(DEFAULTS.slots);
     let last_seq: u32 = given.get_one("last-seq").unwrap_or(DEFAULTS.last_seq);
     Config {
-        height: height.min(10),
-        slots: slots.clamp(1, 64),
-        seats: 16,
-        last_seq: last_seq.min(32767),
+        height: height.min(MAX_HEIGHT),
+        slots: slots.clamp(1, MAX_SLOTS),
+        seats: MAX_SEATS,
+        last_seq: last_seq.min(MAX_SEQ),
     }
 }
 
@@ -46,16 +62,17 @@ fn options_of(given: &ArgMatches<'_>) -> Config
 fn command<'a>(alloc: Global) -> Result<Command<'a>, AllocError> {
     Command::new(alloc, "mqsim")
         .about("Runs a script of message queue calls from standard input, one answer line a call")
+        .after_help(NOTES)
         .subcommand(serial(alloc)?)
 }
 
-/// The subcommand `serial`, behind which the options stand.
+/// The subcommand `serial`, which the options follow.
 fn serial<'a>(alloc: Global) -> Result<Command<'a>, AllocError> {
     let height = Arg::new(alloc, "height")
         .long("height")
         .value_name("H")
         .value_parser(value_parser!(u8).range(0..=10))
-        .help("The arena has 2^H pages; H is 0 to 10 [default: 6]");
+        .help("The arena has 2^H pages of 1,024 bytes; H is 0 to 10 [default: 6]");
     let slots = Arg::new(alloc, "slots")
         .long("slots")
         .value_name("S")
@@ -65,9 +82,10 @@ fn serial<'a>(alloc: Global) -> Result<Command<'a>, AllocError> {
         .long("last-seq")
         .value_name("Q")
         .value_parser(value_parser!(u32).range(0..=32767))
-        .help("A slot gives Q + 1 queues in turn; Q is 0 to 32767 [default: 32767]");
+        .help("A slot has Q + 1 queues in turn; Q is 0 to 32767 [default: 32767]");
     Command::new(alloc, "serial")
         .about("Makes the calls one after the other (this is what no words at all do)")
+        .after_help("The script is read to its end before the first answer: see mqsim --help.")
         .arg(height)?
         .arg(slots)?
         .arg(last_seq)

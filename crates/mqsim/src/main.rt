@@ -2,9 +2,10 @@
 
 #![tactic(auto)]
 
-ghost use Rattle.std.specs.Prelude.{◌≡◌, ◌≢◌};
+ghost use Rattle.std.specs.Prelude.{◌≡◌, ◌≢◌, ◌⊎◌};
 ghost use Rattle.clap.specs.Values.{kind_of};
 ghost use Rattle.clap.specs.declared.error.kind.ErrorKind.TheVariants.{DisplayHelp, DisplayVersion};
+ghost use Rattle.mqsim.specs.Status.{run_status, status};
 
 mod command_line;
 mod serial;
@@ -17,7 +18,7 @@ use std::env::Env;
 use std::process::ExitCode;
 use std::{env, io};
 
-/// The status of a fault in the command line, and of want of memory in reading it.
+/// The status of a fault in the command line, and of no memory to read it.
 const COMMAND_LINE: u8 = 2;
 
 fn main(rt: HostRuntime) -> ExitCode {
@@ -39,37 +40,48 @@ fn words(rt: &(impl AllocGlobal + Env)) -> io::Result<Vec<String>> {
 /// Does what the words say, and gives the exit status.
 fn answered(rt: &(impl AllocGlobal + Input + Print + Eprint), words: &[String]) -> u8 {
     match config_of(rt.alloc(), words) {
-        Ok(config) => match run(rt, config) {
-            Ok(()) => 0,
-            Err(fault) => told(rt, fault),
-        },
+        Ok(config) => told(
+            rt,
+            run(rt.alloc(), &mut rt.reader(), io::writer(rt), config),
+        ),
         Err(error) => shown(rt, &error),
     }
 }
 
 /// Prints the help, or what is wrong with the words, and gives the exit status.
 fn shown(rt: &(impl Print + Eprint), error: &Error) -> u8
-    ensures { (kind_of error.now ≢ DisplayHelp) → (kind_of error.now ≢ DisplayVersion)
-        → result ≡ COMMAND_LINE }
+    ensures mistake { kind_of error.now ≢ DisplayHelp → kind_of error.now ≢ DisplayVersion
+        → result ≡ 2 }
+    ensures help { kind_of error.now ≡ DisplayHelp
+        → (result ≡ 0) ⊎ (result ≡ status RunFault.Write) }
 {
     let printed = error.print(rt);
     if error.use_stderr() {
         COMMAND_LINE
     } else if printed.is_err() {
-        told(rt, RunFault::Write)
+        told(rt, Err(RunFault::Write))
     } else {
         0
     }
 }
 
-/// Names a fault on standard error, and gives the exit status.
-fn told(rt: &impl Eprint, fault: RunFault) -> u8 {
-    let _ = eprintln!(rt; "mqsim: {fault}");
-    status_of(fault)
+/// Names the fault of a run on standard error, if it had one, and gives the exit status.
+fn told(rt: &impl Eprint, outcome: Result<(), RunFault>) -> u8
+    ensures { result ≡ run_status outcome }
+{
+    match outcome {
+        Ok(()) => 0,
+        Err(fault) => {
+            let _ = eprintln!(rt; "mqsim: {fault}");
+            status_of(fault)
+        }
+    }
 }
 
-/// The exit status that tells a fault.
-fn status_of(fault: RunFault) -> u8 {
+/// The exit status of a fault.
+fn status_of(fault: RunFault) -> u8
+    ensures { result ≡ status fault }
+{
     match fault {
         RunFault::Script { .. } | RunFault::Size => 1,
         RunFault::Read => 3,

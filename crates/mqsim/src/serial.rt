@@ -1,29 +1,38 @@
 //! A run in one thread.
 
-ghost use Rattle.std.specs.Prelude.{◌≡◌, true};
+ghost use Rattle.std.specs.Prelude.{◌≡◌, ℕ, true, None, Some, OnOk, IfSome, IsErrOf};
+ghost use Rattle.std.specs.Io.KnownBytes.{IsAtEnd};
+ghost use Rattle.mq_cli.specs.Serial.{ReadsMoreThan, ReadsUpTo};
+ghost use Rattle.mq_cli.specs.Transcript.{fault_of};
+ghost use Rattle.mq_cli.specs.declared.fault.Cause.{Cause};
 ghost use Rattle.mq_system.specs.Limits.{keeps_limits};
 
-use mq_cli::{RunFault, run_serial};
+use mq_cli::{RunFault, SCRIPT_LIMIT, run_serial};
 use mq_system::Config;
-use std::io;
-use std::io::BufWriter;
+use std::alloc::Global;
+use std::io::{BufWriter, Read, Write};
 
-/// The size of a run that is given none.
-pub const DEFAULTS: Config = Config {
-    height: 6,
-    slots: 16,
-    seats: 16,
-    last_seq: 32767,
-};
-
-/// Runs the script of the standard input.
-pub fn run(rt: &(impl AllocGlobal + Input + Print), config: Config) -> Result<(), RunFault>
+/// Runs the script of the reader, and writes its answers to the writer, many lines at a time.
+pub fn run<R: Read, W: Write + Drop>(
+    alloc: Global,
+    reader: &mut R,
+    writer: W,
+    config: Config,
+) -> Result<(), RunFault>
     requires limits { keeps_limits config ≡ true }
     requires seats { config.seats ≡ 16 }
+    ensures end { OnOk result (IsAtEnd (R.remaining reader.new)) }
+    ensures ok { OnOk result (IfSome (R.remaining reader.old) (λ script.
+        fault_of config script ≡ None)) }
+    ensures script { (line : ℕ) (cause : Cause) → IsErrOf result (RunFault.Script line cause) →
+        IfSome (R.remaining reader.old) (λ script. fault_of config script ≡ Some (line, cause)) }
+    ensures size { IsErrOf result RunFault.Size →
+        ReadsMoreThan SCRIPT_LIMIT (R.remaining reader.old) (R.remaining reader.new) }
+    ensures within { ¬ IsErrOf result RunFault.Size →
+        ReadsUpTo SCRIPT_LIMIT (R.remaining reader.old) (R.remaining reader.new) }
 {
-    let mut writer = match BufWriter::new(rt.alloc(), io::writer(rt)) {
-        Ok(writer) => writer,
-        Err(_) => return Err(RunFault::Memory),
-    };
-    run_serial(rt.alloc(), &mut rt.reader(), &mut writer, config)
+    match BufWriter::new(alloc, writer) {
+        Ok(mut buffered) => run_serial(alloc, reader, &mut buffered, config),
+        Err(_) => Err(RunFault::Memory),
+    }
 }

@@ -1,0 +1,22 @@
+-- What the options of the command line mean.
+use Rattle.std.specs.Prelude.{◌≡◌, ◌≤◌, ℕ, List, Option, Some, None}
+use Rattle.std.specs.Str.Parse.{IsNumeral, digits_value, without_leading_plus}
+use Rattle.mq_system.specs.declared.config.Config.{Config}
+
+-- the size of a run that is given none
+abbrev pub defaults : Config
+defaults = record { height = 6; slots = 16; seats = 16; last_seq = 32767 }
+
+-- the number that a text spells, with or without a plus before it
+abbrev pub number_in : List ℕ → ℕ
+number_in text = digits_value 10 (without_leading_plus text)
+
+-- a text spells a number of this range
+abbrev pub IsIn : ℕ → ℕ → List ℕ → Type 0
+IsIn least most text =
+    IsNumeral 10 (without_leading_plus text) × (least ≤ number_in text) × (number_in text ≤ most)
+
+-- the value of an option of this range: the default where it is not given, and else its number
+abbrev pub Means : ℕ → ℕ → ℕ → Option (List ℕ) → ℕ → Type 0
+Means least most standard None value = value ≡ standard
+Means least most standard (Some text) value = IsIn least most text → value ≡ number_in text

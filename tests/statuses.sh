@@ -1,0 +1,102 @@
+#!/usr/bin/env bash
+# The exit statuses of mqsim, each with all that is written to standard output and standard error.
+# Status 5 is tried by allocations.sh, and the mistakes that a command line can have by
+# command_lines.sh. Wants mqsim to be built. Prints the cases that fail; the last line counts.
+#
+# Of the wrong bodies that the proofs let through it finds these, each of which was tried:
+#   a fault is not named on standard error;
+#   the answer of a run is passed over (`told(rt, Ok(()))`);
+#   a help that could not be written ends with 0.
+set -uo pipefail
+cd "$(dirname "$0")/.."
+program=$PWD/crates/mqsim/out/mqsim
+seen=$(mktemp -d)
+trap 'rm -rf "$seen"' EXIT
+passed=0
+failed=0
+
+# The case $1 has ended with the status $?; it must be $2, with $3 and $4 on the two outputs.
+ended() {
+    local status=$?
+    if [ "$status" -eq "$2" ] && printf "$3" | cmp -s - "$seen/out" \
+        && printf "$4" | cmp -s - "$seen/err"; then
+        passed=$((passed + 1))
+    else
+        failed=$((failed + 1))
+        echo "statuses: $1: status $status, standard error: $(head -c 300 "$seen/err")"
+    fi
+    : > "$seen/out"
+    : > "$seen/err"
+}
+
+# Runs the script that $1 spells, with the words from $2 on.
+run() {
+    printf "$1" | "$program" "${@:2}" > "$seen/out" 2> "$seen/err"
+}
+
+# A writer whose reader has gone, as file descriptor 6.
+mkfifo "$seen/pipe"
+exec 5<> "$seen/pipe" 6> "$seen/pipe" 5<&-
+
+# No fault.
+run 'get 0 c\nget 0\n';         ended 'a run' 0 'id 0\nid 1\n' ''
+run '';                         ended 'an empty script' 0 '' ''
+run 'get 1\nrm 0\n';            ended 'refused calls' 0 'ENOENT\nEINVAL\n' ''
+
+# A script that is not well formed: the answers of the lines before it, its number and its cause.
+long=$(printf '#%.0s' {1..4097})
+for line in "$long long" 'get\t0 byte' 'get words' 'get\0400\040cx\040 words' 'get\0400x number'; do
+    cause=${line##* }
+    line=${line% *}
+    run "$line"
+    ended "$cause in line 1" 1 '' "mqsim: line 1: $cause\n"
+    run "get 0 c\n\n# a note\nget 0 c\n$line\nget 0 c\n"
+    ended "$cause in line 5" 1 'id 0\nid 1\n' "mqsim: line 5: $cause\n"
+done
+{ echo 'get 0 c'; yes '#' | head -c 1048568; } > "$seen/script"
+"$program" < "$seen/script" > "$seen/out" 2> "$seen/err"
+ended '1,048,576 bytes' 0 'id 0\n' ''
+echo >> "$seen/script"
+"$program" < "$seen/script" > "$seen/out" 2> "$seen/err"
+ended '1,048,577 bytes' 1 '' 'mqsim: script too long\n'
+
+# A read that fails.
+"$program" < / > "$seen/out" 2> "$seen/err"
+ended 'a directory as standard input' 3 '' 'mqsim: read failed\n'
+"$program" <&- > "$seen/out" 2> "$seen/err"
+ended 'no standard input' 3 '' 'mqsim: read failed\n'
+
+# A write that fails: of one answer, of many, after a fault of the script, and of the help.
+yes ipcs | head -1000 > "$seen/many"
+for script in 'get 0 c\n' 'get 0 c\nget\n' "$(cat "$seen/many")"; do
+    printf "$script" | "$program" > /dev/full 2> "$seen/err"
+    ended 'a full device' 4 '' 'mqsim: write failed\n'
+    printf "$script" | "$program" >&- 2> "$seen/err"
+    ended 'no standard output' 4 '' 'mqsim: write failed\n'
+    printf "$script" | "$program" >&6 2> "$seen/err"
+    ended 'a reader that has gone' 4 '' 'mqsim: write failed\n'
+done
+for words in --help 'help serial'; do
+    "$program" $words > /dev/full 2> "$seen/err"
+    ended 'the help to a full device' 4 '' 'mqsim: write failed\n'
+    "$program" $words >&- 2> "$seen/err"
+    ended 'the help to no standard output' 4 '' 'mqsim: write failed\n'
+done
+
+# A standard error that takes nothing changes no status and no answer.
+printf 'get 0 c\nget\n' > "$seen/script"
+"$program" < "$seen/script" 2> /dev/full > "$seen/out"
+ended 'status 1 with a full standard error' 1 'id 0\n' ''
+"$program" < "$seen/script" 2>&- > "$seen/out"
+ended 'status 1 with no standard error' 1 'id 0\n' ''
+printf 'get 0 c\n' | "$program" 2>&- > "$seen/out"
+ended 'status 0 with no standard error' 0 'id 0\n' ''
+"$program" < / 2> /dev/full > "$seen/out"
+ended 'status 3 with a full standard error' 3 '' ''
+"$program" nonsense 2> /dev/full > "$seen/out" < /dev/null
+ended 'status 2 with a full standard error' 2 '' ''
+"$program" nonsense 2>&- > "$seen/out" < /dev/null
+ended 'status 2 with no standard error' 2 '' ''
+
+echo "statuses: $passed passed, $failed failed"
+[ "$failed" -eq 0 ]
