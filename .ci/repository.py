@@ -1,0 +1,51 @@
+"""The crates of the repository, and how some functions of one are checked."""
+import subprocess
+from pathlib import Path
+
+
+def toolchain():
+    """The folder of the toolchain."""
+    page = subprocess.run(["rt", "doc"], capture_output=True, text=True, check=True)
+    return Path(page.stdout.strip()).parent
+
+
+class Crates:
+    """The crates of the repository, and what a check of one is passed."""
+
+    def __init__(self, top):
+        self.top, self.kit, self.uses = top, toolchain(), {}
+        for line in (top / "crates.txt").read_text().splitlines():
+            name, colon, names = line.partition("#")[0].partition(":")
+            if colon:
+                self.uses[name.split()[0]] = names.split()
+
+    def below(self, name):
+        """The crates of the repository that this one stands on."""
+        own = [it for it in self.uses[name] if it in self.uses]
+        return {*own, *(it for dep in own for it in self.below(dep))}
+
+    def rlib(self, name):
+        return self.top / "crates" / name / "out" / "rlib"
+
+    def command(self, name, functions, kept):
+        """A check of these functions of a crate."""
+        root = "src/main.rt" if self.is_program(name) else "src/lib.rt"
+        words = [self.kit / "bin" / "rattle", "check", "--crate-name", name, root]
+        for dep in ["std", *self.uses[name]]:
+            of_ours = dep in self.uses
+            place = self.rlib(dep) if of_ours else self.kit / "rlibs"
+            words += ["--extern", f"{dep}={place}/{dep}.rlib"]
+        words += ["-L", f"dependency={self.kit}/rlibs"]
+        for dep in sorted(self.below(name)):
+            words += ["-L", f"dependency={self.rlib(dep)}"]
+        words += ["--antt-project", f"{self.kit}/rattle/logic/antt-project.json"]
+        words += ["--logic-built", f"{self.kit}/logic_built", "--jobs", "1", "--links", f"{name}="]
+        words += ["--incremental", kept]
+        return [*map(str, words), *(f"--only={it}" for it in functions)]
+
+    def lowest_first(self):
+        """All crates, each after those that it stands on."""
+        return sorted(self.uses, key=lambda name: (len(self.below(name)), name))
+
+    def is_program(self, name):
+        return (self.top / "crates" / name / "src" / "main.rt").is_file()

@@ -1,0 +1,69 @@
+"""A small crate with planted mistakes, on which `.ci/planted --self-test` shows what it finds out."""
+
+FILES = {
+    "crates.txt": "trial:\n",
+    "crates/trial/src/lib.rt": """//! Two functions.
+
+#![tactic(auto)]
+
+ghost use Rattle.std.specs.Prelude.{◌≡◌, ◌+◌, ◌*◌, ◌<◌, ◌≤◌, length};
+
+pub fn next(n: u8) -> u8
+    requires { n < 9 }
+    ensures { result ≡ n + 1 }
+{
+    n + 1
+}
+
+pub fn total(bytes: &[u8]) -> usize
+    requires { length bytes.now ≤ 65536 }
+    ensures { result ≤ 255 * length bytes.now }
+{
+    let mut sum: usize = 0;
+    for byte in bytes {
+        sum += *byte as usize;
+    }
+    sum
+}
+""",
+    "crates/trial/proofs/total/Invariants.antt": """use Rattle.std.proofs.Common.{◌*◌, ◌≤◌}
+use Rattle.trial.proofs.total.Given as goal
+
+abbrev pub invariant-loop-byte : goal.invariant-loop-byte
+invariant-loop-byte l = l.sum ≤ 255 * l.byte-index
+""",
+}
+
+# The mistakes: what is wanted of each, its function, and its pairs.
+MISTAKES = {
+    "a_mistake_is_refused": (None, "next", [("    n + 1", "    n + 2")]),
+    "a_right_body_is_still_proved": ("it is still proved", "next", [("    n + 1", "    1 + n")]),
+    "another_function_is_named": (
+        "it does not change the body of total",
+        "total",
+        [("    n + 1", "    n + 2")],
+    ),
+    "a_text_is_not_there": ("its text stands 0 times", "next", [("    n + 7", "    n + 8")]),
+    "only_a_name_is_gone": (
+        "a proof file names what is gone",
+        "total",
+        [
+            ("let mut sum: usize = 0;", "let mut all: usize = 0;"),
+            ("sum += *byte as usize;", "all += *byte as usize;"),
+            ("    sum", "    all"),
+        ],
+    ),
+}
+
+
+def write(top):
+    """Writes the crate and its mistakes below this folder."""
+    texts = dict(FILES)
+    for name, (_, function, pairs) in MISTAKES.items():
+        lines = [f"function: {function}", "file: src/lib.rt"]
+        for old, new in pairs:
+            lines += [f"old: {old}", f"new: {new}"]
+        texts[f"crates/trial/planted/{name}.edit"] = "\n".join(lines) + "\n"
+    for path, text in texts.items():
+        (top / path).parent.mkdir(parents=True, exist_ok=True)
+        (top / path).write_text(text)
