@@ -1,5 +1,6 @@
-//! Lends and gives back pages of a half full arena, and counts what came:
-//! `bench_tree HEIGHT PAIRS`.
+//! Lends and gives back one page again and again, and counts what came:
+//! `bench_tree HEIGHT PAIRS STATE`, in an arena that is `half` full before, `empty`, or full but
+//! for its `last` page.
 #![tactic(auto)]
 
 use anyhow::Result;
@@ -24,6 +25,25 @@ fn half_full(tree: &mut OrderTree) {
     }
 }
 
+// Lends every page, and gives the last one back.
+fn all_but_last(tree: &mut OrderTree) {
+    for _ in 0..tree.pages() {
+        tree.lend(0);
+    }
+    if let Some(last) = tree.pages().checked_sub(1) {
+        tree.give(last, 0);
+    }
+}
+
+// Lends what the word says; without one, every second page.
+fn lend_before(tree: &mut OrderTree, state: Option<String>) {
+    match state {
+        Some(word) if word.as_str() == "empty" => {}
+        Some(word) if word.as_str() == "last" => all_but_last(tree),
+        _ => half_full(tree),
+    }
+}
+
 // That many lends of one page, each given back; how many of them were answered.
 fn pairs(tree: &mut OrderTree, count: u32) -> u32 {
     let mut met = 0u32;
@@ -43,7 +63,7 @@ fn main(rt: HostRuntime) -> Result<()> {
     let height = number(words.next(), 3)?;
     let count = number(words.next(), 10)?;
     let mut tree = OrderTree::new(rt.alloc(), u8::try_from(height)?)?;
-    half_full(&mut tree);
+    lend_before(&mut tree, words.next());
     let met = pairs(&mut tree, count);
     println!(rt;
         "{met} of {count} pairs met, {} pages free",

@@ -10,9 +10,10 @@ use Rattle.mq_queue.specs.declared.limits.TheConstants.{MSGMAX}
 use Rattle.mq_table.specs.Ids.{slot_of}
 use Rattle.mq_table.specs.Slot.{SlotState, empty_slot}
 use Rattle.mq_system.specs.Calls.{msgsnd}
-use Rattle.mq_system.specs.Look.{Answer, refused_or_memory}
+use Rattle.mq_system.specs.Look.{Answer, refused_early, refused_or_memory}
 use Rattle.mq_system.specs.State.{State, with_arena}
-use Rattle.mq_system.specs.Texts.{drafts, in_block, spends}
+use Rattle.mq_system.specs.Texts.{draft_errno, drafts, drafts_of, in_block, spends, with_bytes}
+use Rattle.mq_system.specs.declared.draft_error.DraftError.{DraftError}
 use Rattle.mq_system.specs.declared.draft_error.DraftError.TheVariants.{TooLong}
 use Rattle.mq_system.specs.declared.errno.Errno.TheVariants.{ENOMEM}
 use Rattle.mq_system.specs.declared.results.Refused.{Refused}
@@ -86,6 +87,48 @@ refused_before q after id (Ok turn) e =
     } in
     ap refused e
 refused_before q after id (Err refused) e = refl
+
+-- what was drafted with its bytes was drafted, and then had these bytes
+pub record IsMadeOf (q after : State) (bytes : List ℕ) (text : PlainText) : Type 0 where
+  pub made : PlainText
+  pub drafted : drafts q (length bytes) ≡ Ok (made, after)
+  pub filled : text ≡ whole bytes made
+
+made_of : (q after : State) (bytes : List ℕ) (text : PlainText) (d : Result (PlainText × State) DraftError)
+    → drafts q (length bytes) ≡ d → with_bytes bytes d ≡ Ok (text, after) → IsMadeOf q after bytes text
+made_of q after bytes text (Ok p) is e = record {
+  made = p.0;
+  drafted = is ∙ ap (λ (s : State). Ok (p.0, s)) (ok_second (whole bytes p.0) text p.1 after _ refl e);
+  filled = sym (ok_first (whole bytes p.0) text p.1 after _ refl e);
+}
+made_of q after bytes text (Err refused) is e = absurd (cc e)
+
+pub drafted_of : (q after : State) (bytes : List ℕ) (text : PlainText) → drafts_of q bytes ≡ Ok (text, after)
+    → IsMadeOf q after bytes text
+drafted_of q after bytes text e = made_of q after bytes text (drafts q (length bytes)) refl e
+
+-- a text that was drafted with its bytes is sent
+pub sends_drafted : (q after : State) (seat id : ℕ) (mtype : ℤ) (tag : ℕ) (bytes : List ℕ) (moment : ℕ) (text : PlainText)
+    → drafts_of q bytes ≡ Ok (text, after)
+    → sends_bytes q seat id mtype tag bytes moment ≡ msgsnd after seat id mtype tag text moment
+sends_drafted q after seat id mtype tag bytes moment text e =
+    let m = drafted_of q after bytes text e in
+    ap (sends_draft seat id mtype tag bytes moment) m.drafted
+    ∙ ap (λ (t : PlainText). msgsnd after seat id mtype tag t moment) (sym m.filled)
+
+refused_step : (seat id : ℕ) (mtype : ℤ) (tag : ℕ) (bytes : List ℕ) (moment : ℕ) (refused : DraftError)
+    (d : Result (PlainText × State) DraftError) → with_bytes bytes d ≡ Err refused
+    → sends_draft seat id mtype tag bytes moment d ≡ Err (refused_early (draft_errno refused))
+refused_step seat id mtype tag bytes moment refused (Ok p) e = absurd (cc e)
+refused_step seat id mtype tag bytes moment refused (Err r) e = let same : r ≡ refused = cc in
+    ap (λ x. Err (refused_early (draft_errno x))) same
+
+-- a refusal of the draft is one of the send
+pub refused_draft : (q : State) (seat id : ℕ) (mtype : ℤ) (tag : ℕ) (bytes : List ℕ) (moment : ℕ) (refused : DraftError)
+    → drafts_of q bytes ≡ Err refused
+    → sends_bytes q seat id mtype tag bytes moment ≡ Err (refused_early (draft_errno refused))
+refused_draft q seat id mtype tag bytes moment refused e =
+    refused_step seat id mtype tag bytes moment refused (drafts q (length bytes)) e
 
 -- a text that is filled and spent leaves the queues as they were before it was drafted
 pub spent_is_home : (q after last : State) (bytes : List ℕ) (made text : PlainText) → drafts q (length bytes) ≡ Ok (made, after)

@@ -12,6 +12,7 @@ use std::sync::ledger::Ledger;
 
 /// Drafts a text with these bytes and sends it, or spends it where it is refused. EINVAL and
 /// ENOMEM of the draft, then the refusals of `OneThread::msgsnd`.
+#[tactic(auto, using(crate::proofs::SendLemmas::sends_drafted, crate::proofs::SendLemmas::refused_draft))]
 pub fn send_bytes<L: Ledger>(
     queues: &mut OneThread<L>,
     seat: u16,
@@ -27,11 +28,10 @@ pub fn send_bytes<L: Ledger>(
         (sends_bytes queues.old seat id mtype tag bytes.now moment)).errno) }
     ensures unchanged { OnErr result (queues.new ≡ queues.old) }
 {
-    let mut text = match queues.draft(bytes.len() as u64) {
+    let text = match queues.draft_of(bytes) {
         Ok(text) => text,
         Err(error) => return Err(error.errno()),
     };
-    text.fill(bytes);
     match queues.msgsnd(seat, id, mtype, tag, text, moment) {
         Ok(entry) => Ok(entry),
         Err(refusal) => {

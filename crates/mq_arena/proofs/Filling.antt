@@ -6,17 +6,8 @@ use Rattle.std.proofs.lemmas.List.Elements.{All-head, All-tail, All-take}
 use Rattle.std.proofs.Math.Seq.{drop-append-add}
 use Rattle.std.proofs.lemmas.List.Folds.{concat-append}
 use Rattle.std.specs.List.{concat, All, refill}
-use Rattle.mq_arena.specs.Bytes.{AreWhole}
+use Rattle.mq_arena.specs.Bytes.{AreWhole, over, filled}
 use Rattle.mq_arena.specs.declared.page.TheConstants.{PAGE_LEN}
-
--- the bytes over the first ones of a page
-abbrev pub over : List ℕ → List ℕ → List ℕ
-over bytes page = bytes ++ drop (length bytes) page
-
--- the pages after the bytes were written over the first ones
-abbrev pub filled : ℕ → List (List ℕ) → List ℕ → List (List ℕ)
-filled n [] bytes = []
-filled n (page ∷ pages) bytes = over (take n bytes) page ∷ filled n pages (drop n bytes)
 
 -- bytes that end within the page
 ends_here : (n : ℕ) (page rest bytes : List ℕ) → length page ≡ n → length bytes ≤ n

@@ -1,5 +1,7 @@
 pub mod Cuts
 pub mod Filling
 pub mod Kept
+pub mod Overwriting
 pub mod Places
+pub mod Shells
 pub mod Stock

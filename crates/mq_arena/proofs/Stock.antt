@@ -12,7 +12,7 @@ use Rattle.mq_tree.specs.Blocks.{Block, block, IsAligned, IsInArena, AreApart, h
 use Rattle.mq_tree.specs.LentSet.{Lending, IsLentSet, StartsBefore, free_pages, joined, left, is_lent, is_free_page}
 use Rattle.mq_tree.specs.Fit.{fit, fits_at}
 use Rattle.mq_arena.specs.Homes.{AreHome, SameOutside}
-use Rattle.mq_arena.specs.Stocked.{IsStocked, IsArena, IsMade}
+use Rattle.mq_arena.specs.Stocked.{IsStocked, IsShelled, IsArena, IsMade}
 use Rattle.mq_arena.specs.declared.limits.TheConstants.{MAX_ORDER, MAX_PAGES}
 use Rattle.mq_arena.specs.declared.page.TheConstants.{PAGE_LEN}
 
@@ -223,21 +223,24 @@ pub put_back : (new rest : List (List ℕ)) (len : ℕ) → length new ≡ len �
 put_back new rest len long = take_at new rest len long
 
 -- the arena once a block has gone out
-pub arena_taken : (arena after : Lending) (homes left_homes : List (List ℕ)) (order start out more parts fewer : ℕ)
-    → IsArena arena homes out parts → fit arena.height arena.lent order ≡ Some start
+pub arena_taken : (arena after : Lending) (homes left_homes : List (List ℕ))
+    (order start shells places left_shells left_places out more parts fewer : ℕ)
+    → IsArena arena homes shells places out parts → fit arena.height arena.lent order ≡ Some start
     → after.height ≡ arena.height → after.lent ≡ joined (block start order) arena.lent
     → IsLentSet after.height after.lent
     → free_pages arena.height arena.lent ≡ free_pages arena.height after.lent + 2 ^ order
     → length left_homes ≡ length homes → SameOutside homes left_homes start (2 ^ order)
-    → more ≡ out + 2 ^ order → fewer + 2 ^ order ≡ parts → IsArena after left_homes more fewer
-arena_taken arena after homes left_homes order start out more parts fewer was found same_height is_joined lent_set
-    free same_length same count rest =
+    → IsShelled after left_shells left_places → more ≡ out + 2 ^ order → fewer + 2 ^ order ≡ parts
+    → IsArena after left_homes left_shells left_places more fewer
+arena_taken arena after homes left_homes order start shells places left_shells left_places out more parts fewer was found
+    same_height is_joined lent_set free same_length same shelled count rest =
     let heights : free_pages after.height after.lent ≡ free_pages arena.height after.lent =
     ap (λ h. free_pages h after.lent) same_height in
     let whole : 2 ^ after.height ≡ 2 ^ arena.height = ap (λ h. 2 ^ h) same_height in
     record {
       stocked = stocked_taken arena after homes left_homes order start was.stocked same_height is_joined lent_set
           same_length same;
+      shelled = shelled;
       adds_up = record {
         pages = omega (arith, was.adds_up.pages);
         parted = omega (arith, was.adds_up.parted);
@@ -245,21 +248,23 @@ arena_taken arena after homes left_homes order start out more parts fewer was fo
     }
 
 -- the arena once a block has come home
-pub arena_given : (arena after : Lending) (homes full_homes : List (List ℕ)) (order start out less parts more : ℕ)
-    → IsArena arena homes out parts → after.height ≡ arena.height
+pub arena_given : (arena after : Lending) (homes full_homes : List (List ℕ))
+    (order start shells places full_shells full_places out less parts more : ℕ)
+    → IsArena arena homes shells places out parts → after.height ≡ arena.height
     → after.lent ≡ left (block start order) arena.lent → IsLentSet after.height after.lent
     → free_pages arena.height after.lent ≡ free_pages arena.height arena.lent + 2 ^ order
     → length full_homes ≡ length homes → AreHome full_homes start (2 ^ order)
-    → SameOutside homes full_homes start (2 ^ order) → less + 2 ^ order ≡ out → more ≡ parts + 2 ^ order
-    → IsArena after full_homes less more
-arena_given arena after homes full_homes order start out less parts more was same_height is_left lent_set free
-    same_length home same count rest =
+    → SameOutside homes full_homes start (2 ^ order) → IsShelled after full_shells full_places
+    → less + 2 ^ order ≡ out → more ≡ parts + 2 ^ order → IsArena after full_homes full_shells full_places less more
+arena_given arena after homes full_homes order start shells places full_shells full_places out less parts more was same_height
+    is_left lent_set free same_length home same shelled count rest =
     let heights : free_pages after.height after.lent ≡ free_pages arena.height after.lent =
     ap (λ h. free_pages h after.lent) same_height in
     let whole : 2 ^ after.height ≡ 2 ^ arena.height = ap (λ h. 2 ^ h) same_height in
     record {
       stocked = stocked_given arena after homes full_homes order start was.stocked same_height is_left lent_set
           same_length home same;
+      shelled = shelled;
       adds_up = record {
         pages = omega (arith, was.adds_up.pages);
         parted = omega (arith, was.adds_up.parted);
@@ -267,9 +272,9 @@ arena_given arena after homes full_homes order start out less parts more was sam
     }
 
 -- the arena when it is opened: nothing is lent
-pub arena_made : (arena : Lending) (homes : List (List ℕ)) (out parts : ℕ) → IsMade arena homes → out ≡ 0
-    → 2 ^ arena.height < parts → IsArena arena homes out parts
-arena_made arena homes out parts made none_out enough =
+pub arena_made : (arena : Lending) (homes : List (List ℕ)) (shells places out parts : ℕ)
+    → IsMade arena homes shells places → out ≡ 0 → 2 ^ arena.height < parts → IsArena arena homes shells places out parts
+arena_made arena homes shells places out parts made none_out enough =
     let free : free_pages arena.height arena.lent ≡ 2 ^ arena.height =
     ap (free_pages arena.height) made.none ∙ new_free arena.height in
     record {
@@ -285,6 +290,10 @@ arena_made arena homes out parts made none_out enough =
             ap (λ pages. length (get_or pages page [])) made.all
             ∙ ap length (get_or-replicate (2 ^ arena.height) page (replicate PAGE_LEN 0) [] inside)
             ∙ length-replicate {A = ℕ} PAGE_LEN 0;
+      };
+      shelled = record {
+        count = let none : length arena.lent ≡ 0 = ap length made.none in omega (arith, none, made.shelled);
+        room = made.room;
       };
       adds_up = record { pages = omega arith; parted = omega arith };
     }

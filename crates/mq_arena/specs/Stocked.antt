@@ -19,13 +19,22 @@ pub record AddsUp (arena : Lending) (out parts : ℕ) : Type 0 where
   pub pages : free_pages arena.height arena.lent + out ≡ 2 ^ arena.height
   pub parted : free_pages arena.height arena.lent < parts
 
--- the pages are in their places, and their number is right
-pub record IsArena (arena : Lending) (homes : List (List ℕ)) (out parts : ℕ) : Type 0 where
+-- there is an empty shell for each block that could still be lent, and a place to keep each shell
+pub record IsShelled (arena : Lending) (shells places : ℕ) : Type 0 where
+  pub count : shells + length arena.lent ≡ 2 ^ arena.height
+  pub room : places ≡ 2 ^ arena.height
+
+-- the pages are in their places, a shell is there for each block, and the pages' number is right
+pub record IsArena (arena : Lending) (homes : List (List ℕ)) (shells places out parts : ℕ)
+    : Type 0 where
   pub stocked : IsStocked arena homes
+  pub shelled : IsShelled arena shells places
   pub adds_up : AddsUp arena out parts
 
 -- an arena that has lent nothing yet: all its pages are at home, and zero
-pub record IsMade (arena : Lending) (homes : List (List ℕ)) : Type 0 where
+pub record IsMade (arena : Lending) (homes : List (List ℕ)) (shells places : ℕ) : Type 0 where
   pub low : arena.height ≤ MAX_HEIGHT
   pub none : arena.lent ≡ []
   pub all : homes ≡ replicate (2 ^ arena.height) (replicate PAGE_LEN 0)
+  pub shelled : shells ≡ 2 ^ arena.height
+  pub room : places ≡ 2 ^ arena.height

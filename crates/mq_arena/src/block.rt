@@ -2,15 +2,14 @@
 ghost use Rattle.std.specs.Prelude.{◌≡◌, ◌+◌, ◌-◌, ◌*◌, ◌^◌, ◌<◌, ◌≤◌, [], ◌++◌, length, take, drop, slice_index_or};
 ghost use Rattle.std.specs.List.{concat};
 ghost use Rattle.std.specs.Borrow.{sem};
-ghost use Rattle.mq_arena.specs.Bytes.{cut_parts};
+ghost use Rattle.mq_arena.specs.Bytes.{cut_parts, pages_with};
 ghost use Rattle.mq_arena.specs.Halves.{AreWritten, TakesPages, KeepsPages};
 
 use crate::halves::write_both;
-use crate::limits::MAX_PAGES;
 use crate::page::{PAGE_LEN, Page};
 use crate::parts::Parts;
+use crate::shell::Places;
 use crate::writes;
-use smallvec::SmallVec;
 use std::marker::Model;
 use std::sync::ledger::{Ledger, Share};
 use std::thread::{Threads, join_mut};
@@ -20,7 +19,7 @@ use std::thread::{Threads, join_mut};
 pub struct Block<L: Ledger> {
     pub(crate) start: u32,
     pub(crate) order: u8,
-    pub(crate) pages: SmallVec<Page, MAX_PAGES>,
+    pub(crate) pages: Places,
     pub(crate) share: Share<L>,
 }
 
@@ -29,10 +28,10 @@ impl<L: Ledger> Model for Block<L> {
 
     ghost Value = { OwnedBlock };
 
-    ghost view = { λ b. owned b.start b.order b.pages.items };
+    ghost view = { λ b. owned b.start b.order b.pages.value.items };
 
-    ghost invariant = { λ b. IsCounted (owned b.start b.order b.pages.items)
-        b.share.amount b.share.parts };
+    ghost invariant = { λ b. IsCounted (owned b.start b.order b.pages.value.items)
+        b.pages.value.capacity b.share.amount b.share.parts };
 }
 
 impl<L: Ledger> Block<L> {
@@ -117,6 +116,15 @@ impl<L: Ledger> Block<L> {
             ≡ bytes.now ++ drop (length bytes.now) (concat self.old.pages) }
     {
         writes::fill(self.pages.as_mut_slice(), bytes);
+    }
+
+    /// Writes the bytes over the first ones of the block, and zeros over the rest.
+    pub(crate) fn overwrite(&mut self, bytes: &[u8])
+        ensures start { self.new.start ≡ self.old.start }
+        ensures order { self.new.order ≡ self.old.order }
+        ensures pages { self.new.pages ≡ pages_with (2 ^ self.old.order) bytes.now }
+    {
+        writes::overwrite(self.pages.as_mut_slice(), bytes);
     }
 
     /// Fills the pages below `i` and those from `i` on, on two threads.

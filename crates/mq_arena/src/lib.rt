@@ -7,17 +7,18 @@ mod halves;
 mod homecoming;
 mod homes;
 mod limits;
+mod locked;
 mod page;
 mod parts;
+mod shell;
 mod state;
-#[cfg(test)]
-mod tests;
 mod unopened;
 mod writes;
 
 pub use block::Block;
 pub use homecoming::Homecoming;
 pub use limits::{LEDGER_PARTS, MAX_ORDER, MAX_PAGES};
+pub use locked::{Arena, OfHeight};
 pub use page::{PAGE_LEN, Page};
 pub use parts::Parts;
 pub use state::ArenaState;

@@ -1,5 +1,5 @@
 //! A page, and what is written into it.
-ghost use Rattle.std.specs.Prelude.{◌≡◌, ◌≤◌, [], ◌++◌, length, take, drop, replicate, IfOk};
+ghost use Rattle.std.specs.Prelude.{◌≡◌, ◌-◌, ◌≤◌, [], ◌++◌, length, take, drop, replicate, IfOk};
 ghost use Rattle.std.specs.Borrow.{sem};
 
 use std::alloc::{AllocError, Global};
@@ -76,9 +76,13 @@ impl Page {
         front.copy_from_slice(bytes);
     }
 
-    pub(crate) fn clear(&mut self)
-        ensures { self.new ≡ replicate (length self.old) 0 }
+    /// Writes over the first bytes, and zeros over the rest.
+    pub(crate) fn overwrite(&mut self, bytes: &[u8])
+        requires { length bytes.now ≤ length self.old }
+        ensures { self.new ≡ bytes.now ++ replicate (length self.old - length bytes.now) 0 }
     {
-        self.bytes.as_mut_slice().fill(0);
+        let (first, rest) = self.bytes.as_mut_slice().split_at_mut(bytes.len());
+        first.copy_from_slice(bytes);
+        rest.fill(0);
     }
 }

@@ -1,8 +1,10 @@
 //! The arena: the pages at home, and which are lent.
-ghost use Rattle.std.specs.Prelude.{◌≡◌, ◌+◌, ◌^◌, ◌≤◌, ◌↔◌, Some, None, replicate, IfSome, IfNone, IsTrue};
+ghost use Rattle.std.specs.Prelude.{◌≡◌, ◌+◌, ◌-◌, ◌*◌, ◌^◌, ◌≤◌, ◌↔◌, ◌++◌, Some, None, length, replicate, IfSome, IfNone, IsTrue};
+ghost use Rattle.std.specs.List.{concat};
 ghost use Rattle.mq_tree.specs.LentSet.{is_lent, free_pages};
 ghost use Rattle.mq_tree.specs.Fit.{largest};
 ghost use Rattle.mq_arena.specs.Account.{pages_of};
+ghost use Rattle.mq_arena.specs.Bytes.{pages_with};
 ghost use Rattle.mq_arena.specs.Lent.{place, lend, gives_back, lent_pages};
 
 use crate::account::{audit, page_count};
@@ -11,6 +13,7 @@ use crate::homecoming::Homecoming;
 use crate::homes::{put_pages, take_pages};
 use crate::limits::MAX_ORDER;
 use crate::page::{PAGE_LEN, Page};
+use crate::shell::Shell;
 use mq_tree::OrderTree;
 use std::marker::Model;
 use std::sync::ledger::{Book, Ledger, Share};
@@ -23,11 +26,14 @@ use std::sync::ledger::{Book, Ledger, Share};
 pub struct ArenaState<L: Ledger> {
     pub(crate) tree: OrderTree,
     pub(crate) homes: Vec<Page>,
+    /// One for each block that could still be lent.
+    pub(crate) shells: Vec<Shell>,
     pub(crate) out: Book<L>,
     pub(crate) parts: Share<L>,
 }
 
 impl<L: Ledger> Model for ArenaState<L> {
+    ghost use Rattle.std.specs.Prelude.{vec_len, vec_capacity};
     ghost use Rattle.mq_tree.specs.LentSet.{Lending};
     ghost use Rattle.mq_arena.specs.Stocked.{IsArena};
 
@@ -35,12 +41,14 @@ impl<L: Ledger> Model for ArenaState<L> {
 
     ghost view = { λ a. a.tree };
 
-    ghost invariant = { λ a. IsArena a.tree a.homes.items a.out.total a.parts.parts };
+    ghost invariant = { λ a. IsArena a.tree a.homes.items (vec_len a.shells)
+        (vec_capacity a.shells) a.out.total a.parts.parts };
 }
 
 impl<L: Ledger> ArenaState<L> {
     /// Takes the block of that order with the least start, with all bytes zero. It takes no memory:
     /// the pages move into the block.
+    #[tactic(auto, using(crate::proofs::Overwriting::no_bytes))]
     pub fn take(&mut self, order: u8) -> Option<Block<L>>
         requires { order ≤ MAX_ORDER }
         ensures lent { IfSome result (λ b. lend self.old order ≡ Some (place b, self.new)) }
@@ -49,11 +57,44 @@ impl<L: Ledger> ArenaState<L> {
         ensures none { IfNone result (lend self.old order ≡ None) }
         ensures unchanged { IfNone result (self.new ≡ self.old) }
     {
+        self.take_filled(order, &[])
+    }
+
+    /// Takes the block that `take` would, with these bytes in its first ones and zeros behind them.
+    #[tactic(auto, using(crate::proofs::Overwriting::concat_bytes))]
+    pub fn take_filled(&mut self, order: u8, bytes: &[u8]) -> Option<Block<L>>
+        requires order { order ≤ MAX_ORDER }
+        requires fits { length bytes.now ≤ PAGE_LEN * 2 ^ order }
+        ensures lent { IfSome result (λ b. lend self.old order ≡ Some (place b, self.new)) }
+        ensures order { IfSome result (λ b. b.order ≡ order) }
+        ensures pages { IfSome result (λ b. b.pages ≡ pages_with (2 ^ order) bytes.now) }
+        ensures bytes { IfSome result (λ b. concat b.pages
+            ≡ bytes.now ++ replicate (PAGE_LEN * 2 ^ order - length bytes.now) 0) }
+        ensures none { IfNone result (lend self.old order ≡ None) }
+        ensures unchanged { IfNone result (self.new ≡ self.old) }
+    {
+        let mut block = self.take_block(order)?;
+        block.overwrite(bytes);
+        Some(block)
+    }
+
+    /// Takes the block that `take` would, with the bytes that its pages had.
+    pub(crate) fn take_block(&mut self, order: u8) -> Option<Block<L>>
+        requires { order ≤ MAX_ORDER }
+        ensures lent { IfSome result (λ b. lend self.old order ≡ Some (place b, self.new)) }
+        ensures order { IfSome result (λ b. b.order ≡ order) }
+        ensures none { IfNone result (lend self.old order ≡ None) }
+        ensures unchanged { IfNone result (self.new ≡ self.old) }
+    {
         let start = self.tree.lend(order)?;
+        let Some(shell) = self.shells.pop() else {
+            unreachable!()
+        };
         let count = page_count(order);
         let alloc = *self.homes.allocator();
         let homes = self.homes.as_mut_slice();
-        let pages = take_pages(alloc, homes, start as usize, count as usize);
+        let places = shell.into_places();
+        let pages = take_pages(alloc, homes, start as usize, count as usize, places);
         let mut share = self.parts.split_off(count as u64, 0);
         self.out.add(&mut share, count as u64);
         Some(Block {
@@ -82,7 +123,8 @@ impl<L: Ledger> ArenaState<L> {
         }
         self.out.sub(&mut share, page_count(order) as u64);
         self.parts.merge(share);
-        put_pages(self.homes.as_mut_slice(), start as usize, pages);
+        let places = put_pages(self.homes.as_mut_slice(), start as usize, pages);
+        self.shells.push_reserved(Shell::of(places));
         Homecoming::Home
     }
 

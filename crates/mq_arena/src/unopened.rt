@@ -1,8 +1,9 @@
 //! An arena that is made, and not yet opened.
-ghost use Rattle.std.specs.Prelude.{◌≡◌, ◌^◌, ◌<◌, ◌↔◌, [], replicate, IfOk, IsErrOf};
+ghost use Rattle.std.specs.Prelude.{◌≡◌, ◌^◌, ◌<◌, ◌↔◌, [], vec_len, vec_capacity, replicate, IfOk, IsErrOf};
 
 use crate::limits::LEDGER_PARTS;
 use crate::page::{PAGE_LEN, Page};
+use crate::shell::Shell;
 use crate::state::ArenaState;
 use mq_tree::{MAX_HEIGHT, OrderTree, TreeError};
 use std::alloc::{AllocError, Global};
@@ -15,17 +16,19 @@ use std::sync::ledger::{Blank, Ledger};
 pub struct Unopened {
     tree: OrderTree,
     homes: Vec<Page>,
+    shells: Vec<Shell>,
 }
 
 impl Model for Unopened {
-    ghost use Rattle.std.specs.Prelude.{ℕ};
+    ghost use Rattle.std.specs.Prelude.{ℕ, vec_len, vec_capacity};
     ghost use Rattle.mq_arena.specs.Stocked.{IsMade};
 
     ghost Value = { ℕ };
 
     ghost view = { λ u. u.tree.height };
 
-    ghost invariant = { λ u. IsMade u.tree u.homes.items };
+    ghost invariant = { λ u. IsMade u.tree u.homes.items (vec_len u.shells)
+        (vec_capacity u.shells) };
 }
 
 fn made_pages(alloc: Global, count: u32) -> Result<Vec<Page>, AllocError>
@@ -38,6 +41,18 @@ fn made_pages(alloc: Global, count: u32) -> Result<Vec<Page>, AllocError>
     Ok(pages)
 }
 
+/// That many empty shells, and room for no more.
+fn made_shells(alloc: Global, count: u32) -> Result<Vec<Shell>, AllocError>
+    ensures count { IfOk result (λ shells. vec_len shells ≡ count) }
+    ensures room { IfOk result (λ shells. vec_capacity shells ≡ count) }
+{
+    let mut shells = Vec::with_capacity(alloc, count as usize)?;
+    for _ in 0..count {
+        shells.push_reserved(Shell::new(alloc)?);
+    }
+    Ok(shells)
+}
+
 impl Unopened {
     /// An arena of `2 ^ height` pages: fewer than `LEDGER_PARTS`. `Height` where the height is over
     /// `MAX_HEIGHT`, then `Memory`.
@@ -47,10 +62,17 @@ impl Unopened {
         ensures err { IsErrOf result TreeError.Height ↔ (MAX_HEIGHT < height) }
     {
         let tree = OrderTree::new(alloc, height)?;
-        match made_pages(alloc, tree.pages()) {
-            Ok(homes) => Ok(Unopened { tree, homes }),
-            Err(_) => Err(TreeError::Memory),
-        }
+        let Ok(homes) = made_pages(alloc, tree.pages()) else {
+            return Err(TreeError::Memory);
+        };
+        let Ok(shells) = made_shells(alloc, tree.pages()) else {
+            return Err(TreeError::Memory);
+        };
+        Ok(Unopened {
+            tree,
+            homes,
+            shells,
+        })
     }
 
     /// The arena, with nothing lent. A ledger of more parts than the arena has pages counts for it.
@@ -60,11 +82,16 @@ impl Unopened {
         requires enough { 2 ^ self < ledger.parts }
         ensures { result ≡ record { height = self; lent = [] } }
     {
-        let Unopened { tree, homes } = self;
+        let Unopened {
+            tree,
+            homes,
+            shells,
+        } = self;
         let (out, parts) = ledger.open();
         ArenaState {
             tree,
             homes,
+            shells,
             out,
             parts,
         }

@@ -1,7 +1,7 @@
 //! Bytes that are written over pages.
-ghost use Rattle.std.specs.Prelude.{◌≡◌, ◌≤◌, ◌*◌, ◌++◌, length, drop};
+ghost use Rattle.std.specs.Prelude.{◌≡◌, ◌≤◌, ◌*◌, ◌++◌, length, drop, replicate};
 ghost use Rattle.std.specs.List.{concat};
-ghost use Rattle.mq_arena.specs.Bytes.{AreWhole};
+ghost use Rattle.mq_arena.specs.Bytes.{AreWhole, filled};
 
 use crate::page::{PAGE_LEN, Page};
 
@@ -16,6 +16,21 @@ pub fn fill(pages: &mut [Page], bytes: &[u8])
     for page in pages.iter_mut() {
         let (part, later) = rest.split_at(PAGE_LEN.min(rest.len()));
         page.write(part);
+        rest = later;
+    }
+}
+
+/// Writes the bytes over the first ones of the pages, and zeros over the rest: each byte once.
+pub(crate) fn overwrite(pages: &mut [Page], bytes: &[u8])
+    requires whole { AreWhole pages.old }
+    ensures whole { AreWhole pages.new }
+    ensures pages { pages.new
+        ≡ filled PAGE_LEN (replicate (length pages.old) (replicate PAGE_LEN 0)) bytes.now }
+{
+    let mut rest = bytes;
+    for page in pages.iter_mut() {
+        let (part, later) = rest.split_at(PAGE_LEN.min(rest.len()));
+        page.overwrite(part);
         rest = later;
     }
 }

@@ -1,8 +1,11 @@
 -- Texts as those who send and receive them see them.
-use Rattle.std.specs.Prelude.{◌≡◌, ℕ, ◌+◌, ◌-◌, ◌*◌, ◌/◌, ◌^◌, nat_lt, List, [], ◌++◌, length, take, drop, Option, None, IfSome, count_by}
+use Rattle.std.specs.Prelude.{◌≡◌, ℕ, ◌+◌, ◌-◌, ◌*◌, ◌/◌, ◌^◌, nat_lt, List, [], ◌++◌, length, take, drop, Option, None, Some, IfSome, count_by}
 use Rattle.std.specs.List.{concat, range_with_len}
+use Rattle.std.specs.Option.{option_map}
 use Rattle.mq_tree.specs.Blocks.{Block}
+use Rattle.mq_tree.specs.LentSet.{Lending}
 use Rattle.mq_arena.specs.Bytes.{AreWhole}
+use Rattle.mq_arena.specs.Lent.{lend}
 use Rattle.mq_arena.specs.declared.limits.TheConstants.{MAX_ORDER}
 use Rattle.mq_arena.specs.declared.page.TheConstants.{PAGE_LEN}
 
@@ -42,3 +45,10 @@ pub record ArePagesOf (text : PlainText) (pages : List (List ℕ)) : Type 0 wher
   pub whole : AreWhole pages
   pub count : IfSome text.block (λ b. length pages ≡ 2 ^ b.order)
   pub bytes : text.bytes ≡ take (length text.bytes) (concat pages)
+
+-- a text of these bytes in the block that an arena lends for it, and the arena; `None` where no
+-- block fits
+abbrev pub text_in : Lending → List ℕ → Option (PlainText × Lending)
+text_in arena bytes =
+    option_map (λ l. (record { bytes = bytes; block = Some l.0 }, l.1))
+    (lend arena (order_for (length bytes)))

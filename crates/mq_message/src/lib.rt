@@ -5,12 +5,8 @@
 mod body;
 mod message;
 mod order;
-#[cfg(test)]
-mod tests;
 mod text;
 mod text_writes;
-#[cfg(test)]
-mod thread_tests;
 mod vec_body;
 
 pub use body::Body;

@@ -3,11 +3,11 @@ ghost use Rattle.std.specs.Prelude.{◌≡◌, ℕ, [], slice_index_or, ◌-◌,
 ghost use Rattle.std.specs.List.{concat};
 ghost use Rattle.std.specs.Option.{option_map};
 ghost use Rattle.mq_arena.specs.Lent.{place};
-ghost use Rattle.mq_message.specs.Text.{no_text, count_of, order_for, text_part};
+ghost use Rattle.mq_message.specs.Text.{no_text, count_of, order_for, text_in, text_part};
 
 use crate::Body;
-use crate::order::TEXT_LEN;
-use mq_arena::{Block, MAX_ORDER, PAGE_LEN, Parts};
+use crate::order::{TEXT_LEN, order_for};
+use mq_arena::{ArenaState, Block, MAX_ORDER, PAGE_LEN, Parts};
 use std::marker::Model;
 use std::sync::ledger::Ledger;
 
@@ -56,6 +56,22 @@ impl<L: Ledger> Text<L> {
         Text {
             len,
             block: Some(block),
+        }
+    }
+
+    /// The text of these bytes, in a block that the arena lends for it: the least that has room.
+    /// Each byte of the block is written once.
+    pub fn of_bytes(arena: &mut ArenaState<L>, bytes: &[u8]) -> Option<Text<L>>
+        requires some { 0 < length bytes.now }
+        requires most { length bytes.now ≤ TEXT_LEN }
+        ensures ok { IfSome result (λ text. text_in arena.old bytes.now ≡ Some (text, arena.new)) }
+        ensures none { IfNone result (text_in arena.old bytes.now ≡ None) }
+        ensures unchanged { IfNone result (arena.new ≡ arena.old) }
+    {
+        let order = order_for(bytes.len());
+        match arena.take_filled(order, bytes) {
+            Some(block) => Some(Text::of(block, bytes.len())),
+            None => None,
         }
     }
 

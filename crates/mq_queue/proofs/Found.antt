@@ -1,5 +1,5 @@
 -- The message that the waiting list finds is the one that the log names.
-use Rattle.std.proofs.Common.{◌≡◌, ℕ, nat_le, ◌==◌, List, [], ◌∷◌, length, map, find, filter, Option, Some, None, Ok, Err, if◌then◌else◌, IfSome, IsSome, Bool, true, false, not, ◌||◌, cond, refl, ap, subst, sym, ◌∙◌}
+use Rattle.std.proofs.Common.{◌≡◌, ℕ, nat_le, ◌==◌, List, [], ◌∷◌, length, map, find, filter, Option, Some, None, Result, Ok, Err, if◌then◌else◌, IfSome, IsSome, Bool, true, false, not, ◌||◌, cond, refl, ap, subst, sym, ◌∙◌}
 use Rattle.std.specs.Option.{option_map}
 use Rattle.std.proofs.lemmas.Option.{none-some, same_Some}
 use Rattle.mq_message.specs.declared.message.Message.{Message}
@@ -7,9 +7,10 @@ use Rattle.mq_select.specs.declared.selection.Selection.{Selection}
 use Rattle.mq_select.specs.Selection.{pick, eligible}
 use Rattle.mq_select.specs.Waiting.{message_at, without, Header}
 use Rattle.mq_select.proofs.Places.{picked_waits}
+use Rattle.mq_queue.specs.declared.error.QueueError.{QueueError}
 use Rattle.mq_queue.specs.declared.error.QueueError.TheVariants.{NoMessage, TooBig, Memory}
 use Rattle.mq_queue.specs.declared.event.Event.{Event}
-use Rattle.mq_queue.specs.Answer.{receive_answer, handed_out, refusal_or_memory}
+use Rattle.mq_queue.specs.Answer.{receive_answer, receive_refusal, handed_out, refusal_or_memory}
 use Rattle.mq_queue.specs.Queue.{IsSound}
 use Rattle.mq_queue.specs.Waiting.{header_of, headers_of, waiting}
 use Rattle.mq_queue.proofs.Places.{Rises, found_at, whole_at}
@@ -67,12 +68,12 @@ picked_header bytes log messages selection place m sound found at =
     subst P sound.waits (rw (pick-headers bytes messages selection, picked_is messages selection place m (messages_rise bytes log messages sound) found at) refl)
 
 -- where nothing is found there is no message
-pub none_refused : {B : Type 0} (bytes : B → List ℕ) (log : List Event) (messages : List (ℕ × Message B)) (size : ℕ) (selection : Selection) (noerror : Bool) → IsSound bytes log messages → None ≡ option_map (λ m. m.0) (pick (λ m. m.1.mtype) messages selection) → NoMessage ≡ refusal_or_memory (receive_answer (waiting log) size selection noerror)
-none_refused {B} bytes log messages size selection noerror sound found =
-    let P : List Header → Type 0 = λ headers. NoMessage ≡ refusal_or_memory (receive_answer headers size selection noerror) in
+pub none_found : {B : Type 0} (bytes : B → List ℕ) (log : List Event) (messages : List (ℕ × Message B)) (size : ℕ) (selection : Selection) (noerror : Bool) → IsSound bytes log messages → None ≡ option_map (λ m. m.0) (pick (λ m. m.1.mtype) messages selection) → receive_answer (waiting log) size selection noerror ≡ Err NoMessage
+none_found {B} bytes log messages size selection noerror sound found =
+    let P : List Header → Type 0 = λ headers. receive_answer headers size selection noerror ≡ Err NoMessage in
     subst P sound.waits (rw (pick-headers bytes messages selection) (by (pick (λ m. m.1.mtype) messages selection) found))
   where
-    by : (o : Option (ℕ × Message B)) → None ≡ option_map (λ m. m.0) o → NoMessage ≡ refusal_or_memory (handed_out size noerror (option_map (header_of bytes) o))
+    by : (o : Option (ℕ × Message B)) → None ≡ option_map (λ m. m.0) o → handed_out size noerror (option_map (header_of bytes) o) ≡ Err NoMessage
     by None e = refl
     by (Some x) e = absurd (none-some x.0 e)
 
@@ -87,11 +88,16 @@ answer_found {B} bytes log messages size selection noerror place n sound found l
         (header_of bytes (place, m), rw (picked_header bytes log messages selection place m sound found at, e) refl)
 
 -- one that is too long is refused
-pub too_big_refused : {B : Type 0} (bytes : B → List ℕ) (log : List Event) (messages : List (ℕ × Message B)) (size : ℕ) (selection : Selection) (noerror : Bool) (place n : ℕ) → IsSound bytes log messages → Some place ≡ option_map (λ m. m.0) (pick (λ m. m.1.mtype) messages selection) → IfSome (message_at place messages) (λ m. n ≡ length (bytes m.body)) → false ≡ (noerror || nat_le n size) → TooBig ≡ refusal_or_memory (receive_answer (waiting log) size selection noerror)
-too_big_refused bytes log messages size selection noerror place n sound found long big =
+pub too_big_found : {B : Type 0} (bytes : B → List ℕ) (log : List Event) (messages : List (ℕ × Message B)) (size : ℕ) (selection : Selection) (noerror : Bool) (place n : ℕ) → IsSound bytes log messages → Some place ≡ option_map (λ m. m.0) (pick (λ m. m.1.mtype) messages selection) → IfSome (message_at place messages) (λ m. n ≡ length (bytes m.body)) → false ≡ (noerror || nat_le n size) → receive_answer (waiting log) size selection noerror ≡ Err TooBig
+too_big_found bytes log messages size selection noerror place n sound found long big =
     rw ((answer_found bytes log messages size selection noerror place n sound found long).1, ← big) refl
 
--- one that fits is refused only where there is no memory
-pub memory_refused : {B : Type 0} (bytes : B → List ℕ) (log : List Event) (messages : List (ℕ × Message B)) (size : ℕ) (selection : Selection) (noerror : Bool) (place n : ℕ) → IsSound bytes log messages → Some place ≡ option_map (λ m. m.0) (pick (λ m. m.1.mtype) messages selection) → IfSome (message_at place messages) (λ m. n ≡ length (bytes m.body)) → true ≡ (noerror || nat_le n size) → Memory ≡ refusal_or_memory (receive_answer (waiting log) size selection noerror)
-memory_refused bytes log messages size selection noerror place n sound found long fits =
+-- one that fits is not refused
+pub fitting_found : {B : Type 0} (bytes : B → List ℕ) (log : List Event) (messages : List (ℕ × Message B)) (size : ℕ) (selection : Selection) (noerror : Bool) (place n : ℕ) → IsSound bytes log messages → Some place ≡ option_map (λ m. m.0) (pick (λ m. m.1.mtype) messages selection) → IfSome (message_at place messages) (λ m. n ≡ length (bytes m.body)) → true ≡ (noerror || nat_le n size) → receive_refusal (receive_answer (waiting log) size selection noerror) ≡ None
+fitting_found bytes log messages size selection noerror place n sound found long fits =
     rw ((answer_found bytes log messages size selection noerror place n sound found long).1, ← fits) refl
+
+-- who is not refused can want memory alone
+pub memory_alone : (answer : Result Header QueueError) → receive_refusal answer ≡ None → Memory ≡ refusal_or_memory answer
+memory_alone (Ok m) e = refl
+memory_alone (Err e) same = cc

@@ -1,13 +1,15 @@
 -- A message is sent.
-use Rattle.std.proofs.Common.{◌≡◌, ℕ, ℤ, pos, ◌+◌, ◌≤◌, ◌≤ℤ◌, nat_le, List, [], ◌∷◌, ◌++◌, length, length-append, map, true, Bool, false, ◌&&◌, refl, ap, sym, ◌∙◌, arith}
+use Rattle.std.proofs.Common.{◌≡◌, ℕ, ℤ, pos, ◌+◌, ◌≤◌, ◌≤ℤ◌, int_lt, nat_le, nat_lt, if◌then◌else◌, Some, None, List, [], ◌∷◌, ◌++◌, length, length-append, map, true, Bool, false, ◌&&◌, refl, ap, sym, ◌∙◌, arith}
 use Rattle.std.proofs.lemmas.Bool.{leb-true}
 use Rattle.std.proofs.lemmas.List.Sums.{sum_by_push}
 use Rattle.mq_message.specs.declared.message.Message.{Message}
 use Rattle.mq_select.specs.Waiting.{Header}
+use Rattle.mq_queue.specs.declared.error.QueueError.TheVariants.{TypeInvalid, TooLong, Full}
 use Rattle.mq_queue.specs.declared.event.Event.{Event}
 use Rattle.mq_queue.specs.declared.event.Event.TheVariants.{Sent}
 use Rattle.mq_queue.specs.declared.figures.Figures.{Figures}
 use Rattle.mq_queue.specs.declared.limits.TheConstants.{MSGMAX}
+use Rattle.mq_queue.specs.Answer.{send_refusal}
 use Rattle.mq_queue.specs.Lawful.{Lawful}
 use Rattle.mq_queue.specs.Queue.{AreFigures, IsSound}
 use Rattle.mq_queue.specs.Room.{has_room, quota}
@@ -15,8 +17,22 @@ use Rattle.mq_queue.specs.Waiting.{headers_of, header_of, waiting}
 use Rattle.mq_queue.proofs.Sound.{figures_more, sound_more}
 
 -- what the kept figures say of the room is what the log says
-room_is : (log : List Event) (kept : Figures) (n : ℕ) → AreFigures log kept → (nat_le (kept.cbytes + n) kept.qbytes && nat_le (kept.qnum + 1) kept.qbytes) ≡ has_room (waiting log) n (quota log)
+pub room_is : (log : List Event) (kept : Figures) (n : ℕ) → AreFigures log kept → (nat_le (kept.cbytes + n) kept.qbytes && nat_le (kept.qnum + 1) kept.qbytes) ≡ has_room (waiting log) n (quota log)
 room_is log kept n are = ap (λ (f : Figures). nat_le (f.cbytes + n) f.qbytes && nat_le (f.qnum + 1) f.qbytes) are.same
+
+-- a message that is not refused has room
+pub not_refused : (waiting : List Header) (quota : ℕ) (mtype : ℤ) (n : ℕ) → None ≡ send_refusal waiting quota mtype n → (int_lt mtype (pos 1) ≡ false) × (nat_lt MSGMAX n ≡ false) × (has_room waiting n quota ≡ true)
+not_refused waiting quota mtype n e = by (int_lt mtype (pos 1)) (nat_lt MSGMAX n) (has_room waiting n quota) e
+  where
+    by : (low long room : Bool) → None ≡ (if low then Some TypeInvalid else (if long then Some TooLong else (if room then None else Some Full))) → (low ≡ false) × (long ≡ false) × (room ≡ true)
+    by false false true e = (refl, refl, refl)
+    by true long room e = cc
+    by false true room e = cc
+    by false false false e = cc
+
+-- and the kept figures say so
+pub room_kept : (log : List Event) (kept : Figures) (mtype : ℤ) (n : ℕ) → AreFigures log kept → None ≡ send_refusal (waiting log) (quota log) mtype n → true ≡ (nat_le (kept.cbytes + n) kept.qbytes && nat_le (kept.qnum + 1) kept.qbytes)
+room_kept log kept mtype n are free = sym (room_is log kept n are ∙ (not_refused (waiting log) (quota log) mtype n free).2)
 
 map_push : {X Y : Type 0} (f : X → Y) (xs : List X) (x : X) → map f (xs ++ x ∷ []) ≡ map f xs ++ f x ∷ []
 map_push f [] x = refl

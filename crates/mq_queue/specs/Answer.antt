@@ -36,6 +36,11 @@ received_header r = record {
   length = r.length;
 }
 
+-- why a receiver is refused, if it is
+abbrev pub receive_refusal : Result Header QueueError → Option QueueError
+receive_refusal (Ok m) = None
+receive_refusal (Err e) = Some e
+
 -- why a receiver is refused: as above, or because the log has no memory for one more event
 abbrev pub refusal_or_memory : Result Header QueueError → QueueError
 refusal_or_memory (Ok m) = Memory

@@ -9,14 +9,10 @@ mod figures;
 pub mod laws;
 mod limits;
 mod log;
-#[cfg(test)]
-mod log_tests;
 mod receive;
 mod received;
 mod send;
 mod state;
-#[cfg(test)]
-mod tests;
 pub mod worked;
 
 pub use error::QueueError;

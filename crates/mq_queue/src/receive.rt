@@ -1,9 +1,12 @@
-ghost use Rattle.std.specs.Prelude.{◌≡◌, ◌||◌, ◌++◌, ◌∷◌, [], length, min, take, nat_le, IsSomeAnd};
-ghost use Rattle.std.specs.Prelude.{OnOk, OnErr, IfOk, IfErr};
+ghost use Rattle.std.specs.Prelude.{◌≡◌, ◌||◌, ◌++◌, ◌∷◌, [], length, min, take, nat_le, true, IsSomeAnd};
+ghost use Rattle.std.specs.Prelude.{OnOk, OnErr, IfOk, IfErr, Ok, Err, Some, None, IfSome};
+ghost use Rattle.std.specs.Option.{option_map};
+ghost use Rattle.mq_select.specs.Selection.{pick};
 ghost use Rattle.mq_select.specs.Waiting.{message_at, without};
-ghost use Rattle.mq_queue.specs.Answer.{receive_answer, received_header, refusal_or_memory};
+ghost use Rattle.mq_queue.specs.Answer.{receive_answer, receive_refusal, received_header};
+ghost use Rattle.mq_queue.specs.Answer.{refusal_or_memory};
 ghost use Rattle.mq_queue.specs.Queue.{IsSound};
-ghost use Rattle.mq_queue.specs.Waiting.{waiting};
+ghost use Rattle.mq_queue.specs.Waiting.{header_of, waiting};
 
 use crate::log::{append, count};
 use crate::{Event, Figures, QueueError, QueueState, Received};
@@ -17,7 +20,50 @@ fn is_handed_out(length: u64, size: u64, noerror: bool) -> bool
     noerror || length <= size
 }
 
+/// A message that is handed out: the place of its sending, and its length.
+#[derive(Drop)]
+struct Chosen {
+    place: u64,
+    length: u64,
+}
+
 impl<B: Body, W: Waiting<B>> QueueState<B, W> {
+    /// The message that this receiver is handed, or why it gets none.
+    fn choose(&self, size: u64, selection: Selection, noerror: bool) -> Result<Chosen, QueueError>
+        ensures refused { IfErr result (λ e.
+            receive_answer (waiting self.now.log) size selection noerror ≡ Err e) }
+        ensures accepted { OnOk result (receive_refusal
+            (receive_answer (waiting self.now.log) size selection noerror) ≡ None) }
+        ensures picked { IfOk result (λ c. Some c.place
+            ≡ option_map (λ m. m.0) (pick (λ m. m.1.mtype) self.now.messages selection)) }
+        ensures length { IfOk result (λ c. IfSome (message_at c.place self.now.messages) (λ m.
+            c.length ≡ length (B.bytes m.body))) }
+        ensures fits { IfOk result (λ c. (noerror || nat_le c.length size) ≡ true) }
+    {
+        let Some(place) = self.waiting.find(selection) else {
+            return Err(QueueError::NoMessage);
+        };
+        let length = self.waiting.length_of(place);
+        if !is_handed_out(length, size, noerror) {
+            return Err(QueueError::TooBig);
+        }
+        Ok(Chosen { place, length })
+    }
+
+    /// Why this receiver would be refused now (msgop(2), msgrcv with IPC_NOWAIT), or `None` where
+    /// at most memory could be wanted.
+    pub fn refuses_receive(
+        &self,
+        size: u64,
+        selection: Selection,
+        noerror: bool,
+    ) -> Option<QueueError>
+        ensures { result ≡ receive_refusal
+            (receive_answer (waiting self.now.log) size selection noerror) }
+    {
+        self.choose(size, selection, noerror).err()
+    }
+
     /// Takes out the message that the selection picks (msgop(2), msgrcv with IPC_NOWAIT). With
     /// `noerror`, the flag MSG_NOERROR, a longer text is cut to `size` bytes. A receive adds an
     /// event to the log, for which there may be no memory.
@@ -38,6 +84,8 @@ impl<B: Body, W: Waiting<B>> QueueState<B, W> {
             ≡ Ok (received_header r)) }
         ensures body { IfOk result (λ r. IsSomeAnd (message_at r.place self.old.messages) (λ m.
             (B.bytes r.body ≡ take size (B.bytes m.body)) × B.keeps m.body r.body)) }
+        ensures sent { IfOk result (λ r. IsSomeAnd (message_at r.place self.old.messages) (λ m.
+            received_header r ≡ header_of B.bytes (r.place, m))) }
         ensures length { IfOk result (λ r. length (B.bytes r.body) ≡ min r.length size) }
         ensures entry { IfOk result (λ r. r.entry ≡ length self.old.log) }
         ensures log { IfOk result (λ r. self.new.log
@@ -47,13 +95,7 @@ impl<B: Body, W: Waiting<B>> QueueState<B, W> {
         ensures sound { IsSound B.bytes self.new.log self.new.messages }
     {
         let kept = self.kept;
-        let Some(place) = self.waiting.find(selection) else {
-            return Err(QueueError::NoMessage);
-        };
-        let length = self.waiting.length_of(place);
-        if !is_handed_out(length, size, noerror) {
-            return Err(QueueError::TooBig);
-        }
+        let Chosen { place, length } = self.choose(size, selection, noerror)?;
         let Ok(()) = self.log.reserve(1) else {
             return Err(QueueError::Memory);
         };

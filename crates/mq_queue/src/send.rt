@@ -20,6 +20,23 @@ fn has_room(count: u64, bytes: u64, length: u64, quota: u64) -> bool
 }
 
 impl<B: Body, W: Waiting<B>> QueueState<B, W> {
+    /// Why a message of this type and length would be refused now (msgop(2), msgsnd with
+    /// IPC_NOWAIT), or `None` where at most memory could be wanted.
+    pub fn refuses_send(&self, mtype: i64, length: u64) -> Option<QueueError>
+        ensures { result ≡ send_refusal (waiting self.now.log) (quota self.now.log) mtype length }
+    {
+        if mtype < 1 {
+            return Some(QueueError::TypeInvalid);
+        }
+        if length > MSGMAX {
+            return Some(QueueError::TooLong);
+        }
+        if !has_room(self.kept.qnum, self.kept.cbytes, length, self.kept.qbytes) {
+            return Some(QueueError::Full);
+        }
+        None
+    }
+
     /// Adds a message at the end, and answers its place (msgop(2), msgsnd with IPC_NOWAIT). A
     /// message that is refused is handed back.
     pub fn send(
@@ -44,14 +61,8 @@ impl<B: Body, W: Waiting<B>> QueueState<B, W> {
     {
         let kept = self.kept;
         let length = message.body.len();
-        if message.mtype < 1 {
-            return Err((QueueError::TypeInvalid, message));
-        }
-        if length > MSGMAX {
-            return Err((QueueError::TooLong, message));
-        }
-        if !has_room(kept.qnum, kept.cbytes, length, kept.qbytes) {
-            return Err((QueueError::Full, message));
+        if let Some(refusal) = self.refuses_send(message.mtype, length) {
+            return Err((refusal, message));
         }
         let Ok(()) = self.log.reserve(1) else {
             return Err((QueueError::Memory, message));

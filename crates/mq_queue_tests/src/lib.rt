@@ -1,6 +1,12 @@
-//! Tests of texts on their way through queues.
+//! Tests of waiting lists, of one queue, and of texts on their way through queues.
 
 #![tactic(auto)]
 
+#[cfg(test)]
+mod calls;
+#[cfg(test)]
+mod lists;
+#[cfg(test)]
+mod logs;
 #[cfg(test)]
 mod texts;

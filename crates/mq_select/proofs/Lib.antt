@@ -1,2 +1,3 @@
+pub mod FirstLowest
 pub mod Lowest
 pub mod Places

@@ -1,4 +1,5 @@
 pub mod Laws
+pub mod Lowest
 pub mod Selection
 pub mod Waiting
 pub mod Worked

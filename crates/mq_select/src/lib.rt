@@ -6,8 +6,6 @@
 pub mod laws;
 mod list;
 mod selection;
-#[cfg(test)]
-mod tests;
 mod waiting;
 pub mod worked;
 

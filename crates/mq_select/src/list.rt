@@ -1,8 +1,8 @@
-ghost use Rattle.std.specs.Prelude.{◌≡◌, ◌==◌, ◌<◌, ◌++◌, ◌∷◌, [], All};
+ghost use Rattle.std.specs.Prelude.{◌≡◌, ◌==◌, ◌<◌, ◌++◌, ◌∷◌, [], All, AllPairs};
 ghost use Rattle.std.specs.Prelude.{find, int_le, map, not, pos, position};
 ghost use Rattle.std.specs.Option.{option_map};
 ghost use Rattle.std.specs.Ordering.{int_eq};
-ghost use Rattle.mq_select.specs.Selection.{least_of, lower_of};
+ghost use Rattle.mq_select.specs.Lowest.{first_lowest, lower_first_of};
 
 use crate::{Selection, Waiting};
 use mq_message::{Body, Message};
@@ -35,13 +35,17 @@ impl<B> Model for ListWaiting<B> {
 
 type Placed<B> = (u64, Message<B>);
 
-/// The lower of a type and the lowest before it, if there was one.
-fn lower(least: Option<i64>, mtype: i64) -> i64
-    ensures { Some result ≡ lower_of least mtype }
+/// The type of a message and its place.
+type Head = (i64, u64);
+
+/// Of the first message of the lowest type so far and the next message, the one of the lower type,
+/// and the earlier where both are of one type.
+fn lower(least: Option<Head>, next: Head) -> Head
+    ensures { Some result ≡ lower_first_of least next }
 {
     match least {
-        Some(least) if least <= mtype => least,
-        _ => mtype,
+        Some(least) if least.0 <= next.0 => least,
+        _ => next,
     }
 }
 
@@ -52,15 +56,23 @@ fn is_within(mtype: i64, bound: u64) -> bool
     i128::from(mtype) <= i128::from(bound)
 }
 
-/// The lowest type that is at most the bound.
-fn least_within<B>(messages: &VecDeque<Placed<B>>, bound: u64) -> Option<i64>
-    ensures { result ≡ least_of bound (map (λ m. m.1.mtype) messages.now.items) }
+/// The first message of the lowest type that is at most the bound, by its type and its place.
+fn lowest_within<B>(messages: &VecDeque<Placed<B>>, bound: u64) -> Option<Head>
+    ensures { result ≡ first_lowest bound (map (λ m. (m.1.mtype, m.0)) messages.now.items) }
 {
     messages
         .iter()
-        .map(|m| m.1.mtype)
-        .filter(|&mtype| is_within(mtype, bound))
-        .fold(None, |least, mtype| Some(lower(least, mtype)))
+        .map(|m| (m.1.mtype, m.0))
+        .filter(|&head| is_within(head.0, bound))
+        .fold(None, |least, next| Some(lower(least, next)))
+}
+
+/// Its place alone.
+fn first_within<B>(messages: &VecDeque<Placed<B>>, bound: u64) -> Option<u64>
+    ensures { result ≡ option_map (λ m. m.1)
+        (first_lowest bound (map (λ m. (m.1.mtype, m.0)) messages.now.items)) }
+{
+    lowest_within(messages, bound).map(|head| head.1)
 }
 
 /// The place of the first message of this type.
@@ -79,11 +91,12 @@ fn first_other<B>(messages: &VecDeque<Placed<B>>, other: i64) -> Option<u64>
     messages.iter().find(|m| m.1.mtype != other).map(|m| m.0)
 }
 
-/// The index of the message at this place.
+/// The index of the message at this place, found by halves.
 fn index_of<B>(messages: &VecDeque<Placed<B>>, place: u64) -> Option<usize>
+    requires { AllPairs (λ a b. a.0 < b.0) messages.now.items }
     ensures { result ≡ position (λ m. m.0 == place) messages.now.items }
 {
-    messages.iter().position(|m| m.0 == place)
+    messages.binary_search_by_key(&place, |m| m.0).ok()
 }
 
 impl<B: Body> Waiting<B> for ListWaiting<B> {
@@ -103,10 +116,7 @@ impl<B: Body> Waiting<B> for ListWaiting<B> {
             Selection::Any => self.messages.front().map(|m| m.0),
             Selection::Exact(wanted) => first_of(&self.messages, wanted),
             Selection::Except(other) => first_other(&self.messages, other),
-            Selection::UpTo(bound) => first_of(
-                &self.messages,
-                least_within(&self.messages, bound)?,
-            ),
+            Selection::UpTo(bound) => first_within(&self.messages, bound),
         }
     }
 

@@ -3,3 +3,4 @@ pub mod HomeLemmas
 pub mod KeptLemmas
 pub mod NewLemmas
 pub mod SlotLemmas
+pub mod DraftLemmas

@@ -1,5 +1,5 @@
 -- Texts that are drafted in blocks of the arena, cut for a receiver, and spent.
-use Rattle.std.specs.Prelude.{ℕ, ◌==◌, nat_lt, if◌then◌else◌, Bool, true, false, not, List, take, filter, replicate, Option, Some, None, Result, Ok, Err}
+use Rattle.std.specs.Prelude.{ℕ, ◌==◌, nat_lt, if◌then◌else◌, Bool, true, false, not, List, length, take, filter, replicate, Option, Some, None, Result, Ok, Err}
 use Rattle.std.specs.List.{list_any}
 use Rattle.std.specs.Option.{option_map_or}
 use Rattle.mq_tree.specs.Blocks.{Block, is_block}
@@ -32,6 +32,16 @@ abbrev pub drafts : State → ℕ → Result (PlainText × State) DraftError
 drafts s n =
     if nat_lt MSGMAX n then Err TooLong
     else (if n == 0 then Ok (no_text, s) else in_block s n (lend s.arena (order_for n)))
+
+-- a draft once these bytes are in its text
+abbrev pub with_bytes : List ℕ → Result (PlainText × State) DraftError
+    → Result (PlainText × State) DraftError
+with_bytes bytes (Ok d) = Ok (record { bytes = bytes; block = d.0.block }, d.1)
+with_bytes bytes (Err e) = Err e
+
+-- a text of these bytes, in the block that one of as many zeros has
+abbrev pub drafts_of : State → List ℕ → Result (PlainText × State) DraftError
+drafts_of s bytes = with_bytes bytes (drafts s (length bytes))
 
 -- the text that waits at a place
 abbrev pub text_at : ℕ → List (ℕ × Message PlainText) → PlainText

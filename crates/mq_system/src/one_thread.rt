@@ -12,7 +12,7 @@ ghost use Rattle.mq_table.specs.SlotList.{IsSlotList};
 ghost use Rattle.mq_system.specs.Holds.{AreKeysOf};
 ghost use Rattle.mq_system.specs.Limits.{keeps_limits, start, empty_slots};
 ghost use Rattle.mq_system.specs.State.{slot_at, with_arena};
-ghost use Rattle.mq_system.specs.Texts.{bytes_of, comes_home, drafts, spends};
+ghost use Rattle.mq_system.specs.Texts.{bytes_of, comes_home, drafts, drafts_of, spends};
 
 use crate::close::ClosedSlot;
 use crate::home::take_back;
@@ -135,6 +135,26 @@ impl<L: Ledger> OneThread<L> {
             return Err(DraftError::NoRun);
         };
         Ok(zero_text(block, len))
+    }
+
+    /// A text of these bytes: what `draft` answers for as many, with the bytes in it. They are
+    /// written once, and nothing is cleared before.
+    #[tactic(auto, using(crate::proofs::DraftLemmas::too_long, crate::proofs::DraftLemmas::drafted))]
+    pub fn draft_of(&mut self, bytes: &[u8]) -> Result<Text<L>, DraftError>
+        ensures ok { IfOk result (λ text. drafts_of self.old bytes.now ≡ Ok (text, self.new)) }
+        ensures refused { IfErr result (λ e. drafts_of self.old bytes.now ≡ Err e) }
+        ensures unchanged { OnErr result (self.new ≡ self.old) }
+    {
+        if bytes.len() as u64 > MSGMAX {
+            return Err(DraftError::TooLong);
+        }
+        if bytes.is_empty() {
+            return Ok(Text::empty());
+        }
+        match Text::of_bytes(&mut self.arena, bytes) {
+            Some(text) => Ok(text),
+            None => Err(DraftError::NoRun),
+        }
     }
 
     /// Spends a text: its block goes home. A text without a block is at home.

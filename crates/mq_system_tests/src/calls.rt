@@ -192,10 +192,9 @@ pub(crate) fn written<L: Ledger>(
     system: &mut OneThread<L>,
     bytes: &[u8],
 ) -> Text<L> {
-    match system.draft(bytes.len() as u64) {
-        Ok(mut text) => {
+    match system.draft_of(bytes) {
+        Ok(text) => {
             assert_eq!(rt; text.len(), bytes.len() as u64);
-            text.fill(bytes);
             text
         }
         Err(refusal) => panic!(rt; "{refusal}"),

@@ -1,5 +1,5 @@
 -- What a map's look-up finds is the id in the list of keys.
-use Rattle.std.proofs.Common.{◌≡◌, ℕ, ℤ, Bool, true, false, List, [], ◌∷◌, ◌++◌, None, refl, ◌∙◌, ◌≢◌, pos, not, ◌==◌, map}
+use Rattle.std.proofs.Common.{◌≡◌, ℕ, ℤ, Bool, true, false, List, [], ◌∷◌, ◌++◌, filter, None, refl, ◌∙◌, ◌≢◌, pos, map}
 use Rattle.std.specs.Ordering.{int_eq}
 use Rattle.std.specs.List.{IsDistinct}
 use Rattle.std.proofs.lemmas.List.Elements.{All-push, All-filter}
@@ -8,7 +8,7 @@ use Rattle.std.specs.Map.{lookup}
 use Rattle.std.proofs.lemmas.Cmp.{int_eq_equiv}
 use Rattle.indexmap.specs.IndexMap.{insert_entry}
 use Rattle.indexmap.proofs.CallerLemmas.{insert_entry-new}
-use Rattle.mq_table.specs.Keys.{id_of_key, forget, AreKeys}
+use Rattle.mq_table.specs.Keys.{id_of_key, forget_key, AreKeys}
 
 -- the map's value at a key is what the list has for it
 pub lookup_is : (es : List (ℤ × ℕ)) (key : ℤ) → lookup (int_eq key) es ≡ id_of_key es key
@@ -34,9 +34,19 @@ keys_entered es es' key id h grown named distinct = record {
 }
 
 -- as they do where some are left
-pub keys_left : (es es' : List (ℤ × ℕ)) (id : ℕ) → AreKeys es
-    → es' ≡ forget id es → IsDistinct int_eq (map (λ p. p.0) es') → AreKeys es'
-keys_left es es' id h left distinct = record {
+pub keys_left : (passes : ℤ × ℕ → Bool) (es es' : List (ℤ × ℕ)) → AreKeys es
+    → es' ≡ filter passes es → IsDistinct int_eq (map (λ p. p.0) es') → AreKeys es'
+keys_left passes es es' h left distinct = record {
   distinct = distinct;
-  named = rw left (All-filter (λ p. not (p.1 == id)) (λ p. p.0 ≢ pos 0) es h.named);
+  named = rw left (All-filter passes (λ p. p.0 ≢ pos 0) es h.named);
 }
+
+-- a key that was taken out is not found
+pub key_gone : (es : List (ℤ × ℕ)) (key : ℤ) → id_of_key (forget_key key es) key ≡ None
+key_gone [] key = refl
+key_gone (e ∷ es) key = by (int_eq e.0 key) refl (key_gone es key)
+  where
+    by : (b : Bool) → int_eq e.0 key ≡ b → id_of_key (forget_key key es) key ≡ None
+        → id_of_key (forget_key key (e ∷ es)) key ≡ None
+    by true same rest = rw same rest
+    by false same rest = rw (same, same) rest

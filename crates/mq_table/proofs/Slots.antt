@@ -6,7 +6,6 @@ use Rattle.mq_queue.specs.declared.event.Event.TheVariants as event
 use Rattle.mq_queue.specs.Lawful.{Lawful}
 use Rattle.mq_queue.specs.Log.{ends_with_removed}
 use Rattle.mq_queue.specs.Queue.{Queue, IsSound}
-use Rattle.mq_queue.specs.Waiting.{waiting}
 use Rattle.mq_table.specs.Slot.{SlotState, IsSlot, Waits, slot_with, log_of}
 use Rattle.mq_table.specs.declared.limits.TheConstants.{MAX_SEQ}
 use Rattle.mq_table.specs.SlotList.{made_count, is_live, last_log, offset, IsSlotList}

@@ -13,6 +13,10 @@ id_of_key keys key = option_map (λ p. p.1) (find (λ p. int_eq p.0 key) keys)
 abbrev pub forget : ℕ → List (ℤ × ℕ) → List (ℤ × ℕ)
 forget id keys = filter (λ p. not (p.1 == id)) keys
 
+-- the keys and ids without the entry of this key
+abbrev pub forget_key : ℤ → List (ℤ × ℕ) → List (ℤ × ℕ)
+forget_key key keys = filter (λ p. not (int_eq p.0 key)) keys
+
 -- the keys and ids once a queue was made: key 0 is IPC_PRIVATE and is not kept (msgget(2))
 abbrev pub entered : ℤ → ℕ → List (ℤ × ℕ) → List (ℤ × ℕ)
 entered key id keys = if int_eq key (pos 0) then keys else keys ++ (key, id) ∷ []

@@ -1,7 +1,8 @@
 ghost use Rattle.std.specs.Prelude.{◌≡◌, ◌≢◌, ◌==◌, not, ◌++◌, ◌∷◌, [], None, Some, pos, length, slice_get};
 ghost use Rattle.std.specs.Prelude.{OnOk, OnErr};
 ghost use Rattle.std.specs.Option.{option_map};
-ghost use Rattle.mq_table.specs.Keys.{id_of_key, forget, AreKeys};
+ghost use Rattle.std.specs.Ordering.{int_eq};
+ghost use Rattle.mq_table.specs.Keys.{id_of_key, forget, forget_key, AreKeys};
 
 use crate::{Id, KeyEntry};
 use indexmap::IndexMap;
@@ -63,6 +64,19 @@ impl KeyTable {
             |_key: &i32, entry: &mut Id| -> bool
                 ensures { (result ≡ not (entry.old == id)) × (entry.new ≡ entry.old) }
             { *entry != id },
+        );
+    }
+
+    /// Takes out the entry with this key, if there is one. The others keep their order.
+    pub fn forget_key(&mut self, key: i32)
+        ensures left { self.new ≡ forget_key key self.old }
+        ensures absent { id_of_key self.new key ≡ None }
+        ensures keys { AreKeys self.new }
+    {
+        self.ids.retain(
+            |entry: &i32, id: &mut Id| -> bool
+                ensures { (result ≡ not (int_eq entry.now key)) × (id.new ≡ id.old) }
+            { *entry != key },
         );
     }
 

@@ -8,14 +8,8 @@ mod keys;
 pub mod laws;
 mod limits;
 mod live;
-#[cfg(test)]
-mod play_tests;
 mod refusal;
 mod slot;
-#[cfg(test)]
-mod slot_tests;
-#[cfg(test)]
-mod tests;
 mod turnover;
 mod under;
 

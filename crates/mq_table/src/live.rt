@@ -1,6 +1,9 @@
 ghost use Rattle.std.specs.Prelude.{◌≡◌, true, Ok, length, min, take};
 ghost use Rattle.std.specs.Prelude.{OnErr, IfOk, IfErr, IsSomeAnd};
+ghost use Rattle.mq_queue.specs.Answer.{receive_answer, receive_refusal, received_header, send_refusal};
 ghost use Rattle.mq_queue.specs.Figures.{figures};
+ghost use Rattle.mq_queue.specs.Room.{quota};
+ghost use Rattle.mq_queue.specs.Waiting.{header_of, waiting};
 ghost use Rattle.mq_select.specs.Waiting.{message_at};
 ghost use Rattle.mq_table.specs.Calls.{sends, receives, sets, refusal_of, receipt_of};
 ghost use Rattle.mq_table.specs.Slot.{Waits};
@@ -12,6 +15,37 @@ use mq_queue::{Figures, QueueError, Received};
 use mq_select::{Selection, Waiting};
 
 impl<B: Body, W: Waiting<B>> Slot<B, W> {
+    /// Why a message of this type and length would be refused now (msgop(2), msgsnd with
+    /// IPC_NOWAIT), or `None` where at most memory could be wanted.
+    pub fn refuses_send(&self, mtype: i64, length: u64) -> Option<QueueError>
+        requires live { is_live self.now.events ≡ true }
+        ensures { result ≡ send_refusal (waiting (last_log self.now.events))
+            (quota (last_log self.now.events)) mtype length }
+    {
+        match &self.live {
+            Some(queue) => queue.refuses_send(mtype, length),
+            None => unreachable!(),
+        }
+    }
+
+    /// Why this receiver would be refused now (msgop(2), msgrcv with IPC_NOWAIT), or `None` where
+    /// at most memory could be wanted.
+    pub fn refuses_receive(
+        &self,
+        size: u64,
+        selection: Selection,
+        noerror: bool,
+    ) -> Option<QueueError>
+        requires live { is_live self.now.events ≡ true }
+        ensures { result ≡ receive_refusal
+            (receive_answer (waiting (last_log self.now.events)) size selection noerror) }
+    {
+        match &self.live {
+            Some(queue) => queue.refuses_receive(size, selection, noerror),
+            None => unreachable!(),
+        }
+    }
+
     /// Sends a message to the queue that is in the slot, and answers the entry of the event in the
     /// slot list (msgop(2), msgsnd with IPC_NOWAIT). A message that is refused is handed back.
     pub fn send(
@@ -52,6 +86,8 @@ impl<B: Body, W: Waiting<B>> Slot<B, W> {
             receives self.old size selection noerror seat moment ≡ Ok (receipt_of r, self.new)) }
         ensures body { IfOk result (λ r. IsSomeAnd (message_at r.place self.old.messages) (λ m.
             (B.bytes r.body ≡ take size (B.bytes m.body)) × B.keeps m.body r.body)) }
+        ensures sent { IfOk result (λ r. IsSomeAnd (message_at r.place self.old.messages) (λ m.
+            received_header r ≡ header_of B.bytes (r.place, m))) }
         ensures length { IfOk result (λ r. length (B.bytes r.body) ≡ min r.length size) }
         ensures refused { IfErr result (λ e.
             e ≡ refusal_of (receives self.old size selection noerror seat moment)) }

@@ -3,8 +3,8 @@ ghost use Rattle.std.specs.Prelude.{IsTrue, IfSome};
 ghost use Rattle.mq_queue.specs.Lawful.{Lawful};
 ghost use Rattle.mq_queue.specs.Log.{made_key};
 ghost use Rattle.mq_table.specs.Ids.{slot_of, seq_of};
-ghost use Rattle.mq_table.specs.Shown.{by_standing, row};
-ghost use Rattle.mq_table.specs.Slot.{empty_slot, log_of, messages_of, Waits};
+ghost use Rattle.mq_table.specs.Shown.{by_standing, live_key, row};
+ghost use Rattle.mq_table.specs.Slot.{empty_slot, last_id, log_of, messages_of, Waits};
 ghost use Rattle.mq_table.specs.SlotList.{is_live, is_free, last_log, made_count, offset, standing, IsSlotList};
 
 use crate::{Id, IdRefusal, MAX_SEQ, MAX_SLOTS};
@@ -104,6 +104,25 @@ impl<B: Body, W: Waiting<B>> Slot<B, W> {
         ensures within { result ≤ MAX_SEQ + 1 }
     {
         self.made
+    }
+
+    /// The id of the queue that was made last, which is in the slot.
+    pub fn last_id(&self) -> Id
+        requires live { is_live self.now.events ≡ true }
+        ensures { result ≡ last_id self.now }
+    {
+        Id::of(self.number, self.made.saturating_sub(1))
+    }
+
+    /// The key of the queue that is in the slot: 0 is IPC_PRIVATE (msgget(2)), and is answered too
+    /// where no queue is.
+    pub fn key(&self) -> i32
+        ensures { result ≡ live_key self.now.events }
+    {
+        match &self.live {
+            Some(queue) => key_of(queue),
+            None => 0,
+        }
     }
 
     /// Whether a queue can be made in the slot, where its ids end with this seq.

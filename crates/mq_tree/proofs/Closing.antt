@@ -1,142 +1,80 @@
--- A step up: the node on a path that is closed next.
-use Rattle.std.proofs.Common.{◌≡◌, ℕ, ◌+◌, ◌^◌, ◌<◌, ◌≤◌, suc, refl, sym, ap, ◌∙◌, arith, List, [], ◌∷◌, ◌++◌, length, get_or, set, length-append}
-use Rattle.std.specs.Prelude.{slice_index}
-use Rattle.mq_tree.specs.Nodes.{Node, node_count, root, parent}
-use Rattle.mq_tree.specs.Steps.{Step, left_of, right_of, first_of, above, closed_above, over, ToLeft, ToRight}
-use Rattle.mq_tree.specs.Paths.{around, closed, offset, AreOver, IsPath, IsOpen}
-use Rattle.mq_tree.proofs.Powers.{pow_suc, pow_le}
-use Rattle.mq_tree.proofs.Trees.{node_count_is, node_count_suc, node_count_pos}
-use Rattle.mq_tree.proofs.Paths.{length-around, get_or-around, set-around, length-joint, left_root, right_root, path_height}
+-- The way up: each node over the one that was written becomes the parent of its halves.
+use Rattle.std.proofs.Common.{◌≡◌, ℕ, ◌+◌, ◌*◌, ◌/◌, ◌^◌, ◌<◌, suc, refl, sym, ap, ◌∙◌, arith, inr, List, length, set, subst}
+use Rattle.std.proofs.lemmas.List.{get_or-set_same, get_or-set_other}
+use Rattle.mq_tree.specs.Nodes.{node_at, parent, IsRight}
+use Rattle.mq_tree.specs.Trees.{lent_blocks, Place, IsTree, IsTreeBut, IsClear}
+use Rattle.mq_tree.proofs.Heap.{up_first, to_parent, to_right, place_pos, place_below, root_alone, over_differs}
+use Rattle.mq_tree.proofs.Trees.{parent_pos}
+use Rattle.mq_tree.proofs.Changes.{blocks_kept, tree_set, tree_whole}
 
--- the nodes are open along the path, and those are what they are once they are closed
-pub record ClosesTo (height low : ℕ) (path : List ℕ) (nodes all : List Node) : Type 0 where
-  pub opened : IsOpen height low path nodes
-  pub all_is : closed low opened.steps opened.part ≡ all
+-- the nodes up to node i, of height k, are closed: just the one over it may break the rule
+pub record Closes (height k i : ℕ) (old nodes : List ℕ) : Type 0 where
+  pub place : Place height k i
+  pub clear : IsClear i nodes
+  pub tree : IsTreeBut height (i / 2) nodes
+  pub lent_is : lent_blocks height nodes ≡ lent_blocks height old
 
-pub closes : (height low : ℕ) (path : List ℕ) (nodes : List Node) (o : IsOpen height low path nodes) → ClosesTo height low path nodes (closed low o.steps o.part)
-closes height low path nodes o = record { opened = o; all_is = refl }
+-- at the root all are
+closed_at_root : {height i : ℕ} {old nodes : List ℕ} → Closes height height i old nodes → IsTree height nodes
+closed_at_root {height = height} {i = i} {nodes = nodes} c =
+    subst (λ x. IsTreeBut height x nodes) (ap (λ x. x / 2) (root_alone c.place)) c.tree
 
--- ---- how many nodes there are
-around_count : (height low : ℕ) (steps : List Step) (path : List ℕ) (part : List Node) → IsPath height low steps path → length part ≡ node_count low
-    → length (around steps part) ≡ node_count height
-around_count height low [] path part p l = l ∙ ap node_count p
-around_count height low (step ∷ steps) path part p l =
-    let q = p.0 part l in
-    let n : length (above step part) ≡ node_count (suc low) = omega (arith, length-append (left_of step part) (right_of step part), q.0, q.1, node_count_suc low) in
-    around_count height (suc low) steps path (above step part) p.2 n
+module _ {height half i : ℕ} {old nodes : List ℕ} (c : Closes height half i old nodes) (low : half < height) where
+  over_place : Place height (suc half) (i / 2)
+  over_place = to_parent c.place low
 
-pub open_count : (height low : ℕ) (path : List ℕ) (nodes : List Node) → IsOpen height low path nodes → height ≤ 10 → length nodes < 2 ^ 12
-open_count height low path nodes o l =
-    let n : length nodes ≡ node_count height = ap length o.nodes_is ∙ around_count height low o.steps path o.part o.path_is o.part_len in
-    omega (arith, n, node_count_is height, pow_le height 10 l)
+  over_in : i / 2 < length nodes
+  over_in = omega (arith, c.tree.len, place_below over_place)
 
--- ---- the next one
-right_inside : (height half : ℕ) (steps : List Step) (path : List ℕ) (part : List Node) → half < height → IsPath height half steps path → length part ≡ node_count half
-    → slice_index path half + 2 ^ suc half < length (around steps part)
-right_inside height half [] path part b p l = absurd (omega (arith, b, p))
-right_inside height half (step ∷ steps) path part b p l =
-    let q = p.0 part l in
-    let n : length (above step part) ≡ node_count half + 2 ^ suc half = length-joint half (first_of step) (left_of step part) (right_of step part) q.0 q.1 in
-    omega (arith, n, p.1, length-around steps (above step part), node_count_pos half)
+  -- where the node over it is the parent of its halves already, all are closed
+  closed_here : node_at nodes (i / 2) ≡ parent half (node_at nodes (2 * (i / 2))) (node_at nodes (2 * (i / 2) + 1)) → IsTree height nodes
+  closed_here e = tree_whole height (suc half) (i / 2) nodes c.tree over_place (inr e)
 
-pub right_in_bounds : (height half : ℕ) (path : List ℕ) (nodes : List Node) → IsOpen height half path nodes → half < height
-    → slice_index path half + 2 ^ suc half < length nodes
-right_in_bounds height half path nodes o b =
-    rw o.nodes_is (right_inside height half o.steps path o.part b o.path_is o.part_len)
-
--- the parent of the halves is the node that is there, where the part has that root
-over_root : (half : ℕ) (step : Step) (part : List Node) → parent half (root (left_of step part)) (root (right_of step part)) ≡ over half step (root part)
-over_root half (ToLeft first right) part = refl
-over_root half (ToRight first left) part = refl
-
--- where they are all right, they are closed
-closed_right : (half : ℕ) (steps : List Step) (part : List Node) → AreOver half steps (root part) → closed half steps part ≡ around steps part
-closed_right half [] part k = refl
-closed_right half (step ∷ steps) part k =
-    let whole : closed_above half step part ≡ above step part =
-    ap (λ m. m ∷ (left_of step part ++ right_of step part)) (over_root half step part ∙ sym k.0) in
-    ap (λ x. closed (suc half) steps x) whole ∙ closed_right (suc half) steps (above step part) k.1
-
-module _ (height half : ℕ) (path : List ℕ) (nodes all : List Node) (below : half < height) (v d e : Node)
-    (v_is : v ≡ parent half (get_or nodes (slice_index path half + 1) d) (get_or nodes (slice_index path half + 2 ^ suc half) e)) where
-  -- it is the one over the two halves
-  new_is : (step : Step) (steps : List Step) (part : List Node) → nodes ≡ around (step ∷ steps) part → IsPath height half (step ∷ steps) path → length part ≡ node_count half
-      → v ≡ parent half (root (left_of step part)) (root (right_of step part))
-  new_is step steps part n p l =
-      let at = slice_index path half in
-      let first = first_of step in
-      let left = left_of step part in
-      let right = right_of step part in
-      let q = p.0 part l in
-      let count : length (above step part) ≡ node_count half + 2 ^ suc half = length-joint half first left right q.0 q.1 in
-      let some : 0 < node_count half = node_count_pos half in
-      let twice : node_count half + 1 ≡ 2 ^ half + 2 ^ half = node_count_is half in
-      let double : 2 ^ suc half ≡ 2 ^ half + 2 ^ half = pow_suc half in
-      let at_left : at + 1 ≡ offset steps + 1 = ap (λ i. i + 1) p.1 in
-      let at_right : at + 2 ^ suc half ≡ offset steps + 2 ^ suc half = ap (λ i. i + 2 ^ suc half) p.1 in
-      let the_left : get_or nodes (at + 1) d ≡ root left =
-      ap (λ x. get_or x (at + 1) d) n ∙ ap (λ i. get_or (around steps (above step part)) i d) at_left
-      ∙ get_or-around steps (above step part) 1 d (omega (arith, count, some, twice, double)) ∙ left_root half first left right q.0 q.1 d in
-      let the_right : get_or nodes (at + 2 ^ suc half) e ≡ root right =
-      ap (λ x. get_or x (at + 2 ^ suc half) e) n ∙ ap (λ i. get_or (around steps (above step part)) i e) at_right
-      ∙ get_or-around steps (above step part) (2 ^ suc half) e (omega (arith, count, some)) ∙ right_root half first left right q.0 q.1 e in
-      v_is ∙ ap (λ m. parent half m (get_or nodes (at + 2 ^ suc half) e)) the_left ∙ ap (λ m. parent half (root left) m) the_right
-
-  close_step : (steps : List Step) (part : List Node) → nodes ≡ around steps part → IsPath height half steps path → length part ≡ node_count half
-      → (was : Node) → AreOver half steps was → closed half steps part ≡ all → ClosesTo height (suc half) path (set nodes (slice_index path half) v) all
-  close_step [] part n p l was k a = absurd (omega (arith, below, p))
-  close_step (step ∷ steps) part n p l was k a =
-      let at = slice_index path half in
-      let first = first_of step in
-      let left = left_of step part in
-      let right = right_of step part in
-      let q = p.0 part l in
-      let count : length (above step part) ≡ node_count half + 2 ^ suc half = length-joint half first left right q.0 q.1 in
-      let some : 0 < node_count half = node_count_pos half in
-      let at_first : at ≡ offset steps + 0 = omega (arith, p.1) in
-      let new : v ≡ parent half (root left) (root right) = new_is step steps part n p l in
-      let written : set nodes at v ≡ around steps (closed_above half step part) =
-      ap (λ x. set x at v) n ∙ ap (λ i. set (around steps (above step part)) i v) at_first
-      ∙ set-around steps (above step part) 0 v (omega (arith, count, some)) ∙ ap (λ m. around steps (m ∷ (left ++ right))) new in
-      let opened : IsOpen height (suc half) path (set nodes at v) =
+  closes_next : (v : ℕ) → v ≡ parent half (node_at nodes (2 * (i / 2))) (node_at nodes (2 * (i / 2) + 1))
+      → Closes height (suc half) (i / 2) old (set nodes (i / 2) v)
+  closes_next v e =
+      let p = i / 2 in
+      let now : node_at (set nodes p v) p ≡ v = get_or-set_same nodes p v 0 over_in in
+      let left : node_at (set nodes p v) (2 * p) ≡ node_at nodes (2 * p) = get_or-set_other nodes p (2 * p) v 0 (λ f. omega (arith, f, place_pos over_place)) in
+      let right : node_at (set nodes p v) (2 * p + 1) ≡ node_at nodes (2 * p + 1) = get_or-set_other nodes p (2 * p + 1) v 0 (λ f. omega (arith, f)) in
+      let new : IsRight (suc half) p (set nodes p v) =
+      inr (now ∙ e ∙ ap (λ x. parent half x (node_at nodes (2 * p + 1))) (sym left) ∙ ap (λ x. parent half (node_at (set nodes p v) (2 * p)) x) (sym right)) in
+      let clear_up : (n : ℕ) → 0 < p / 2 ^ suc n → 0 < node_at (set nodes p v) (p / 2 ^ suc n) =
+      λ n l.
+      let up : i / 2 ^ suc (suc n) ≡ p / 2 ^ suc n = up_first (suc n) i in
+      let still : node_at (set nodes p v) (p / 2 ^ suc n) ≡ node_at nodes (p / 2 ^ suc n) = get_or-set_other nodes p (p / 2 ^ suc n) v 0 (over_differs p n (p / 2 ^ suc n) refl l) in
+      omega (arith, still, ap (λ x. node_at nodes x) up, c.clear (suc n) (omega (arith, up, l))) in
       record {
-        steps = steps;
-        part = closed_above half step part;
-        nodes_is = written;
-        path_is = p.2;
-        part_len = omega (arith, length-append left right, q.0, q.1, node_count_suc half);
-        was = first;
-        were_over = k.1;
-      } in
-      record { opened = opened; all_is = a }
+        place = over_place;
+        clear = clear_up;
+        tree = tree_set height (suc half) p p v nodes c.tree over_place (λ k l n. n) new;
+        lent_is =
+            blocks_kept height 1 nodes p v over_in (c.clear 0 (place_pos over_place)) (omega (arith, e, parent_pos half (node_at nodes (2 * p)) (node_at nodes (2 * p + 1))))
+            ∙ c.lent_is;
+      }
 
-  pub close_next : ClosesTo height half path nodes all → ClosesTo height (suc half) path (set nodes (slice_index path half) v) all
-  close_next c = close_step c.opened.steps c.opened.part c.opened.nodes_is c.opened.path_is c.opened.part_len c.opened.was c.opened.were_over c.all_is
+-- the same by the node that is to be closed next: it is over the one that was closed last
+pub record ClosesUnder (height k at : ℕ) (old nodes : List ℕ) : Type 0 where
+  pub last : ℕ
+  pub at_is : at ≡ last / 2
+  pub closes : Closes height k last old nodes
 
-  -- where that node stays as it was, all are closed
-  stay_step : (same : v ≡ get_or nodes (slice_index path half) v) (steps : List Step) (part : List Node) → nodes ≡ around steps part → IsPath height half steps path
-      → length part ≡ node_count half → (was : Node) → AreOver half steps was → closed half steps part ≡ all → nodes ≡ all
-  stay_step same [] part n p l was k a = absurd (omega (arith, below, p))
-  stay_step same (step ∷ steps) part n p l was k a =
-      let at = slice_index path half in
-      let at_first : at ≡ offset steps + 0 = omega (arith, p.1) in
-      let first : v ≡ first_of step =
-      same ∙ ap (λ x. get_or x at v) n ∙ ap (λ i. get_or (around steps (above step part)) i v) at_first
-      ∙ get_or-around steps (above step part) 0 v (omega arith) in
-      let new : first_of step ≡ parent half (root (left_of step part)) (root (right_of step part)) = sym first ∙ new_is step steps part n p l in
-      let whole : closed_above half step part ≡ above step part = ap (λ m. m ∷ (left_of step part ++ right_of step part)) (sym new) in
-      n ∙ sym (closed_right (suc half) steps (above step part) k.1) ∙ ap (λ x. closed (suc half) steps x) (sym whole) ∙ a
+module _ {height half at : ℕ} {old nodes : List ℕ} (c : ClosesUnder height half at old nodes) where
+  pub under_root : half ≡ height → IsTree height nodes
+  under_root e = closed_at_root (subst (λ k. Closes height k c.last old nodes) e c.closes)
 
-  pub close_stays : v ≡ get_or nodes (slice_index path half) v → ClosesTo height half path nodes all → nodes ≡ all
-  close_stays same c =
-      stay_step same c.opened.steps c.opened.part c.opened.nodes_is c.opened.path_is c.opened.part_len c.opened.was c.opened.were_over c.all_is
+  module _ (low : half < height) where
+    pub at_in : at < length nodes
+    at_in = omega (arith, c.at_is, over_in c.closes low)
 
--- at the root all are closed
-closed_at_root : (height : ℕ) (steps : List Step) (path : List ℕ) (part all : List Node) → IsPath height height steps path → closed height steps part ≡ all
-    → around steps part ≡ all
-closed_at_root height [] path part all p a = a
-closed_at_root height (step ∷ steps) path part all p a = absurd (omega (arith, path_height height (suc height) steps path p.2))
+    pub right_in : 2 * at + 1 < length nodes
+    right_in = omega (arith, c.at_is, c.closes.tree.len, place_below (to_right height half (c.last / 2) (over_place c.closes low)))
 
-pub closed_nodes : (height : ℕ) (path : List ℕ) (nodes all : List Node) → ClosesTo height height path nodes all → nodes ≡ all
-closed_nodes height path nodes all c =
-    c.opened.nodes_is ∙ closed_at_root height c.opened.steps path c.opened.part all c.opened.path_is c.all_is
+    pub stays : node_at nodes at ≡ parent half (node_at nodes (2 * at)) (node_at nodes (2 * at + 1)) → IsTree height nodes
+    stays e = closed_here c.closes low (subst (λ x. node_at nodes x ≡ parent half (node_at nodes (2 * x)) (node_at nodes (2 * x + 1))) c.at_is e)
+
+    pub next_over : (v : ℕ) → v ≡ parent half (node_at nodes (2 * at)) (node_at nodes (2 * at + 1)) → ClosesUnder height (half + 1) (at / 2) old (set nodes at v)
+    next_over v e =
+        let f : suc half ≡ half + 1 = omega arith in
+        let is : v ≡ parent half (node_at nodes (2 * (c.last / 2))) (node_at nodes (2 * (c.last / 2) + 1)) = subst (λ x. v ≡ parent half (node_at nodes (2 * x)) (node_at nodes (2 * x + 1))) c.at_is e in
+        record { last = at; at_is = refl; closes = subst (λ k. Closes height k at old (set nodes at v)) f (subst (λ x. Closes height (suc half) x old (set nodes x v)) (sym c.at_is) (closes_next c.closes low v is)) }

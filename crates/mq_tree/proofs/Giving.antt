@@ -1,171 +1,206 @@
--- The way down to the run of a block that is given back.
-use Rattle.std.proofs.Common.{◌≡◌, ℕ, ◌+◌, ◌-◌, ◌^◌, ◌<◌, ◌≤◌, suc, refl, sym, ap, ◌∙◌, arith, true, false, List, ◌∷◌, ◌++◌, length, get_or, set, subst}
+-- A block by its node: it is lent where the node says so, and the node, once free, gives it back.
+use Rattle.std.proofs.Common.{◌≡◌, ℕ, ◌+◌, ◌*◌, ◌/◌, ◌%◌, ◌^◌, ◌<◌, ◌≤◌, zero, suc, sym, ap, ◌∙◌, arith, inl, inr, true, false, not, cond, ◌||◌, List, [], ◌∷◌, ◌++◌, set, eqb, subst}
 use Rattle.std.specs.List.{All}
-use Rattle.std.proofs.lemmas.Bool.{both_ways}
-use Rattle.std.proofs.lemmas.List.{length-set}
-use Rattle.mq_tree.specs.Blocks.{block, IsInArena, moved_up}
-use Rattle.mq_tree.specs.LentSet.{left, is_lent}
-use Rattle.mq_tree.specs.Nodes.{Node, Free, Lent, Split, node_count, root, is_free, is_split, is_lent_whole, parent}
-use Rattle.mq_tree.specs.Trees.{IsTree, AreHalves, lent_blocks}
-use Rattle.mq_tree.specs.Paths.{closed}
-use Rattle.mq_tree.specs.Changes.{Gives, GivesOpen}
-use Rattle.mq_tree.proofs.Trees.{node_count_pos, tree_length, tree_lent_set, free_tree, free_blocks, lent_root, root-set, parent_tree, parent_halves}
-use Rattle.mq_tree.proofs.Steps.{is_lent_absent, unsplit_absent, other_start_absent, not_whole_absent, whole_is_lent, whole_left, is_lent_left, is_lent_right, left_left, left_right}
-use Rattle.mq_tree.proofs.Places.{IsAt, at_root, root_read, rewritten, Opened, opened_split, at_left, at_right}
+use Rattle.std.proofs.lemmas.Bool.{cases_eq, eq-eqb, ne_eqb, false_from_ne_true}
+use Rattle.std.proofs.lemmas.Nat.{pow_pos}
+use Rattle.std.proofs.lemmas.List.{get_or-set_same, get_or-set_other}
+use Rattle.std.proofs.lemmas.List.Elements.{All-nil, All-cons, All-weaker}
+use Rattle.mq_tree.specs.Blocks.{Block, block, is_block, IsInArena, IsAligned, moved_up}
+use Rattle.mq_tree.specs.LentSet.{IsLentSet, left, is_lent}
+use Rattle.mq_tree.specs.Nodes.{node_at}
+use Rattle.mq_tree.specs.Trees.{blocks_under, lent_blocks, Place, IsTree, IsClear, IsRunOf}
+use Rattle.mq_tree.proofs.Heap.{up_last, up_none, one_of_halves, over_root, over_differs, to_left, to_right, place_pos, place_below}
+use Rattle.mq_tree.proofs.LentSets.{is_block_itself, is_block_order, is_block_start, is_block-true}
+use Rattle.mq_tree.proofs.Trees.{free_halves, free_blocks, free_under_lent, blocks_lent, blocks_leaf, blocks_halves, blocks_lent_set}
+use Rattle.mq_tree.proofs.Halves.{is_lent_left, is_lent_right, left_left, left_right, is_lent_absent, over_absent, whole_absent}
+use Rattle.mq_tree.proofs.Changes.{other_half, later_kept, clear_marked}
+use Rattle.mq_tree.proofs.Starts.{start_in, start_none, start_left, start_right, start_whole, start_below, pow_sum}
 
--- ---- giving back to a half is giving back to the whole
-module _ (half order s : ℕ) (part l r new : List Node) (halves : AreHalves half l r (lent_blocks (suc half) part)) where
-  inside : All (IsInArena half) (lent_blocks half l)
-  inside = (tree_lent_set half l halves.left_tree).in_arena
+module _ (height order j : ℕ) (nodes : List ℕ) (tree : IsTree height nodes) (place : Place height order j) where
+  -- the nodes once node j is free
+  abbrev pub freed : List ℕ
+  freed = set nodes j (order + 2)
 
-  gives_left : s < 2 ^ half → Gives order half s l new → Gives order (suc half) s part (parent half (root new) (root r) ∷ (new ++ r))
-  gives_left low g =
-      let xs = lent_blocks half l in
-      let ys = lent_blocks half r in
+  -- what node j, d steps under node i of height k, tells of its block there
+  pub record IsTold (d k i : ℕ) : Type 0 where
+    pub lent_is : is_lent (block (start_in d order j) order) (blocks_under k i nodes) ≡ eqb (node_at nodes j) 0
+    pub left_is : node_at nodes j ≡ 0 → blocks_under k i freed ≡ left (block (start_in d order j) order) (blocks_under k i nodes)
+
+  freed_at : node_at freed j ≡ order + 2
+  freed_at = get_or-set_same nodes j (order + 2) 0 (omega (arith, tree.len, place_below place))
+
+  -- ---- the node itself
+  -- a run with no block of its order is not lent as one
+  none_lent : (k s : ℕ) → Place height k j → (node_at nodes j ≡ 0 → ⊥) → is_lent (block s k) (blocks_under k j nodes) ≡ false
+  none_lent zero s p n = ap (λ x. is_lent (block s 0) x) (blocks_leaf 0 j nodes n)
+  none_lent (suc half) s p n =
+      ap (λ x. is_lent (block s (suc half)) x) (blocks_halves half j nodes n)
+      ∙ is_lent_absent (block s (suc half)) (blocks_under half (2 * j) nodes ++ moved_up (2 ^ half) (blocks_under half (2 * j + 1) nodes))
+      (whole_absent half (blocks_under half (2 * j) nodes) (blocks_under half (2 * j + 1) nodes) s
+      (blocks_lent_set half (2 * j) nodes).in_arena (blocks_lent_set half (2 * j + 1) nodes).in_arena)
+
+  -- under a run that was lent as one block nothing else is lent
+  freed_blocks : (k : ℕ) → Place height k j → node_at nodes j ≡ 0 → blocks_under k j freed ≡ []
+  freed_blocks zero p z = blocks_leaf 0 j freed (λ e. omega (arith, e, freed_at))
+  freed_blocks (suc half) p z =
+      let h = free_halves height nodes tree half j p (inr z) in
+      blocks_halves half j freed (λ e. omega (arith, e, freed_at))
+      ∙ ap (λ x. x ++ moved_up (2 ^ half) (blocks_under half (2 * j + 1) freed))
+      (later_kept half (2 * j) nodes j (order + 2) (omega (arith, place_pos p)) ∙ free_blocks height nodes tree half (2 * j) (to_left height half j p) h.0)
+      ∙ ap (λ y. moved_up (2 ^ half) y)
+      (later_kept half (2 * j + 1) nodes j (order + 2) (omega arith) ∙ free_blocks height nodes tree half (2 * j + 1) (to_right height half j p) h.1)
+
+  told_here : IsTold 0 order j
+  told_here =
+      let at : block (start_in 0 order j) order ≡ block 0 order = ap (λ s. block s order) (start_none order j) in
       record {
-        tree = parent_tree half new r g.tree halves.right_tree (parent half (root new) (root r)) refl;
+        lent_is = elim (cases_eq (node_at nodes j) 0) [
+          | inl z ↦
+              ap (λ b. is_lent b (blocks_under order j nodes)) at ∙ ap (λ x. is_lent (block 0 order) x) (blocks_lent order j nodes z)
+              ∙ ap (λ t. t || false) (is_block_itself (block 0 order)) ∙ sym (eq-eqb (node_at nodes j) 0 z)
+          | inr n ↦ none_lent order (start_in 0 order j) place n ∙ sym (ne_eqb (node_at nodes j) 0 n)
+        ];
         left_is =
-            (parent_halves half new r g.tree halves.right_tree (parent half (root new) (root r)) refl).lent_is
-            ∙ ap (λ x. x ++ moved_up (2 ^ half) ys) g.left_is
-            ∙ sym (left_left half xs ys order inside s low)
-            ∙ ap (λ x. left (block s order) x) (sym halves.lent_is);
+            λ z.
+            freed_blocks order place z
+            ∙ sym (ap (λ b. left b (blocks_under order j nodes)) at ∙ ap (λ x. left (block 0 order) x) (blocks_lent order j nodes z)
+            ∙ ap (λ t. cond (not t) (block 0 order ∷ []) []) (is_block_itself (block 0 order)));
       }
 
-  gives_right : Gives order half s r new → Gives order (suc half) (2 ^ half + s) part (parent half (root l) (root new) ∷ (l ++ new))
-  gives_right g =
-      let xs = lent_blocks half l in
-      let ys = lent_blocks half r in
-      record {
-        tree = parent_tree half l new halves.left_tree g.tree (parent half (root l) (root new)) refl;
-        left_is =
-            (parent_halves half l new halves.left_tree g.tree (parent half (root l) (root new)) refl).lent_is
-            ∙ ap (λ y. xs ++ moved_up (2 ^ half) y) g.left_is
-            ∙ sym (left_right half xs ys order inside s)
-            ∙ ap (λ x. left (block (2 ^ half + s) order) x) (sym halves.lent_is);
-      }
+  -- ---- a node over it
+  module _ (d half i : ℕ) (over : j / 2 ^ suc d ≡ i) (sum : d + order ≡ half) (low : suc half ≤ height) where
+    abbrev xs : List Block
+    xs = blocks_under half (2 * i) nodes
 
-  lent_in_left : s < 2 ^ half → is_lent (block s order) (lent_blocks (suc half) part) ≡ is_lent (block s order) (lent_blocks half l)
-  lent_in_left low =
-      ap (λ x. is_lent (block s order) x) halves.lent_is ∙ is_lent_left half (lent_blocks half l) (lent_blocks half r) order inside s low
+    abbrev ys : List Block
+    ys = blocks_under half (2 * i + 1) nodes
 
-  lent_in_right : is_lent (block (2 ^ half + s) order) (lent_blocks (suc half) part) ≡ is_lent (block s order) (lent_blocks half r)
-  lent_in_right =
-      ap (λ x. is_lent (block (2 ^ half + s) order) x) halves.lent_is ∙ is_lent_right half (lent_blocks half l) (lent_blocks half r) order inside s
+    inside : All (IsInArena half) xs
+    inside = (blocks_lent_set half (2 * i) nodes).in_arena
 
-gives_whole : (order s : ℕ) (part : List Node) (v : Node) → v ≡ Free → IsTree order part → root part ≡ Lent → s ≡ 0 → Gives order order s part (set part 0 v)
-gives_whole order s part v e t lent z =
-    let count : length part ≡ node_count order = tree_length order part t in
-    let is : root (set part 0 v) ≡ Free = root-set part v (omega (arith, count, node_count_pos order)) ∙ e in
-    record {
-      tree = free_tree order (set part 0 v) (length-set part 0 v ∙ count) is;
-      left_is = free_blocks order (set part 0 v) is ∙ sym (whole_left order part s lent z);
-    }
+    -- that one is lent as one block
+    told_in_lent : node_at nodes i ≡ 0 → IsTold (suc d) (suc half) i
+    told_in_lent z =
+        let free : node_at nodes j ≡ order + 2 = free_under_lent height nodes tree order j d place (omega (arith, sum)) (ap (λ x. node_at nodes x) over ∙ z) in
+        let b = block (start_in (suc d) order j) order in
+        record {
+          lent_is =
+              ap (λ x. is_lent b x) (blocks_lent (suc half) i nodes z)
+              ∙ is_lent_absent b (block 0 (suc half) ∷ []) (All-cons (λ c. is_block b c ≡ false) (block 0 (suc half)) [] (is_block_order b (block 0 (suc half)) (λ e. omega (arith, e, sum))) (All-nil (λ c. is_block b c ≡ false)))
+              ∙ sym (ne_eqb (node_at nodes j) 0 (λ e. omega (arith, e, free)));
+          left_is = λ e. absurd (omega (arith, e, free));
+        }
 
--- ---- the way down
--- whether the block is lent is whether its rest is in the part, and giving it back there does it
-pub record Sought (order height level at start rest : ℕ) (path : List ℕ) (nodes : List Node) : Type 0 where
-  pub place : IsAt height level at path nodes
-  pub order_low : order ≤ level
-  pub lent_is : is_lent (block start order) (lent_blocks height nodes) ≡ is_lent (block rest order) (lent_blocks level place.part)
-  pub gives : (new : List Node) → Gives order level rest place.part new → Gives order height start nodes (closed level place.steps new)
+    module _ (split : node_at nodes i ≡ 0 → ⊥) (some : 0 < i) where
+      blocks_are : blocks_under (suc half) i nodes ≡ xs ++ moved_up (2 ^ half) ys
+      blocks_are = blocks_halves half i nodes split
 
-pub sought_begins : (order height start : ℕ) (path : List ℕ) (nodes : List Node) → length path ≡ 10 → IsTree height nodes → order ≤ height
-    → Sought order height height 0 start start path nodes
-sought_begins order height start path nodes l t low = record { place = at_root height path nodes l t; order_low = low; lent_is = refl; gives = λ new g. g }
+      blocks_new : blocks_under (suc half) i freed ≡ blocks_under half (2 * i) freed ++ moved_up (2 ^ half) (blocks_under half (2 * i + 1) freed)
+      blocks_new = blocks_halves half i freed (λ z. split (sym (get_or-set_other nodes j i (order + 2) 0 (over_differs j d i over some)) ∙ z))
 
--- where the node is not split, and the order is not that of its run, the block is not lent
-pub sought_unsplit : {order height level at start rest : ℕ} {path : List ℕ} {nodes : List Node} (f : Sought order height level at start rest path nodes) (n : Node)
-    → n ≡ get_or nodes at n → is_split n ≡ false → order < level → is_lent (block start order) (lent_blocks height nodes) ≡ false
-sought_unsplit {order = order} {level = level} {rest = rest} f n e split below =
-    let unsplit : is_split (root f.place.part) ≡ false = ap is_split (sym (root_read f.place n e)) ∙ split in
-    f.lent_is
-    ∙ is_lent_absent (block rest order) (lent_blocks level f.place.part)
-    (unsplit_absent level f.place.part (block rest order) unsplit (λ same. omega (arith, below, same)))
+      told_left : j / 2 ^ d ≡ 2 * i → IsTold d half (2 * i) → IsTold (suc d) (suc half) i
+      told_left e t =
+          let s : start_in (suc d) order j ≡ start_in d order j = start_left d order j i e in
+          let l : start_in d order j < 2 ^ half = start_below d order half j sum in
+          let at : block (start_in (suc d) order j) order ≡ block (start_in d order j) order = ap (λ x. block x order) s in
+          record {
+            lent_is =
+                ap (λ b. is_lent b (blocks_under (suc half) i nodes)) at ∙ ap (λ x. is_lent (block (start_in d order j) order) x) blocks_are
+                ∙ is_lent_left half xs ys order inside (start_in d order j) l ∙ t.lent_is;
+            left_is =
+                λ z.
+                blocks_new
+                ∙ ap (λ x. x ++ moved_up (2 ^ half) (blocks_under half (2 * i + 1) freed)) (t.left_is z)
+                ∙ ap (λ y. left (block (start_in d order j) order) xs ++ moved_up (2 ^ half) y)
+                (other_half half (2 * i + 1) nodes j d (2 * i) (order + 2) e (omega arith) (omega (arith, some)) (omega arith) (λ f. omega (arith, f)))
+                ∙ sym (ap (λ b. left b (blocks_under (suc half) i nodes)) at ∙ ap (λ x. left (block (start_in d order j) order) x) blocks_are
+                ∙ left_left half xs ys order inside (start_in d order j) l);
+          }
 
--- ---- at the level of the order
-module _ {order height level at start rest : ℕ} {path : List ℕ} {nodes : List Node} (sought : Sought order height level at start rest path nodes) (done : level ≤ order) where
-  f : Sought order height order at start rest path nodes
-  f =
-      let same : level ≡ order = omega (arith, done, sought.order_low) in
-      subst (λ h. Sought order height h at start rest path nodes) same sought
+      told_right : j / 2 ^ d ≡ 2 * i + 1 → IsTold d half (2 * i + 1) → IsTold (suc d) (suc half) i
+      told_right e t =
+          let s : start_in (suc d) order j ≡ 2 ^ half + start_in d order j = start_right d order j i e ∙ ap (λ x. x + start_in d order j) (sym (pow_sum d order half sum)) in
+          let at : block (start_in (suc d) order j) order ≡ block (2 ^ half + start_in d order j) order = ap (λ x. block x order) s in
+          record {
+            lent_is =
+                ap (λ b. is_lent b (blocks_under (suc half) i nodes)) at ∙ ap (λ x. is_lent (block (2 ^ half + start_in d order j) order) x) blocks_are
+                ∙ is_lent_right half xs ys order inside (start_in d order j) ∙ t.lent_is;
+            left_is =
+                λ z.
+                blocks_new
+                ∙ ap (λ x. x ++ moved_up (2 ^ half) (blocks_under half (2 * i + 1) freed))
+                (other_half half (2 * i) nodes j d (2 * i + 1) (order + 2) e (omega arith) (omega arith) (omega (arith, some)) (λ f. omega (arith, f)))
+                ∙ ap (λ y. xs ++ moved_up (2 ^ half) y) (t.left_is z)
+                ∙ sym (ap (λ b. left b (blocks_under (suc half) i nodes)) at ∙ ap (λ x. left (block (2 ^ half + start_in d order j) order) x) blocks_are
+                ∙ left_right half xs ys order inside (start_in d order j));
+          }
 
-  pub sought_inside : (rest ≡ 0 → ⊥) → is_lent (block start order) (lent_blocks height nodes) ≡ false
-  sought_inside n =
-      f.lent_is ∙ is_lent_absent (block rest order) (lent_blocks order f.place.part) (other_start_absent order f.place.part rest f.place.tree n)
+  told : (d k i : ℕ) → j / 2 ^ d ≡ i → d + order ≡ k → k ≤ height → 0 < i → IsTold d k i
+  told zero k i over e low some =
+      let f : order ≡ k = omega (arith, e) in
+      subst (λ h. IsTold 0 h i) f (subst (λ x. IsTold 0 order x) (sym (up_none j) ∙ over) told_here)
+  told (suc d) zero i over e low some = absurd (omega (arith, e))
+  told (suc d) (suc half) i over e low some =
+      let sum : d + order ≡ half = omega (arith, e) in
+      elim (cases_eq (node_at nodes i) 0) [
+        | inl z ↦ told_in_lent d half i over sum low z
+        | inr n ↦ elim (one_of_halves (j / 2 ^ d)) [
+          | inl l ↦
+              let h : j / 2 ^ d ≡ 2 * i = l ∙ ap (λ x. 2 * x) (sym (up_last d j) ∙ over) in
+              told_left d half i over sum low n some h (told d half (2 * i) h sum (omega arith) (omega (arith, some)))
+          | inr r ↦
+              let h : j / 2 ^ d ≡ 2 * i + 1 = r ∙ ap (λ x. 2 * x + 1) (sym (up_last d j) ∙ over) in
+              told_right d half i over sum low n some h (told d half (2 * i + 1) h sum (omega arith) (omega arith))
+        ]
+      ]
 
-  pub sought_free : (n : Node) → n ≡ get_or nodes at n → is_lent_whole n ≡ false → is_lent (block start order) (lent_blocks height nodes) ≡ false
-  sought_free n e free =
-      let not_lent : is_lent_whole (root f.place.part) ≡ false = ap is_lent_whole (sym (root_read f.place n e)) ∙ free in
-      f.lent_is ∙ is_lent_absent (block rest order) (lent_blocks order f.place.part) (not_whole_absent order f.place.part rest f.place.tree not_lent)
+-- ---- in the whole arena
+module _ {height order start j : ℕ} {nodes : List ℕ} (tree : IsTree height nodes) (run : IsRunOf height order start j) where
+  whole : IsTold height order j nodes tree run.place run.place.depth height 1
+  whole = told height order j nodes tree run.place run.place.depth height 1 run.place.root_is run.place.depth_is (omega arith) (omega arith)
 
-  module _ (n : Node) (n_is : n ≡ get_or nodes at n) (whole : is_lent_whole n ≡ true) (z : rest ≡ 0) where
-    is_whole : root f.place.part ≡ Lent
-    is_whole = sym (root_read f.place n n_is) ∙ lent_root n whole
+  at_start : block (start_in run.place.depth order j) order ≡ block start order
+  at_start = ap (λ s. block s order) (start_whole height order j run.place ∙ run.start_is)
 
-    pub sought_found : is_lent (block start order) (lent_blocks height nodes) ≡ true
-    sought_found = f.lent_is ∙ whole_is_lent order f.place.part rest is_whole z
+  lent_as_told : is_lent (block start order) (lent_blocks height nodes) ≡ eqb (node_at nodes j) 0
+  lent_as_told = ap (λ b. is_lent b (lent_blocks height nodes)) (sym at_start) ∙ whole.lent_is
 
-    pub sought_ends : (v : Node) → v ≡ Free → GivesOpen order height start path nodes (set nodes at v)
-    sought_ends v e = record {
-      opened = rewritten f.place v;
-      gives = f.gives (set f.place.part 0 v) (gives_whole order rest f.place.part v e f.place.tree is_whole z);
-    }
+  -- its node tells whether the block is lent
+  pub told_lent : node_at nodes j ≡ 0 → is_lent (block start order) (lent_blocks height nodes) ≡ true
+  told_lent e = lent_as_told ∙ eq-eqb (node_at nodes j) 0 e
 
--- ---- one level
-module _ {order height half at start rest : ℕ} {path : List ℕ} {nodes : List Node} (f : Sought order height (suc half) at start rest path nodes)
-    (n : Node) (n_is : n ≡ get_or nodes at n) (split : is_split n ≡ true) (in_path : half < 10) (order_low : order ≤ half) where
-  is_parted : is_split (root f.place.part) ≡ true
-  is_parted = ap is_split (sym (root_read f.place n n_is)) ∙ split
+  pub told_not_lent : (node_at nodes j ≡ 0 → ⊥) → is_lent (block start order) (lent_blocks height nodes) ≡ false
+  told_not_lent n = lent_as_told ∙ ne_eqb (node_at nodes j) 0 n
 
-  opened : Opened half f.place.steps f.place.part nodes
-  opened =
-      opened_split half at f.place.steps f.place.part nodes f.place.nodes_is f.place.at_is f.place.tree
-      (split_not_free (root f.place.part) is_parted) (λ e. both_ways (is_split (root f.place.part)) (ap is_split e) is_parted)
-    where
-      split_not_free : (m : Node) → is_split m ≡ true → is_free m ≡ false
-      split_not_free m s = elim m as (λ m. is_split m ≡ true → is_free m ≡ false) [ Free ↦ λ s. absurd (cc) | Lent ↦ λ s. refl | Split x ↦ λ s. refl ] s
+  -- and the node, once free, gives it back
+  pub told_freed : node_at nodes j ≡ 0 → lent_blocks height (set nodes j (order + 2)) ≡ left (block start order) (lent_blocks height nodes)
+  told_freed e = whole.left_is e ∙ ap (λ b. left b (lent_blocks height nodes)) at_start
 
-  sought_left : rest < 2 ^ half → Sought order height half (at + 1) start rest (set path half at) nodes
-  sought_left low = record {
-    place = at_left f.place opened in_path;
-    order_low = order_low;
-    lent_is = f.lent_is ∙ lent_in_left half order rest f.place.part opened.left opened.right opened.left opened.halves low;
-    gives =
-        λ new g.
-        f.gives (parent half (root new) (root opened.right) ∷ (new ++ opened.right))
-        (gives_left half order rest f.place.part opened.left opened.right new opened.halves low g);
-  }
+  -- no node over it is lent as one block
+  clear_over : node_at nodes j ≡ 0 → IsClear j nodes
+  clear_over e n l = elim (cases_eq (node_at nodes (j / 2 ^ suc n)) 0) [
+    | inl z ↦ absurd (omega (arith, e, free_under_lent height nodes tree order j n run.place (over_root run.place (suc n) l) z))
+    | inr z ↦ omega (arith, z)
+  ]
 
-  sought_right : (s : ℕ) → 2 ^ half + s ≡ rest → Sought order height half (at + 2 ^ suc half) start s (set path half at) nodes
-  sought_right s sum = record {
-    place = at_right f.place opened in_path;
-    order_low = order_low;
-    lent_is =
-        f.lent_is ∙ ap (λ k. is_lent (block k order) (lent_blocks (suc half) f.place.part)) (sym sum)
-        ∙ lent_in_right half order s f.place.part opened.left opened.right opened.right opened.halves;
-    gives =
-        λ new g.
-        f.gives (parent half (root opened.left) (root new) ∷ (opened.left ++ new))
-        (subst (λ k. Gives order (suc half) k f.place.part (parent half (root opened.left) (root new) ∷ (opened.left ++ new))) sum
-        (gives_right half order s f.place.part opened.left opened.right new opened.halves g));
-  }
+  pub clear_freed : node_at nodes j ≡ 0 → IsClear j (set nodes j (order + 2))
+  clear_freed e = clear_marked height order j nodes tree run.place (order + 2) (clear_over e)
 
--- the same, as the code takes it
-module _ {order height level at start rest : ℕ} {path : List ℕ} {nodes : List Node} (f : Sought order height level at start rest path nodes) (below : order < level)
-    (n : Node) (n_is : n ≡ get_or nodes at n) (split : is_split n ≡ true) (low : level ≤ 10) where
-  same : suc (level - 1) ≡ level
-  same = omega (arith, below)
+-- ---- no block that is lent has an order over the height, starts outside the arena, or where its order does not
+module _ (height : ℕ) (lent : List Block) (order start : ℕ) (set : IsLentSet height lent) where
+  pub over_not_lent : height < order → is_lent (block start order) lent ≡ false
+  over_not_lent l = is_lent_absent (block start order) lent (over_absent height lent start order set.in_arena l)
 
-  lower : Sought order height (suc (level - 1)) at start rest path nodes
-  lower = subst (λ h. Sought order height h at start rest path nodes) (sym same) f
+  pub outside_not_lent : 2 ^ height ≤ start → is_lent (block start order) lent ≡ false
+  outside_not_lent l =
+      is_lent_absent (block start order) lent
+      (All-weaker (IsInArena height) (λ c. is_block (block start order) c ≡ false)
+      (λ c within. is_block_start (block start order) c (λ e. omega (arith, within, e, l, pow_pos c.order))) lent set.in_arena)
 
-  pub seeks_left : (pages : ℕ) → pages ≡ 2 ^ (level - 1) → rest < pages → Sought order height (level - 1) (at + 1) start rest (set path (level - 1) at) nodes
-  seeks_left pages pages_is l = sought_left lower n n_is split (omega (arith, low, below)) (omega (arith, below)) (omega (arith, pages_is, l))
-
-  pub seeks_right : (right pages : ℕ) → right ≡ at + 2 ^ level → pages ≡ 2 ^ (level - 1) → pages ≤ rest
-      → Sought order height (level - 1) right start (rest - pages) (set path (level - 1) at) nodes
-  seeks_right right pages right_is pages_is l =
-      let there : at + 2 ^ suc (level - 1) ≡ right = ap (λ h. at + 2 ^ h) same ∙ sym right_is in
-      let sum : 2 ^ (level - 1) + (rest - pages) ≡ rest = omega (arith, pages_is, l) in
-      subst (λ i. Sought order height (level - 1) i start (rest - pages) (set path (level - 1) at) nodes) there
-      (sought_right lower n n_is split (omega (arith, low, below)) (omega (arith, below)) (rest - pages) sum)
+  pub unaligned_not_lent : (start % 2 ^ order ≡ 0 → ⊥) → is_lent (block start order) lent ≡ false
+  unaligned_not_lent n =
+      is_lent_absent (block start order) lent
+      (All-weaker IsAligned (λ c. is_block (block start order) c ≡ false)
+      (λ c a. false_from_ne_true (is_block (block start order) c) (λ t.
+      let P : Block → Type 0 = λ b. IsAligned b in
+      n (subst P (sym (is_block-true (block start order) c t)) a))) lent set.aligned)

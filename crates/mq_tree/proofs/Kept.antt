@@ -57,9 +57,6 @@ module _ (half : ℕ) (xs ys : List Block) (left_set : IsLentSet half xs) (right
       let within : IsInArena half _ = right_set.in_arena k d u in
       mod_up _ half _ (order_le _ half (omega (arith, within))) ∙ right_set.aligned k d u)
 
-  ends_low : All (λ x. x.start + 2 ^ x.order ≤ 2 ^ half) xs
-  ends_low = left_set.in_arena
-
   cross : (R : Block → Block → Type 0) → ((a b : Block) → a.start + 2 ^ a.order ≤ b.start → R a b) → All (λ x. All (R x) (moved_up (2 ^ half) ys)) xs
   cross R before k d u =
       All-map (R _) (λ y. block (2 ^ half + y.start) y.order) ys (λ j e v. before _ _ (omega (arith, left_set.in_arena k d u)))

@@ -1,174 +1,194 @@
--- The way down to the first run of an order that is free.
-use Rattle.std.proofs.Common.{◌≡◌, ℕ, ◌+◌, ◌-◌, ◌^◌, ◌<◌, ◌≤◌, suc, refl, sym, ap, ◌∙◌, arith, true, false, List, [], ◌∷◌, ◌++◌, length, get_or, set, subst}
+-- The first free run of an order, on the way down by the largest orders.
+use Rattle.std.proofs.Common.{◌≡◌, ℕ, ◌+◌, ◌-◌, ◌*◌, ◌/◌, ◌^◌, ◌<◌, ◌≤◌, zero, suc, refl, sym, ap, ◌∙◌, arith, inl, inr, false, cond, List, [], ◌∷◌, ◌++◌, Some, set, length, leb, subst}
 use Rattle.std.specs.List.{All}
-use Rattle.std.specs.Option.{is_some, IsSome}
-use Rattle.std.proofs.lemmas.List.{length-set}
-use Rattle.mq_tree.specs.Blocks.{block, IsInArena, moved_up}
+use Rattle.std.specs.Option.{is_some}
+use Rattle.std.proofs.lemmas.Bool.{cases_Bool, cases_lt, cond-true, cond-false, leb-true, le-leb, lt-leb}
+use Rattle.std.proofs.lemmas.List.{get_or-set_same, get_or-set_other}
+use Rattle.mq_tree.specs.Blocks.{Block, block, IsInArena, moved_up}
 use Rattle.mq_tree.specs.LentSet.{joined}
 use Rattle.mq_tree.specs.Fit.{fit}
-use Rattle.mq_tree.specs.Nodes.{Node, Free, Lent, node_count, root, is_free, at_most, largest_under, parent}
-use Rattle.mq_tree.specs.Trees.{IsTree, AreHalves, lent_blocks}
-use Rattle.mq_tree.specs.Steps.{ToRight}
-use Rattle.mq_tree.specs.Paths.{closed}
-use Rattle.mq_tree.specs.Changes.{Lends, LendsOpen}
-use Rattle.mq_tree.proofs.Powers.{pow_suc}
-use Rattle.mq_tree.proofs.Trees.{node_count_pos, tree_length, tree_lent_set, lent_tree, lent_tree_blocks, root_is, root-set, free_root, parent_tree, parent_halves}
-use Rattle.mq_tree.proofs.Steps.{no_room_in_lent, whole_is_empty, whole_fit, order_in_room, fit_left, fit_right, room_right, lent_left, lent_right}
-use Rattle.mq_tree.proofs.Places.{IsAt, at_root, root_read, rewritten, Opened, opened_free, opened_split, left_read, at_left, at_right}
+use Rattle.mq_tree.specs.Nodes.{node_at}
+use Rattle.mq_tree.specs.Trees.{blocks_under, lent_blocks, start_of, Place, IsTree, Found}
+use Rattle.mq_tree.proofs.Fits.{fit_empty}
+use Rattle.mq_tree.proofs.Heap.{up_last, up_none, at_root, over_root, over_differs, to_left, to_right, place_pos, place_below}
+use Rattle.mq_tree.proofs.Trees.{bounded, room_is, free_blocks, blocks_lent, blocks_halves, blocks_lent_set, right_room}
+use Rattle.mq_tree.proofs.Halves.{fit_left, fit_right, lent_left, lent_right}
+use Rattle.mq_tree.proofs.Changes.{other_half}
+use Rattle.mq_tree.proofs.Starts.{start_in, start_none, start_left, start_right, start_whole, pow_sum}
 
--- ---- lending in a half is lending in the whole
-module _ (half order s : ℕ) (part l r new : List Node) (halves : AreHalves half l r (lent_blocks (suc half) part)) (low : order ≤ half) where
-  inside : All (IsInArena half) (lent_blocks half l)
-  inside = (tree_lent_set half l halves.left_tree).in_arena
+module _ (height order : ℕ) (nodes : List ℕ) (tree : IsTree height nodes) where
+  -- d steps down from node i, each to the left half where that has room
+  pub pick : ℕ → ℕ → ℕ
+  pick zero i = i
+  pick (suc d) i = cond (leb (order + 2) (node_at nodes (2 * i))) (pick d (2 * i)) (pick d (2 * i + 1))
 
-  lends_left : Lends order half s l new → Lends order (suc half) s part (parent half (root new) (root r) ∷ (new ++ r))
-  lends_left d =
-      let xs = lent_blocks half l in
-      let ys = lent_blocks half r in
+  pub pick_none : (i : ℕ) → pick 0 i ≡ i
+  unfolding pick
+  pick_none i = refl
+
+  pub pick_step : (d i : ℕ) → pick (suc d) i ≡ cond (leb (order + 2) (node_at nodes (2 * i))) (pick d (2 * i)) (pick d (2 * i + 1))
+  unfolding pick
+  pick_step d i = refl
+
+  -- node j, d steps under node i of height k, has the first free run of the order there
+  pub record IsPicked (d k i j : ℕ) : Type 0 where
+    pub over : j / 2 ^ d ≡ i
+    pub free : node_at nodes j ≡ order + 2
+    pub clear : (n : ℕ) → n < d → 0 < node_at nodes (j / 2 ^ suc n)
+    pub fit_is : fit k (blocks_under k i nodes) order ≡ Some (start_in d order j)
+    pub lent_is : blocks_under k i (set nodes j 0) ≡ joined (block (start_in d order j) order) (blocks_under k i nodes)
+
+  picked_here : (i : ℕ) → Place height order i → order + 2 ≤ node_at nodes i → IsPicked 0 order i i
+  picked_here i p room =
+      let e : node_at nodes i ≡ order + 2 = omega (arith, bounded height nodes tree order i p) in
+      let none = free_blocks height nodes tree order i p e in
+      let l : i < length nodes = omega (arith, tree.len, place_below p) in
       record {
-        tree = parent_tree half new r d.tree halves.right_tree (parent half (root new) (root r)) refl;
-        fit_is = ap (λ x. fit (suc half) x order) halves.lent_is ∙ fit_left half xs ys order low inside s d.fit_is;
+        over = up_none i;
+        free = e;
+        clear = λ n l. absurd (omega arith);
+        fit_is = ap (λ x. fit order x order) none ∙ fit_empty order order (omega arith) ∙ ap (λ s. Some s) (sym (start_none order i));
         lent_is =
-            (parent_halves half new r d.tree halves.right_tree (parent half (root new) (root r)) refl).lent_is
-            ∙ ap (λ x. x ++ moved_up (2 ^ half) ys) d.lent_is
-            ∙ lent_left half xs ys order low inside s d.fit_is
-            ∙ ap (λ x. joined (block s order) x) (sym halves.lent_is);
+            blocks_lent order i (set nodes i 0) (get_or-set_same nodes i 0 0 l)
+            ∙ ap (λ s. block s order ∷ []) (sym (start_none order i)) ∙ ap (λ x. joined (block (start_in 0 order i) order) x) (sym none);
       }
 
-  lends_right : is_some (fit half (lent_blocks half l) order) ≡ false → Lends order half s r new
-      → Lends order (suc half) (2 ^ half + s) part (parent half (root l) (root new) ∷ (l ++ new))
-  lends_right none d =
-      let xs = lent_blocks half l in
-      let ys = lent_blocks half r in
-      record {
-        tree = parent_tree half l new halves.left_tree d.tree (parent half (root l) (root new)) refl;
-        fit_is = ap (λ x. fit (suc half) x order) halves.lent_is ∙ fit_right half xs ys order low inside s none d.fit_is;
-        lent_is =
-            (parent_halves half l new halves.left_tree d.tree (parent half (root l) (root new)) refl).lent_is
-            ∙ ap (λ y. xs ++ moved_up (2 ^ half) y) d.lent_is
-            ∙ lent_right half xs ys order low inside s
-            ∙ ap (λ x. joined (block (2 ^ half + s) order) x) (sym halves.lent_is);
-      }
+  module _ (d half i j : ℕ) (p : Place height (suc half) i) (room : order + 2 ≤ node_at nodes i) (sum : d + order ≡ half) where
+    abbrev xs : List Block
+    xs = blocks_under half (2 * i) nodes
 
-lends_whole : (order : ℕ) (part : List Node) (v : Node) → v ≡ Lent → IsTree order part → IsSome (fit order (lent_blocks order part) order)
-    → Lends order order 0 part (set part 0 v)
-lends_whole order part v e t room =
-    let count : length part ≡ node_count order = tree_length order part t in
-    let some : 0 < length part = omega (arith, count, node_count_pos order) in
-    let none : lent_blocks order part ≡ [] = whole_is_empty order part t room in
-    let is : root (set part 0 v) ≡ Lent = root-set part v some ∙ e in
+    abbrev ys : List Block
+    ys = blocks_under half (2 * i + 1) nodes
+
+    inside : All (IsInArena half) xs
+    inside = (blocks_lent_set half (2 * i) nodes).in_arena
+
+    split : blocks_under (suc half) i nodes ≡ xs ++ moved_up (2 ^ half) ys
+    split = blocks_halves half i nodes (λ z. omega (arith, z, room))
+
+    clear_over : j / 2 ^ suc d ≡ i → ((n : ℕ) → n < d → 0 < node_at nodes (j / 2 ^ suc n)) → (n : ℕ) → n < suc d → 0 < node_at nodes (j / 2 ^ suc n)
+    clear_over e below n l = elim (cases_lt n d) [
+      | inl m ↦ below n m
+      | inr m ↦
+          let same : n ≡ d = omega arith in
+          let there : node_at nodes (j / 2 ^ suc n) ≡ node_at nodes i = ap (λ x. node_at nodes (j / 2 ^ suc x)) same ∙ ap (λ x. node_at nodes x) e in
+          omega (arith, there, room)
+    ]
+
+    split_new : j / 2 ^ suc d ≡ i → blocks_under (suc half) i (set nodes j 0) ≡ blocks_under half (2 * i) (set nodes j 0) ++ moved_up (2 ^ half) (blocks_under half (2 * i + 1) (set nodes j 0))
+    split_new e = blocks_halves half i (set nodes j 0) (λ z. omega (arith, z, room, get_or-set_other nodes j i 0 0 (over_differs j d i e (place_pos p))))
+
+    picked_left : IsPicked d half (2 * i) j → IsPicked (suc d) (suc half) i j
+    picked_left q =
+        let over : j / 2 ^ suc d ≡ i = omega (arith, up_last d j, q.over) in
+        let s : start_in (suc d) order j ≡ start_in d order j = start_left d order j i q.over in
+        record {
+          over = over;
+          free = q.free;
+          clear = clear_over over q.clear;
+          fit_is = ap (λ x. fit (suc half) x order) split ∙ fit_left half xs ys order (omega arith) inside (start_in d order j) q.fit_is ∙ ap (λ x. Some x) (sym s);
+          lent_is =
+              split_new over
+              ∙ ap (λ x. x ++ moved_up (2 ^ half) (blocks_under half (2 * i + 1) (set nodes j 0))) q.lent_is
+              ∙ ap (λ y. joined (block (start_in d order j) order) xs ++ moved_up (2 ^ half) y)
+              (other_half half (2 * i + 1) nodes j d (2 * i) 0 q.over (omega arith) (omega (arith, place_pos p)) (omega arith) (λ e. omega (arith, e)))
+              ∙ lent_left half xs ys order (omega arith) inside (start_in d order j) q.fit_is
+              ∙ ap (λ x. joined (block x order) (xs ++ moved_up (2 ^ half) ys)) (sym s)
+              ∙ ap (λ x. joined (block (start_in (suc d) order j) order) x) (sym split);
+        }
+
+    picked_right : leb (order + 2) (node_at nodes (2 * i)) ≡ false → IsPicked d half (2 * i + 1) j → IsPicked (suc d) (suc half) i j
+    picked_right full q =
+        let over : j / 2 ^ suc d ≡ i = omega (arith, up_last d j, q.over) in
+        let s : start_in (suc d) order j ≡ 2 ^ half + start_in d order j = start_right d order j i q.over ∙ ap (λ x. x + start_in d order j) (sym (pow_sum d order half sum)) in
+        let none : is_some (fit half xs order) ≡ false = room_is height nodes tree half (2 * i) (to_left height half i p) order ∙ full in
+        record {
+          over = over;
+          free = q.free;
+          clear = clear_over over q.clear;
+          fit_is = ap (λ x. fit (suc half) x order) split ∙ fit_right half xs ys order (omega arith) inside (start_in d order j) none q.fit_is ∙ ap (λ x. Some x) (sym s);
+          lent_is =
+              split_new over
+              ∙ ap (λ x. x ++ moved_up (2 ^ half) (blocks_under half (2 * i + 1) (set nodes j 0)))
+              (other_half half (2 * i) nodes j d (2 * i + 1) 0 q.over (omega arith) (omega arith) (omega (arith, place_pos p)) (λ e. omega (arith, e)))
+              ∙ ap (λ y. xs ++ moved_up (2 ^ half) y) q.lent_is
+              ∙ lent_right half xs ys order (omega arith) inside (start_in d order j)
+              ∙ ap (λ x. joined (block x order) (xs ++ moved_up (2 ^ half) ys)) (sym s)
+              ∙ ap (λ x. joined (block (start_in (suc d) order j) order) x) (sym split);
+        }
+
+  picked : (d k i : ℕ) → d + order ≡ k → Place height k i → order + 2 ≤ node_at nodes i → IsPicked d k i (pick d i)
+  unfolding pick
+  picked zero k i e p room =
+      let f : order ≡ k = omega (arith, e) in
+      subst (λ h. IsPicked 0 h i i) f (picked_here i (subst (λ h. Place height h i) (sym f) p) room)
+  picked (suc d) zero i e p room = absurd (omega (arith, e))
+  picked (suc d) (suc half) i e p room = elim (cases_Bool (leb (order + 2) (node_at nodes (2 * i)))) [
+    | inl t ↦
+        subst (λ j. IsPicked (suc d) (suc half) i j) (sym (cond-true (leb (order + 2) (node_at nodes (2 * i))) (pick d (2 * i)) (pick d (2 * i + 1)) t))
+        (picked_left d half i (pick d (2 * i)) p room (omega (arith, e))
+        (picked d half (2 * i) (omega (arith, e)) (to_left height half i p) (leb-true (order + 2) (node_at nodes (2 * i)) t)))
+    | inr t ↦
+        subst (λ j. IsPicked (suc d) (suc half) i j) (sym (cond-false (leb (order + 2) (node_at nodes (2 * i))) (pick d (2 * i)) (pick d (2 * i + 1)) t))
+        (picked_right d half i (pick d (2 * i + 1)) p room (omega (arith, e)) t
+        (picked d half (2 * i + 1) (omega (arith, e)) (to_right height half i p) (right_room height nodes tree half i p order (omega (arith, e)) room t)))
+  ]
+
+-- the first free run in the arena
+pub found_by : {height order : ℕ} {nodes : List ℕ} (tree : IsTree height nodes) → order ≤ height → order + 2 ≤ node_at nodes 1
+    → Found height order (pick height order nodes tree (height - order) 1) nodes
+found_by {height = height} {order = order} {nodes = nodes} tree low room =
+    let d = height - order in
+    let q = picked height order nodes tree d height 1 (omega (arith, low)) (at_root height) room in
+    let place : Place height order (pick height order nodes tree d 1) = record { depth = d; depth_is = omega (arith, low); root_is = q.over } in
+    let s : start_in d order (pick height order nodes tree d 1) ≡ start_of height order (pick height order nodes tree d 1) = start_whole height order (pick height order nodes tree d 1) place in
     record {
-      tree = lent_tree order (set part 0 v) (length-set part 0 v ∙ count) is;
-      fit_is = whole_fit order (lent_blocks order part) none;
-      lent_is = lent_tree_blocks order (set part 0 v) is ∙ ap (λ x. joined (block 0 order) x) (sym none);
+      place = place;
+      free = q.free;
+      clear = λ n l. q.clear n (omega (arith, low, over_root place (suc n) l));
+      fit_is = q.fit_is ∙ ap (λ x. Some x) s;
+      lent_is = q.lent_is ∙ ap (λ x. joined (block x order) (lent_blocks height nodes)) s;
     }
 
--- ---- the way down
--- where the order fits, and what is lent there is lent in the whole
-pub record Down (order height level at start : ℕ) (path : List ℕ) (old nodes : List Node) : Type 0 where
-  pub place : IsAt height level at path nodes
-  pub room : IsSome (fit level (lent_blocks level place.part) order)
-  pub start_fits : start + 2 ^ level ≤ 2 ^ height
-  pub lends : (s : ℕ) (new : List Node) → Lends order level s place.part new → Lends order height (start + s) old (closed level place.steps new)
+-- the way down: node i, of height k, has the run that is found under it
+pub record Down (height order k i : ℕ) (nodes : List ℕ) : Type 0 where
+  pub tree : IsTree height nodes
+  pub low : order ≤ k
+  pub room : order + 2 ≤ node_at nodes 1
+  pub place : Place height k i
+  pub same : pick height order nodes tree (height - order) 1 ≡ pick height order nodes tree (k - order) i
 
-pub down_begins : (order height : ℕ) (path : List ℕ) (old : List Node) → length path ≡ 10 → IsTree height old → IsSome (fit height (lent_blocks height old) order)
-    → Down order height height 0 0 path old old
-down_begins order height path old l t room = record {
-  place = at_root height path old l t;
-  room = room;
-  start_fits = omega arith;
-  lends = λ s new d. let e : s ≡ 0 + s = omega arith in subst (λ k. Lends order height k old new) e d;
-}
+module _ {height order k i : ℕ} {nodes : List ℕ} (down : Down height order k i nodes) where
+  pub down_found : k ≤ order → Found height order i nodes
+  down_found l =
+      let whole : k - order ≡ 0 = omega arith in
+      subst (λ j. Found height order j nodes) (down.same ∙ ap (λ d. pick height order nodes down.tree d i) whole ∙ pick_none height order nodes down.tree i)
+      (found_by down.tree (omega (arith, down.low, l)) down.room)
 
-pub order_low : {order height level at start : ℕ} {path : List ℕ} {old nodes : List Node} → Down order height level at start path old nodes → order ≤ level
-order_low {order = order} {level = level} d = order_in_room level (lent_blocks level d.place.part) order d.room
+  module _ (below : order < k) where
+    half_place : Place height (suc (k - 1)) i
+    half_place = let e : k ≡ suc (k - 1) = omega (arith, below) in subst (λ h. Place height h i) e down.place
 
--- at the level of the order the run itself is lent
-pub down_ends : {order height at start : ℕ} {path : List ℕ} {old nodes : List Node} (v : Node) → v ≡ Lent → Down order height order at start path old nodes
-    → LendsOpen order height start path old (set nodes at v)
-down_ends {order = order} {height = height} {start = start} {old = old} v e d =
-    let sum : start + 0 ≡ start = omega arith in
-    record {
-      opened = rewritten d.place v;
-      lends = subst (λ k. Lends order height k old (closed order d.place.steps (set d.place.part 0 v))) sum
-          (d.lends 0 (set d.place.part 0 v) (lends_whole order d.place.part v e d.place.tree d.room));
+    pub halves_in : 2 * i + 1 < length nodes
+    halves_in = omega (arith, down.tree.len, place_below (to_right height (k - 1) i half_place))
+
+    steps : pick height order nodes down.tree (k - order) i ≡ cond (leb (order + 2) (node_at nodes (2 * i))) (pick height order nodes down.tree (k - 1 - order) (2 * i)) (pick height order nodes down.tree (k - 1 - order) (2 * i + 1))
+    steps = let e : k - order ≡ suc (k - 1 - order) = omega (arith, below) in ap (λ d. pick height order nodes down.tree d i) e ∙ pick_step height order nodes down.tree (k - 1 - order) i
+
+    pub goes_left : order + 2 ≤ node_at nodes (2 * i) → Down height order (k - 1) (2 * i) nodes
+    goes_left room = record {
+      tree = down.tree;
+      low = omega (arith, below);
+      room = down.room;
+      place = to_left height (k - 1) i half_place;
+      same = down.same ∙ steps ∙ cond-true _ _ _ (le-leb (order + 2) (node_at nodes (2 * i)) room);
     }
 
--- ---- one level
-module _ {order height half at start : ℕ} {path : List ℕ} {old before nodes : List Node} (d : Down order height (suc half) at start path old before)
-    (o : Opened half d.place.steps d.place.part nodes) (low : order ≤ half) (in_path : half < 10) where
-  -- the root of the left half tells whether the order fits there
-  fits_left : (n : Node) → n ≡ get_or nodes (at + 1) n → is_some (fit half (lent_blocks half o.left) order) ≡ at_most order (largest_under half n)
-  fits_left n e =
-      root_is half o.left o.halves.left_tree order
-      ∙ ap (λ m. at_most order (largest_under half m)) (sym (left_read d.place o in_path n e))
-
-  down_left : is_some (fit half (lent_blocks half o.left) order) ≡ true → Down order height half (at + 1) start (set path half at) old nodes
-  down_left fits = record {
-    place = at_left d.place o in_path;
-    room = fits;
-    start_fits = omega (arith, d.start_fits, pow_suc half);
-    lends =
-        λ s new e.
-        d.lends s (parent half (root new) (root o.right) ∷ (new ++ o.right)) (lends_left half order s d.place.part o.left o.right new o.halves low e);
-  }
-
-  down_right : is_some (fit half (lent_blocks half o.left) order) ≡ false
-      → Down order height half (at + 2 ^ suc half) (start + 2 ^ half) (set path half at) old nodes
-  down_right none =
-      let xs = lent_blocks half o.left in
-      let ys = lent_blocks half o.right in
-      let within : All (IsInArena half) xs = (tree_lent_set half o.left o.halves.left_tree).in_arena in
-      let room : IsSome (fit (suc half) (xs ++ moved_up (2 ^ half) ys) order) = subst (λ x. IsSome (fit (suc half) x order)) o.halves.lent_is d.room in
-      record {
-        place = at_right d.place o in_path;
-        room = room_right half xs ys order low within none room;
-        start_fits = omega (arith, d.start_fits, pow_suc half);
-        lends =
-            λ s new e.
-            let sum : start + (2 ^ half + s) ≡ (start + 2 ^ half) + s = omega arith in
-            subst (λ k. Lends order height k old (closed half (ToRight o.first o.left ∷ d.place.steps) new)) sum
-            (d.lends (2 ^ half + s) (parent half (root o.left) (root new) ∷ (o.left ++ new))
-            (lends_right half order s d.place.part o.left o.right new o.halves low none e));
-      }
-
--- the same, as the code takes it
-module _ {order height level at start : ℕ} {path : List ℕ} {old before : List Node} (d : Down order height level at start path old before) (below : order < level) where
-  same : suc (level - 1) ≡ level
-  same = omega (arith, below)
-
-  pub lower : Down order height (suc (level - 1)) at start path old before
-  lower = subst (λ h. Down order height h at start path old before) (sym same) d
-
-  module _ (n : Node) (n_is : n ≡ get_or before at n) where
-    is_root : n ≡ root lower.place.part
-    is_root = root_read lower.place n n_is
-
-    pub opens_free : (v w : Node) (right : ℕ) → v ≡ Free → w ≡ Free → right ≡ at + 2 ^ level → is_free n ≡ true
-        → Opened (level - 1) lower.place.steps lower.place.part (set (set before (at + 1) v) right w)
-    opens_free v w right v_is w_is right_is t =
-        let there : at + 2 ^ suc (level - 1) ≡ right = ap (λ h. at + 2 ^ h) same ∙ sym right_is in
-        subst (λ i. Opened (level - 1) lower.place.steps lower.place.part (set (set before (at + 1) v) i w)) there
-        (opened_free (level - 1) at lower.place.steps lower.place.part before lower.place.nodes_is lower.place.at_is lower.place.tree v w v_is w_is
-        (sym is_root ∙ free_root n t))
-
-    pub opens_split : is_free n ≡ false → Opened (level - 1) lower.place.steps lower.place.part before
-    opens_split f =
-        opened_split (level - 1) at lower.place.steps lower.place.part before lower.place.nodes_is lower.place.at_is lower.place.tree
-        (ap is_free (sym is_root) ∙ f) (λ e. no_room_in_lent (suc (level - 1)) lower.place.part order e lower.room)
-
-  module _ {nodes : List Node} (o : Opened (level - 1) lower.place.steps lower.place.part nodes) (low : level ≤ 10) (n : Node) (n_is : n ≡ get_or nodes (at + 1) n) where
-    first_fits : is_some (fit (level - 1) (lent_blocks (level - 1) o.left) order) ≡ at_most order (largest_under (level - 1) n)
-    first_fits = fits_left lower o (omega (arith, below)) (omega (arith, low, below)) n n_is
-
-    pub goes_left : at_most order (largest_under (level - 1) n) ≡ true → Down order height (level - 1) (at + 1) start (set path (level - 1) at) old nodes
-    goes_left t =
-        down_left lower o (omega (arith, below)) (omega (arith, low, below)) (first_fits ∙ t)
-
-    pub goes_right : (right pages : ℕ) → right ≡ at + 2 ^ level → pages ≡ 2 ^ (level - 1) → at_most order (largest_under (level - 1) n) ≡ false
-        → Down order height (level - 1) right (start + pages) (set path (level - 1) at) old nodes
-    goes_right right pages right_is pages_is f =
-        let there : at + 2 ^ suc (level - 1) ≡ right = ap (λ h. at + 2 ^ h) same ∙ sym right_is in
-        subst (λ i. Down order height (level - 1) i (start + pages) (set path (level - 1) at) old nodes) there
-        (subst (λ p. Down order height (level - 1) (at + 2 ^ suc (level - 1)) (start + p) (set path (level - 1) at) old nodes) (sym pages_is)
-        (down_right lower o (omega (arith, below)) (omega (arith, low, below)) (first_fits ∙ f)))
+    pub goes_right : node_at nodes (2 * i) < order + 2 → Down height order (k - 1) (2 * i + 1) nodes
+    goes_right full = record {
+      tree = down.tree;
+      low = omega (arith, below);
+      room = down.room;
+      place = to_right height (k - 1) i half_place;
+      same = down.same ∙ steps ∙ cond-false _ _ _ (lt-leb (order + 2) (node_at nodes (2 * i)) full);
+    }

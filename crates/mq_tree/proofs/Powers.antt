@@ -7,12 +7,6 @@ use Rattle.std.proofs.lemmas.Bool.{cases_lt}
 pub pow_suc : (h : ℕ) → 2 ^ suc h ≡ 2 ^ h + 2 ^ h
 pow_suc h = two-pow-succ h
 
-pub pow_half : (h pages : ℕ) → 0 < h → pages ≡ 2 ^ h → pages / 2 ≡ 2 ^ (h - 1)
-pow_half h pages some e =
-    let same : suc (h - 1) ≡ h = omega (arith, some) in
-    let twice : 2 ^ h ≡ 2 ^ (h - 1) + 2 ^ (h - 1) = ap (λ x. 2 ^ x) (sym same) ∙ pow_suc (h - 1) in
-    omega (arith, e, twice)
-
 pub pow_le : (k h : ℕ) → k ≤ h → 2 ^ k ≤ 2 ^ h
 pow_le k h p = pow-le-pow_right {n = 2} (lit< tt) p
 

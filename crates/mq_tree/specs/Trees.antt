@@ -1,52 +1,73 @@
 -- A tree as a list of nodes: what is lent in it, and when a list is a tree.
-use Rattle.std.specs.Prelude.{◌≡◌, ℕ, ◌^◌, ◌≤◌, zero, suc, false, ◌&&◌, List, [], ◌∷◌, ◌++◌, length, Option}
+use Rattle.std.specs.Prelude.{◌≡◌, ◌≢◌, ℕ, ◌+◌, ◌-◌, ◌*◌, ◌/◌, ◌^◌, ◌<◌, ◌≤◌, zero, suc, false, ◌==◌, List, [], ◌∷◌, ◌++◌, length, slice_set, Some, if◌then◌else◌}
 use Rattle.mq_tree.specs.Blocks.{Block, block, moved_up}
-use Rattle.mq_tree.specs.LentSet.{free_pages}
+use Rattle.mq_tree.specs.LentSet.{IsLentSet, joined, is_lent, free_pages}
+use Rattle.mq_tree.specs.Fit.{fit}
 use Rattle.mq_tree.specs.declared.limits.TheConstants.{MAX_HEIGHT}
-use Rattle.mq_tree.specs.Nodes.{Node, Free, Lent, Split, node_count, root, left_half, right_half, is_free, larger, largest_under}
+use Rattle.mq_tree.specs.Nodes.{node_at, whole_free, IsRight}
 
--- the blocks that are lent under a node: the whole of it, or those of its halves
-abbrev pub blocks_under : Node → Block → List Block → List Block
-blocks_under Free whole parts = []
-blocks_under Lent whole parts = whole ∷ []
-blocks_under (Split _) whole parts = parts
+-- the blocks that are lent in the run of node i, of that height: the whole, or those of its halves
+unfoldable pub blocks_under : ℕ → ℕ → List ℕ → List Block
+blocks_under zero i nodes = if node_at nodes i == 0 then block 0 0 ∷ [] else []
+blocks_under (suc half) i nodes =
+    if node_at nodes i == 0 then block 0 (suc half) ∷ []
+    else blocks_under half (2 * i) nodes
+    ++ moved_up (2 ^ half) (blocks_under half (2 * i + 1) nodes)
 
 -- the blocks that are lent in a tree of that height
-unfoldable pub lent_blocks : ℕ → List Node → List Block
-lent_blocks zero nodes = blocks_under (root nodes) (block 0 0) []
-lent_blocks (suc half) nodes =
-    blocks_under (root nodes) (block 0 (suc half))
-    (lent_blocks half (left_half half nodes)
-    ++ moved_up (2 ^ half) (lent_blocks half (right_half half nodes)))
+abbrev pub lent_blocks : ℕ → List ℕ → List Block
+lent_blocks height nodes = blocks_under height 1 nodes
 
--- a fact for a split node alone
-abbrev pub OnSplit : Node → (Option ℕ → Type 0) → Type 0
-OnSplit Free P = Unit {0}
-OnSplit Lent P = Unit {0}
-OnSplit (Split most) P = P most
+-- in a tree of that height, the run of node i has height k: so many steps up is the root
+pub record Place (height k i : ℕ) : Type 0 where
+  pub depth : ℕ
+  pub depth_is : depth + k ≡ height
+  pub root_is : i / 2 ^ depth ≡ 1
 
--- a split node keeps the largest order of its halves, and they are not both free
-pub record IsMarked (half : ℕ) (most : Option ℕ) (left right : Node) : Type 0 where
-  pub most_is : most ≡ larger (largest_under half left) (largest_under half right)
-  pub not_free : (is_free left && is_free right) ≡ false
+-- the nodes are those of a tree of that height, but for the rule of one
+pub record IsTreeBut (height but : ℕ) (nodes : List ℕ) : Type 0 where
+  pub len : length nodes ≡ 2 * 2 ^ height
+  pub right : (k i : ℕ) → Place height k i → i ≢ but → IsRight k i nodes
 
--- the nodes are those of a tree of that height
-unfoldable pub IsTree : ℕ → List Node → Type 0
-IsTree zero nodes = (length nodes ≡ node_count zero) × OnSplit (root nodes) (λ _. ⊥)
-IsTree (suc half) nodes =
-    (length nodes ≡ node_count (suc half))
-    × OnSplit (root nodes) (λ most.
-    IsMarked half most (root (left_half half nodes)) (root (right_half half nodes))
-    × IsTree half (left_half half nodes) × IsTree half (right_half half nodes))
+-- the nodes are those of a tree of that height; there is no node 0
+abbrev pub IsTree : ℕ → List ℕ → Type 0
+IsTree height nodes = IsTreeBut height 0 nodes
 
--- two halves whose lent blocks, the right ones moved up, are those blocks
-pub record AreHalves (half : ℕ) (left right : List Node) (lent : List Block) : Type 0 where
-  pub left_tree : IsTree half left
-  pub right_tree : IsTree half right
-  pub lent_is : lent ≡ lent_blocks half left ++ moved_up (2 ^ half) (lent_blocks half right)
+-- no node above node i is lent as one block
+abbrev pub IsClear : ℕ → List ℕ → Type 0
+IsClear i nodes = (n : ℕ) → 0 < i / 2 ^ suc n → 0 < node_at nodes (i / 2 ^ suc n)
+
+-- the first page of the run of node i, of that height
+abbrev pub start_of : ℕ → ℕ → ℕ → ℕ
+start_of height k i = i * 2 ^ k - 2 ^ height
+
+-- the run of node i, of that order, starts at that page
+pub record IsRunOf (height order start i : ℕ) : Type 0 where
+  pub place : Place height order i
+  pub start_is : start_of height order i ≡ start
+
+-- no run of that order starts at that page, so no block that is lent does
+abbrev pub IsNoRun : ℕ → ℕ → ℕ → Type 0
+IsNoRun height order start =
+    (lent : List Block) → IsLentSet height lent → is_lent (block start order) lent ≡ false
+
+-- node i is free, and its run is the first one of that order that is
+pub record Found (height order i : ℕ) (nodes : List ℕ) : Type 0 where
+  pub place : Place height order i
+  pub free : node_at nodes i ≡ whole_free order
+  pub clear : IsClear i nodes
+  pub fit_is : fit height (lent_blocks height nodes) order ≡ Some (start_of height order i)
+  pub lent_is :
+      lent_blocks height (slice_set nodes i 0)
+      ≡ joined (block (start_of height order i) order) (lent_blocks height nodes)
+
+-- all pages of a tree to be are free
+pub record ArePagesFree (height : ℕ) (nodes : List ℕ) : Type 0 where
+  pub len : length nodes ≡ 2 * 2 ^ height
+  pub pages : (i : ℕ) → i < length nodes → node_at nodes i ≡ whole_free 0
 
 -- what an `OrderTree` keeps: a tree no higher than the greatest height, and how many are free
-pub record IsWhole (height free : ℕ) (nodes : List Node) : Type 0 where
+pub record IsWhole (height free : ℕ) (nodes : List ℕ) : Type 0 where
   pub low : height ≤ MAX_HEIGHT
   pub tree : IsTree height nodes
   pub free_is : free ≡ free_pages height (lent_blocks height nodes)

@@ -1,67 +1,52 @@
-ghost use Rattle.std.specs.Prelude.{◌≡◌, ◌≤◌};
-ghost use Rattle.std.specs.Bool.{OnTrue, OnFalse};
+ghost use Rattle.std.specs.Prelude.{◌≡◌, ◌≤◌, IfSome, OnSome, IfNone};
+ghost use Rattle.std.specs.Bool.{OnTrue};
 ghost use Rattle.mq_tree.specs.Blocks.{block};
 ghost use Rattle.mq_tree.specs.LentSet.{left as without, is_lent};
-ghost use Rattle.mq_tree.specs.Changes.{GivesOpen};
-ghost use Rattle.mq_tree.specs.Trees.{IsTree, lent_blocks};
+ghost use Rattle.mq_tree.specs.Trees.{IsTree, IsRunOf, IsNoRun, lent_blocks};
 
+use crate::close::close;
 use crate::limits::MAX_HEIGHT;
-use crate::node::{Node, pages_in};
-use crate::path::{Path, close_path};
+use crate::node::{LENT, Node, free_run, pages_in};
 
-// Marks that block as free, if it is lent. The nodes on the path to it are not yet updated.
-fn give_open(nodes: &mut [Node], height: u8, start: u32, order: u8, path: &mut Path) -> bool
-    requires tree { IsTree height nodes.old }
-    requires low { height ≤ MAX_HEIGHT }
-    requires order { order ≤ height }
-    ensures lent { result ≡ is_lent (block start order) (lent_blocks height nodes.old) }
-    ensures given { OnTrue result (GivesOpen order height start path.new nodes.old nodes.new) }
-    ensures kept { OnFalse result (nodes.new ≡ nodes.old) }
+// The node of that run of pages, if the arena has one.
+fn run_at(height: u8, start: u32, order: u8) -> Option<usize>
+    requires { height ≤ MAX_HEIGHT }
+    ensures order { OnSome result (order ≤ height) }
+    ensures run { IfSome result (λ at. IsRunOf height order start at) }
+    ensures none { IfNone result (IsNoRun height order start) }
 {
-    let mut at = 0;
-    let mut rest = start;
-    let mut level = height;
-    let mut pages = pages_in(height);
-    'levels: while level > order {
-        if !nodes[at].is_split() {
-            return false;
-        }
-        let half = level - 1;
-        let right = at + pages as usize;
-        pages /= 2;
-        path[half as usize] = at;
-        if rest < pages {
-            at += 1;
-        } else {
-            at = right;
-            rest -= pages;
-        }
-        level = half;
+    if order > height {
+        return None;
     }
-    if rest != 0 {
-        return false;
+    let all = pages_in(height);
+    let pages = pages_in(order);
+    if start >= all {
+        return None;
     }
-    if !nodes[at].is_lent() {
-        return false;
+    let inside = start % pages;
+    if inside != 0 {
+        return None;
     }
-    nodes[at] = Node::free();
-    true
+    Some(((all + start) / pages) as usize)
 }
 
 // Takes that block back, if it is lent, and merges buddies that are free on the way up.
 pub(crate) fn give_in(nodes: &mut [Node], height: u8, start: u32, order: u8) -> bool
     requires tree { IsTree height nodes.old }
     requires low { height ≤ MAX_HEIGHT }
-    requires order { order ≤ height }
     ensures tree { IsTree height nodes.new }
+    ensures order { OnTrue result (order ≤ height) }
     ensures lent { result ≡ is_lent (block start order) (lent_blocks height nodes.old) }
     ensures left { lent_blocks height nodes.new
         ≡ without (block start order) (lent_blocks height nodes.old) }
 {
-    let mut path = [0; MAX_HEIGHT as usize];
-    if !give_open(nodes, height, start, order, &mut path) {
+    let Some(at) = run_at(height, start, order) else {
+        return false;
+    };
+    if nodes[at] != LENT {
         return false;
     }
-    close_path(nodes, height, order, &path);
+    nodes[at] = free_run(order);
+    close(nodes, height, order, at);
     true
 }

@@ -1,60 +1,46 @@
-ghost use Rattle.std.specs.Prelude.{◌≡◌, ◌≤◌, Some, IsSome};
+ghost use Rattle.std.specs.Prelude.{◌≡◌, ◌+◌, ◌≤◌, Some};
 ghost use Rattle.mq_tree.specs.Blocks.{block};
 ghost use Rattle.mq_tree.specs.LentSet.{joined};
 ghost use Rattle.mq_tree.specs.Fit.{fit};
-ghost use Rattle.mq_tree.specs.Changes.{LendsOpen};
-ghost use Rattle.mq_tree.specs.Trees.{IsTree, lent_blocks};
+ghost use Rattle.mq_tree.specs.Nodes.{whole_free, node_at};
+ghost use Rattle.mq_tree.specs.Trees.{IsTree, Found, lent_blocks};
 
+use crate::close::close;
 use crate::limits::MAX_HEIGHT;
-use crate::node::{Node, pages_in};
-use crate::path::{Path, close_path};
+use crate::node::{LENT, Node, free_run, pages_in};
 
-// Marks the first run of that order that is free, and opens the free runs above it. The nodes on
-// the path to it are not yet updated.
-fn lend_open(nodes: &mut [Node], height: u8, order: u8, path: &mut Path) -> u32
-    requires tree { IsTree height nodes.old }
+// The first node of that height whose run is free, by the largest orders on the way down.
+fn first_free(nodes: &[Node], height: u8, order: u8) -> usize
+    requires tree { IsTree height nodes.now }
     requires low { height ≤ MAX_HEIGHT }
-    requires room { IsSome (fit height (lent_blocks height nodes.old) order) }
-    ensures { LendsOpen order height result path.new nodes.old nodes.new }
+    requires order { order ≤ height }
+    requires room { whole_free order ≤ node_at nodes.now 1 }
+    ensures { Found height order result nodes.now }
 {
-    let mut at = 0;
-    let mut start = 0;
+    let free = free_run(order);
+    let mut at = 1;
     let mut level = height;
-    let mut pages = pages_in(height);
-    'levels: while level > order {
-        let half = level - 1;
-        let left = at + 1;
-        let right = at + pages as usize;
-        pages /= 2;
-        path[half as usize] = at;
-        if nodes[at].is_free() {
-            nodes[left] = Node::free();
-            nodes[right] = Node::free();
-        }
-        if nodes[left].has_room(half, order) {
-            at = left;
-        } else {
-            at = right;
-            start += pages;
-        }
-        level = half;
+    while level > order {
+        let left = 2 * at;
+        at = if nodes[left] >= free { left } else { left + 1 };
+        level -= 1;
     }
-    nodes[at] = Node::lent();
-    start
+    at
 }
 
-// Lends the first block of that order that fits, by the largest orders on the way down.
+// Lends the first block of that order that fits.
 pub(crate) fn lend_in(nodes: &mut [Node], height: u8, order: u8) -> u32
     requires tree { IsTree height nodes.old }
     requires low { height ≤ MAX_HEIGHT }
-    requires room { IsSome (fit height (lent_blocks height nodes.old) order) }
+    requires order { order ≤ height }
+    requires room { whole_free order ≤ node_at nodes.old 1 }
     ensures tree { IsTree height nodes.new }
     ensures fit { fit height (lent_blocks height nodes.old) order ≡ Some result }
     ensures lent { lent_blocks height nodes.new
         ≡ joined (block result order) (lent_blocks height nodes.old) }
 {
-    let mut path = [0; MAX_HEIGHT as usize];
-    let start = lend_open(nodes, height, order, &mut path);
-    close_path(nodes, height, order, &path);
-    start
+    let at = first_free(nodes, height, order);
+    nodes[at] = LENT;
+    close(nodes, height, order, at);
+    at as u32 * pages_in(order) - pages_in(height)
 }

@@ -2,16 +2,14 @@
 //! the next one fits.
 #![tactic(auto)]
 
+mod close;
 mod error;
+mod free;
 mod give;
 pub mod laws;
 mod lend;
 mod limits;
 mod node;
-mod path;
-mod root;
-#[cfg(test)]
-mod tests;
 mod tree;
 
 pub use error::TreeError;

@@ -5,11 +5,11 @@ ghost use Rattle.mq_tree.specs.LentSet.{IsLentSet, joined, left, is_lent, free_p
 ghost use Rattle.mq_tree.specs.Fit.{fit, largest};
 
 use crate::error::TreeError;
+use crate::free::free_all;
 use crate::give::give_in;
 use crate::lend::lend_in;
 use crate::limits::MAX_HEIGHT;
-use crate::node::{Node, pages_in};
-use crate::root::{has_room, root_of};
+use crate::node::{Node, free_run, largest_in, pages_in};
 use std::alloc::Global;
 use std::marker::Model;
 
@@ -46,9 +46,10 @@ impl OrderTree {
         }
         let pages = pages_in(height);
         let mut nodes = Vec::new(alloc);
-        if nodes.resize(2 * pages as usize - 1, Node::free()).is_err() {
+        if nodes.resize(2 * pages as usize, free_run(0)).is_err() {
             return Err(TreeError::Memory);
         }
+        free_all(nodes.as_mut_slice(), height);
         Ok(OrderTree {
             height,
             free: pages,
@@ -73,7 +74,7 @@ impl OrderTree {
         if order > self.height {
             return None;
         }
-        if !has_room(self.nodes.as_slice(), self.height, order) {
+        if self.nodes.as_slice()[1] < free_run(order) {
             return None;
         }
         let start = lend_in(self.nodes.as_mut_slice(), self.height, order);
@@ -93,9 +94,6 @@ impl OrderTree {
             (free_pages self.old.height self.new.lent
             ≡ free_pages self.old.height self.old.lent + 2 ^ order) }
     {
-        if order > self.height {
-            return false;
-        }
         if !give_in(self.nodes.as_mut_slice(), self.height, start, order) {
             return false;
         }
@@ -107,7 +105,7 @@ impl OrderTree {
     pub fn largest(&self) -> Option<u8>
         ensures value { result ≡ largest self.now.height self.now.lent }
     {
-        root_of(self.nodes.as_slice(), self.height).largest(self.height)
+        largest_in(self.nodes.as_slice()[1])
     }
 
     /// How many pages are in no lent block.

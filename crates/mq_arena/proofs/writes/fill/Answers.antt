@@ -3,7 +3,8 @@ use Rattle.std.proofs.lemmas.List.{take_min, drop_min, length-take}
 use Rattle.std.proofs.lemmas.List.Elements.{All-set, All-get_or}
 use Rattle.std.specs.List.{concat}
 use Rattle.mq_arena.specs.declared.page.TheConstants.{PAGE_LEN}
-use Rattle.mq_arena.proofs.Filling.{over, filled, filled_more, filled_all, length-over, concat-filled}
+use Rattle.mq_arena.specs.Bytes.{over, filled}
+use Rattle.mq_arena.proofs.Filling.{filled_more, filled_all, length-over, concat-filled}
 use Rattle.mq_arena.proofs.writes.fill.Goals as goal
 
 pub loop-page-preserved : goal.loop-page-preserved

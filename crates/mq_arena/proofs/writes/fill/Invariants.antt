@@ -1,6 +1,5 @@
 use Rattle.std.proofs.Common.{◌≡◌, take, drop, ◌++◌}
-use Rattle.mq_arena.specs.Bytes.{AreWhole}
-use Rattle.mq_arena.proofs.Filling.{filled}
+use Rattle.mq_arena.specs.Bytes.{AreWhole, filled}
 use Rattle.mq_arena.specs.declared.page.TheConstants.{PAGE_LEN}
 use Rattle.mq_arena.proofs.writes.fill.Given as goal
 

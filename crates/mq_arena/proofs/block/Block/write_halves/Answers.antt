@@ -11,8 +11,9 @@ pub returns-clause-halves : goal.returns-clause-halves
 returns-clause-halves g c =
     let h = c.write_both.ensures.halves in
     let old : List (List ℕ) = c.args.self.now.pages in
-    let here : c.self.inside.pages.items ≡ old = ap (λ b. b.pages) c.self.view_is in
-    let lent : c.as_mut_slice.result.now ≡ old = c.as_mut_slice.ensures.value ∙ here in
+    let here : c.self.inside.pages.value.items ≡ old = ap (λ b. b.pages) c.self.view_is in
+    let lent_items : c.deref_mut.result.now.items ≡ old = ap (λ v. v.items) c.deref_mut.ensures.value ∙ here in
+    let lent : c.as_mut_slice.result.now ≡ old = c.as_mut_slice.ensures.value ∙ lent_items in
     let long : length old ≡ 2 ^ c.args.self.now.order =
     ap length (sym here) ∙ c.self.invariant.block.count ∙ ap (λ b. 2 ^ b.order) c.self.view_is in
     let short : c.args.i ≤ length old = omega (arith, c.requires.within) in
@@ -26,7 +27,7 @@ returns-clause-halves g c =
     record {
       front = h.0;
       back = h.1;
-      new_is = ap (λ pages. refill (length pages) pages c.write_both.new.all) here ∙ all;
+      new_is = ap (λ pages. refill (length pages) pages c.write_both.new.all) lent_items ∙ all;
       count = (kept _ c.args.i (take c.args.i old) h.0 c.requires.front_kept
           (All-take (λ p. length p ≡ PAGE_LEN) c.args.i old whole) (length-take-le c.args.i old short) first).1;
       front_by = first;

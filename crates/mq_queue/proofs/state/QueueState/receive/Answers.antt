@@ -3,48 +3,30 @@ use Rattle.std.proofs.lemmas.Int.{to_z-of_z}
 use mir.Val.{SFits}
 use Rattle.mq_select.proofs.Places.{picked_waits}
 use Rattle.mq_queue.specs.declared.event.Event.TheVariants.{Received}
-use Rattle.mq_queue.proofs.Found.{memory_refused, none_refused, too_big_refused}
 use Rattle.mq_queue.proofs.Kept.{same_figures}
 use Rattle.mq_queue.proofs.Receipts.{taken_answer, taken_figures, taken_is, taken_sound, taken_within}
 use Rattle.mq_queue.proofs.state.QueueState.receive.Goals as goal
 
-pub returns-in_default-clause-refused : goal.returns-in_default-clause-refused
-returns-in_default-clause-refused g c =
-    rw (← c.self.view_is) (none_refused g.B.Body.bytes c.self.inside.log.items _ _ _ _ c.self.invariant.0 c.in_default.ensures)
-
-pub length_of-length-requires : goal.length_of-length-requires
-length_of-length-requires g c =
-    picked_waits _ (g.W.Waiting.messages c.self.inside.waiting) c.args.selection _ (sym c.in-Some.ensures)
-
-pub returns-then-not-is_handed_out-clause-refused :
-    goal.returns-then-not-is_handed_out-clause-refused
-returns-then-not-is_handed_out-clause-refused g c =
-    rw (← c.self.view_is) (too_big_refused g.B.Body.bytes c.self.inside.log.items _ _ _ _ _ _ c.self.invariant.0 c.in-Some.ensures c.length_of-length.ensures c.if-not-is_handed_out.ensures)
-
-pub returns-in_default-reserve-clause-refused : goal.returns-in_default-reserve-clause-refused
-returns-in_default-reserve-clause-refused g c =
-    rw (← c.self.view_is) (memory_refused g.B.Body.bytes c.self.inside.log.items _ _ _ _ _ _ c.self.invariant.0 c.in-Some.ensures c.length_of-length.ensures c.if-not-is_handed_out.ensures)
-
 pub take-message-requires : goal.take-message-requires
 take-message-requires g c =
-    picked_waits _ (g.W.Waiting.messages c.self.inside.waiting) c.args.selection _ (sym c.in-Some.ensures)
+    picked_waits _ (g.W.Waiting.messages c.self.inside.waiting) c.args.selection _ (sym (rw (← c.self.view_is) at c.in_ok-place.ensures.picked))
 
 pub overflow_sub-self-2 : goal.overflow_sub-self-2
 overflow_sub-self-2 g c =
-    let taken = taken_is g.B.Body.bytes _ _ _ _ _ _ _ _ _ c.self.invariant.0 c.in-Some.ensures c.take-message.ensures.taken c.length_of-length.ensures c.if-not-is_handed_out.ensures (omega arith) in
+    let taken = taken_is g.B.Body.bytes _ _ _ _ _ _ _ _ _ c.self.invariant.0 (rw (← c.self.view_is) at c.in_ok-place.ensures.picked) c.take-message.ensures.taken (rw (← c.self.view_is) at c.in_ok-place.ensures.length) (sym c.in_ok-place.ensures.fits) (omega arith) in
     (taken_within _ _ _ _ _ _ c.self.invariant.1 taken).0
 
 pub invariant_of-self-2 : goal.invariant_of-self-2
 invariant_of-self-2 g c =
-    let taken = taken_is g.B.Body.bytes _ _ _ _ _ _ _ _ _ c.self.invariant.0 c.in-Some.ensures c.take-message.ensures.taken c.length_of-length.ensures c.if-not-is_handed_out.ensures (omega arith) in
-    let grown : c.append.new.events.items ≡ c.self.inside.log.items ++ Received c.args.seat c.args.moment c.in-Some.place c.args.selection c.args.size c.args.noerror ∷ [] = rw (← c.reserve.ensures.items) c.append.ensures in (
+    let taken = taken_is g.B.Body.bytes _ _ _ _ _ _ _ _ _ c.self.invariant.0 (rw (← c.self.view_is) at c.in_ok-place.ensures.picked) c.take-message.ensures.taken (rw (← c.self.view_is) at c.in_ok-place.ensures.length) (sym c.in_ok-place.ensures.fits) (omega arith) in
+    let grown : c.append.new.events.items ≡ c.self.inside.log.items ++ Received c.args.seat c.args.moment c.in_ok-place.field-0.place c.args.selection c.args.size c.args.noerror ∷ [] = rw (← c.reserve.ensures.items) c.append.ensures in (
       taken_sound g.B.Body.bytes _ _ _ _ _ _ _ _ _ _ c.self.invariant.0 taken grown c.take-message.ensures.rest,
       same_figures _ _ _ (omega arith) (omega arith) (omega arith) (omega arith) (omega arith) (omega arith) (omega arith) (omega arith) (taken_figures _ _ _ _ _ _ _ _ _ c.self.invariant.0.lawful c.self.invariant.1 taken grown),
     )
 
 pub returns-clause-accepted : goal.returns-clause-accepted
 returns-clause-accepted g c =
-    let taken = taken_is g.B.Body.bytes _ _ _ _ _ _ _ _ _ c.self.invariant.0 c.in-Some.ensures c.take-message.ensures.taken c.length_of-length.ensures c.if-not-is_handed_out.ensures (omega arith) in
+    let taken = taken_is g.B.Body.bytes _ _ _ _ _ _ _ _ _ c.self.invariant.0 (rw (← c.self.view_is) at c.in_ok-place.ensures.picked) c.take-message.ensures.taken (rw (← c.self.view_is) at c.in_ok-place.ensures.length) (sym c.in_ok-place.ensures.fits) (omega arith) in
     let fits : SFits w64 c.take-message.result.mtype = search rules in
     let number = to_z-of_z w64 _ fits in
     rw (← c.self.view_is, number) (taken_answer _ _ _ _ _ taken)

@@ -7,7 +7,7 @@ pub invariant_of-self : goal.invariant_of-self
 invariant_of-self c =
     let left = filter-RetainsPairs _ (λ p. not (p.1 == c.args.id)) _
     (λ k v b w g call. search rules) _ _ c.retain.ensures.filtered in
-    keys_left _ _ c.args.id c.self.invariant left c.retain.ensures.unique
+    keys_left _ _ _ c.self.invariant left c.retain.ensures.unique
 
 pub returns-clause-keys : goal.returns-clause-keys
 returns-clause-keys c = invariant_of-self c

@@ -1,5 +1,0 @@
-use Rattle.mq_arena.proofs.tests.take_answers_none_where_nothing_fits.Given as goal
-
--- the ledger that the test opens
-abbrev pub ghosts-fills_up : goal.ghosts-fills_up
-ghosts-fills_up g a = record { name = a.ledger.name; parts = a.ledger.parts }

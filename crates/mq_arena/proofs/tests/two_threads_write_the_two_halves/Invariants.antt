@@ -1,5 +1,0 @@
-use Rattle.mq_arena.proofs.tests.two_threads_write_the_two_halves.Given as goal
-
--- the ledger that the test opens
-abbrev pub ghosts-halves : goal.ghosts-halves
-ghosts-halves g a = record { name = a.ledger.name; parts = a.ledger.parts }

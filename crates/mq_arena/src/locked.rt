@@ -1,0 +1,104 @@
+//! The arena under its lock.
+ghost use Rattle.std.specs.Prelude.{ℕ, ◌≡◌, ◌*◌, ◌^◌, ◌≤◌, ◌-◌, ◌++◌, length, replicate, IfSome};
+ghost use Rattle.std.specs.List.{concat};
+ghost use Rattle.mq_arena.specs.Bytes.{pages_with};
+
+use crate::block::Block;
+use crate::homecoming::Homecoming;
+use crate::limits::MAX_ORDER;
+use crate::page::PAGE_LEN;
+use crate::state::ArenaState;
+use std::marker::{Brand, Model};
+use std::sync::ledger::Ledger;
+use std::sync::{Mutex, Wait};
+
+/// A ledger that names the height of its arena.
+pub trait OfHeight: Ledger {
+    ghost height: { ℕ };
+}
+
+impl OfHeight for Brand {
+    ghost height = { 0 };
+}
+
+/// What the lock protects.
+#[derive(Drop)]
+struct Held<L: OfHeight> {
+    state: ArenaState<L>,
+}
+
+impl<L: OfHeight> Model for Held<L> {
+    ghost use Rattle.std.specs.Prelude.{◌≡◌};
+    ghost use Rattle.mq_tree.specs.LentSet.{Lending};
+
+    ghost Value = { Lending };
+
+    ghost view = { λ held. held.state };
+
+    ghost invariant = { λ held. held.state.height ≡ L.height };
+}
+
+/// An arena for several threads. Its lock is held while a block leaves or comes home, and not while
+/// pages are written: those of a block are its owner's.
+#[derive(Drop)]
+pub struct Arena<L: OfHeight> {
+    held: Mutex<Held<L>>,
+}
+
+impl<L: OfHeight> Arena<L> {
+    pub fn new(state: ArenaState<L>) -> Arena<L>
+        requires { state.height ≡ L.height }
+    {
+        Arena {
+            held: Mutex::new(Held { state }),
+        }
+    }
+
+    /// Takes a block of that order, with all bytes zero, or `None` where none fitted. It takes no
+    /// memory.
+    #[tactic(auto, using(crate::proofs::Overwriting::no_bytes))]
+    pub fn take<R: Wait>(&self, rt: &R, order: u8) -> Option<Block<L>>
+        requires { order ≤ MAX_ORDER }
+        ensures order { IfSome result (λ b. b.order ≡ order) }
+        ensures zero { IfSome result (λ b. b.pages ≡ replicate (2 ^ order) (replicate PAGE_LEN 0)) }
+    {
+        self.take_filled(rt, order, &[])
+    }
+
+    /// Takes a block as `take` does, with these bytes in its first ones and zeros behind them.
+    #[tactic(auto, using(crate::proofs::Overwriting::concat_bytes))]
+    pub fn take_filled<R: Wait>(&self, rt: &R, order: u8, bytes: &[u8]) -> Option<Block<L>>
+        requires order { order ≤ MAX_ORDER }
+        requires fits { length bytes.now ≤ PAGE_LEN * 2 ^ order }
+        ensures order { IfSome result (λ b. b.order ≡ order) }
+        ensures pages { IfSome result (λ b. b.pages ≡ pages_with (2 ^ order) bytes.now) }
+        ensures bytes { IfSome result (λ b. concat b.pages
+            ≡ bytes.now ++ replicate (PAGE_LEN * 2 ^ order - length bytes.now) 0) }
+    {
+        let mut block = self.lent(rt, order)?;
+        block.overwrite(bytes);
+        Some(block)
+    }
+
+    /// Takes a block with the bytes that its pages had.
+    fn lent<R: Wait>(&self, rt: &R, order: u8) -> Option<Block<L>>
+        requires { order ≤ MAX_ORDER }
+        ensures { IfSome result (λ b. b.order ≡ order) }
+    {
+        self.held.lock(rt).state.take_block(order)
+    }
+
+    /// Takes a block back, home or as a stray.
+    pub fn put<R: Wait>(&self, rt: &R, block: Block<L>) -> Homecoming {
+        self.held.lock(rt).state.put(block)
+    }
+
+    /// The arena without its lock. No thread has it any more, so nothing is waited for.
+    pub fn into_state(self) -> ArenaState<L>
+        ensures { result.height ≡ L.height }
+    {
+        let Arena { held } = self;
+        let Held { state } = held.into_inner();
+        state
+    }
+}

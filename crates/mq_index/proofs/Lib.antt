@@ -1,0 +1,4 @@
+pub mod Edits
+pub mod Heaps
+pub mod Leasts
+pub mod Nodes

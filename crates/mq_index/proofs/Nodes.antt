@@ -1,0 +1,117 @@
+-- A queue in nodes that are all filled: its messages, by the nodes' index.
+use Rattle.std.proofs.Common.{Bool, IsSome, List, None, Option, Some, [], ap, cond, drop, false, find, length, map, nat_lt, not, position, refl, remove, slice_get, suc, sym, take, true, zero, ℕ, ◌++◌, ◌+◌, ◌==◌, ◌∙◌, ◌∷◌, ◌≡◌}
+use Rattle.std.specs.List.{prefix_len}
+use Rattle.std.specs.Option.{option_map, option_map_or}
+use Rattle.std.proofs.lemmas.List.{length-map, map-append}
+use Rattle.std.proofs.lemmas.Option.{slice_get-map}
+use Rattle.mq_select.specs.Waiting.{message_at}
+use Rattle.mq_index.specs.Queue.{filled}
+
+-- each node is filled
+abbrev pub AllFilled : {X : Type 0} → List (Option X) → Type 0
+AllFilled nodes = nodes ≡ map Some (filled nodes)
+
+filled_some : {X : Type 0} (xs : List X) → filled (map Some xs) ≡ xs
+filled_some [] = refl
+filled_some (x ∷ xs) = ap (λ ys. x ∷ ys) (filled_some xs)
+
+-- what is known of nodes that are these messages
+pub filled_is : {X : Type 0} (nodes : List (Option X)) (xs : List X) → nodes ≡ map Some xs → filled nodes ≡ xs
+filled_is nodes xs e = ap filled e ∙ filled_some xs
+
+pub all_filled : {X : Type 0} (nodes : List (Option X)) (xs : List X) → nodes ≡ map Some xs → AllFilled nodes
+all_filled nodes xs e = e ∙ ap (map Some) (sym (filled_is nodes xs e))
+
+-- one more filled node at the end
+pub pushed : {X : Type 0} (nodes new : List (Option X)) (x : X) → AllFilled nodes → new ≡ nodes ++ Some x ∷ [] → new ≡ map Some (filled nodes ++ x ∷ [])
+pushed nodes new x full e = e ∙ ap (λ ns. ns ++ Some x ∷ []) full ∙ sym (map-append Some (filled nodes) (x ∷ []))
+
+remove_some : {X : Type 0} (xs : List X) (i : ℕ) → remove (map Some xs) i ≡ map Some (remove xs i)
+remove_some [] zero = refl
+remove_some [] (suc i) = refl
+remove_some (x ∷ xs) zero = refl
+remove_some (x ∷ xs) (suc i) = ap (λ ys. Some x ∷ ys) (remove_some xs i)
+
+-- one node less
+pub removed : {X : Type 0} (nodes new : List (Option X)) (i : ℕ) → AllFilled nodes → new ≡ remove nodes i → new ≡ map Some (remove (filled nodes) i)
+removed nodes new i full e = e ∙ ap (λ ns. remove ns i) full ∙ remove_some (filled nodes) i
+
+prefix_some : {X : Type 0} (p : Option X → Bool) (xs : List X) → prefix_len p (map Some xs) ≡ prefix_len (λ x. p (Some x)) xs
+prefix_some p [] = refl
+prefix_some p (x ∷ xs) = ap (λ n. cond (p (Some x)) (1 + n) 0) (prefix_some p xs)
+
+-- the node of a place stands where its message does
+pub index_is : {X : Type 0} (nodes : List (Option (ℕ × X))) (place : ℕ) → AllFilled nodes → position (λ n. option_map_or (λ m. m.0 == place) n false) nodes ≡ position (λ m. m.0 == place) (filled nodes)
+index_is {X} nodes place full =
+    let p : Option (ℕ × X) → Bool = λ n. option_map_or (λ m. m.0 == place) n false in
+    ap (position p) full
+    ∙ ap (λ n. cond (nat_lt n (length (map Some (filled nodes)))) (Some n) None) (prefix_some (λ n. not (p n)) (filled nodes))
+    ∙ ap (λ n. cond (nat_lt (prefix_len (λ (m : ℕ × X). not (m.0 == place)) (filled nodes)) n) (Some (prefix_len (λ (m : ℕ × X). not (m.0 == place)) (filled nodes))) None) (length-map (filled nodes) Some)
+
+-- what lies in a node
+pub node_is : {X : Type 0} (nodes : List (Option X)) (i : ℕ) (x : X) → AllFilled nodes → slice_get nodes i ≡ Some (Some x) → slice_get (filled nodes) i ≡ Some x
+node_is {X} nodes i x full at = by (slice_get (filled nodes) i) (sym at ∙ ap (λ ns. slice_get ns i) full ∙ slice_get-map Some (filled nodes) i)
+  where
+    by : (o : Option X) → Some (Some x) ≡ option_map Some o → o ≡ Some x
+    by None e = cc
+    by (Some y) e = cc
+
+pub node_not_empty : {X : Type 0} (nodes : List (Option X)) (i : ℕ) → AllFilled nodes → slice_get nodes i ≡ Some None → ⊥
+node_not_empty {X} nodes i full at = by (slice_get (filled nodes) i) (sym at ∙ ap (λ ns. slice_get ns i) full ∙ slice_get-map Some (filled nodes) i)
+  where
+    none : Option (Option X)
+    none = Some None
+
+    by : (o : Option X) → none ≡ option_map Some o → ⊥
+    by None e = cc
+    by (Some y) e = cc
+
+-- a list cut at an index, without the node there
+pub cut_out : {X : Type 0} (xs : List X) (i : ℕ) → take i xs ++ drop 1 (drop i xs) ≡ remove xs i
+cut_out xs i = ap (λ ys. take i xs ++ ys) (dropped xs i)
+  where
+    dropped : {X : Type 0} (xs : List X) (i : ℕ) → drop 1 (drop i xs) ≡ drop (suc i) xs
+    dropped [] zero = refl
+    dropped [] (suc i) = refl
+    dropped (x ∷ xs) zero = refl
+    dropped (x ∷ xs) (suc i) = dropped xs i
+
+find_some : {X : Type 0} (p : Option X → Bool) (xs : List X) → find p (map Some xs) ≡ option_map Some (find (λ x. p (Some x)) xs)
+find_some p [] = refl
+find_some {X} p (x ∷ xs) = by (p (Some x)) (find_some p xs)
+  where
+    by : (b : Bool) → find p (map Some xs) ≡ option_map Some (find (λ x. p (Some x)) xs) → cond b (Some (Some x)) (find p (map Some xs)) ≡ option_map Some (cond b (Some x) (find (λ x. p (Some x)) xs))
+    by true h = refl
+    by false h = h
+
+-- the node of a place has its message
+pub found_in : {X : Type 0} (nodes : List (Option (ℕ × X))) (place : ℕ) (m : ℕ × X) → AllFilled nodes → find (λ n. option_map_or (λ m. m.0 == place) n false) nodes ≡ Some (Some m) → message_at place (filled nodes) ≡ Some m.1
+found_in {X} nodes place m full h =
+    let p : Option (ℕ × X) → Bool = λ n. option_map_or (λ m. m.0 == place) n false in
+    by (find (λ m. m.0 == place) (filled nodes)) (sym h ∙ ap (find p) full ∙ find_some p (filled nodes))
+  where
+    by : (o : Option (ℕ × X)) → Some (Some m) ≡ option_map Some o → option_map (λ x. x.1) o ≡ Some m.1
+    by None e = cc
+    by (Some y) e = let same : y ≡ m = cc in ap (λ (x : ℕ × X). Some x.1) same
+
+-- and one of a place at which a message waits is there, and filled
+pub found_full : {X : Type 0} (nodes : List (Option (ℕ × X))) (place : ℕ) → AllFilled nodes → find (λ n. option_map_or (λ m. m.0 == place) n false) nodes ≡ Some None → ⊥
+found_full {X} nodes place full h =
+    let p : Option (ℕ × X) → Bool = λ n. option_map_or (λ m. m.0 == place) n false in
+    by (find (λ m. m.0 == place) (filled nodes)) (sym h ∙ ap (find p) full ∙ find_some p (filled nodes))
+  where
+    none : Option (Option (ℕ × X))
+    none = Some None
+
+    by : (o : Option (ℕ × X)) → none ≡ option_map Some o → ⊥
+    by None e = cc
+    by (Some y) e = cc
+
+pub found_there : {X : Type 0} (nodes : List (Option (ℕ × X))) (place : ℕ) → AllFilled nodes → IsSome (message_at place (filled nodes)) → find (λ n. option_map_or (λ m. m.0 == place) n false) nodes ≡ None → ⊥
+found_there {X} nodes place full waits h =
+    let p : Option (ℕ × X) → Bool = λ n. option_map_or (λ m. m.0 == place) n false in
+    by (find (λ m. m.0 == place) (filled nodes)) waits (sym h ∙ ap (find p) full ∙ find_some p (filled nodes))
+  where
+    by : (o : Option (ℕ × X)) → IsSome (option_map (λ x. x.1) o) → None ≡ option_map Some o → ⊥
+    by None w e = let no' : false ≡ true = w in cc
+    by (Some y) w e = cc

@@ -1,0 +1,171 @@
+//! A binary heap by place that is the order of the entries of an index map: below entry `i` stand
+//! entries `2i + 1` and `2i + 2`, and no place is above those below it. So the least place is at
+//! hand, and each type's by its hash.
+
+ghost use Rattle.std.specs.Prelude.{◌≡◌, ◌<◌, ◌≤◌, ◌+◌, ◌*◌, ℕ, ℤ, IfNone, IfSome};
+ghost use Rattle.std.specs.Prelude.{not, true};
+ghost use Rattle.std.specs.Ordering.{int_eq};
+ghost use Rattle.indexmap.specs.IndexMap.{get, index_map_len, spare};
+ghost use Rattle.mq_index.specs.Fronts.{IsLeastAt};
+ghost use Rattle.mq_index.specs.Heap.{place_at, type_at, IsBelow, IsHeap, IsLeastEntry};
+ghost use Rattle.mq_index.specs.Heap.{IsHeapBut, IsHeapDownTo, IsHeapUpTo};
+
+use indexmap::IndexMap;
+
+/// The place of the first message of each type.
+pub(crate) type Heap = IndexMap<i64, u64>;
+
+/// The place in the entry at an index.
+fn place_of_entry(heap: &Heap, i: usize) -> u64
+    requires { i < index_map_len heap.now }
+    ensures { result ≡ place_at heap.now.entries i }
+{
+    *heap.get_index(i).unwrap().1
+}
+
+/// Whether the entry at an index is of this type.
+fn is_type_at(heap: &Heap, i: usize, mtype: i64) -> bool
+    requires { i < index_map_len heap.now }
+    ensures { result ≡ int_eq (type_at heap.now.entries i) mtype }
+{
+    *heap.get_index(i).unwrap().0 == mtype
+}
+
+/// The entry above this one, where its place is greater.
+pub(crate) fn greater_above(heap: &Heap, i: usize) -> Option<usize>
+    requires { i < index_map_len heap.now }
+    ensures none { IfNone result ((j : ℕ) → IsBelow j i →
+        place_at heap.now.entries j ≤ place_at heap.now.entries i) }
+    ensures some { IfSome result (λ j. IsBelow j i
+        × (place_at heap.now.entries i < place_at heap.now.entries j)) }
+{
+    if i == 0 {
+        return None;
+    }
+    let above = (i - 1) / 2;
+    if place_of_entry(heap, i) < place_of_entry(heap, above) {
+        Some(above)
+    } else {
+        None
+    }
+}
+
+/// Of the two entries below this one, the one with the lesser place.
+fn least_under(heap: &Heap, i: usize) -> Option<usize>
+    requires { i < index_map_len heap.now }
+    ensures none { IfNone result (index_map_len heap.now ≤ 2 * i + 1) }
+    ensures some { IfSome result (λ c. IsBelow i c × (c < index_map_len heap.now)
+        × ((d : ℕ) → IsBelow i d → d < index_map_len heap.now →
+        place_at heap.now.entries c ≤ place_at heap.now.entries d)) }
+{
+    let len = heap.len();
+    let left = 2 * i + 1;
+    if len <= left {
+        return None;
+    }
+    let right = left + 1;
+    if right < len && place_of_entry(heap, right) < place_of_entry(heap, left) {
+        Some(right)
+    } else {
+        Some(left)
+    }
+}
+
+/// The entry below this one with the lesser place, where that is less than its own.
+fn lesser_under(heap: &Heap, i: usize) -> Option<usize>
+    requires { i < index_map_len heap.now }
+    ensures none { IfNone result ((c : ℕ) → IsBelow i c → c < index_map_len heap.now →
+        place_at heap.now.entries i ≤ place_at heap.now.entries c) }
+    ensures some { IfSome result (λ c. IsBelow i c × (c < index_map_len heap.now)
+        × (place_at heap.now.entries c < place_at heap.now.entries i)
+        × ((d : ℕ) → IsBelow i d → d < index_map_len heap.now →
+        place_at heap.now.entries c ≤ place_at heap.now.entries d)) }
+{
+    let least = least_under(heap, i)?;
+    if place_of_entry(heap, least) < place_of_entry(heap, i) {
+        Some(least)
+    } else {
+        None
+    }
+}
+
+/// The entry with the least place of those of another type.
+fn first_beside(heap: &Heap, other: i64) -> Option<usize>
+    requires { IsHeap heap.now.entries }
+    ensures { IsLeastEntry (λ t. not (int_eq t other)) heap.now.entries result }
+{
+    if heap.len() == 0 {
+        return None;
+    }
+    if is_type_at(heap, 0, other) {
+        least_under(heap, 0)
+    } else {
+        Some(0)
+    }
+}
+
+/// The least place of those of another type.
+pub(crate) fn least_beside(heap: &Heap, other: i64) -> Option<u64>
+    requires { IsHeap heap.now.entries }
+    ensures { IsLeastAt (λ t. not (int_eq t other)) (get int_eq heap.now) result }
+{
+    // The length is what says that no two entries are of one type.
+    let _len = heap.len();
+    let first = first_beside(heap, other)?;
+    Some(place_of_entry(heap, first))
+}
+
+/// The least place.
+pub(crate) fn least(heap: &Heap) -> Option<u64>
+    requires { IsHeap heap.now.entries }
+    ensures { IsLeastAt (λ _. true) (get int_eq heap.now) result }
+{
+    if heap.len() == 0 {
+        return None;
+    }
+    Some(place_of_entry(heap, 0))
+}
+
+/// Moves an entry up until none above it has a greater place.
+pub(crate) fn rise(heap: &mut Heap, i: usize)
+    requires inside { i < index_map_len heap.old }
+    requires heap { IsHeapUpTo i heap.old.entries }
+    ensures heap { IsHeap heap.new.entries }
+    ensures at { (t : ℤ) → get int_eq heap.new t ≡ get int_eq heap.old t }
+    ensures room { spare heap.old ≤ spare heap.new }
+{
+    let mut at = i;
+    while let Some(above) = greater_above(heap, at) {
+        heap.swap_indices(at, above);
+        at = above;
+    }
+}
+
+/// Moves an entry down until none below it has a lesser place.
+pub(crate) fn sink(heap: &mut Heap, i: usize)
+    requires inside { i < index_map_len heap.old }
+    requires heap { IsHeapDownTo i heap.old.entries }
+    ensures heap { IsHeap heap.new.entries }
+    ensures at { (t : ℤ) → get int_eq heap.new t ≡ get int_eq heap.old t }
+    ensures room { spare heap.old ≤ spare heap.new }
+{
+    let mut at = i;
+    while let Some(below) = lesser_under(heap, at) {
+        heap.swap_indices(at, below);
+        at = below;
+    }
+}
+
+/// Moves an entry that was put in another's stead to where it belongs.
+pub(crate) fn restore(heap: &mut Heap, i: usize)
+    requires inside { i < index_map_len heap.old }
+    requires heap { IsHeapBut i heap.old.entries }
+    ensures heap { IsHeap heap.new.entries }
+    ensures at { (t : ℤ) → get int_eq heap.new t ≡ get int_eq heap.old t }
+    ensures room { spare heap.old ≤ spare heap.new }
+{
+    match greater_above(heap, i) {
+        Some(_) => rise(heap, i),
+        None => sink(heap, i),
+    }
+}

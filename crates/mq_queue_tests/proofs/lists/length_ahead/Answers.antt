@@ -1,0 +1,7 @@
+use Rattle.std.proofs.Common.{◌∙◌, sym}
+use Rattle.mq_select.proofs.Places.{picked_waits}
+use Rattle.mq_queue_tests.proofs.lists.length_ahead.Goals as goal
+
+pub length_of-requires : goal.length_of-requires
+length_of-requires g c =
+    picked_waits _ (g.W.Waiting.messages c.args.list.now) c.args.selection _ (sym c.find.ensures ∙ c.in_ok-place.was)

@@ -1,0 +1,220 @@
+ghost use Rattle.std.specs.Prelude.{◌+◌, ◌<◌, All, OnOk};
+
+use mq_message::{Body, Message, VecBody};
+use mq_select::{ListWaiting, Selection, Waiting, discard};
+use std::alloc::{AllocError, Global};
+use std::test::Fail;
+
+/// Puts a message at the end, with its place as its tag too.
+fn put<W: Waiting<VecBody>>(
+    alloc: Global,
+    list: &mut W,
+    place: u64,
+    mtype: i64,
+    text: &[u8],
+) -> Result<(), AllocError>
+    requires above { All (λ m. m.0 < place) (W.messages list.old) }
+    ensures below { OnOk result (All (λ m. m.0 < place + 1) (W.messages list.new)) }
+{
+    let body = VecBody::from_slice(alloc, text)?;
+    list.prepare(mtype)?;
+    let message = Message {
+        mtype,
+        sender: 1,
+        tag: place,
+        body,
+    };
+    list.put_prepared(place, message);
+    Ok(())
+}
+
+/// A list in which messages of these types wait, at the places from 0 on.
+fn filled<W: Waiting<VecBody>>(alloc: Global, types: &[i64]) -> Result<W, AllocError> {
+    let mut list = W::fresh(alloc);
+    for i in 0..types.len() {
+        if let Err(refused) = put(alloc, &mut list, i as u64, types[i], b"text") {
+            discard(list);
+            return Err(refused);
+        }
+    }
+    Ok(list)
+}
+
+fn receive<W: Waiting<VecBody>>(list: &mut W, selection: Selection) -> Option<Message<VecBody>> {
+    let place = list.find(selection)?;
+    Some(list.take(place))
+}
+
+/// Which messages the selections hand out, one after another, by their tags.
+fn handed_out<W: Waiting<VecBody>>(
+    alloc: Global,
+    list: &mut W,
+    selections: &[Selection],
+) -> Result<Vec<Option<u64>>, AllocError> {
+    let mut tags = Vec::new(alloc);
+    for selection in selections {
+        tags.push(receive(list, *selection).map(|m| m.tag))?;
+    }
+    Ok(tags)
+}
+
+/// Which of the messages of these types the selections hand out, by their places.
+fn places_of<W: Waiting<VecBody>>(
+    alloc: Global,
+    types: &[i64],
+    selections: &[Selection],
+) -> Result<Vec<Option<u64>>, AllocError> {
+    let mut list: W = filled(alloc, types)?;
+    let places = handed_out(alloc, &mut list, selections);
+    discard(list);
+    places
+}
+
+/// The length of the message that a receive would hand out.
+fn length_ahead<W: Waiting<VecBody>>(list: &W, selection: Selection) -> Option<u64> {
+    let place = list.find(selection)?;
+    Some(list.length_of(place))
+}
+
+/// Takes out every message: the tags, from the least on.
+fn popped<W: Waiting<VecBody>>(alloc: Global, list: &mut W) -> Result<Vec<u64>, AllocError> {
+    let mut tags = Vec::new(alloc);
+    while let Some(message) = list.pop_any() {
+        tags.push(message.tag)?;
+    }
+    tags.sort_unstable();
+    Ok(tags)
+}
+
+#[test]
+fn a_selection_hands_out_the_message_that_the_manual_names(rt: HostRuntime) -> Result<(), Fail> {
+    let any = Selection::Any;
+    let exact = |mtype: i64| Selection::Exact(mtype);
+    let except = |mtype: i64| Selection::Except(mtype);
+    let up_to = |bound: u64| Selection::UpTo(bound);
+    let widest = up_to(1 << 63);
+    let cases: [(&[i64], &[Selection], &[Option<u64>]); 9] = [
+        (
+            &[],
+            &[any, up_to(u64::MAX), exact(0), except(0)],
+            &[None, None, None, None],
+        ),
+        (&[2, 1], &[any, any, any], &[Some(0), Some(1), None]),
+        (
+            &[3, 1, 2, 1],
+            &[up_to(2), up_to(2), up_to(2), up_to(2)],
+            &[Some(1), Some(3), Some(2), None],
+        ),
+        (
+            &[7, 5, 7, 4],
+            &[except(7), except(7), except(7), any],
+            &[Some(1), Some(3), None, Some(0)],
+        ),
+        // A bound below every type; the lowest type twice, with others between.
+        (
+            &[5, 6],
+            &[up_to(4), up_to(0), up_to(5)],
+            &[None, None, Some(0)],
+        ),
+        (
+            &[9, 4, 6, 4, 4],
+            &[up_to(9), up_to(9), up_to(9), up_to(9)],
+            &[Some(1), Some(3), Some(4), Some(2)],
+        ),
+        // A type that is not there, and one that alone is there.
+        (
+            &[3, 3],
+            &[except(4), except(3), exact(4)],
+            &[Some(0), None, None],
+        ),
+        (
+            &[i64::MAX, 8],
+            &[widest, widest, widest],
+            &[Some(1), Some(0), None],
+        ),
+        (
+            &[i64::MAX, -1, i64::MIN],
+            &[up_to(0), exact(i64::MIN), except(i64::MAX)],
+            &[Some(2), None, Some(1)],
+        ),
+    ];
+    for (types, selections, places) in cases {
+        let got = places_of::<ListWaiting<VecBody>>(rt.alloc(), types, selections)?;
+        assert_eq!(rt; got.as_slice(), places);
+    }
+    Ok(())
+}
+
+#[test]
+fn a_msgtyp_is_read_as_the_manual_says(rt: HostRuntime) {
+    let cases = [
+        (0, Selection::Any, Selection::Any),
+        (1, Selection::Exact(1), Selection::Except(1)),
+        (
+            i64::MAX,
+            Selection::Exact(i64::MAX),
+            Selection::Except(i64::MAX),
+        ),
+        (-1, Selection::UpTo(1), Selection::UpTo(1)),
+        (
+            -i64::MAX,
+            Selection::UpTo(9223372036854775807),
+            Selection::UpTo(9223372036854775807),
+        ),
+        (
+            i64::MIN,
+            Selection::UpTo(9223372036854775808),
+            Selection::UpTo(9223372036854775808),
+        ),
+    ];
+    for (msgtyp, plain, excepting) in cases {
+        assert_eq!(rt; Selection::read(msgtyp, false), plain, "at {msgtyp}");
+        assert_eq!(rt; Selection::read(msgtyp, true), excepting, "at {msgtyp}");
+    }
+}
+
+#[test]
+fn a_message_comes_back_whole(rt: HostRuntime) -> Result<(), Fail> {
+    let mut list = ListWaiting::<VecBody>::fresh(rt.alloc());
+    let put = put(rt.alloc(), &mut list, 3, 5, b"first");
+    let lengths = [Selection::Any, Selection::Except(5)].map(|s| length_ahead(&list, s));
+    let message = receive(&mut list, Selection::Any);
+    let more = list.find(Selection::Any);
+    discard(list);
+    put?;
+    let message = message.ok_or("nothing waits")?;
+    assert_eq!(rt; lengths, [Some(5), None]);
+    assert_eq!(rt; (message.mtype, message.sender, message.tag), (5, 1, 3));
+    assert_eq!(rt; message.body.bytes(), b"first".as_slice());
+    assert_eq!(rt; more, None);
+    Ok(())
+}
+
+#[test]
+fn no_message_is_lost_on_the_way_out(rt: HostRuntime) -> Result<(), Fail> {
+    for (types, tags) in [
+        (&[][..], &[][..]),
+        (&[4][..], &[0][..]),
+        (&[4, 1, 4][..], &[0, 1, 2][..]),
+    ] {
+        let mut list: ListWaiting<VecBody> = filled(rt.alloc(), types)?;
+        let got = popped(rt.alloc(), &mut list);
+        discard(list);
+        assert_eq!(rt; got?.as_slice(), tags);
+    }
+    Ok(())
+}
+
+#[test]
+fn a_refused_growth_leaves_the_list(rt: HostRuntime) -> Result<(), Fail> {
+    let mut list: ListWaiting<VecBody> = filled(rt.alloc(), &[4, 4, 4, 4])?;
+    // Whether there is memory for a fifth or not, the four stay, and no other is there.
+    let _ = list.prepare(4);
+    let got = handed_out(rt.alloc(), &mut list, &[Selection::Any; 5]);
+    discard(list);
+    assert_eq!(rt;
+        got?.as_slice(),
+        [Some(0), Some(1), Some(2), Some(3), None].as_slice()
+    );
+    Ok(())
+}

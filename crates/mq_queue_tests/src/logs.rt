@@ -1,0 +1,202 @@
+use crate::calls::{Answer, Queue, Step, check, close, message, receive, send, set};
+use mq_queue::{Event, Figures, Log, QueueError};
+use mq_select::{Selection, discard};
+use std::alloc::{AllocError, Global};
+use std::test::Fail;
+
+/// A sending at the first moment, a receipt and a new quota at the second, and the same quota once
+/// more at the third, each by a seat of its own.
+fn visit(alloc: Global, queue: &mut Queue, moments: [u64; 3]) -> Result<[Answer; 5], AllocError> {
+    let [sent, received, changed] = moments;
+    Ok([
+        send(queue, message(alloc, 5, 5)?, sent),
+        receive(queue, 9, Selection::Exact(6), false, received),
+        receive(queue, 9, Selection::Any, false, received),
+        set(queue, 100, received),
+        set(queue, 100, changed),
+    ])
+}
+
+/// What a visit is answered.
+const VISITED: [Answer; 5] = [
+    Answer::At(1),
+    Answer::Refused(QueueError::NoMessage),
+    Answer::Got(2, 1, 5, 5),
+    Answer::At(3),
+    Answer::At(4),
+];
+
+#[test]
+fn figures_show_the_last_moment_whatever_it_is(rt: HostRuntime) -> Result<(), Fail> {
+    let cases: [[u64; 3]; 4] = [
+        [60, 70, 80],
+        [80, 70, 60],
+        [0, 0, 0],
+        [u64::MAX, u64::MAX, 1],
+    ];
+    for moments in cases {
+        let [stime, rtime, ctime] = moments;
+        let mut queue = Queue::made(rt.alloc(), 7, 2, 50)?;
+        let visited = visit(rt.alloc(), &mut queue, moments);
+        let figures = queue.figures();
+        close(queue);
+        assert_eq!(rt; visited?, VISITED);
+        let wanted = Figures {
+            qnum: 0,
+            cbytes: 0,
+            qbytes: 100,
+            stime,
+            rtime,
+            ctime,
+            lspid: 3,
+            lrpid: 4,
+        };
+        assert_eq!(rt; figures, wanted);
+    }
+    Ok(())
+}
+
+#[test]
+fn refusals_leave_log_and_figures(rt: HostRuntime) -> Result<(), Fail> {
+    let mut queue = Queue::made(rt.alloc(), 7, 2, 50)?;
+    let before = queue.figures();
+    let steps = [
+        (Step::Send(0, 1), Answer::Refused(QueueError::TypeInvalid)),
+        (Step::Send(1, 8193), Answer::Refused(QueueError::TooLong)),
+        (
+            Step::Receive(9, Selection::Any, true),
+            Answer::Refused(QueueError::NoMessage),
+        ),
+        (Step::Set(16385), Answer::Refused(QueueError::OverLimit)),
+    ];
+    let checked = check(&rt, rt.alloc(), &mut queue, &steps);
+    let after = queue.figures();
+    let count = queue.log_len();
+    close(queue);
+    checked?;
+    assert_eq!(rt; (after, count), (before, 1));
+    assert_eq!(rt; (before.qbytes, before.ctime), (16384, 50));
+    Ok(())
+}
+
+/// The log of a queue that is removed, at the second try where there was no memory.
+fn removed(queue: Queue, moment: u64) -> Log {
+    let answer = match queue.remove(2, moment) {
+        Err(queue) => queue.remove(2, moment),
+        answer => answer,
+    };
+    match answer {
+        Ok((log, waiting)) => {
+            discard(waiting);
+            log
+        }
+        Err(queue) => close(queue),
+    }
+}
+
+#[test]
+fn the_log_of_a_removed_queue_tells_all(rt: HostRuntime) -> Result<(), Fail> {
+    let mut queue = Queue::made(rt.alloc(), 7, 2, 50)?;
+    let visited = visit(rt.alloc(), &mut queue, [60, 70, 80]);
+    let last = queue.event(4);
+    let beyond = (queue.event(5), queue.event(u64::MAX));
+    let log = removed(queue, 90);
+    assert_eq!(rt; visited?, VISITED);
+    let changed = |moment: u64| Event::Changed {
+        seat: 5,
+        moment,
+        qbytes: 100,
+    };
+    let events = [
+        Event::Made {
+            seat: 2,
+            moment: 50,
+            key: 7,
+        },
+        Event::Sent {
+            seat: 3,
+            moment: 60,
+            tag: 70,
+            mtype: 5,
+            length: 5,
+        },
+        Event::Received {
+            seat: 4,
+            moment: 70,
+            place: 1,
+            selection: Selection::Any,
+            size: 9,
+            noerror: false,
+        },
+        changed(70),
+        changed(80),
+        Event::Removed {
+            seat: 2,
+            moment: 90,
+        },
+    ];
+    assert_eq!(rt; last, Some(changed(80)));
+    assert_eq!(rt; beyond, (None, None));
+    assert_eq!(rt; log.len(), 6);
+    assert_eq!(rt; (log.get(0), log.get(6)), (Some(events[0]), None));
+    assert_eq!(rt; log.into_events().as_slice(), events.as_slice());
+    Ok(())
+}
+
+/// Sends so many empty texts of changing types, and answers the last place. No memory ends it.
+fn fill(alloc: Global, queue: &mut Queue, count: u64) -> Result<u64, Fail> {
+    let mut last = 0;
+    for i in 0..count {
+        let text = message(alloc, 1 + (i % 7) as i64, 0)?;
+        last = queue.send(text, i).map_err(|(refusal, _)| refusal)?;
+    }
+    Ok(last)
+}
+
+/// Fills the queue with 100 messages and receives them by their types, so many times. No memory
+/// ends it.
+fn fill_and_drain(alloc: Global, queue: &mut Queue, rounds: u64) -> Result<(), Fail> {
+    for moment in 0..rounds {
+        fill(alloc, queue, 100)?;
+        for _ in 0..100u64 {
+            queue.receive(0, Selection::UpTo(7), false, 4, moment)?;
+        }
+    }
+    Ok(())
+}
+
+#[test]
+fn no_more_messages_wait_than_the_quota_has_bytes(rt: HostRuntime) -> Result<(), Fail> {
+    let mut queue = Queue::made(rt.alloc(), 7, 2, 50)?;
+    let last = fill(rt.alloc(), &mut queue, 16_384);
+    let more = [
+        (Step::Send(1, 0), Answer::Refused(QueueError::Full)),
+        (
+            Step::Receive(0, Selection::Any, false),
+            Answer::Got(16_385, 1, 0, 0),
+        ),
+        (Step::Send(1, 0), Answer::At(16_386)),
+        (Step::Send(1, 0), Answer::Refused(QueueError::Full)),
+    ];
+    let checked = match last {
+        Ok(16_384) => check(&rt, rt.alloc(), &mut queue, &more),
+        _ => Ok(()),
+    };
+    close(queue);
+    assert_eq!(rt; last?, 16_384);
+    checked?;
+    Ok(())
+}
+
+#[test]
+fn a_long_log_refuses_no_call(rt: HostRuntime) -> Result<(), Fail> {
+    let mut queue = Queue::made(rt.alloc(), 7, 2, 50)?;
+    let played = fill_and_drain(rt.alloc(), &mut queue, 600);
+    let more = receive(&mut queue, 0, Selection::Any, false, 80);
+    let count = queue.log_len();
+    let log = removed(queue, 90);
+    played?;
+    assert_eq!(rt; more, Answer::Refused(QueueError::NoMessage));
+    assert_eq!(rt; (count, log.len()), (120_001, 120_002));
+    Ok(())
+}

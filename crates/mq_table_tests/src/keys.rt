@@ -1,0 +1,85 @@
+use mq_table::{Id, KeyEntry, KeyTable};
+use std::alloc::Global;
+use std::test::Fail;
+
+/// Enters a new key. Where there is no memory, the second call is as the first would have been.
+fn enter(keys: &mut KeyTable, key: i32, id: Id) {
+    for _ in 0..2 {
+        if key == 0 || keys.look(key).is_some() || keys.enter(key, id).is_ok() {
+            return;
+        }
+    }
+}
+
+/// The least and the greatest keys, and others, in no order of theirs.
+fn filled(alloc: Global) -> KeyTable {
+    let mut keys = KeyTable::new(alloc);
+    enter(&mut keys, -1, Id::of(10, 0));
+    enter(&mut keys, i32::MIN, Id::of(11, 3));
+    enter(&mut keys, 1, Id::of(12, 0));
+    enter(&mut keys, i32::MAX, Id::of(13, 0));
+    enter(&mut keys, i32::MIN + 1, Id::of(14, 0));
+    keys
+}
+
+fn has(keys: &KeyTable, i: usize, key: i32, id: Id) -> bool {
+    keys.entry(i) == Some(KeyEntry { key, id })
+}
+
+#[test]
+fn an_id_is_told_by_slot_and_seq_up_to_the_bounds(rt: HostRuntime) -> Result<(), Fail> {
+    let cases: [(u8, u32, u32); 6] = [
+        (0, 0, 0),
+        (63, 0, 63),
+        (0, 1, 64),
+        (1, 32_767, 2_097_089),
+        (0, 67_108_863, 4_294_967_232),
+        (63, 67_108_863, u32::MAX),
+    ];
+    for (slot, seq, number) in cases {
+        let id = Id::of(slot, seq);
+        assert_eq!(rt; id.number(), number);
+        assert_eq!(rt; Id::from_number(number), id);
+        assert_eq!(rt; id.slot(), slot);
+        assert_eq!(rt; id.seq(), seq);
+    }
+    Ok(())
+}
+
+#[test]
+fn each_key_has_its_own_id(rt: HostRuntime) -> Result<(), Fail> {
+    let keys = filled(rt.alloc());
+    for (key, slot) in [(-1, 10), (i32::MIN, 11), (1, 12), (i32::MAX, 13)] {
+        assert_eq!(rt; keys.look(key).map(|id| id.slot()), Some(slot));
+    }
+    for absent in [0, 2, -2, i32::MAX - 1, i32::MIN + 2] {
+        assert_eq!(rt; keys.look(absent), None);
+    }
+    Ok(())
+}
+
+#[test]
+fn what_is_left_keeps_the_order_of_making(rt: HostRuntime) -> Result<(), Fail> {
+    let mut keys = filled(rt.alloc());
+    // An id that no key has, though its slot has one.
+    keys.forget(Id::of(11, 2));
+    assert_eq!(rt; keys.len(), 5);
+    keys.forget(Id::of(11, 3));
+    assert_eq!(rt; keys.look(i32::MIN), None);
+    assert_eq!(rt; keys.len(), 4);
+    assert!(rt; has(&keys, 0, -1, Id::of(10, 0)));
+    assert!(rt; has(&keys, 1, 1, Id::of(12, 0)));
+    assert!(rt; has(&keys, 2, i32::MAX, Id::of(13, 0)));
+    assert!(rt; has(&keys, 3, i32::MIN + 1, Id::of(14, 0)));
+    assert_eq!(rt; keys.entry(4), None);
+    enter(&mut keys, i32::MIN, Id::of(11, 4));
+    assert!(rt; has(&keys, 4, i32::MIN, Id::of(11, 4)));
+    // A key that the table has not, and one that it has.
+    keys.forget_key(2);
+    assert_eq!(rt; keys.len(), 5);
+    keys.forget_key(1);
+    assert_eq!(rt; keys.look(1), None);
+    assert_eq!(rt; keys.len(), 4);
+    assert!(rt; has(&keys, 1, i32::MAX, Id::of(13, 0)));
+    Ok(())
+}

@@ -1,0 +1,10 @@
+//! Tests of ids, keys and slots.
+
+#![tactic(auto)]
+
+#[cfg(test)]
+mod keys;
+#[cfg(test)]
+mod plays;
+#[cfg(test)]
+mod slots;

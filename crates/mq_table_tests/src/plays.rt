@@ -1,0 +1,248 @@
+use crate::slots::{Place, close, make, message, remove};
+use mq_message::{Body, Message, VecBody};
+use mq_queue::QueueError;
+use mq_select::Selection;
+use mq_table::{KeyTable, MAX_SLOTS};
+use std::alloc::{AllocError, Global};
+use std::process::Abort;
+use std::test::Fail;
+
+#[derive(Clone, Copy, Debug, PartialEq, Eq)]
+enum Step {
+    /// A key.
+    Make(i32),
+    /// A type and a length.
+    Send(i64, usize),
+    /// A size.
+    Receive(u64),
+    /// A quota.
+    Set(u64),
+    Remove,
+}
+
+#[derive(Clone, Copy, Debug, PartialEq, Eq)]
+pub(crate) enum Answer {
+    /// The number of an id.
+    Id(u32),
+    /// A place in the slot list.
+    At(u64),
+    /// The entry in the slot list, the place in the queue's log, and the length that is left.
+    Got(u64, u64, u64),
+    /// How many events the removed queue's log has.
+    Events(u64),
+    Refused(QueueError),
+    /// The call was not refused as the slot had foretold.
+    Unforetold,
+    /// The call cannot be made: there is a queue, or none, or no id is left, or the key is taken.
+    Unasked,
+}
+
+pub(crate) fn sent(slot: &mut Place, message: Message<VecBody>) -> Answer {
+    if !slot.is_live() {
+        return Answer::Unasked;
+    }
+    let foretold = slot.refuses_send(message.mtype, message.body.len());
+    let answer = match slot.send(message, 30) {
+        Err((QueueError::Memory, message)) if slot.is_live() => slot.send(message, 30),
+        answer => answer,
+    };
+    match answer {
+        Ok(entry) if foretold.is_none() => Answer::At(entry),
+        Err((refusal, _)) if foretold == Some(refusal) => Answer::Refused(refusal),
+        _ => Answer::Unforetold,
+    }
+}
+
+fn received(slot: &mut Place, size: u64) -> Answer {
+    if !slot.is_live() {
+        return Answer::Unasked;
+    }
+    let foretold = slot.refuses_receive(size, Selection::Any, false);
+    let answer = match slot.receive(size, Selection::Any, false, 4, 40) {
+        Err(QueueError::Memory) if slot.is_live() => {
+            slot.receive(size, Selection::Any, false, 4, 40)
+        }
+        answer => answer,
+    };
+    match answer {
+        Ok(got) if foretold.is_none() => {
+            Answer::Got(got.entry, got.place, got.body.bytes().len() as u64)
+        }
+        Err(refusal) if foretold == Some(refusal) => Answer::Refused(refusal),
+        _ => Answer::Unforetold,
+    }
+}
+
+fn set(slot: &mut Place, qbytes: u64) -> Answer {
+    if !slot.is_live() {
+        return Answer::Unasked;
+    }
+    let answer = match slot.set(qbytes, 5, 50) {
+        Err(QueueError::Memory) if slot.is_live() => slot.set(qbytes, 5, 50),
+        answer => answer,
+    };
+    match answer {
+        Ok(entry) => Answer::At(entry),
+        Err(refusal) => Answer::Refused(refusal),
+    }
+}
+
+/// What a new slot with this number answers to these calls, where the last seq is 2.
+fn played(alloc: Global, number: u8, steps: &[Step]) -> Result<Vec<Answer>, AllocError> {
+    let mut answers = match Vec::with_capacity(alloc, steps.len()) {
+        Ok(answers) => answers,
+        Err(_) => Vec::with_capacity(alloc, steps.len())?,
+    };
+    let mut keys = KeyTable::new(alloc);
+    if number >= MAX_SLOTS {
+        return Ok(answers);
+    }
+    let mut slot = Place::new(alloc, number);
+    let played = play(alloc, &mut keys, &mut slot, steps, &mut answers);
+    close(slot);
+    played?;
+    Ok(answers)
+}
+
+fn play(
+    alloc: Global,
+    keys: &mut KeyTable,
+    slot: &mut Place,
+    steps: &[Step],
+    answers: &mut Vec<Answer>,
+) -> Result<(), AllocError> {
+    for step in steps {
+        let answer = match *step {
+            Step::Make(key) => match make(keys, slot, key, 2) {
+                Some(id) => Answer::Id(id.number()),
+                None => Answer::Unasked,
+            },
+            Step::Send(mtype, length) => sent(slot, message(alloc, mtype, length)?),
+            Step::Receive(size) => received(slot, size),
+            Step::Set(qbytes) => set(slot, qbytes),
+            Step::Remove => match remove(keys, slot) {
+                Some(log) => Answer::Events(log.len()),
+                None => Answer::Unasked,
+            },
+        };
+        answers.push(answer)?;
+    }
+    Ok(())
+}
+
+/// Checks what a new slot with this number answers to these calls, one after another.
+fn check(
+    rt: &impl Abort,
+    alloc: Global,
+    number: u8,
+    steps: &[Step],
+    answers: &[Answer],
+) -> Result<(), AllocError> {
+    assert_eq!(rt; played(alloc, number, steps)?.as_slice(), answers);
+    Ok(())
+}
+
+/// The entries go on from queue to queue, and the places of messages begin anew.
+#[test]
+fn entries_go_on_from_queue_to_queue(rt: HostRuntime) -> Result<(), Fail> {
+    check(
+        &rt,
+        rt.alloc(),
+        0,
+        &[
+            Step::Send(1, 5),
+            Step::Make(9),
+            Step::Send(1, 5),
+            Step::Send(1, 4),
+            Step::Remove,
+            Step::Receive(5),
+            Step::Make(9),
+            Step::Receive(5),
+            Step::Send(1, 3),
+            Step::Receive(2),
+            Step::Receive(3),
+            Step::Set(4),
+            Step::Remove,
+        ],
+        &[
+            Answer::Unasked,
+            Answer::Id(0),
+            Answer::At(1),
+            Answer::At(2),
+            Answer::Events(4),
+            Answer::Unasked,
+            Answer::Id(64),
+            Answer::Refused(QueueError::NoMessage),
+            Answer::At(5),
+            Answer::Refused(QueueError::TooBig),
+            Answer::Got(6, 1, 3),
+            Answer::At(7),
+            Answer::Events(5),
+        ],
+    )?;
+    Ok(())
+}
+
+/// Three queues, and no more: the last seq is 2. A queue that is there takes no other.
+#[test]
+fn a_slot_takes_as_many_queues_as_its_seqs_allow(rt: HostRuntime) -> Result<(), Fail> {
+    check(
+        &rt,
+        rt.alloc(),
+        63,
+        &[
+            Step::Make(0),
+            Step::Make(0),
+            Step::Remove,
+            Step::Make(7),
+            Step::Remove,
+            Step::Remove,
+            Step::Make(i32::MIN),
+            Step::Remove,
+            Step::Make(0),
+        ],
+        &[
+            Answer::Id(63),
+            Answer::Unasked,
+            Answer::Events(2),
+            Answer::Id(127),
+            Answer::Events(2),
+            Answer::Unasked,
+            Answer::Id(191),
+            Answer::Events(2),
+            Answer::Unasked,
+        ],
+    )?;
+    Ok(())
+}
+
+/// A removed queue's quota is not the next one's.
+#[test]
+fn a_removed_queues_quota_is_not_the_next_ones(rt: HostRuntime) -> Result<(), Fail> {
+    check(
+        &rt,
+        rt.alloc(),
+        5,
+        &[
+            Step::Make(1),
+            Step::Set(0),
+            Step::Send(1, 0),
+            Step::Set(16385),
+            Step::Remove,
+            Step::Make(1),
+            Step::Send(0, 1),
+            Step::Send(1, 0),
+        ],
+        &[
+            Answer::Id(5),
+            Answer::At(1),
+            Answer::Refused(QueueError::Full),
+            Answer::Refused(QueueError::OverLimit),
+            Answer::Events(3),
+            Answer::Id(69),
+            Answer::Refused(QueueError::TypeInvalid),
+            Answer::At(4),
+        ],
+    )?;
+    Ok(())
+}

@@ -1,0 +1,242 @@
+use crate::plays::{Answer, sent};
+use mq_message::{Message, VecBody};
+use mq_queue::{BoardRow, Event, Figures, Log};
+use mq_select::{ListWaiting, discard};
+use mq_table::{Id, IdRefusal, KeyEntry, KeyTable, MAX_SEQ, Slot, make_under, remove_under};
+use std::alloc::{AllocError, Global};
+use std::test::Fail;
+
+pub(crate) type Place = Slot<VecBody, ListWaiting<VecBody>>;
+
+/// Makes a queue in a slot that is free by this last seq.
+pub(crate) fn make(keys: &mut KeyTable, slot: &mut Place, key: i32, last_seq: u32) -> Option<Id> {
+    // Where there is no memory, the second call is as the first one would have been.
+    for _ in 0..2 {
+        if last_seq > MAX_SEQ || !slot.is_free(last_seq) || keys.look(key).is_some() {
+            return None;
+        }
+        let (events, count) = (slot.events(), keys.len());
+        match make_under(keys, slot, key, 1, 10) {
+            Ok(id) => return Some(id),
+            Err(_) if slot.is_live() || slot.events() != events || keys.len() != count => {
+                return None;
+            }
+            Err(_) => (),
+        }
+    }
+    None
+}
+
+/// Removes the queue that is in the slot, by seat 2 at the moment 20.
+pub(crate) fn remove(keys: &mut KeyTable, slot: &mut Place) -> Option<Log> {
+    for _ in 0..2 {
+        if !slot.is_live() {
+            return None;
+        }
+        let (events, count) = (slot.events(), keys.len());
+        match remove_under(keys, slot, 2, 20) {
+            Ok((log, waiting)) => {
+                discard(waiting);
+                return Some(log);
+            }
+            Err(_) if slot.events() != events || keys.len() != count => return None,
+            Err(_) => (),
+        }
+    }
+    None
+}
+
+/// What the slot says of an id that has its number.
+fn look(slot: &Place, id: Id) -> Option<Result<(), IdRefusal>> {
+    if id.slot() != slot.number() {
+        return None;
+    }
+    Some(slot.look(id))
+}
+
+fn letters(alloc: Global, length: usize) -> Result<Vec<u8>, AllocError> {
+    vec![in alloc; b'a'; length]
+}
+
+/// A message of this type and length.
+pub(crate) fn message(
+    alloc: Global,
+    mtype: i64,
+    length: usize,
+) -> Result<Message<VecBody>, AllocError> {
+    let bytes = match letters(alloc, length) {
+        Ok(bytes) => bytes,
+        Err(_) => letters(alloc, length)?,
+    };
+    Ok(Message {
+        mtype,
+        sender: 3,
+        tag: 70,
+        body: VecBody::from_vec(bytes),
+    })
+}
+
+pub(crate) fn close(slot: Place) {
+    let (_, live) = slot.into_parts();
+    if let Some(queue) = live {
+        let (_, waiting) = queue.into_parts();
+        discard(waiting);
+    }
+}
+
+#[test]
+fn an_id_is_never_given_then_live_then_removed_for_good(rt: HostRuntime) -> Result<(), Fail> {
+    let mut keys = KeyTable::new(rt.alloc());
+    let mut slot = Place::new(rt.alloc(), 63);
+    let last = Id::from_number(u32::MAX);
+    for seq in 0..4u32 {
+        let id = Id::of(63, seq);
+        let next = Id::of(63, seq + 1);
+        assert_eq!(rt; look(&slot, id), Some(Err(IdRefusal::Never)));
+        assert_eq!(rt; make(&mut keys, &mut slot, 0, MAX_SEQ), Some(id));
+        assert_eq!(rt; look(&slot, id), Some(Ok(())));
+        assert_eq!(rt; look(&slot, next), Some(Err(IdRefusal::Never)));
+        assert_eq!(rt; look(&slot, last), Some(Err(IdRefusal::Never)));
+        for earlier in 0..seq {
+            assert_eq!(rt;
+                look(&slot, Id::of(63, earlier)),
+                Some(Err(IdRefusal::Removed))
+            );
+        }
+        assert!(rt; remove(&mut keys, &mut slot).is_some());
+        assert_eq!(rt; look(&slot, id), Some(Err(IdRefusal::Removed)));
+        assert_eq!(rt; slot.made(), seq + 1);
+    }
+    close(slot);
+    Ok(())
+}
+
+#[test]
+fn removal_forgets_that_key_and_the_others_keep_their_order(rt: HostRuntime) -> Result<(), Fail> {
+    let alloc = rt.alloc();
+    let mut keys = KeyTable::new(alloc);
+    let mut first = Place::new(alloc, 0);
+    let mut second = Place::new(alloc, 1);
+    let mut third = Place::new(alloc, 2);
+    let mut private = Place::new(alloc, 3);
+    let _ = make(&mut keys, &mut second, -1, 9);
+    let _ = make(&mut keys, &mut private, 0, 9);
+    let _ = make(&mut keys, &mut first, i32::MIN, 9);
+    let _ = make(&mut keys, &mut third, 5, 9);
+    assert_eq!(rt; keys.len(), 3);
+    // A queue without a key takes none with it.
+    assert!(rt; remove(&mut keys, &mut private).is_some());
+    assert_eq!(rt; keys.len(), 3);
+    assert!(rt; remove(&mut keys, &mut second).is_some());
+    assert_eq!(rt; keys.look(-1), None);
+    assert_eq!(rt;
+        keys.entry(0),
+        Some(KeyEntry {
+            key: i32::MIN,
+            id: Id::of(0, 0)
+        })
+    );
+    assert_eq!(rt;
+        keys.entry(1),
+        Some(KeyEntry {
+            key: 5,
+            id: Id::of(2, 0)
+        })
+    );
+    // The same key goes last again, with the slot's next id.
+    assert_eq!(rt; make(&mut keys, &mut second, -1, 9), Some(Id::of(1, 1)));
+    assert_eq!(rt;
+        keys.entry(2),
+        Some(KeyEntry {
+            key: -1,
+            id: Id::of(1, 1)
+        })
+    );
+    close(first);
+    close(second);
+    close(third);
+    close(private);
+    Ok(())
+}
+
+const NOTHING: Figures = Figures {
+    qnum: 0,
+    cbytes: 0,
+    qbytes: 0,
+    stime: 0,
+    rtime: 0,
+    ctime: 0,
+    lspid: 0,
+    lrpid: 0,
+};
+
+#[test]
+fn a_slot_shows_the_queue_that_is_in_it(rt: HostRuntime) -> Result<(), Fail> {
+    let alloc = rt.alloc();
+    let five = message(alloc, 1, 5)?;
+    let mut keys = KeyTable::new(alloc);
+    let mut slot = Place::new(alloc, 8);
+    let empty = BoardRow {
+        made: 0,
+        live: false,
+        key: 0,
+        figures: NOTHING,
+    };
+    assert_eq!(rt; slot.row(), empty);
+    assert_eq!(rt; slot.key(), 0);
+    let _ = make(&mut keys, &mut slot, 9, 1);
+    assert_eq!(rt; sent(&mut slot, five), Answer::At(1));
+    let figures = Figures {
+        qnum: 1,
+        cbytes: 5,
+        qbytes: 16_384,
+        stime: 30,
+        ctime: 10,
+        lspid: 3,
+        ..NOTHING
+    };
+    assert_eq!(rt;
+        slot.row(),
+        BoardRow {
+            made: 1,
+            live: true,
+            key: 9,
+            figures
+        }
+    );
+    if slot.is_live() {
+        assert_eq!(rt; slot.figures(), figures);
+        assert_eq!(rt; slot.key(), 9);
+        assert_eq!(rt; slot.last_id(), Id::of(8, 0));
+    }
+    assert_eq!(rt; slot.offset(), 0);
+    assert!(rt; remove(&mut keys, &mut slot).is_some());
+    assert_eq!(rt; slot.row(), BoardRow { made: 1, ..empty });
+    assert_eq!(rt; slot.offset(), 3);
+    let _ = make(&mut keys, &mut slot, 7, 1);
+    assert_eq!(rt; slot.offset(), 3);
+    assert_eq!(rt; slot.events(), 4);
+    let removed = Event::Removed {
+        seat: 2,
+        moment: 20,
+    };
+    let made = Event::Made {
+        seat: 1,
+        moment: 10,
+        key: 7,
+    };
+    assert_eq!(rt; slot.event(2), Some(removed));
+    assert_eq!(rt; slot.event(3), Some(made));
+    assert_eq!(rt; slot.event(4), None);
+    assert_eq!(rt; slot.event(u64::MAX), None);
+    let (past, live) = slot.into_parts();
+    assert_eq!(rt; past.len(), 3);
+    assert_eq!(rt; past[2], removed);
+    assert!(rt; live.is_some());
+    if let Some(queue) = live {
+        let (log, waiting) = queue.into_parts();
+        discard(waiting);
+        assert_eq!(rt; log.get(0), Some(made));
+    }
+    Ok(())
+}

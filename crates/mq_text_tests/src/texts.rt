@@ -1,0 +1,264 @@
+//! Tests of what no clause says: that calls succeed, and what a text shows at last.
+ghost use Rattle.std.specs.Prelude.{◌≡◌, ◌^◌, ◌<◌, ◌≤◌, length, replicate};
+ghost use Rattle.mq_message.specs.Text.{count_of, text_part, with_part};
+
+use mq_arena::{
+    ArenaState, Block, Homecoming, LEDGER_PARTS, MAX_ORDER, PAGE_LEN, Page, Unopened, fill,
+};
+use mq_message::{Body, TEXT_LEN, Text, VecBody, order_for};
+use std::marker::Brand;
+use std::process::Abort;
+use std::sync::ledger::{Blank, Ledger};
+use std::test::Fail;
+use std::thread::Threads;
+
+fn taken<L: Ledger>(rt: &impl Abort, arena: &mut ArenaState<L>, order: u8) -> Block<L>
+    requires { order ≤ MAX_ORDER }
+    ensures { result.order ≡ order }
+{
+    match arena.take(order) {
+        Some(block) => block,
+        None => panic!(rt; "no block of order {order}"),
+    }
+}
+
+fn home<L: Ledger>(rt: &impl Abort, arena: &mut ArenaState<L>, text: Text<L>) {
+    match text.into_block() {
+        Some(block) => assert_eq!(rt; arena.put(block), Homecoming::Home),
+        None => panic!(rt; "no block"),
+    }
+    assert_eq!(rt; arena.lent_pages(), 0);
+}
+
+fn holds(rt: &impl Abort, part: &[u8], len: usize, letter: u8) {
+    assert_eq!(rt; part.len(), len);
+    assert!(rt; part.iter().all(|byte| *byte == letter));
+}
+
+fn shows<L: Ledger>(rt: &impl Abort, text: &Text<L>, bytes: &[u8]) {
+    let mut rest = bytes;
+    let mut i: usize = 0;
+    for part in text.parts() {
+        assert!(rt; part.len() <= rest.len());
+        let (now, later) = rest.split_at(part.len());
+        assert!(rt; part == now, "part {i}");
+        assert!(rt; i < text.count());
+        assert!(rt; part == text.part(i), "part {i}");
+        rest = later;
+        i = i.saturating_add(1);
+    }
+    assert!(rt; rest.is_empty());
+    assert_eq!(rt; i, text.count());
+}
+
+fn filled_at<L: Ledger, R: Abort + Threads>(rt: &R, text: &mut Text<L>, i: usize, bytes: &[u8])
+    requires bytes { length bytes.now ≡ length text.old.bytes }
+    requires within { i ≤ count_of (length text.old.bytes) }
+    ensures { text.new ≡ record { bytes = bytes.now; block = text.old.block } }
+{
+    let (front, back) = bytes.split_at(bytes.len().min(PAGE_LEN * i));
+    text.fill_halves(rt, i, front, back);
+    shows(rt, text, bytes);
+}
+
+#[tactic(auto, using(mq_message::proofs::Loans::left_length))]
+fn part_filled<L: Ledger>(text: &mut Text<L>, i: usize, letter: u8)
+    requires { i < count_of (length text.old.bytes) }
+    ensures len { length text.new.bytes ≡ length text.old.bytes }
+    ensures text { text.new ≡ with_part text.old i
+        (replicate (length (text_part text.old.bytes i)) letter) }
+{
+    text.part_mut(i).fill(letter);
+}
+
+fn two_threads<L: Ledger, R: Abort + Threads>(
+    rt: &R,
+    unopened: Unopened,
+    ledger: Blank,
+    letters: &[u8],
+)
+    requires letters { length letters.now ≡ 2050 }
+    requires name { ledger.name ≡ L.name }
+    requires parts { ledger.parts ≡ L.parts }
+    requires enough { 2 ^ unopened < ledger.parts }
+{
+    let mut arena = unopened.open::<L>(ledger);
+    let before = taken(rt, &mut arena, 2);
+    let block = taken(rt, &mut arena, 2);
+    let mut text = Text::of(block, 2050);
+    arena.put(before);
+    assert_eq!(rt; text.len(), 2050);
+    assert_eq!(rt; text.start(), Some(4));
+    shows(rt, &text, &[0; 2050]);
+    filled_at(rt, &mut text, 1, letters);
+    holds(rt, text.part(0), 1024, b'A');
+    holds(rt, text.part(1), 1024, b'B');
+    holds(rt, text.part(2), 2, b'B');
+    filled_at(rt, &mut text, 0, &[b'C'; 2050]);
+    filled_at(rt, &mut text, 3, letters);
+    part_filled(&mut text, 2, b'D');
+    holds(rt, text.part(2), 2, b'D');
+    holds(rt, text.part(1), 1024, b'B');
+    part_filled(&mut text, 0, b'D');
+    holds(rt, text.part(0), 1024, b'D');
+    holds(rt, text.part(1), 1024, b'B');
+    assert_eq!(rt; text.start(), Some(4));
+    home(rt, &mut arena, text);
+}
+
+#[test]
+fn two_threads_fill_the_two_halves(rt: HostRuntime) -> Result<(), Fail> {
+    let unopened = Unopened::new(rt.alloc(), 3)?;
+    let mut letters = vec![in rt.alloc(); b'B'; 2050]?;
+    letters.as_mut_slice()[..1024].fill(b'A');
+    two_threads::<Brand, HostRuntime>(&rt, unopened, Blank::new(LEDGER_PARTS), &letters);
+    Ok(())
+}
+
+fn pages_lent<L: Ledger, R: Abort + Threads>(rt: &R, unopened: Unopened, ledger: Blank)
+    requires name { ledger.name ≡ L.name }
+    requires parts { ledger.parts ≡ L.parts }
+    requires enough { 2 ^ unopened < ledger.parts }
+{
+    let mut arena = unopened.open::<L>(ledger);
+    let block = taken(rt, &mut arena, 1);
+    let mut text = Text::of(block, 1030);
+    assert_eq!(rt; text.len(), 1030);
+    text.write_halves(
+        rt,
+        1,
+        |pages: &mut [Page]| fill(pages, &[b'A'; 1024]),
+        |pages: &mut [Page]| fill(pages, &[b'B'; 1024]),
+    );
+    assert_eq!(rt; text.len(), 1030);
+    holds(rt, text.part(0), 1024, b'A');
+    holds(rt, text.part(1), 6, b'B');
+    home(rt, &mut arena, text);
+}
+
+#[test]
+fn two_threads_write_the_pages_of_the_two_halves(rt: HostRuntime) -> Result<(), Fail> {
+    let unopened = Unopened::new(rt.alloc(), 1)?;
+    pages_lent::<Brand, HostRuntime>(&rt, unopened, Blank::new(LEDGER_PARTS));
+    Ok(())
+}
+
+fn drafted<L: Ledger>(
+    rt: &impl Abort,
+    arena: &mut ArenaState<L>,
+    len: usize,
+    order: u8,
+    count: usize,
+)
+    requires some { 0 < len }
+    requires most { len ≤ TEXT_LEN }
+{
+    assert_eq!(rt; order_for(len), order);
+    let block = taken(rt, arena, order_for(len));
+    let mut text = Text::of(block, len);
+    assert_eq!(rt; text.count(), count);
+    for part in text.parts() {
+        assert!(rt; part.iter().all(|byte| *byte == 0));
+    }
+    assert_eq!(rt; text.len(), len as u64);
+    let letters = [b'E'; TEXT_LEN];
+    text.fill(&letters[..len]);
+    shows(rt, &text, &letters[..len]);
+    home(rt, arena, text);
+
+    let Some(text) = Text::of_bytes(arena, &letters[..len]) else {
+        panic!(rt; "no block for {len} bytes")
+    };
+    assert_eq!(rt; text.order(), Some(order));
+    shows(rt, &text, &letters[..len]);
+    home(rt, arena, text);
+}
+
+fn each_size<L: Ledger>(rt: &impl Abort, unopened: Unopened, ledger: Blank)
+    requires name { ledger.name ≡ L.name }
+    requires parts { ledger.parts ≡ L.parts }
+    requires enough { 2 ^ unopened < ledger.parts }
+{
+    let mut arena = unopened.open::<L>(ledger);
+    drafted(rt, &mut arena, 1, 0, 1);
+    drafted(rt, &mut arena, 1023, 0, 1);
+    drafted(rt, &mut arena, 1024, 0, 1);
+    drafted(rt, &mut arena, 1025, 1, 2);
+    drafted(rt, &mut arena, 2049, 2, 3);
+    drafted(rt, &mut arena, 8191, 3, 8);
+    drafted(rt, &mut arena, 8192, 3, 8);
+}
+
+#[test]
+fn a_drafted_text_is_zero_and_can_be_filled(rt: HostRuntime) -> Result<(), Fail> {
+    let unopened = Unopened::new(rt.alloc(), 3)?;
+    each_size::<Brand>(&rt, unopened, Blank::new(LEDGER_PARTS));
+    Ok(())
+}
+
+fn cut_to<B: Body>(rt: &impl Abort, body: &mut B, n: u64) {
+    let len = body.len();
+    body.cut(n);
+    assert_eq!(rt; body.len(), len.min(n));
+}
+
+fn cut_and_spent<L: Ledger>(rt: &impl Abort, unopened: Unopened, ledger: Blank)
+    requires name { ledger.name ≡ L.name }
+    requires parts { ledger.parts ≡ L.parts }
+    requires enough { 2 ^ unopened < ledger.parts }
+{
+    let mut arena = unopened.open::<L>(ledger);
+    let block = taken(rt, &mut arena, 2);
+    let mut text = Text::of(block, 2050);
+    cut_to(rt, &mut text, 3000);
+    assert_eq!(rt; text.count(), 3);
+    cut_to(rt, &mut text, 2048);
+    assert_eq!(rt; text.count(), 2);
+    cut_to(rt, &mut text, 0);
+    shows(rt, &text, &[]);
+    assert_eq!(rt; text.start(), Some(0));
+    assert_eq!(rt; arena.lent_pages(), 4);
+    home(rt, &mut arena, text);
+}
+
+#[test]
+fn a_cut_text_keeps_its_block(rt: HostRuntime) -> Result<(), Fail> {
+    let unopened = Unopened::new(rt.alloc(), 2)?;
+    cut_and_spent::<Brand>(&rt, unopened, Blank::new(LEDGER_PARTS));
+    Ok(())
+}
+
+fn has_nothing<L: Ledger, R: Abort + Threads>(rt: &R, unopened: Unopened, ledger: Blank)
+    requires name { ledger.name ≡ L.name }
+    requires parts { ledger.parts ≡ L.parts }
+    requires enough { 2 ^ unopened < ledger.parts }
+{
+    let mut arena = unopened.open::<L>(ledger);
+    let mut text = Text::<L>::empty();
+    filled_at(rt, &mut text, 0, &[]);
+    text.fill(&[]);
+    cut_to(rt, &mut text, 5);
+    assert_eq!(rt; text.count(), 0);
+    assert_eq!(rt; text.start(), None);
+    if let Some(block) = text.into_block() {
+        arena.put(block);
+        panic!(rt; "a block");
+    }
+}
+
+#[test]
+fn the_empty_text_has_no_block_and_no_part(rt: HostRuntime) -> Result<(), Fail> {
+    let unopened = Unopened::new(rt.alloc(), 0)?;
+    has_nothing::<Brand, HostRuntime>(&rt, unopened, Blank::new(LEDGER_PARTS));
+    Ok(())
+}
+
+#[test]
+fn a_vector_is_a_body(rt: HostRuntime) -> Result<(), Fail> {
+    let mut body = VecBody::from_slice(rt.alloc(), b"hello")?;
+    cut_to(&rt, &mut body, 4);
+    assert_eq!(rt; body.bytes(), b"hell".as_slice());
+    let body = VecBody::from_vec(vec![in rt.alloc(); b'x'; 3]?);
+    assert_eq!(rt; body.bytes(), b"xxx".as_slice());
+    Ok(())
+}

@@ -1,0 +1,121 @@
+-- Nodes of which one is written: what is lent, and which nodes keep to the rule.
+use Rattle.std.proofs.Common.{◌≡◌, ◌≢◌, ℕ, ◌+◌, ◌*◌, ◌/◌, ◌^◌, ◌<◌, zero, suc, refl, sym, ap, ◌∙◌, arith, inl, inr, cond, List, [], ◌∷◌, ◌++◌, length, set, eqb, subst}
+use Rattle.std.proofs.Math.Nat.{div-le_self}
+use Rattle.std.proofs.lemmas.Bool.{cases_eq, ne_eqb}
+use Rattle.std.proofs.lemmas.List.{length-set, get_or-set_same, get_or-set_other}
+use Rattle.mq_tree.specs.Blocks.{block, moved_up}
+use Rattle.mq_tree.specs.Nodes.{node_at, parent, IsRight}
+use Rattle.mq_tree.specs.Trees.{blocks_under, Place, IsTree, IsTreeBut, IsClear}
+use Rattle.mq_tree.proofs.Heap.{up_last, halves_apart, over_differs, place_pos, place_below, place_height}
+use Rattle.mq_tree.proofs.Trees.{parent_free, free_halves}
+
+-- ---- what is lent tells from the lent nodes alone, of those under a node
+pub blocks_same : (k i : ℕ) (old new : List ℕ) → ((j n : ℕ) → j / 2 ^ n ≡ i → eqb (node_at new j) 0 ≡ eqb (node_at old j) 0)
+    → blocks_under k i new ≡ blocks_under k i old
+unfolding blocks_under
+blocks_same zero i old new same = ap (λ t. cond t (block 0 0 ∷ []) []) (same i 0 (omega arith))
+blocks_same (suc half) i old new same =
+    let left_is : 2 * i / 2 ≡ i = omega arith in
+    let right_is : (2 * i + 1) / 2 ≡ i = omega arith in
+    ap (λ t. cond t (block 0 (suc half) ∷ []) (blocks_under half (2 * i) new ++ moved_up (2 ^ half) (blocks_under half (2 * i + 1) new))) (same i 0 (omega arith))
+    ∙ ap (λ l. cond (eqb (node_at old i) 0) (block 0 (suc half) ∷ []) (l ++ moved_up (2 ^ half) (blocks_under half (2 * i + 1) new)))
+    (blocks_same half (2 * i) old new (λ j n e. same j (suc n) (up_last n j ∙ ap (λ x. x / 2) e ∙ left_is)))
+    ∙ ap (λ r. cond (eqb (node_at old i) 0) (block 0 (suc half) ∷ []) (blocks_under half (2 * i) old ++ moved_up (2 ^ half) r))
+    (blocks_same half (2 * i + 1) old new (λ j n e. same j (suc n) (up_last n j ∙ ap (λ x. x / 2) e ∙ right_is)))
+
+-- a node is written that is neither lent before nor after
+pub blocks_kept : (k i : ℕ) (nodes : List ℕ) (p v : ℕ) → p < length nodes → 0 < node_at nodes p → 0 < v → blocks_under k i (set nodes p v) ≡ blocks_under k i nodes
+blocks_kept k i nodes p v l old new = blocks_same k i nodes (set nodes p v) (λ j n e. elim (cases_eq j p) [
+  | inl f ↦
+      let now : node_at (set nodes p v) j ≡ v = ap (λ x. node_at (set nodes p v) x) f ∙ get_or-set_same nodes p v 0 l in
+      ne_eqb (node_at (set nodes p v) j) 0 (λ z. omega (arith, z, now, new))
+      ∙ sym (ne_eqb (node_at nodes j) 0 (λ z. omega (arith, old, ap (λ x. node_at nodes x) (sym f) ∙ z)))
+  | inr f ↦ ap (λ x. eqb x 0) (get_or-set_other nodes p j v 0 f)
+])
+
+-- a node is written that is under the one half: the blocks of the other stay
+pub other_half : (k i : ℕ) (nodes : List ℕ) (j d a v : ℕ) → j / 2 ^ d ≡ a → a / 2 ≡ i / 2 → 0 < a → 0 < i → a ≢ i → blocks_under k i (set nodes j v) ≡ blocks_under k i nodes
+other_half k i nodes j d a v under buddies some other differ =
+    blocks_same k i nodes (set nodes j v) (λ m n e. ap (λ x. eqb x 0) (get_or-set_other nodes j m v 0 (λ f.
+    differ (halves_apart j d n a i under (ap (λ x. x / 2 ^ n) (sym f) ∙ e) buddies some other))))
+
+-- a node is written that comes before: so it is not under this one
+pub later_kept : (k i : ℕ) (nodes : List ℕ) (j v : ℕ) → j < i → blocks_under k i (set nodes j v) ≡ blocks_under k i nodes
+later_kept k i nodes j v l =
+    blocks_same k i nodes (set nodes j v) (λ m n e. ap (λ x. eqb x 0) (get_or-set_other nodes j m v 0 (λ f. omega (arith, f, e, l, div-le_self m (2 ^ n)))))
+
+-- ---- the rule
+right_same : (k i : ℕ) (old new : List ℕ) → node_at new i ≡ node_at old i → node_at new (2 * i) ≡ node_at old (2 * i) → node_at new (2 * i + 1) ≡ node_at old (2 * i + 1)
+    → IsRight k i old → IsRight k i new
+right_same zero i old new e l r h = elim h [ inl z ↦ inl (e ∙ z) | inr w ↦ inr (e ∙ w) ]
+right_same (suc half) i old new e l r h = elim h [
+  | inl w ↦ inl (record { lent = e ∙ w.lent; left_free = l ∙ w.left_free; right_free = r ∙ w.right_free })
+  | inr p ↦ inr (e ∙ p ∙ ap (λ x. parent half x (node_at old (2 * i + 1))) (sym l) ∙ ap (λ x. parent half (node_at new (2 * i)) x) (sym r))
+]
+
+-- where node p is written and keeps to the rule, just the one over it may not
+pub tree_set : (height k p but v : ℕ) (nodes : List ℕ) → IsTreeBut height but nodes → Place height k p → ((i : ℕ) → 0 < i → i ≢ p → i ≢ but)
+    → IsRight k p (set nodes p v) → IsTreeBut height (p / 2) (set nodes p v)
+tree_set height k p but v nodes tree place others new = record {
+  len = length-set nodes p v ∙ tree.len;
+  right =
+      λ m i q n. elim (cases_eq i p) [
+        | inl e ↦
+            let P : ℕ → Type 0 = λ x. IsRight x i (set nodes p v) in
+            let Q : ℕ → Type 0 = λ x. IsRight k x (set nodes p v) in
+            subst P (place_height (subst (λ x. Place height k x) (sym e) place) q) (subst Q (sym e) new)
+        | inr e ↦
+            right_same m i nodes (set nodes p v) (get_or-set_other nodes p i v 0 e)
+            (get_or-set_other nodes p (2 * i) v 0 (λ f. n (omega (arith, f))))
+            (get_or-set_other nodes p (2 * i + 1) v 0 (λ f. n (omega (arith, f))))
+            (tree.right m i q (others i (place_pos q) e))
+      ];
+}
+
+-- where that node keeps to the rule, all do
+pub tree_whole : (height k p : ℕ) (nodes : List ℕ) → IsTreeBut height p nodes → Place height k p → IsRight k p nodes → IsTree height nodes
+tree_whole height k p nodes tree place new = record {
+  len = tree.len;
+  right =
+      λ m i q n. elim (cases_eq i p) [
+        | inl e ↦
+            let P : ℕ → Type 0 = λ x. IsRight x i nodes in
+            let Q : ℕ → Type 0 = λ x. IsRight k x nodes in
+            subst P (place_height (subst (λ x. Place height k x) (sym e) place) q) (subst Q (sym e) new)
+        | inr e ↦ tree.right m i q e
+      ];
+}
+
+-- ---- a run is marked as lent, or as free again
+module _ (height k p : ℕ) (nodes : List ℕ) (tree : IsTree height nodes) (place : Place height k p) where
+  written : (v : ℕ) → node_at (set nodes p v) p ≡ v
+  written v = get_or-set_same nodes p v 0 (omega (arith, tree.len, place_below place))
+
+  beside : (v i : ℕ) → p < i → node_at (set nodes p v) i ≡ node_at nodes i
+  beside v i l = get_or-set_other nodes p i v 0 (λ f. omega (arith, f, l))
+
+  pub clear_marked : (v : ℕ) → IsClear p nodes → IsClear p (set nodes p v)
+  clear_marked v c n l = omega (arith, c n l, get_or-set_other nodes p (p / 2 ^ suc n) v 0 (over_differs p n (p / 2 ^ suc n) refl l))
+
+  marked : (v : ℕ) → IsRight k p (set nodes p v) → IsTreeBut height (p / 2) (set nodes p v)
+  marked v new = tree_set height k p 0 v nodes tree place (λ i some n e. omega (arith, some, e)) new
+
+  lent_is_right : (h : ℕ) → Place height h p → node_at nodes p ≡ h + 2 → IsRight h p (set nodes p 0)
+  lent_is_right zero q e = inl (written 0)
+  lent_is_right (suc half) q e =
+      let f = free_halves height nodes tree half p q (inl e) in
+      inl (record { lent = written 0; left_free = beside 0 (2 * p) (omega (arith, place_pos q)) ∙ f.0; right_free = beside 0 (2 * p + 1) (omega arith) ∙ f.1 })
+
+  pub marked_lent : node_at nodes p ≡ k + 2 → IsTreeBut height (p / 2) (set nodes p 0)
+  marked_lent e = marked 0 (lent_is_right k place e)
+
+  free_is_right : (h : ℕ) → Place height h p → node_at nodes p ≡ 0 → IsRight h p (set nodes p (h + 2))
+  free_is_right zero q e = inr (written (0 + 2))
+  free_is_right (suc half) q e =
+      let f = free_halves height nodes tree half p q (inr e) in
+      let v = suc half + 2 in
+      inr (written v ∙ sym (parent_free half (node_at (set nodes p v) (2 * p)) (node_at (set nodes p v) (2 * p + 1))
+      (beside v (2 * p) (omega (arith, place_pos q)) ∙ f.0) (beside v (2 * p + 1) (omega arith) ∙ f.1)))
+
+  pub marked_free : node_at nodes p ≡ 0 → IsTreeBut height (p / 2) (set nodes p (k + 2))
+  marked_free e = marked (k + 2) (free_is_right k place e)
