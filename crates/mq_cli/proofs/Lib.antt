@@ -1,4 +1,5 @@
 pub mod DraftLemmas
+pub mod FilledLemmas
 pub mod LinesLemmas
 pub mod NumberLemmas
 pub mod PartsLemmas

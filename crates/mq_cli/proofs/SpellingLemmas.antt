@@ -14,6 +14,7 @@ use Rattle.std.proofs.lemmas.List.Sums.{AllPass-from_list_all}
 use Rattle.std.proofs.lemmas.Option.{cond_some, option_and_then_some}
 use Rattle.std.proofs.lemmas.Slice.Eq.{bytes_eq-Decides}
 use Rattle.std.proofs.lemmas.Str.Parse.{digit_from_value, not_in_digits}
+use Rattle.mq_system.specs.declared.limits.TheConstants.{MAX_SEATS}
 use Rattle.mq_system.specs.declared.results.GetFlags.{GetFlags}
 use Rattle.mq_cli.specs.declared.limits.TheConstants.{LINE_LIMIT}
 use Rattle.mq_cli.specs.declared.fault.Cause.{Cause}
@@ -25,12 +26,12 @@ use Rattle.mq_cli.specs.Numbers.{number_of, integer_of, is_key, key_of, under, a
 use Rattle.mq_cli.proofs.NumberLemmas.{number_of-decimal, number_of-Some, numerals}
 
 -- a byte of a word: printable, and no space
-abbrev is_word_byte : ℕ → Bool
+abbrev pub is_word_byte : ℕ → Bool
 is_word_byte b = nat_le 33 b && nat_le b 126
 
 -- the words that a command is made of have bytes, no space among them, and are no longer than `*` and a number
-record IsWord (word : List ℕ) : Type 0 where
-  filled : is_filled word ≡ true
+pub record IsWord (word : List ℕ) : Type 0 where
+  pub filled : is_filled word ≡ true
   bytes : list_all is_word_byte word ≡ true
   short : length word ≤ 21
 
@@ -52,7 +53,7 @@ word_digits (d ∷ ds) h =
     and_from _ _ (and_from _ _ (le-leb 33 d (omega (arith, range))) (le-leb d 126 (omega (arith, range)))) (word_digits ds h.1)
 
 -- a number is a word
-decimal_word : (n : ℕ) → n < 2 ^ 64 → IsWord (decimal n)
+pub decimal_word : (n : ℕ) → n < 2 ^ 64 → IsWord (decimal n)
 decimal_word n fits = record {
   filled = lt-ltb 0 _ (decimal_nonempty n fits);
   bytes = word_digits (decimal n) (digits_decimal numerals n fits);
@@ -60,7 +61,7 @@ decimal_word n fits = record {
 }
 
 -- and so is one with a sign
-signed_word : (z : ℤ) → FitsSigned w64 z → IsWord (signed_decimal z)
+pub signed_word : (z : ℤ) → FitsSigned w64 z → IsWord (signed_decimal z)
 signed_word (pos n) fits = decimal_word n (omega (arith, fits.sfits))
 signed_word (negsuc n) fits =
     let most : suc n < 2 ^ 64 = omega (arith, fits.sfits) in
@@ -143,7 +144,7 @@ under-decimal : (limit n : ℕ) → limit ≤ 2 ^ 64 → n < limit → under lim
 under-decimal limit n most below = rw (number_of-decimal n (omega arith)) (cond-true _ _ _ (lt-ltb n limit below))
 
 -- and from nothing else
-under-Some : (limit : ℕ) (word : List ℕ) (n : ℕ) → under limit (number_of word) ≡ Some n → (word ≡ decimal n) × (n < limit)
+pub under-Some : (limit : ℕ) (word : List ℕ) (n : ℕ) → under limit (number_of word) ≡ Some n → (word ≡ decimal n) × (n < limit)
 under-Some limit word n e = option_and_then_some _ _ n e (λ m read below.
     let is = cond_some _ _ _ below in
     let spelled = number_of-Some word m read in
@@ -161,7 +162,7 @@ integer_of-signed_decimal (negsuc n) fits =
     ∙ ap (λ m. Some (negsuc m)) (omega arith)
 
 -- what follows from each way that a test can go
-chosen : {T P : Type 0} (b : Bool) (x y z : T) → cond b x y ≡ z → (b ≡ true → x ≡ z → P) → (b ≡ false → y ≡ z → P) → P
+pub chosen : {T P : Type 0} (b : Bool) (x y z : T) → cond b x y ≡ z → (b ≡ true → x ≡ z → P) → (b ≡ false → y ≡ z → P) → P
 chosen true x y z e holds fails = holds refl e
 chosen false x y z e holds fails = fails refl e
 
@@ -190,7 +191,7 @@ natural_read word z e =
     subst P read.2 (spelled.0, record { sfits = spelled.1 })
 
 -- it is read from nothing else
-integer_of-Some : (word : List ℕ) (z : ℤ) → integer_of word ≡ Some z → (word ≡ signed_decimal z) × FitsSigned w64 z
+pub integer_of-Some : (word : List ℕ) (z : ℤ) → integer_of word ≡ Some z → (word ≡ signed_decimal z) × FitsSigned w64 z
 unfolding integer_of
 integer_of-Some word z e =
     chosen _ _ _ _ e
@@ -198,12 +199,12 @@ integer_of-Some word z e =
     (λ plain natural. natural_read word z natural)
 
 -- what follows from a step that did not fail
-bind_ok : {A B P : Type 0} (o : Option A) (f : A → Result B Cause) (y : B) → (o >>= f) ≡ Ok y → ((x : A) → o ≡ Some x → f x ≡ Ok y → P) → P
+pub bind_ok : {A B P : Type 0} (o : Option A) (f : A → Result B Cause) (y : B) → (o >>= f) ≡ Ok y → ((x : A) → o ≡ Some x → f x ≡ Ok y → P) → P
 bind_ok None f y e then = absurd (cc e)
 bind_ok (Some x) f y e then = then x refl e
 
 -- a test that was needed held
-needed : {A : Type 0} (b : Bool) (x : Result A Cause) (cause : Cause) (y : A) → cond b x (Err cause) ≡ Ok y → (b ≡ true) × (x ≡ Ok y)
+pub needed : {A : Type 0} (b : Bool) (x : Result A Cause) (cause : Cause) (y : A) → cond b x (Err cause) ≡ Ok y → (b ≡ true) × (x ≡ Ok y)
 needed true x cause y e = (refl, e)
 needed false x cause y e = absurd (cc e)
 
@@ -240,22 +241,22 @@ rejoined line name text words e named =
     sym (join_with_byte-slice_split 32 line) ∙ ap line_of (e ∙ ap (λ word. word ∷ words) ((bytes_eq-Decides name text).0 named))
 
 -- a seat's number is read from its spelling
-above_zero-decimal : (n : ℕ) → 1 ≤ n → n ≤ 16 → above_zero (under 17 (number_of (decimal n))) ≡ Some n
+above_zero-decimal : (n : ℕ) → 1 ≤ n → n ≤ MAX_SEATS → above_zero (under (MAX_SEATS + 1) (number_of (decimal n))) ≡ Some n
 above_zero-decimal n least most =
-    rw (under-decimal 17 n (lit≤ tt) (omega arith)) (cond-true _ _ _ (lt-ltb 0 n (omega arith)))
+    rw (under-decimal (MAX_SEATS + 1) n (lit≤ tt) (omega arith)) (cond-true _ _ _ (lt-ltb 0 n (omega arith)))
 
 -- and from nothing else
-above_zero-Some : (word : List ℕ) (n : ℕ) → above_zero (under 17 (number_of word)) ≡ Some n → (word ≡ decimal n) × (1 ≤ n) × (n ≤ 16)
+pub above_zero-Some : (word : List ℕ) (n : ℕ) → above_zero (under (MAX_SEATS + 1) (number_of word)) ≡ Some n → (word ≡ decimal n) × (1 ≤ n) × (n ≤ MAX_SEATS)
 above_zero-Some word n e = option_and_then_some _ _ n e (λ m read above.
     let is = cond_some _ _ _ above in
-    let spelled = under-Some 17 word m read in
+    let spelled = under-Some (MAX_SEATS + 1) word m read in
     let least = ltb-true 0 m is.0 in
     (spelled.0 ∙ ap decimal is.1, omega (arith, least, is.1), omega (arith, spelled.1, is.1)))
 
 -- seat is read from its spelling alone
 seated : (line : List ℕ) (words : List (List ℕ)) (call : Call) → line ≡ line_of (codes "seat" ∷ words) → seat_of words ≡ Ok call → Spells line call
 seated line (word ∷ []) call is e =
-    bind_ok (above_zero (under 17 (number_of word))) (λ n. Ok (sit n)) call e (λ n read done.
+    bind_ok (above_zero (under (MAX_SEATS + 1) (number_of word))) (λ n. Ok (sit n)) call e (λ n read done.
     let spelled = above_zero-Some word n read in
     let same : sit n ≡ call = cc done in
     subst (Spells line) same (cc (is, spelled.0), (spelled.1, spelled.2)))
@@ -303,7 +304,7 @@ asked line [] call is e = absurd (cc e)
 asked line (id ∷ more ∷ words) call is e = absurd (cc e)
 
 -- what follows from words that say something
-worded_ok : {A B P : Type 0} (o : Option A) (f : A → Result B Cause) (y : B) → worded o f ≡ Ok y → ((x : A) → o ≡ Some x → f x ≡ Ok y → P) → P
+pub worded_ok : {A B P : Type 0} (o : Option A) (f : A → Result B Cause) (y : B) → worded o f ≡ Ok y → ((x : A) → o ≡ Some x → f x ≡ Ok y → P) → P
 worded_ok None f y e then = absurd (cc e)
 worded_ok (Some x) f y e then = then x refl e
 
@@ -317,7 +318,7 @@ flag_word words_for word text wanted flags test same spelled =
     ap (λ w. w ∷ []) ((bytes_eq-Decides word text).0 test) ∙ sym spelled ∙ ap words_for same
 
 -- flags are read from their word alone
-flags_of-Some : (words : List (List ℕ)) (flags : Flags) → flags_of words ≡ Some flags → words ≡ flag_words flags.except flags.noerror
+pub flags_of-Some : (words : List (List ℕ)) (flags : Flags) → flags_of words ≡ Some flags → words ≡ flag_words flags.except flags.noerror
 flags_of-Some [] flags e = subst (λ (f : Flags). [] ≡ flag_words f.except f.noerror) (some_is _ _ e) refl
 flags_of-Some (word ∷ []) flags e =
     chosen _ _ _ _ e
@@ -330,7 +331,7 @@ flags_of-Some (word ∷ []) flags e =
 flags_of-Some (word ∷ more ∷ words) flags e = absurd (cc e)
 
 -- the same of the flags of get
-get_flags_of-Some : (words : List (List ℕ)) (flags : GetFlags) → get_flags_of words ≡ Some flags → words ≡ get_flag_words flags.create flags.exclusive
+pub get_flags_of-Some : (words : List (List ℕ)) (flags : GetFlags) → get_flags_of words ≡ Some flags → words ≡ get_flag_words flags.create flags.exclusive
 get_flags_of-Some [] flags e = subst (λ (f : GetFlags). [] ≡ get_flag_words f.create f.exclusive) (some_is _ _ e) refl
 get_flags_of-Some (word ∷ []) flags e =
     let words_for : GetFlags → List (List ℕ) = λ f. get_flag_words f.create f.exclusive in
@@ -344,7 +345,7 @@ get_flags_of-Some (word ∷ []) flags e =
 get_flags_of-Some (word ∷ more ∷ words) flags e = absurd (cc e)
 
 -- an i32 is a key, and an i64
-key_fits : (z : ℤ) → FitsSigned w32 z → (is_key z ≡ true) × FitsSigned w64 z
+pub key_fits : (z : ℤ) → FitsSigned w32 z → (is_key z ≡ true) × FitsSigned w64 z
 key_fits (pos n) fits = (lt-ltb n (2 ^ 31) (omega (arith, fits.sfits)), record { sfits = omega (arith, fits.sfits) })
 key_fits (negsuc n) fits = (lt-ltb n (2 ^ 31) (omega (arith, fits.sfits)), record { sfits = omega (arith, fits.sfits) })
 
@@ -360,7 +361,7 @@ key_of-signed_decimal z fits =
     rw (integer_of-signed_decimal z is.1) (cond-true _ _ _ is.0)
 
 -- and from nothing else
-key_of-Some : (word : List ℕ) (z : ℤ) → key_of word ≡ Some z → (word ≡ signed_decimal z) × FitsSigned w32 z
+pub key_of-Some : (word : List ℕ) (z : ℤ) → key_of word ≡ Some z → (word ≡ signed_decimal z) × FitsSigned w32 z
 key_of-Some word z e = option_and_then_some _ (integer_of word) z e (λ m read kept.
     let is = cond_some _ _ _ kept in
     let spelled = integer_of-Some word m read in
@@ -551,7 +552,7 @@ key_again key false true fits = flagged_get_again key (codes "x") (record { crea
 key_again key true true fits = flagged_get_again key (codes "cx") (record { create = true; exclusive = true }) (name_word (codes "cx") refl) refl fits
 
 -- a seat is read back
-seat_again : (n : ℕ) → 1 ≤ n → n ≤ 16 → command_of (codes "seat" ∷ decimal n ∷ []) ≡ Ok (sit n)
+seat_again : (n : ℕ) → 1 ≤ n → n ≤ MAX_SEATS → command_of (codes "seat" ∷ decimal n ∷ []) ≡ Ok (sit n)
 seat_again n least most =
     let word = decimal_word n (omega arith) in
     rw (word.filled, above_zero-decimal n least most) refl

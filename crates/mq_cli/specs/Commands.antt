@@ -1,10 +1,11 @@
 -- The commands, and the lines that ask for them.
-use Rattle.std.specs.Prelude.{ℕ, ℤ, Bool, true, false, ◌^◌, ◌==◌, nat_lt, ◌&&◌, ◌||◌, not}
+use Rattle.std.specs.Prelude.{ℕ, ℤ, Bool, true, false, ◌+◌, ◌^◌, ◌==◌, nat_lt, ◌&&◌, ◌||◌, not}
 use Rattle.std.specs.Prelude.{if◌then◌else◌, List, [], ◌∷◌, length, drop, slice_index_or, codes}
 use Rattle.std.specs.Prelude.{Option, Some, None, Result, Ok, Err}
 use Rattle.std.specs.List.{list_all, list_any}
 use Rattle.std.specs.Option.{option_map}
 use Rattle.std.specs.Str.{bytes_eq}
+use Rattle.mq_system.specs.declared.limits.TheConstants.{MAX_SEATS}
 use Rattle.mq_system.specs.declared.results.GetFlags.{GetFlags}
 use Rattle.mq_cli.specs.declared.limits.TheConstants.{LINE_LIMIT}
 use Rattle.mq_cli.specs.declared.fault.Cause.{Cause}
@@ -50,7 +51,7 @@ worded (Some x) f = f x
 
 -- the seat that makes the calls from here on
 abbrev pub seat_of : List (List ℕ) → Result Call Cause
-seat_of (word ∷ []) = above_zero (under 17 (number_of word)) >>= λ n. Ok (sit n)
+seat_of (word ∷ []) = above_zero (under (MAX_SEATS + 1) (number_of word)) >>= λ n. Ok (sit n)
 seat_of _ = Err Words
 
 -- the arena's figures
@@ -140,13 +141,10 @@ abbrev pub stat_of : List (List ℕ) → Result Call Cause
 stat_of (id ∷ []) = under (2 ^ 32) (number_of id) >>= λ i. Ok (stat i)
 stat_of _ = Err Words
 
--- a command by its name; the words of all but a text are filled
-abbrev pub command_of : List (List ℕ) → Result Call Cause
-command_of [] = Err Words
-command_of (name ∷ words) =
-    if bytes_eq name (codes "snd") then send_of words
-    else (if not (list_all is_filled words) then Err Words
-    else (if bytes_eq name (codes "rcv") then receive_of words
+-- a command without a text, by its name
+abbrev pub named : List ℕ → List (List ℕ) → Result Call Cause
+named name words =
+    if bytes_eq name (codes "rcv") then receive_of words
     else (if bytes_eq name (codes "seat") then seat_of words
     else (if bytes_eq name (codes "arena") then arena_of words
     else (if bytes_eq name (codes "get") then get_of words
@@ -154,7 +152,14 @@ command_of (name ∷ words) =
     else (if bytes_eq name (codes "rm") then remove_of words
     else (if bytes_eq name (codes "stat") then stat_of words
     else (if bytes_eq name (codes "ipcs") then ipcs_of words
-    else Err Words)))))))))
+    else Err Words)))))))
+
+-- a command; the words of all but a text are filled
+abbrev pub command_of : List (List ℕ) → Result Call Cause
+command_of [] = Err Words
+command_of (name ∷ words) =
+    if bytes_eq name (codes "snd") then send_of words
+    else (if not (list_all is_filled words) then Err Words else named name words)
 
 -- an empty line or a comment
 abbrev pub is_skipped : List ℕ → Bool

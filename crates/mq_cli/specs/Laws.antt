@@ -4,6 +4,7 @@ use Rattle.std.specs.Prelude.{[], ◌∷◌, length, codes, Some, Ok}
 use Rattle.std.specs.Fmt.{decimal, signed_decimal}
 use Rattle.std.specs.Int.{w32, w64}
 use Rattle.std.specs.List.{list_all}
+use Rattle.mq_system.specs.declared.limits.TheConstants.{MAX_SEATS}
 use Rattle.mq_cli.specs.declared.limits.TheConstants.{LINE_LIMIT}
 use Rattle.mq_cli.specs.Commands.{Call, sit, show, get, snd, rcv, set, rm, stat, ipcs, Text, plain}
 use Rattle.mq_cli.specs.Commands.{letters, reading}
@@ -46,7 +47,7 @@ spelling ipcs = codes "ipcs"
 -- the calls that a line can ask for: each number is in its range, and a text is printable and
 -- leaves the line short enough
 abbrev pub CanBeSpelled : Call → Type 0
-CanBeSpelled (sit number) = (1 ≤ number) × (number ≤ 16)
+CanBeSpelled (sit number) = (1 ≤ number) × (number ≤ MAX_SEATS)
 CanBeSpelled show = Unit {0}
 CanBeSpelled (get key flags) = FitsSigned w32 key
 CanBeSpelled (snd id mtype (plain bytes)) =

@@ -1,8 +1,8 @@
-ghost use Rattle.std.specs.Prelude.{◌≡◌, ◌^◌, ◌==◌};
+ghost use Rattle.std.specs.Prelude.{◌≡◌, ◌+◌, ◌^◌, ◌==◌};
 ghost use Rattle.std.specs.List.{list_all, list_any};
 ghost use Rattle.std.specs.Option.{option_map};
 ghost use Rattle.mq_cli.specs.Commands.{arena_of, command_of, flags_of, get_flags_of, get_of};
-ghost use Rattle.mq_cli.specs.Commands.{ipcs_of, is_filled, receive_of, reading};
+ghost use Rattle.mq_cli.specs.Commands.{ipcs_of, is_filled, named, receive_of, reading};
 ghost use Rattle.mq_cli.specs.Commands.{remove_of, seat_of, send_of, set_of, stat_of, text_of};
 ghost use Rattle.mq_cli.specs.Commands.{is_skipped as is_skipped_line};
 ghost use Rattle.mq_cli.specs.Commands.{is_text as is_text_form};
@@ -15,7 +15,7 @@ ghost use Rattle.mq_cli.specs.Seen.{flags_seen, seen, seen_line, text_seen};
 use crate::number::{integer, key, number};
 use crate::words::Words;
 use crate::{Cause, LINE_LIMIT};
-use mq_system::GetFlags;
+use mq_system::{GetFlags, MAX_SEATS};
 
 /// The text of a message as a line spells it.
 #[derive(Clone, Copy, Drop)]
@@ -134,9 +134,18 @@ fn read_command(line: &[u8]) -> Result<Command<'_>, Cause>
     if name == b"snd".as_slice() {
         return read_send(words);
     }
-    if !are_filled(line) {
-        return Err(Cause::Words);
+    // The words of a command that is read are filled: they are looked at again only for the cause.
+    match read_named(name, words) {
+        Ok(command) => Ok(command),
+        Err(cause) if are_filled(line) => Err(cause),
+        Err(_) => Err(Cause::Words),
     }
+}
+
+/// A command without a text, whose words may be empty only where none is read.
+fn read_named<'a>(name: &[u8], words: Words<'a>) -> Result<Command<'a>, Cause>
+    ensures { seen result ≡ named name.now (parts_left 32 words.entry.rest) }
+{
     if name == b"rcv".as_slice() {
         return read_receive(words);
     }
@@ -349,12 +358,12 @@ fn id_of(word: &[u8]) -> Option<u32>
     u32::try_from(number(word)?).ok()
 }
 
-/// The number of a seat: 1 to 16.
+/// The number of a seat: 1 to `MAX_SEATS`.
 fn seat_number(word: &[u8]) -> Option<u16>
-    ensures { result ≡ above_zero (under 17 (number_of word.now)) }
+    ensures { result ≡ above_zero (under (MAX_SEATS + 1) (number_of word.now)) }
 {
     match number(word) {
-        Some(number) if number >= 1 && number <= 16 => Some(number as u16),
+        Some(number) if number >= 1 && number <= u64::from(MAX_SEATS) => Some(number as u16),
         _ => None,
     }
 }

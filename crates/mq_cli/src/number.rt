@@ -1,27 +1,45 @@
-ghost use Rattle.std.specs.Prelude.{◌≡◌, ◌==◌, nat_lt, ◌&&◌, ◌||◌, length, slice_index};
+ghost use Rattle.std.specs.Prelude.{◌≡◌, ◌≤◌, ◌+◌, ◌-◌, ◌*◌, ◌^◌, ◌==◌, ◌&&◌};
+ghost use Rattle.std.specs.Prelude.{IfSome, IfNone, nat_lt, not, length, slice_index};
+ghost use Rattle.std.specs.Int.{IsInRange};
 ghost use Rattle.mq_cli.specs.Numbers.{number_of, integer_of, key_of};
 
 /// The number that a word spells in decimal digits, with no sign and no needless zero before it.
 pub fn number(word: &[u8]) -> Option<u64>
     ensures { result ≡ number_of word.now }
 {
-    if has_needless_prefix(word) {
+    if !has_first_digit(word) {
         return None;
     }
-    let Ok(digits) = std::str::from_utf8(word) else {
-        return None;
-    };
-    digits.parse().ok()
+    let mut value = 0;
+    for byte in word {
+        match with_digit(value, *byte) {
+            Some(longer) => value = longer,
+            None => return None,
+        }
+    }
+    Some(value)
 }
 
-/// Whether the word begins with a plus or a zero that `parse` would pass over.
-fn has_needless_prefix(word: &[u8]) -> bool
-    ensures { result ≡ ((slice_index word.now 0 == 43)
-        || ((slice_index word.now 0 == 48) && nat_lt 1 (length word.now))) }
+/// Whether a word begins with a byte, and not with a zero before more of them.
+fn has_first_digit(word: &[u8]) -> bool
+    ensures { result ≡ (nat_lt 0 (length word.now)
+        && not ((slice_index word.now 0 == 48) && nat_lt 1 (length word.now))) }
 {
     match word {
-        [b'+', ..] | [b'0', _, ..] => true,
-        _ => false,
+        [] | [b'0', _, ..] => false,
+        _ => true,
+    }
+}
+
+/// The number with one more digit, where the byte is one and the number fits.
+fn with_digit(value: u64, byte: u8) -> Option<u64>
+    ensures value { IfSome result (λ longer.
+        IsInRange 48 57 byte × (longer ≡ value * 10 + (byte - 48))) }
+    ensures none { IfNone result (IsInRange 48 57 byte → 2 ^ 64 ≤ value * 10 + (byte - 48)) }
+{
+    match byte {
+        b'0'..=b'9' => value.checked_mul(10)?.checked_add(u64::from(byte - b'0')),
+        _ => None,
     }
 }
 

@@ -11,10 +11,8 @@ use std::alloc::{AllocError, Global};
 
 /// The end of the help.
 const NOTES: &str = "\
-Options of serial:
-      --height <H>    The arena has 2^H pages of 1,024 bytes; H is 0 to 10 [default: 6]
-      --slots <S>     At most S queues at a time; S is 1 to 64 [default: 16]
-      --last-seq <Q>  A slot has Q + 1 queues in turn; Q is 0 to 32767 [default: 32767]
+Options of serial: --height <H>, --slots <S>, --last-seq <Q>. What each means, its
+range and its default: mqsim serial --help.
 
 The script is read to its end before the first answer is written: at a terminal,
 type its lines and then Ctrl-D. docs/SCRIPT.md has the lines, the answers, the
@@ -37,8 +35,7 @@ pub fn config_of(alloc: Global, words: &[String]) -> Result<Config, Error>
     }
 }
 
-/// What the words after `serial` give, and the defaults for the rest. The parser takes no value
-/// out of its range, so the bounds here change none.
+/// What the words after `serial` give, and the defaults for the rest.
 fn options_of(given: &ArgMatches<'_>) -> Config
     ensures height { Means 0 10 6 (one_text (found_of given.now) (codes "height")) result.height }
     ensures slots { Means 1 64 16 (one_text (found_of given.now) (codes "slots")) result.slots }
@@ -47,15 +44,39 @@ fn options_of(given: &ArgMatches<'_>) -> Config
     ensures limits { keeps_limits result ≡ true }
     ensures seats { result.seats ≡ 16 }
 {
-    let height: u8 = given.get_one("height").unwrap_or(DEFAULTS.height);
-    let slots: u8 = given.get_one("slots").unwrap_or(DEFAULTS.slots);
-    let last_seq: u32 = given.get_one("last-seq").unwrap_or(DEFAULTS.last_seq);
     Config {
-        height: height.min(MAX_HEIGHT),
-        slots: slots.clamp(1, MAX_SLOTS),
+        height: height_of(given),
+        slots: slots_of(given),
         seats: MAX_SEATS,
-        last_seq: last_seq.min(MAX_SEQ),
+        last_seq: last_seq_of(given),
     }
+}
+
+// The parser takes no value out of its range, so the bounds here change none.
+
+fn height_of(given: &ArgMatches<'_>) -> u8
+    ensures value { Means 0 10 6 (one_text (found_of given.now) (codes "height")) result }
+    ensures limit { result ≤ MAX_HEIGHT }
+{
+    let height: u8 = given.get_one("height").unwrap_or(DEFAULTS.height);
+    height.min(MAX_HEIGHT)
+}
+
+fn slots_of(given: &ArgMatches<'_>) -> u8
+    ensures value { Means 1 64 16 (one_text (found_of given.now) (codes "slots")) result }
+    ensures least { 1 ≤ result }
+    ensures limit { result ≤ MAX_SLOTS }
+{
+    let slots: u8 = given.get_one("slots").unwrap_or(DEFAULTS.slots);
+    slots.clamp(1, MAX_SLOTS)
+}
+
+fn last_seq_of(given: &ArgMatches<'_>) -> u32
+    ensures value { Means 0 32767 32767 (one_text (found_of given.now) (codes "last-seq")) result }
+    ensures limit { result ≤ MAX_SEQ }
+{
+    let last_seq: u32 = given.get_one("last-seq").unwrap_or(DEFAULTS.last_seq);
+    last_seq.min(MAX_SEQ)
 }
 
 /// The whole command line.
@@ -71,17 +92,17 @@ fn serial<'a>(alloc: Global) -> Result<Command<'a>, AllocError> {
     let height = Arg::new(alloc, "height")
         .long("height")
         .value_name("H")
-        .value_parser(value_parser!(u8).range(0..=10))
+        .value_parser(value_parser!(u8).range(0..=i64::from(MAX_HEIGHT)))
         .help("The arena has 2^H pages of 1,024 bytes; H is 0 to 10 [default: 6]");
     let slots = Arg::new(alloc, "slots")
         .long("slots")
         .value_name("S")
-        .value_parser(value_parser!(u8).range(1..=64))
+        .value_parser(value_parser!(u8).range(1..=i64::from(MAX_SLOTS)))
         .help("At most S queues at a time; S is 1 to 64 [default: 16]");
     let last_seq = Arg::new(alloc, "last-seq")
         .long("last-seq")
         .value_name("Q")
-        .value_parser(value_parser!(u32).range(0..=32767))
+        .value_parser(value_parser!(u32).range(0..=i64::from(MAX_SEQ)))
         .help("A slot has Q + 1 queues in turn; Q is 0 to 32767 [default: 32767]");
     Command::new(alloc, "serial")
         .about("Makes the calls one after the other (this is what no words at all do)")

@@ -12,6 +12,9 @@ use mq_system::Config;
 use std::alloc::Global;
 use std::io::{BufWriter, Read, Write};
 
+/// The number of bytes that are written at a time.
+const OUTPUT_LEN: usize = 65_536;
+
 /// Runs the script of the reader, and writes its answers to the writer, many lines at a time.
 pub fn run<R: Read, W: Write + Drop>(
     alloc: Global,
@@ -31,7 +34,7 @@ pub fn run<R: Read, W: Write + Drop>(
     ensures within { ¬ IsErrOf result RunFault.Size →
         ReadsUpTo SCRIPT_LIMIT (R.remaining reader.old) (R.remaining reader.new) }
 {
-    match BufWriter::new(alloc, writer) {
+    match BufWriter::with_capacity(alloc, OUTPUT_LEN, writer) {
         Ok(mut buffered) => run_serial(alloc, reader, &mut buffered, config),
         Err(_) => Err(RunFault::Memory),
     }

@@ -1,15 +1,20 @@
-use Rattle.std.proofs.Common.{sym, ◌∙◌}
+use Rattle.std.proofs.Common.{sym, ◌∙◌, below_more, arith}
+use Rattle.mq_cli.proofs.NumberLemmas.{all_digits, no_first_digit, no_more_digits, one_digit_more}
 use Rattle.mq_cli.proofs.number.number.Goals as goal
-use Rattle.mq_cli.proofs.NumberLemmas.{needless, not_text, parsed}
 
-pub returns-then-has_needless_prefix : goal.returns-then-has_needless_prefix
-returns-then-has_needless_prefix c = needless _ (sym c.has_needless_prefix.ensures ∙ c.if-has_needless_prefix.true)
+pub returns-then-not-has_first_digit : goal.returns-then-not-has_first_digit
+returns-then-not-has_first_digit c = no_first_digit _ (sym c.has_first_digit.ensures ∙ c.if-not-has_first_digit.true)
 
-pub returns-in_default : goal.returns-in_default
-returns-in_default c = not_text _ c.in_default.ensures.cases.0
+pub returns-in-None : goal.returns-in-None
+returns-in-None c = no_more_digits _ _ _ c.loop-byte-test.true c.loop-byte.invariant.1 c.in-None.ensures.none
+
+pub loop-byte-preserved : goal.loop-byte-preserved
+loop-byte-preserved c = (
+  below_more _ _ c.loop-byte.invariant.0 c.in-Some.ensures.value.0,
+  one_digit_more _ _ _ _ c.loop-byte-test.true c.loop-byte.invariant.1 c.in-Some.ensures.value.0 c.in-Some.ensures.value.1,
+  omega arith,
+)
 
 pub returns : goal.returns
 returns c =
-    let plain = sym c.has_needless_prefix.ensures ∙ c.if-has_needless_prefix.false in
-    let same = c.in-Ok.ensures.cases.0 in
-    c.ok.ensures.value ∙ parsed _ _ plain (rw same at c.parse.ensures.value.0)
+    all_digits _ _ _ (sym c.has_first_digit.ensures ∙ c.if-not-has_first_digit.false) c.loop-byte-test.false c.loop-byte.invariant.0 c.loop-byte.invariant.1 c.loop-byte.invariant.2

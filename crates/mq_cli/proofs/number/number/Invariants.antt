@@ -1,0 +1,11 @@
+use Rattle.std.proofs.Common.{◌≡◌, ℕ, ◌<◌, ◌^◌, get_or, take}
+use Rattle.std.specs.Int.{IsInRange}
+use Rattle.std.specs.Str.Parse.{digits_value}
+use Rattle.mq_cli.proofs.number.number.Given as goal
+
+-- the bytes so far are digits, and spell the value
+abbrev pub invariant-loop-byte : goal.invariant-loop-byte
+invariant-loop-byte l =
+    ((k : ℕ) → k < l.byte-index → IsInRange 48 57 (get_or l.word k 0))
+    × (l.value ≡ digits_value 10 (take l.byte-index l.word))
+    × (l.value < 2 ^ 64)
