@@ -7,24 +7,12 @@
 #   an option that was read is passed over (`Config { height: DEFAULTS.height, ..options_of(given) }`);
 #   the parser's range of an option is narrower (`.range(1..=63)`);
 #   words without a subcommand have another default (`None => Ok(Config { height: 5, ..DEFAULTS })`).
-set -uo pipefail
-cd "$(dirname "$0")/.."
-program=$PWD/crates/mqsim/out/mqsim
-seen=$(mktemp -d)
-trap 'rm -rf "$seen"' EXIT
-passed=0
-failed=0
+source "$(dirname "$0")/cases.sh"
 
-# Counts a case with the words from $2 on, which passed if $1 is 0.
-count() {
-    if [ "$1" -eq 0 ]; then
-        passed=$((passed + 1))
-    else
-        failed=$((failed + 1))
-        printf 'command_lines: mqsim'
-        printf ' %q' "${@:2}"
-        echo ": status $status, standard error: $(head -c 300 "$seen/err")"
-    fi
+# Counts a run with the words from $2 on, which was right if $1 is 0.
+ran() {
+    count "$1" "mqsim$(printf ' %q' "${@:2}"): status $status," \
+        "standard error: $(head -c 300 "$seen/err")"
 }
 
 # The table of the words, on a script of the one line `arena`: the status; what is on standard
@@ -54,7 +42,7 @@ run() {
     [[ $2 == pages* ]] && left=/dev/null
     [ "$status" -eq "$1" ] && has "$2" "$seen/out" && has "$3" "$seen/err" \
         && cmp -s "$seen/left" "$left"
-    count $? "${@:4}"
+    ran $? "${@:4}"
 }
 
 #   status  output       error  words
@@ -111,7 +99,7 @@ for words in --help -h help; do
     status=$?
     for name in --height --slots --last-seq docs/SCRIPT.md Ctrl-D; do
         grep -q -e "$name" "$seen/out"
-        count $? "$words" "($name)"
+        ran $? "$words" "($name)"
     done
 done
 
@@ -121,7 +109,7 @@ effect() {
     "$program" "$@" < "$seen/script" > "$seen/out" 2> "$seen/err"
     status=$?
     [ "$status" -eq 0 ] && [ ! -s "$seen/err" ] && cmp -s "$seen/out" "$seen/wanted"
-    count $? "$@"
+    ran $? "$@"
 }
 
 # A height is the arena's: 2^H pages, of which the largest block has order H.

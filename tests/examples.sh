@@ -3,23 +3,7 @@
 # NAME.args where there are some; and wants the README's first script, examples/first and the
 # script that the gate runs the program on to be the same.
 # Wants mqsim to be built. Prints the cases that fail; the last line counts.
-set -uo pipefail
-cd "$(dirname "$0")/.."
-program=crates/mqsim/out/mqsim
-seen=$(mktemp -d)
-trap 'rm -rf "$seen"' EXIT
-passed=0
-failed=0
-
-# Counts the case $2, which passed if $1 is 0.
-count() {
-    if [ "$1" -eq 0 ]; then
-        passed=$((passed + 1))
-    else
-        failed=$((failed + 1))
-        echo "examples: $2"
-    fi
-}
+source "$(dirname "$0")/cases.sh"
 
 for script in examples/*; do
     [[ $script == *.* ]] && continue

@@ -7,24 +7,14 @@
 #   a fault is not named on standard error;
 #   the answer of a run is passed over (`told(rt, Ok(()))`);
 #   a help that could not be written ends with 0.
-set -uo pipefail
-cd "$(dirname "$0")/.."
-program=$PWD/crates/mqsim/out/mqsim
-seen=$(mktemp -d)
-trap 'rm -rf "$seen"' EXIT
-passed=0
-failed=0
+source "$(dirname "$0")/cases.sh"
 
 # The case $1 has ended with the status $?; it must be $2, with $3 and $4 on the two outputs.
 ended() {
     local status=$?
-    if [ "$status" -eq "$2" ] && printf "$3" | cmp -s - "$seen/out" \
-        && printf "$4" | cmp -s - "$seen/err"; then
-        passed=$((passed + 1))
-    else
-        failed=$((failed + 1))
-        echo "statuses: $1: status $status, standard error: $(head -c 300 "$seen/err")"
-    fi
+    [ "$status" -eq "$2" ] && printf "$3" | cmp -s - "$seen/out" \
+        && printf "$4" | cmp -s - "$seen/err"
+    count $? "$1: status $status, standard error: $(head -c 300 "$seen/err")"
     : > "$seen/out"
     : > "$seen/err"
 }

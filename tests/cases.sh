@@ -1,0 +1,20 @@
+# What the scripts of this folder that try mqsim share, each of which sources it: they run at the
+# top of the repository, keep what the program writes in a folder that goes with them, and count
+# their cases.
+set -uo pipefail
+cd "$(dirname "$0")/.."
+program=$PWD/crates/mqsim/out/mqsim
+seen=$(mktemp -d)
+trap 'rm -rf "$seen"' EXIT
+passed=0
+failed=0
+
+# Counts a case, which passed if $1 is 0, and else is told by the words from $2 on.
+count() {
+    if [ "$1" -eq 0 ]; then
+        passed=$((passed + 1))
+    else
+        failed=$((failed + 1))
+        echo "$(basename "$0" .sh): ${*:2}"
+    fi
+}
