@@ -9,14 +9,14 @@ use Rattle.mq_message.specs.Text.{PlainText, no_text, order_for}
 use Rattle.mq_queue.specs.declared.limits.TheConstants.{MSGMAX}
 use Rattle.mq_table.specs.Ids.{slot_of}
 use Rattle.mq_table.specs.Slot.{SlotState, empty_slot}
-use Rattle.mq_system.specs.Calls.{msgsnd}
-use Rattle.mq_system.specs.Look.{Answer, refused_early, refused_or_memory}
-use Rattle.mq_system.specs.State.{State, with_arena}
-use Rattle.mq_system.specs.Texts.{draft_errno, drafts, drafts_of, in_block, spends, with_bytes}
-use Rattle.mq_system.specs.declared.draft_error.DraftError.{DraftError}
-use Rattle.mq_system.specs.declared.draft_error.DraftError.TheVariants.{TooLong}
-use Rattle.mq_system.specs.declared.errno.Errno.TheVariants.{ENOMEM}
-use Rattle.mq_system.specs.declared.results.Refused.{Refused}
+use Rattle.mq_one_thread.specs.Calls.{msgsnd}
+use Rattle.mq_one_thread.specs.Look.{Answer, refused_early, refused_or_memory}
+use Rattle.mq_one_thread.specs.State.{State, with_arena}
+use Rattle.mq_one_thread.specs.Texts.{draft_errno, drafts, drafts_of, in_block, spends, with_bytes}
+use Rattle.mq_one_thread.specs.declared.draft_error.DraftError.{DraftError}
+use Rattle.mq_one_thread.specs.declared.draft_error.DraftError.TheVariants.{TooLong}
+use Rattle.mq_one_thread.specs.declared.errno.Errno.TheVariants.{ENOMEM}
+use Rattle.mq_one_thread.specs.declared.results.Refused.{Refused}
 use Rattle.mq.specs.Bytes.{sends_bytes, sends_draft}
 
 -- a text of these bytes in the block that was drafted

@@ -1,12 +1,12 @@
 -- Texts that are sent and received whole, as bytes.
 use Rattle.std.specs.Prelude.{ℕ, ℤ, Bool, List, length, Result, Ok, Err}
 use Rattle.mq_message.specs.Text.{PlainText}
-use Rattle.mq_system.specs.Calls.{msgrcv, msgsnd}
-use Rattle.mq_system.specs.Look.{Answer, refused_early}
-use Rattle.mq_system.specs.State.{State, with_arena}
-use Rattle.mq_system.specs.Texts.{draft_errno, drafts, spends}
-use Rattle.mq_system.specs.declared.draft_error.DraftError.{DraftError}
-use Rattle.mq_system.specs.declared.results.Delivered.{Delivered}
+use Rattle.mq_one_thread.specs.Calls.{msgrcv, msgsnd}
+use Rattle.mq_one_thread.specs.Look.{Answer, refused_early}
+use Rattle.mq_one_thread.specs.State.{State, with_arena}
+use Rattle.mq_one_thread.specs.Texts.{draft_errno, drafts, spends}
+use Rattle.mq_one_thread.specs.declared.draft_error.DraftError.{DraftError}
+use Rattle.mq_one_thread.specs.declared.results.Delivered.{Delivered}
 
 -- a text that was drafted is sent with these bytes
 abbrev pub sends_draft : ℕ → ℕ → ℤ → ℕ → List ℕ → ℕ → Result (PlainText × State) DraftError

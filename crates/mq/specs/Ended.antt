@@ -1,8 +1,8 @@
 -- What the queues of a program leave.
 use Rattle.std.specs.Prelude.{◌≡◌, ℕ, map}
 use Rattle.mq_tree.specs.LentSet.{Lending, free_pages}
-use Rattle.mq_system.specs.Closed.{all_home, ending_of, ends}
-use Rattle.mq_system.specs.State.{State}
+use Rattle.mq_one_thread.specs.Closed.{all_home, ending_of, ends}
+use Rattle.mq_one_thread.specs.State.{State}
 use Rattle.mq.specs.declared.ended.Ended.{Ended}
 
 -- how many pages are free once all that waits is home

@@ -1,11 +1,11 @@
 ghost use Rattle.std.specs.Prelude.{◌≡◌, ◌+◌, ◌≤◌, ◌⊎◌, ◌++◌, Ok, IfOk, IfErr, OnErr, length};
 ghost use Rattle.std.specs.Prelude.{vec_len, vec_capacity};
-ghost use Rattle.mq_system.specs.Look.{refused_or_memory};
-ghost use Rattle.mq_system.specs.declared.errno.Errno.TheVariants.{ENOMEM};
+ghost use Rattle.mq_one_thread.specs.Look.{refused_or_memory};
+ghost use Rattle.mq_one_thread.specs.declared.errno.Errno.TheVariants.{ENOMEM};
 ghost use Rattle.mq.specs.Bytes.{receives_bytes, sends_bytes, with_text};
 
 use mq_message::Text;
-use mq_system::{Delivered, Errno, OneThread, SendRefused};
+use mq_one_thread::{Delivered, Errno, OneThread, SendRefused};
 use mq_table::Id;
 use std::alloc::Global;
 use std::sync::ledger::Ledger;

@@ -1,4 +1,4 @@
-use mq_system::ClosedSlot;
+use mq_one_thread::ClosedSlot;
 
 /// What a program answered, and what its queues left.
 #[derive(Drop)]

@@ -1,12 +1,12 @@
 ghost use Rattle.std.specs.Prelude.{◌≡◌, ◌↔◌, ◌≤◌, true, false, IfOk, IsErrOf};
-ghost use Rattle.mq_system.specs.Limits.{keeps_limits, start};
-ghost use Rattle.mq_system.specs.State.{State};
-ghost use Rattle.mq_system.specs.declared.config.Config.{Config as Sizes};
+ghost use Rattle.mq_one_thread.specs.Limits.{keeps_limits, start};
+ghost use Rattle.mq_one_thread.specs.State.{State};
+ghost use Rattle.mq_one_thread.specs.declared.config.Config.{Config as Sizes};
 ghost use Rattle.mq.specs.Ended.{Leaves};
 
 use crate::Ended;
 use mq_arena::LEDGER_PARTS;
-use mq_system::{Closed, Config, OneThread, SysError};
+use mq_one_thread::{Closed, Config, OneThread, SysError};
 use std::alloc::Global;
 use std::marker::Brand;
 use std::sync::ledger::{Blank, Ledger};

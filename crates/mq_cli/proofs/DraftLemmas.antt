@@ -8,14 +8,14 @@ use Rattle.mq_tree.proofs.Kept.{left_fit}
 use Rattle.mq_arena.specs.Lent.{lend, with_lent, gives_back}
 use Rattle.mq_message.specs.Text.{PlainText, no_text, order_for}
 use Rattle.mq_queue.specs.declared.limits.TheConstants.{MSGMAX}
-use Rattle.mq_system.specs.Calls.{msgsnd}
-use Rattle.mq_system.specs.Look.{Answer, refused_or_memory}
-use Rattle.mq_system.specs.State.{State, with_arena}
-use Rattle.mq_system.specs.Texts.{drafts, in_block}
-use Rattle.mq_system.specs.declared.draft_error.DraftError.{DraftError}
-use Rattle.mq_system.specs.declared.draft_error.DraftError.TheVariants.{TooLong}
-use Rattle.mq_system.specs.declared.errno.Errno.TheVariants.{ENOMEM}
-use Rattle.mq_system.specs.declared.results.Refused.{Refused}
+use Rattle.mq_one_thread.specs.Calls.{msgsnd}
+use Rattle.mq_one_thread.specs.Look.{Answer, refused_or_memory}
+use Rattle.mq_one_thread.specs.State.{State, with_arena}
+use Rattle.mq_one_thread.specs.Texts.{drafts, in_block}
+use Rattle.mq_one_thread.specs.declared.draft_error.DraftError.{DraftError}
+use Rattle.mq_one_thread.specs.declared.draft_error.DraftError.TheVariants.{TooLong}
+use Rattle.mq_one_thread.specs.declared.errno.Errno.TheVariants.{ENOMEM}
+use Rattle.mq_one_thread.specs.declared.results.Refused.{Refused}
 use Rattle.mq_cli.specs.Commands.{Text}
 use Rattle.mq_cli.specs.Drafts.{bytes_of_text, draft, filled, length_of_text, spent}
 use Rattle.mq_cli.specs.Serial.{Answered}

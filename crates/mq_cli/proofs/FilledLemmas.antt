@@ -1,7 +1,7 @@
 use Rattle.std.proofs.Common.{◌≡◌, ℕ, ℤ, ◌+◌, ◌^◌, Bool, true, false, cond, List, [], ◌∷◌, Some, Result, Ok, Err, codes, refl, arith}
 use Rattle.std.specs.List.{list_all}
 use Rattle.std.specs.Str.{bytes_eq}
-use Rattle.mq_system.specs.declared.limits.TheConstants.{MAX_SEATS}
+use Rattle.mq_one_thread.specs.declared.limits.TheConstants.{MAX_SEATS}
 use Rattle.mq_cli.specs.declared.fault.Cause.{Cause}
 use Rattle.mq_cli.specs.declared.fault.Cause.TheVariants.{Words}
 use Rattle.mq_cli.specs.Commands.{Call, sit, get, rcv, set, rm, stat, is_filled, flags_of, seat_of, arena_of, get_flags_of, get_of, set_of, remove_of, stat_of, ipcs_of, receive_of, command_of, named}

@@ -2,10 +2,10 @@
 use Rattle.std.specs.Prelude.{ℕ, ◌+◌, ◌%◌, List, length, map, Result, Ok, Err}
 use Rattle.std.specs.List.{range_with_len}
 use Rattle.mq_message.specs.Text.{PlainText}
-use Rattle.mq_system.specs.State.{State, with_arena}
-use Rattle.mq_system.specs.Texts.{drafts, draft_errno, spends}
-use Rattle.mq_system.specs.declared.draft_error.DraftError.{DraftError}
-use Rattle.mq_system.specs.declared.errno.Errno.{Errno}
+use Rattle.mq_one_thread.specs.State.{State, with_arena}
+use Rattle.mq_one_thread.specs.Texts.{drafts, draft_errno, spends}
+use Rattle.mq_one_thread.specs.declared.draft_error.DraftError.{DraftError}
+use Rattle.mq_one_thread.specs.declared.errno.Errno.{Errno}
 use Rattle.mq_cli.specs.Commands.{Text, plain, letters}
 
 -- the letters a to z, over and over

@@ -1,10 +1,10 @@
 -- What a run keeps.
 use Rattle.std.specs.Prelude.{ℕ, Result, Ok, Err}
-use Rattle.mq_system.specs.Limits.{start as empty_system}
-use Rattle.mq_system.specs.State.{State as System}
-use Rattle.mq_system.specs.declared.config.Config.{Config}
-use Rattle.mq_system.specs.declared.errno.Errno.{Errno}
-use Rattle.mq_system.specs.declared.results.Refused.{Refused}
+use Rattle.mq_one_thread.specs.Limits.{start as empty_system}
+use Rattle.mq_one_thread.specs.State.{State as System}
+use Rattle.mq_one_thread.specs.declared.config.Config.{Config}
+use Rattle.mq_one_thread.specs.declared.errno.Errno.{Errno}
+use Rattle.mq_one_thread.specs.declared.results.Refused.{Refused}
 
 -- the queues, and the seat that makes the calls
 pub record State : Type 0 where

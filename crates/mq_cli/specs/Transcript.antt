@@ -6,15 +6,15 @@ use Rattle.mq_tree.specs.Fit.{largest}
 use Rattle.mq_tree.specs.LentSet.{free_pages}
 use Rattle.mq_message.specs.Text.{PlainText}
 use Rattle.mq_queue.specs.declared.figures.Figures.{Figures}
-use Rattle.mq_system.specs.Calls.{msgsnd, msgrcv, rmid}
-use Rattle.mq_system.specs.Calls.{set as set_answer, stat as stat_answer}
-use Rattle.mq_system.specs.Get.{msgget}
-use Rattle.mq_system.specs.Names.{errno_name}
-use Rattle.mq_system.specs.State.{State as System}
-use Rattle.mq_system.specs.declared.config.Config.{Config}
-use Rattle.mq_system.specs.declared.errno.Errno.{Errno}
-use Rattle.mq_system.specs.declared.results.Delivered.{Delivered}
-use Rattle.mq_system.specs.declared.results.GetFlags.{GetFlags}
+use Rattle.mq_one_thread.specs.Calls.{msgsnd, msgrcv, rmid}
+use Rattle.mq_one_thread.specs.Calls.{set as set_answer, stat as stat_answer}
+use Rattle.mq_one_thread.specs.Get.{msgget}
+use Rattle.mq_one_thread.specs.Names.{errno_name}
+use Rattle.mq_one_thread.specs.State.{State as System}
+use Rattle.mq_one_thread.specs.declared.config.Config.{Config}
+use Rattle.mq_one_thread.specs.declared.errno.Errno.{Errno}
+use Rattle.mq_one_thread.specs.declared.results.Delivered.{Delivered}
+use Rattle.mq_one_thread.specs.declared.results.GetFlags.{GetFlags}
 use Rattle.mq_cli.specs.declared.fault.Cause.{Cause}
 use Rattle.mq_cli.specs.Lines.{lines_of}
 use Rattle.mq_cli.specs.Commands.{Call, sit, show, get, snd, rcv, set, rm, stat, ipcs, Text}

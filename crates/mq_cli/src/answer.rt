@@ -6,7 +6,7 @@ ghost use Rattle.mq_cli.specs.Seen.{arena_shown, call_of, text_seen};
 ghost use Rattle.mq_cli.specs.Serial.{Answered};
 ghost use Rattle.mq_cli.specs.Transcript.{arena_reply, output, stat_reply, step};
 ghost use Rattle.mq_cli.specs.Transcript.{get_step, receive_step, remove_step, send_step, set_step};
-ghost use Rattle.mq_system.specs.Calls.{stat as stat_answer};
+ghost use Rattle.mq_one_thread.specs.Calls.{stat as stat_answer};
 
 use crate::command::{Command, GetCall, ReceiveCall, ReceiveFlags, SendCall};
 use crate::draft::draft;
@@ -17,7 +17,7 @@ use crate::reply::{
 use crate::report::write_report;
 use crate::session::Session;
 use mq_message::Text;
-use mq_system::{Delivered, OneThread, Removal, SendRefused};
+use mq_one_thread::{Delivered, OneThread, Removal, SendRefused};
 use mq_table::Id;
 use std::alloc::AllocError;
 use std::sync::ledger::Ledger;

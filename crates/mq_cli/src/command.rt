@@ -15,7 +15,7 @@ ghost use Rattle.mq_cli.specs.Seen.{flags_seen, seen, seen_line, text_seen};
 use crate::number::{integer, key, number};
 use crate::words::Words;
 use crate::{Cause, LINE_LIMIT};
-use mq_system::{GetFlags, MAX_SEATS};
+use mq_one_thread::{GetFlags, MAX_SEATS};
 
 /// The text of a message as a line spells it.
 #[derive(Clone, Copy, Drop)]

@@ -7,8 +7,8 @@ ghost use Rattle.mq_cli.specs.Seen.{text_seen};
 
 use crate::command::TextForm;
 use mq_message::Text;
+use mq_one_thread::{Errno, OneThread};
 use mq_queue::MSGMAX;
-use mq_system::{Errno, OneThread};
 use std::alloc::{AllocError, Global};
 use std::sync::ledger::Ledger;
 

@@ -6,8 +6,8 @@ ghost use Rattle.mq_cli.specs.Transcript.{output, refused, given, at, message, g
 
 use itoa::{Buffer, Integer};
 use mq_message::Text;
+use mq_one_thread::{Delivered, Errno};
 use mq_queue::Figures;
-use mq_system::{Delivered, Errno};
 use std::alloc::AllocError;
 use std::sync::ledger::Ledger;
 

@@ -4,8 +4,8 @@ ghost use Rattle.mq_cli.specs.Reports.{right_aligned};
 ghost use Rattle.mq_cli.specs.Transcript.{output, table};
 
 use itoa::{Buffer, Integer};
+use mq_one_thread::{MAX_SEQ, MAX_SLOTS, OneThread};
 use mq_queue::BoardRow;
-use mq_system::{MAX_SEQ, MAX_SLOTS, OneThread};
 use mq_table::Id;
 use std::alloc::AllocError;
 use std::sync::ledger::Ledger;

@@ -2,7 +2,7 @@ ghost use Rattle.std.specs.Prelude.{◌≡◌, ◌<◌, ◌≤◌, ℕ, true, No
 ghost use Rattle.std.specs.Prelude.{IsErrOf, length};
 ghost use Rattle.std.specs.Io.KnownBytes.{Appends, IsAtEnd, Keeps};
 ghost use Rattle.mq_cli.specs.Serial.{AppendsPrefix, ReadsMoreThan, ReadsUpTo, Runs, RunsLine};
-ghost use Rattle.mq_system.specs.Limits.{keeps_limits};
+ghost use Rattle.mq_one_thread.specs.Limits.{keeps_limits};
 ghost use Rattle.mq_cli.specs.Commands.{reading};
 ghost use Rattle.mq_cli.specs.Lines.{lines_of};
 ghost use Rattle.mq_cli.specs.Transcript.{fault_of, run_from, run_of, said, transcript};
@@ -16,7 +16,7 @@ use crate::script::read_script;
 use crate::session::Session;
 use crate::{RunFault, SCRIPT_LIMIT};
 use mq_arena::LEDGER_PARTS;
-use mq_system::Config;
+use mq_one_thread::Config;
 use std::alloc::{AllocError, Global};
 use std::io::{Read, Write};
 use std::marker::Brand;

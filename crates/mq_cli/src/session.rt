@@ -3,7 +3,7 @@ ghost use Rattle.mq_cli.specs.Session.{start};
 
 use crate::draft::letters;
 use mq_arena::LEDGER_PARTS;
-use mq_system::{Config, OneThread};
+use mq_one_thread::{Config, OneThread};
 use std::alloc::{AllocError, Global};
 use std::marker::Model;
 use std::sync::ledger::{Blank, Ledger};

@@ -1,6 +1,6 @@
 use crate::sizes::{DEFAULTS, ONE_PAGE};
 use mq_cli::{Cause, RunFault, run_serial};
-use mq_system::Config;
+use mq_one_thread::Config;
 use std::test::Fail;
 
 /// A script, what it writes, and the fault that ends it.

@@ -1,6 +1,6 @@
 use crate::sizes::DEFAULTS;
 use mq_cli::run_serial;
-use mq_system::Config;
+use mq_one_thread::Config;
 use std::test::Fail;
 
 /// The slots and the greatest seq of a run, its script, and what it writes.

@@ -1,7 +1,7 @@
 -- What the options of the command line mean.
 use Rattle.std.specs.Prelude.{◌≡◌, ◌≤◌, ℕ, List, Option, Some, None}
 use Rattle.std.specs.Str.Parse.{IsNumeral, digits_value, without_leading_plus}
-use Rattle.mq_system.specs.declared.config.Config.{Config}
+use Rattle.mq_one_thread.specs.declared.config.Config.{Config}
 
 -- the size of a run that is given none
 abbrev pub defaults : Config

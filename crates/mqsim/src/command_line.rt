@@ -2,11 +2,11 @@
 
 ghost use Rattle.std.specs.Prelude.{◌≡◌, ◌≤◌, true, length, codes, IfOk, Ok};
 ghost use Rattle.clap.specs.Matches.{found_of, one_text};
-ghost use Rattle.mq_system.specs.Limits.{keeps_limits};
+ghost use Rattle.mq_one_thread.specs.Limits.{keeps_limits};
 ghost use Rattle.mqsim.specs.Options.{Means, defaults};
 
 use clap::{Arg, ArgMatches, Command, Error, value_parser};
-use mq_system::{Config, DEFAULTS, MAX_HEIGHT, MAX_SEATS, MAX_SEQ, MAX_SLOTS};
+use mq_one_thread::{Config, DEFAULTS, MAX_HEIGHT, MAX_SEATS, MAX_SEQ, MAX_SLOTS};
 use std::alloc::{AllocError, Global};
 
 /// The end of the help.

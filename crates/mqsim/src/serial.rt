@@ -5,10 +5,10 @@ ghost use Rattle.std.specs.Io.KnownBytes.{IsAtEnd};
 ghost use Rattle.mq_cli.specs.Serial.{ReadsMoreThan, ReadsUpTo};
 ghost use Rattle.mq_cli.specs.Transcript.{fault_of};
 ghost use Rattle.mq_cli.specs.declared.fault.Cause.{Cause};
-ghost use Rattle.mq_system.specs.Limits.{keeps_limits};
+ghost use Rattle.mq_one_thread.specs.Limits.{keeps_limits};
 
 use mq_cli::{RunFault, SCRIPT_LIMIT, run_serial};
-use mq_system::Config;
+use mq_one_thread::Config;
 use std::alloc::Global;
 use std::io::{BufWriter, Read, Write};
 

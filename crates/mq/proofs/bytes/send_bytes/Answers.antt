@@ -2,8 +2,8 @@ use Rattle.std.proofs.Common.{rules, ap, ◌∙◌, w64}
 use Rattle.std.proofs.lemmas.Int.{to_z-of_z}
 use mir.Val.{SFits}
 use Rattle.mq_message.specs.Text.{PlainText}
-use Rattle.mq_system.specs.State.{State}
-use Rattle.mq_system.specs.declared.results.Refused.{Refused}
+use Rattle.mq_one_thread.specs.State.{State}
+use Rattle.mq_one_thread.specs.declared.results.Refused.{Refused}
 use Rattle.mq.proofs.SendLemmas.{drafted_of, refused_whole, spent, spent_is_home}
 use Rattle.mq.proofs.bytes.send_bytes.Goals as goal
 

@@ -2,7 +2,7 @@ use Rattle.std.proofs.Common.{◌≡◌, ℕ, List, Option, None, Some, IfSome}
 use Rattle.std.specs.Io.KnownBytes.{Appends}
 use Rattle.mq_cli.specs.Transcript.{fault_of, transcript}
 use Rattle.mq_cli.specs.declared.fault.Cause.{Cause}
-use Rattle.mq_system.specs.declared.config.Config.{Config}
+use Rattle.mq_one_thread.specs.declared.config.Config.{Config}
 use Rattle.mqsim.proofs.serial.run.Goals as goal
 
 named : (config : Config) (script old new : Option (List ℕ)) (line : ℕ) (cause : Cause)

@@ -1,0 +1,48 @@
+-- What holds of a system in which no queue is made.
+use Rattle.std.proofs.Common.{◌≡◌, ℕ, ◌<◌, false, [], refl, sym, ◌∙◌, true≢false, arith, All, Any}
+use Rattle.std.proofs.lemmas.List.FromFn.{get_or-map-range_with_len, length-map-range_with_len}
+use Rattle.mq_message.specs.Text.{PlainText}
+use Rattle.mq_table.specs.Slot.{SlotState, Waits, empty_slot}
+use Rattle.mq_table.specs.SlotList.{IsSlotList, is_live}
+use Rattle.mq_one_thread.specs.Holds.{HasQueue, AreKeysOf}
+use Rattle.mq_one_thread.specs.Limits.{empty_slots}
+use Rattle.mq_one_thread.specs.Texts.{bytes_of}
+
+-- what holds of each empty slot, holds of all
+all_new : (P : SlotState PlainText → Type 0) → ((k : ℕ) → P (empty_slot k)) → (count : ℕ)
+    → All P (empty_slots count)
+all_new P each count k d within =
+    let low : k < count = omega (arith, within, length-map-range_with_len (empty_slot {B = PlainText}) 0 count) in
+    rw (get_or-map-range_with_len (empty_slot {B = PlainText}) 0 count k k d low (omega arith)) (each k)
+
+-- no event is a slot list
+none_is_list : (last_seq : ℕ) → IsSlotList last_seq []
+none_is_list last_seq = record {
+  logs = [];
+  whole = refl;
+  few = omega arith;
+  lawful = λ k d within. absurd (omega (arith, within));
+  ended = λ k d within. absurd (omega (arith, within));
+}
+
+pub lawful_new : (last_seq count : ℕ)
+    → All (λ (s : SlotState PlainText). IsSlotList last_seq s.events) (empty_slots count)
+lawful_new last_seq count =
+    all_new (λ s. IsSlotList last_seq s.events) (λ k. none_is_list last_seq) count
+
+pub waits_new : (count : ℕ) → All (Waits bytes_of) (empty_slots count)
+waits_new count = all_new (Waits bytes_of) (λ k. refl) count
+
+pub keyed_new : (count : ℕ) → AreKeysOf (empty_slots count) []
+keyed_new count key id = (
+  λ there. absurd (omega (arith, there.1)),
+  λ has. absurd (none has.1),
+)
+  where
+    gone : All (λ (s : SlotState PlainText). is_live s.events ≡ false) (empty_slots count)
+    gone = all_new (λ s. is_live s.events ≡ false) (λ k. refl) count
+
+    none : Any (HasQueue key id) (empty_slots count) → ⊥
+    none some =
+        let empty = rw some.3 at (gone some.0 some.1 some.2) in
+        true≢false (sym some.4.live ∙ empty)

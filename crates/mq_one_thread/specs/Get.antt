@@ -1,0 +1,55 @@
+-- What msgget answers and leaves (msgget(2)).
+use Rattle.std.specs.Prelude.{ℕ, ℤ, pos, ◌&&◌, if◌then◌else◌, length, Option, Some, None, Result, Ok, Err, position}
+use Rattle.std.specs.Ordering.{int_eq}
+use Rattle.mq_table.specs.Calls.{makes}
+use Rattle.mq_table.specs.Keys.{id_of_key, entered}
+use Rattle.mq_table.specs.Slot.{next_id}
+use Rattle.mq_table.specs.SlotList.{is_free}
+use Rattle.mq_one_thread.specs.State.{State, slot_at, with_slot}
+use Rattle.mq_one_thread.specs.declared.errno.Errno.{Errno}
+use Rattle.mq_one_thread.specs.declared.errno.Errno.TheVariants.{EEXIST, ENOENT, ENOMEM, ENOSPC}
+use Rattle.mq_one_thread.specs.declared.results.GetFlags.{GetFlags}
+use Rattle.mq_one_thread.specs.declared.results.Got.{Got}
+
+-- the id, and what is left
+abbrev pub GetAnswer : Type 0
+GetAnswer = Result (Got × State) Errno
+
+-- a queue is made in slot k: its id is the slot's next one, and its key, if it has one, is entered
+-- last
+abbrev pub made_in : State → ℤ → ℕ → ℕ → Option ℕ → GetAnswer
+made_in s key seat moment None = Err ENOSPC
+made_in s key seat moment (Some k) =
+    let slot = slot_at s k in
+    Ok (
+      record { id = next_id slot; made = Some (length slot.events) },
+      record (with_slot s k (makes slot key seat moment)) {
+        keys = entered key (next_id slot) s.keys;
+      },
+    )
+
+-- the first slot in which no queue is and an id is left
+abbrev pub free_slot : State → Option ℕ
+free_slot s = position (λ slot. is_free s.last_seq slot.events) s.slots
+
+-- a queue is made in that slot
+abbrev pub makes_one : State → ℤ → ℕ → ℕ → GetAnswer
+makes_one s key seat moment = made_in s key seat moment (free_slot s)
+
+-- by a key: the queue that has it, or a new one (msgget(2), IPC_CREAT and IPC_EXCL)
+abbrev pub by_key : State → ℕ → ℤ → GetFlags → ℕ → Option ℕ → GetAnswer
+by_key s seat key flags moment (Some id) =
+    if flags.create && flags.exclusive then Err EEXIST else Ok (record { id = id; made = None }, s)
+by_key s seat key flags moment None =
+    if flags.create then makes_one s key seat moment else Err ENOENT
+
+-- msgget: key 0, which is IPC_PRIVATE, always makes a queue (msgget(2))
+abbrev pub msgget : State → ℕ → ℤ → GetFlags → ℕ → GetAnswer
+msgget s seat key flags moment =
+    if int_eq key (pos 0) then makes_one s key seat moment
+    else by_key s seat key flags moment (id_of_key s.keys key)
+
+-- where nothing refuses a call that failed, memory did
+abbrev pub errno_or_memory : GetAnswer → Errno
+errno_or_memory (Ok turn) = ENOMEM
+errno_or_memory (Err errno) = errno

@@ -1,0 +1,29 @@
+-- The sizes of a queue system, and how it starts.
+use Rattle.std.specs.Prelude.{ℕ, nat_le, ◌&&◌, Bool, List, [], map}
+use Rattle.std.specs.List.{range_with_len}
+use Rattle.mq_tree.specs.declared.limits.TheConstants.{MAX_HEIGHT}
+use Rattle.mq_message.specs.Text.{PlainText}
+use Rattle.mq_table.specs.Slot.{SlotState, empty_slot}
+use Rattle.mq_table.specs.declared.limits.TheConstants.{MAX_SLOTS, MAX_SEQ}
+use Rattle.mq_one_thread.specs.State.{State}
+use Rattle.mq_one_thread.specs.declared.config.Config.{Config}
+use Rattle.mq_one_thread.specs.declared.limits.TheConstants.{MAX_SEATS}
+
+-- the limits of a queue system
+abbrev pub keeps_limits : Config → Bool
+keeps_limits c =
+    nat_le c.height MAX_HEIGHT && nat_le 1 c.slots && nat_le c.slots MAX_SLOTS && nat_le 1 c.seats
+    && nat_le c.seats MAX_SEATS && nat_le c.last_seq MAX_SEQ
+
+-- slots in which no queue was made
+abbrev pub empty_slots : ℕ → List (SlotState PlainText)
+empty_slots count = map empty_slot (range_with_len 0 count)
+
+-- no queue is made, and nothing is lent
+abbrev pub start : Config → State
+start c = record {
+  arena = record { height = c.height; lent = [] };
+  slots = empty_slots c.slots;
+  keys = [];
+  last_seq = c.last_seq;
+}

@@ -1,0 +1,57 @@
+ghost use Rattle.std.specs.Prelude.{◌≡◌, Ok, IfOk, IfErr, OnErr};
+ghost use Rattle.mq_one_thread.specs.Calls.{set as set_answer, rmid as rmid_answer, stat as stat_answer};
+ghost use Rattle.mq_one_thread.specs.Look.{refused_or_memory};
+
+use crate::home::take_home;
+use crate::{Errno, OneThread, Refused, Removal};
+use mq_queue::Figures;
+use mq_table::{Id, remove_under};
+use std::sync::ledger::Ledger;
+
+impl<L: Ledger> OneThread<L> {
+    /// Sets the quota (msgctl(2), IPC_SET of msg_qbytes), and answers the entry. EINVAL, EIDRM,
+    /// EPERM over MSGMNB, then ENOMEM.
+    pub fn set(&mut self, seat: u16, id: Id, qbytes: u64, moment: u64) -> Result<u64, Refused>
+        ensures ok { IfOk result (λ entry.
+            set_answer self.old seat id qbytes moment ≡ Ok (entry, self.new)) }
+        ensures refused { IfErr result (λ r.
+            r ≡ refused_or_memory self.old id (set_answer self.old seat id qbytes moment)) }
+        ensures unchanged { OnErr result (self.new ≡ self.old) }
+    {
+        let k = self.place_of(id)?;
+        match self.slots[k].set(qbytes, seat, moment) {
+            Ok(entry) => Ok(entry),
+            Err(refusal) => Err(self.refused(k, Errno::from(refusal))),
+        }
+    }
+
+    /// Removes the queue (msgctl(2), IPC_RMID), and spends the texts that waited in it. EINVAL,
+    /// EIDRM, then ENOMEM.
+    pub fn rmid(&mut self, seat: u16, id: Id, moment: u64) -> Result<Removal, Refused>
+        ensures ok { IfOk result (λ removal.
+            rmid_answer self.old seat id moment ≡ Ok (removal, self.new)) }
+        ensures refused { IfErr result (λ r.
+            r ≡ refused_or_memory self.old id (rmid_answer self.old seat id moment)) }
+        ensures unchanged { OnErr result (self.new ≡ self.old) }
+    {
+        let k = self.place_of(id)?;
+        let entry = self.slots[k].events();
+        match remove_under(&mut self.keys, &mut self.slots[k], seat, moment) {
+            Ok((log, waiting)) => {
+                take_home(&mut self.arena, waiting);
+                Ok(Removal { entry, log })
+            }
+            Err(_) => Err(self.refused(k, Errno::ENOMEM)),
+        }
+    }
+
+    /// What is shown of the queue (msgctl(2), IPC_STAT). EINVAL, then EIDRM.
+    pub fn stat(&self, id: Id) -> Result<Figures, Errno>
+        ensures { result ≡ stat_answer self.now id }
+    {
+        match self.place_of(id) {
+            Ok(k) => Ok(self.slots[k].figures()),
+            Err(refused) => Err(refused.errno),
+        }
+    }
+}

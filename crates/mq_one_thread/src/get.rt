@@ -1,0 +1,71 @@
+ghost use Rattle.std.specs.Prelude.{◌≡◌, ◌≢◌, ◌<◌, ◌≤◌, false, pos, Ok, None, IfOk, IfErr, IfSome, OnErr, length};
+ghost use Rattle.mq_table.specs.Keys.{id_of_key};
+ghost use Rattle.mq_table.specs.SlotList.{is_live, made_count};
+ghost use Rattle.mq_one_thread.specs.Get.{errno_or_memory, free_slot, makes_one};
+ghost use Rattle.mq_one_thread.specs.Get.{msgget as msgget_answer};
+ghost use Rattle.mq_one_thread.specs.State.{slot_at};
+
+use crate::{Errno, GetFlags, Got, OneThread};
+use mq_table::{MAX_SEQ, make_under};
+use std::sync::ledger::Ledger;
+
+impl<L: Ledger> OneThread<L> {
+    /// The id of the queue with this key, or of a new queue (msgget(2)). Key 0 is IPC_PRIVATE.
+    /// EEXIST, ENOENT, ENOSPC, then ENOMEM.
+    pub fn msgget(
+        &mut self,
+        seat: u16,
+        key: i32,
+        flags: GetFlags,
+        moment: u64,
+    ) -> Result<Got, Errno>
+        ensures ok { IfOk result (λ got.
+            msgget_answer self.old seat key flags moment ≡ Ok (got, self.new)) }
+        ensures refused { IfErr result (λ errno.
+            errno ≡ errno_or_memory (msgget_answer self.old seat key flags moment)) }
+        ensures unchanged { OnErr result (self.new ≡ self.old) }
+    {
+        if key == 0 {
+            return self.make(seat, key, moment);
+        }
+        match self.keys.look(key) {
+            Some(_) if flags.create && flags.exclusive => Err(Errno::EEXIST),
+            Some(id) => Ok(Got { id, made: None }),
+            None if flags.create => self.make(seat, key, moment),
+            None => Err(Errno::ENOENT),
+        }
+    }
+
+    /// Makes a queue in the least slot that is free.
+    fn make(&mut self, seat: u16, key: i32, moment: u64) -> Result<Got, Errno>
+        requires { key ≢ pos 0 → id_of_key self.old.keys key ≡ None }
+        ensures ok { IfOk result (λ got. makes_one self.old key seat moment ≡ Ok (got, self.new)) }
+        ensures refused { IfErr result (λ errno.
+            errno ≡ errno_or_memory (makes_one self.old key seat moment)) }
+        ensures unchanged { OnErr result (self.new ≡ self.old) }
+    {
+        let Some(k) = self.least_free() else {
+            return Err(Errno::ENOSPC);
+        };
+        let entry = self.slots[k].events();
+        match make_under(&mut self.keys, &mut self.slots[k], key, seat, moment) {
+            Ok(id) => Ok(Got {
+                id,
+                made: Some(entry),
+            }),
+            Err(_) => Err(Errno::ENOMEM),
+        }
+    }
+
+    fn least_free(&self) -> Option<usize>
+        ensures first { result ≡ free_slot self.now }
+        ensures within { IfSome result (λ k. k < length self.now.slots) }
+        ensures empty { IfSome result (λ k. is_live (slot_at self.now k).events ≡ false) }
+        ensures unused { IfSome result (λ k. made_count (slot_at self.now k).events ≤ MAX_SEQ) }
+        ensures left { IfSome result (λ k.
+            made_count (slot_at self.now k).events ≤ self.now.last_seq) }
+    {
+        let last_seq = self.last_seq;
+        self.slots.iter().position(|slot| slot.is_free(last_seq))
+    }
+}

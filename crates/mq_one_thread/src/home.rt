@@ -1,0 +1,41 @@
+ghost use Rattle.std.specs.Prelude.{◌≡◌};
+ghost use Rattle.mq_one_thread.specs.Texts.{comes_home, spends, spends_all};
+
+use mq_arena::{ArenaState, Homecoming};
+use mq_message::{Message, Text};
+use mq_select::{ListWaiting, Waiting};
+use std::sync::ledger::Ledger;
+
+/// Spends a text: its block goes home.
+pub fn take_back<L: Ledger>(arena: &mut ArenaState<L>, text: Text<L>) -> Homecoming
+    ensures back { arena.new ≡ spends text arena.old }
+    ensures home { result ≡ comes_home text arena.old }
+{
+    match text.into_block() {
+        Some(block) => arena.put(block),
+        None => Homecoming::Home,
+    }
+}
+
+/// Spends the texts of all that waits.
+pub fn take_home<L: Ledger>(arena: &mut ArenaState<L>, mut waiting: ListWaiting<Text<L>>)
+    ensures { arena.new ≡ spends_all waiting.messages arena.old }
+{
+    while let Some(message) = waiting.pop_any() {
+        take_back(arena, body_of(message));
+    }
+    waiting.end();
+}
+
+/// The body of a message.
+pub fn body_of<L: Ledger>(message: Message<Text<L>>) -> Text<L>
+    ensures { result ≡ message.body }
+{
+    let Message {
+        mtype: _,
+        sender: _,
+        tag: _,
+        body,
+    } = message;
+    body
+}

@@ -1,0 +1,150 @@
+ghost use Rattle.std.specs.Prelude.{◌≡◌, ◌<◌, true, Ok, Some, IfOk, IfErr, OnErr, length};
+ghost use Rattle.mq_table.specs.Ids.{slot_of};
+ghost use Rattle.mq_table.specs.SlotList.{is_live};
+ghost use Rattle.mq_one_thread.specs.Calls.{msgsnd as msgsnd_answer, msgrcv as msgrcv_answer};
+ghost use Rattle.mq_one_thread.specs.Look.{look, refused_or_memory};
+ghost use Rattle.mq_one_thread.specs.State.{slot_at};
+
+use crate::home::body_of;
+use crate::{Delivered, Errno, OneThread, Refused, SendRefused};
+use mq_message::{Message, Text};
+use mq_queue::Received;
+use mq_select::Selection;
+use mq_table::{Id, IdRefusal};
+use std::sync::ledger::Ledger;
+
+impl<L: Ledger> OneThread<L> {
+    /// Sends a text as this seat (msgop(2), msgsnd with IPC_NOWAIT), and answers the entry. EINVAL
+    /// for the type, EINVAL for the id, EIDRM, EAGAIN, then ENOMEM; the text is then handed back.
+    pub fn msgsnd(
+        &mut self,
+        seat: u16,
+        id: Id,
+        mtype: i64,
+        tag: u64,
+        text: Text<L>,
+        moment: u64,
+    ) -> Result<u64, SendRefused<Text<L>>>
+        ensures ok { IfOk result (λ entry.
+            msgsnd_answer self.old seat id mtype tag text moment ≡ Ok (entry, self.new)) }
+        ensures refused { IfErr result (λ r. r.refused ≡ refused_or_memory self.old id
+            (msgsnd_answer self.old seat id mtype tag text moment)) }
+        ensures handed_back { IfErr result (λ r. r.text ≡ text) }
+        ensures unchanged { OnErr result (self.new ≡ self.old) }
+    {
+        if mtype < 1 {
+            let refused = Refused {
+                errno: Errno::EINVAL,
+                entry: None,
+            };
+            return Err(SendRefused { refused, text });
+        }
+        let k = match self.place_of(id) {
+            Ok(k) => k,
+            Err(refused) => return Err(SendRefused { refused, text }),
+        };
+        let message = Message {
+            mtype,
+            sender: seat,
+            tag,
+            body: text,
+        };
+        match self.slots[k].send(message, moment) {
+            Ok(entry) => Ok(entry),
+            Err((refusal, message)) => Err(SendRefused {
+                refused: self.refused(k, Errno::from(refusal)),
+                text: body_of(message),
+            }),
+        }
+    }
+
+    /// Receives the first message that the selection names (msgop(2), msgrcv with IPC_NOWAIT).
+    /// With `noerror`, the flag MSG_NOERROR, a longer text is cut to `size` bytes. EINVAL, EIDRM,
+    /// ENOMSG, E2BIG, then ENOMEM.
+    pub fn msgrcv(
+        &mut self,
+        seat: u16,
+        id: Id,
+        size: u64,
+        msgtyp: i64,
+        except: bool,
+        noerror: bool,
+        moment: u64,
+    ) -> Result<Delivered<Text<L>>, Refused>
+        ensures ok { IfOk result (λ d.
+            msgrcv_answer self.old seat id size msgtyp except noerror moment ≡ Ok (d, self.new)) }
+        ensures refused { IfErr result (λ r. r ≡ refused_or_memory self.old id
+            (msgrcv_answer self.old seat id size msgtyp except noerror moment)) }
+        ensures unchanged { OnErr result (self.new ≡ self.old) }
+    {
+        let k = self.place_of(id)?;
+        let selection = Selection::read(msgtyp, except);
+        match self.slots[k].receive(size, selection, noerror, seat, moment) {
+            Ok(received) => Ok(delivery(received)),
+            Err(refusal) => Err(self.refused(k, Errno::from(refusal))),
+        }
+    }
+
+    /// The slot of the live queue with this id, or why there is none.
+    pub(crate) fn place_of(&self, id: Id) -> Result<usize, Refused>
+        ensures ok { IfOk result (λ k. k ≡ slot_of id) }
+        ensures within { IfOk result (λ k. k < length self.now.slots) }
+        ensures live { IfOk result (λ k. is_live (slot_at self.now k).events ≡ true) }
+        ensures found { IfOk result (λ k. look self.now id ≡ Ok tt) }
+        ensures refused { IfErr result (λ r. look self.now id ≡ Err r) }
+    {
+        let k = id.slot() as usize;
+        if k >= self.slots.len() {
+            return Err(Refused {
+                errno: Errno::EINVAL,
+                entry: None,
+            });
+        }
+        match self.slots[k].look(id) {
+            Ok(()) => Ok(k),
+            Err(refusal) => Err(self.refused(k, Errno::from(refusal))),
+        }
+    }
+
+    /// The refusal after all that has happened in the slot.
+    pub(crate) fn refused(&self, k: usize, errno: Errno) -> Refused
+        requires { k < length self.now.slots }
+        ensures { result
+            ≡ record { errno = errno; entry = Some (length (slot_at self.now k).events) } }
+    {
+        Refused {
+            errno,
+            entry: Some(self.slots[k].events()),
+        }
+    }
+}
+
+/// What is handed out of what was received.
+fn delivery<L: Ledger>(received: Received<Text<L>>) -> Delivered<Text<L>>
+    ensures { result ≡ record {
+      entry = received.entry;
+      mtype = received.mtype;
+      sender = received.sender;
+      tag = received.tag;
+      length = received.length;
+      text = received.body;
+    } }
+{
+    let Received {
+        entry,
+        place: _,
+        mtype,
+        sender,
+        tag,
+        length,
+        body,
+    } = received;
+    Delivered {
+        entry,
+        mtype,
+        sender,
+        tag,
+        length,
+        text: body,
+    }
+}

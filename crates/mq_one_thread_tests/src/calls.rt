@@ -1,0 +1,244 @@
+//! A system for a test, and its calls, each made once more where there was no memory.
+ghost use Rattle.std.specs.Prelude.{◌≡◌, ◌<◌};
+
+use mq_arena::Homecoming;
+use mq_message::{Body, Text};
+use mq_one_thread::{
+    Config, Delivered, Errno, GetFlags, Got, OneThread, Refused, Removal, SendRefused,
+};
+use mq_table::Id;
+use std::alloc::Global;
+use std::process::Abort;
+use std::sync::ledger::{Blank, Ledger};
+
+/// More than an arena has pages.
+pub(crate) const PARTS: u64 = 1025;
+
+pub(crate) const NO_FLAG: GetFlags = GetFlags {
+    create: false,
+    exclusive: false,
+};
+
+pub(crate) const CREATE: GetFlags = GetFlags {
+    create: true,
+    exclusive: false,
+};
+
+pub(crate) const EXCLUSIVE: GetFlags = GetFlags {
+    create: false,
+    exclusive: true,
+};
+
+pub(crate) const NEW: GetFlags = GetFlags {
+    create: true,
+    exclusive: true,
+};
+
+/// What a receiver asks for.
+#[derive(Clone, Copy, Debug)]
+pub(crate) struct Wanted {
+    pub(crate) size: u64,
+    pub(crate) msgtyp: i64,
+    pub(crate) except: bool,
+    pub(crate) noerror: bool,
+}
+
+/// The first message, up to so many bytes.
+pub(crate) fn first(size: u64) -> Wanted {
+    Wanted {
+        size,
+        msgtyp: 0,
+        except: false,
+        noerror: false,
+    }
+}
+
+pub(crate) fn config(height: u8, slots: u8, last_seq: u32) -> Config {
+    Config {
+        height,
+        slots,
+        seats: 2,
+        last_seq,
+    }
+}
+
+pub(crate) fn made<L: Ledger>(
+    rt: &impl Abort,
+    alloc: Global,
+    config: Config,
+    ledger: Blank,
+) -> OneThread<L>
+    requires name { ledger.name ≡ L.name }
+    requires parts { ledger.parts ≡ L.parts }
+    requires enough { 1024 < ledger.parts }
+{
+    match OneThread::new(alloc, config, ledger) {
+        Ok(system) => system,
+        Err(refusal) => panic!(rt; "{refusal}"),
+    }
+}
+
+pub(crate) fn get<L: Ledger>(
+    system: &mut OneThread<L>,
+    key: i32,
+    flags: GetFlags,
+    moment: u64,
+) -> Result<Got, Errno> {
+    match system.msgget(1, key, flags, moment) {
+        Err(Errno::ENOMEM) => system.msgget(1, key, flags, moment),
+        answer => answer,
+    }
+}
+
+/// A text that is sent by seat 1, with the tag 7.
+pub(crate) fn send<L: Ledger>(
+    system: &mut OneThread<L>,
+    id: u32,
+    mtype: i64,
+    text: Text<L>,
+    moment: u64,
+) -> Result<u64, SendRefused<Text<L>>> {
+    let id = Id::from_number(id);
+    match system.msgsnd(1, id, mtype, 7, text, moment) {
+        Err(
+            SendRefused {
+                refused: Refused {
+                    errno: Errno::ENOMEM,
+                    ..
+                },
+                text,
+            },
+        ) => system.msgsnd(1, id, mtype, 7, text, moment),
+        answer => answer,
+    }
+}
+
+fn received_once<L: Ledger>(
+    system: &mut OneThread<L>,
+    id: u32,
+    wanted: Wanted,
+    moment: u64,
+) -> Result<Delivered<Text<L>>, Refused> {
+    let Wanted {
+        size,
+        msgtyp,
+        except,
+        noerror,
+    } = wanted;
+    system.msgrcv(
+        2,
+        Id::from_number(id),
+        size,
+        msgtyp,
+        except,
+        noerror,
+        moment,
+    )
+}
+
+fn no_memory<T>(answer: &Result<T, Refused>) -> bool {
+    match answer {
+        Ok(_) => false,
+        Err(refused) => refused.errno == Errno::ENOMEM,
+    }
+}
+
+/// What seat 2 receives.
+pub(crate) fn receive<L: Ledger>(
+    system: &mut OneThread<L>,
+    id: u32,
+    wanted: Wanted,
+    moment: u64,
+) -> Result<Delivered<Text<L>>, Refused> {
+    match received_once(system, id, wanted, moment) {
+        Err(
+            Refused {
+                errno: Errno::ENOMEM,
+                ..
+            },
+        ) => received_once(system, id, wanted, moment),
+        answer => answer,
+    }
+}
+
+pub(crate) fn set<L: Ledger>(
+    system: &mut OneThread<L>,
+    id: u32,
+    qbytes: u64,
+    moment: u64,
+) -> Result<u64, Refused> {
+    let answer = system.set(1, Id::from_number(id), qbytes, moment);
+    if no_memory(&answer) {
+        return system.set(1, Id::from_number(id), qbytes, moment);
+    }
+    answer
+}
+
+pub(crate) fn remove<L: Ledger>(
+    system: &mut OneThread<L>,
+    id: u32,
+    moment: u64,
+) -> Result<Removal, Refused> {
+    let answer = system.rmid(1, Id::from_number(id), moment);
+    if no_memory(&answer) {
+        return system.rmid(1, Id::from_number(id), moment);
+    }
+    answer
+}
+
+/// A text with these bytes.
+pub(crate) fn written<L: Ledger>(
+    rt: &impl Abort,
+    system: &mut OneThread<L>,
+    bytes: &[u8],
+) -> Text<L> {
+    match system.draft_of(bytes) {
+        Ok(text) => {
+            assert_eq!(rt; text.len(), bytes.len() as u64);
+            text
+        }
+        Err(refusal) => panic!(rt; "{refusal}"),
+    }
+}
+
+/// Sends a text that must be taken.
+pub(crate) fn taken<L: Ledger>(
+    rt: &impl Abort,
+    system: &mut OneThread<L>,
+    id: u32,
+    mtype: i64,
+    text: Text<L>,
+) -> u64 {
+    match send(system, id, mtype, text, 5) {
+        Ok(entry) => entry,
+        Err(
+            SendRefused {
+                refused,
+                text: _text,
+            },
+        ) => panic!(rt; "{refused}"),
+    }
+}
+
+/// Receives a message that must be there.
+pub(crate) fn delivered<L: Ledger>(
+    rt: &impl Abort,
+    system: &mut OneThread<L>,
+    id: u32,
+    wanted: Wanted,
+) -> Delivered<Text<L>> {
+    match receive(system, id, wanted, 6) {
+        Ok(delivered) => delivered,
+        Err(refused) => panic!(rt; "{refused}"),
+    }
+}
+
+/// Spends a text that is the system's own.
+pub(crate) fn spent<L: Ledger>(rt: &impl Abort, system: &mut OneThread<L>, text: Text<L>) {
+    assert_eq!(rt; system.spend(text), Homecoming::Home);
+}
+
+/// Whether a text of one page has these bytes.
+pub(crate) fn has<L: Ledger>(text: &Text<L>, bytes: &[u8]) -> bool {
+    text.count() == 1 && text.part(0) == bytes
+}

@@ -1,0 +1,77 @@
+//! What a system leaves at its end.
+ghost use Rattle.std.specs.Prelude.{◌≡◌, ◌<◌};
+
+use crate::calls::{CREATE, PARTS, config, delivered, first, get, made, remove, taken, written};
+use mq_arena::{ArenaState, Homecoming};
+use mq_message::Text;
+use mq_one_thread::{Closed, ClosedSlot, Delivered, OneThread};
+use std::alloc::Global;
+use std::marker::Brand;
+use std::process::Abort;
+use std::sync::ledger::{Blank, Ledger};
+
+fn sent<L: Ledger>(rt: &impl Abort, system: &mut OneThread<L>, id: u32, bytes: &[u8]) {
+    let text = written(rt, system, bytes);
+    taken(rt, system, id, 1, text);
+}
+
+/// Two texts wait in the first slot, of which one queue was removed, and none in the second; one
+/// waits in the third, and another was received.
+fn used<L: Ledger>(rt: &impl Abort, system: &mut OneThread<L>) -> Text<L> {
+    assert!(rt; get(system, 5, CREATE, 4).is_ok());
+    sent(rt, system, 0, b"gone");
+    assert!(rt; remove(system, 0, 5).is_ok());
+    for key in 5..8i32 {
+        assert!(rt; get(system, key, CREATE, 6).is_ok(), "{key}");
+    }
+    assert!(rt; remove(system, 1, 7).is_ok());
+    sent(rt, system, 64, b"one");
+    sent(rt, system, 64, b"two");
+    sent(rt, system, 2, b"outside");
+    sent(rt, system, 2, b"four");
+    let Delivered {
+        entry: _,
+        mtype: _,
+        sender: _,
+        tag: _,
+        length: _,
+        text,
+    } = delivered(rt, system, 2, first(9));
+    text
+}
+
+fn counts(slot: &ClosedSlot) -> (usize, usize, u64) {
+    (slot.past.len(), slot.last.len(), slot.left)
+}
+
+fn comes_home<L: Ledger>(rt: &impl Abort, arena: &mut ArenaState<L>, text: Text<L>) {
+    match text.into_block() {
+        Some(block) => assert_eq!(rt; arena.put(block), Homecoming::Home),
+        None => panic!(rt; "no block"),
+    }
+}
+
+fn closed_with_texts<L: Ledger, R: Abort>(rt: &R, alloc: Global, ledger: Blank)
+    requires name { ledger.name ≡ L.name }
+    requires parts { ledger.parts ≡ L.parts }
+    requires enough { 1024 < ledger.parts }
+{
+    let mut system = made::<L>(rt, alloc, config(3, 4, 9), ledger);
+    let outside = used(rt, &mut system);
+    assert_eq!(rt; system.free_pages(), 4);
+    let Closed { slots, mut arena } = system.close();
+    let wanted: [(usize, usize, u64); 4] = [(3, 3, 2), (2, 0, 0), (0, 4, 1), (0, 0, 0)];
+    assert_eq!(rt; slots.len(), 4);
+    for (slot, wanted) in slots.iter().zip(wanted) {
+        assert_eq!(rt; counts(slot), wanted);
+    }
+    assert_eq!(rt; arena.free_pages(), 7);
+    comes_home(rt, &mut arena, outside);
+    assert_eq!(rt; arena.free_pages(), 8);
+    assert_eq!(rt; arena.lent_pages(), 0);
+}
+
+#[test]
+fn texts_that_wait_at_the_end_come_home(rt: HostRuntime) {
+    closed_with_texts::<Brand, HostRuntime>(&rt, rt.alloc(), Blank::new(PARTS));
+}

@@ -1,0 +1,156 @@
+//! One queue from its making to its end, on a page and in a slot.
+ghost use Rattle.std.specs.Prelude.{◌≡◌, ◌<◌};
+
+use crate::calls::{
+    NEW, NO_FLAG, PARTS, config, first, get, has, made, receive, remove, send, taken, written,
+};
+use mq_message::Text;
+use mq_one_thread::{Closed, Errno, Got, OneThread, Refused, Removal, SendRefused};
+use mq_queue::{BoardRow, Event, Figures};
+use mq_table::Id;
+use std::alloc::Global;
+use std::marker::Brand;
+use std::process::Abort;
+use std::sync::ledger::{Blank, Ledger};
+
+const FIGURES: Figures = Figures {
+    qnum: 1,
+    cbytes: 2,
+    qbytes: 16_384,
+    stime: 5,
+    rtime: 0,
+    ctime: 4,
+    lspid: 1,
+    lrpid: 0,
+};
+
+const NO_FIGURES: Figures = Figures {
+    qnum: 0,
+    cbytes: 0,
+    qbytes: 0,
+    stime: 0,
+    rtime: 0,
+    ctime: 0,
+    lspid: 0,
+    lrpid: 0,
+};
+
+const LOG: [Event; 3] = [
+    Event::Made {
+        seat: 1,
+        moment: 4,
+        key: 0,
+    },
+    Event::Sent {
+        seat: 1,
+        moment: 5,
+        tag: 7,
+        mtype: 1,
+        length: 2,
+    },
+    Event::Removed { seat: 1, moment: 6 },
+];
+
+fn row<L: Ledger>(rt: &impl Abort, system: &OneThread<L>, slot: u8) -> BoardRow {
+    assert!(rt; slot < system.slots());
+    system.row(slot)
+}
+
+/// Nothing can be received, and what is sent with type 0 is handed back.
+fn refused<L: Ledger>(rt: &impl Abort, system: &mut OneThread<L>) -> Text<L> {
+    match receive(system, 0, first(9), 5) {
+        Ok(_delivered) => panic!(rt; "a message waits"),
+        Err(Refused { errno, entry }) => assert_eq!(rt; (errno, entry), (Errno::ENOMSG, Some(1))),
+    }
+    let text = written(rt, system, b"hi");
+    match send(system, 0, 0, text, 5) {
+        Ok(_) => panic!(rt; "type 0 was sent"),
+        Err(SendRefused { refused, text }) => {
+            assert_eq!(rt; (refused.errno, refused.entry), (Errno::EINVAL, None));
+            assert!(rt; has(&text, b"hi"));
+            assert_eq!(rt; text.start(), Some(0));
+            text
+        }
+    }
+}
+
+fn sent<L: Ledger>(rt: &impl Abort, system: &mut OneThread<L>, text: Text<L>) {
+    assert_eq!(rt; taken(rt, system, 0, 1, text), 1);
+    assert_eq!(rt; system.stat(Id::from_number(0)), Ok(FIGURES));
+    let row = row(rt, system, 0);
+    assert_eq!(rt; (row.made, row.live, row.key), (1, true, 0));
+    assert_eq!(rt; row.figures, FIGURES);
+    assert_eq!(rt; system.free_pages(), 0);
+}
+
+fn removed<L: Ledger>(rt: &impl Abort, system: &mut OneThread<L>) {
+    match remove(system, 0, 6) {
+        Ok(Removal { entry, log }) => {
+            assert_eq!(rt; entry, 2);
+            assert_eq!(rt; log.into_events().as_slice(), LOG.as_slice());
+        }
+        Err(refused) => panic!(rt; "{refused:?}"),
+    }
+    assert_eq!(rt; system.free_pages(), 1);
+    assert_eq!(rt; system.stat(Id::from_number(0)), Err(Errno::EIDRM));
+    let row = row(rt, system, 0);
+    assert_eq!(rt; (row.made, row.live, row.key), (1, false, 0));
+    assert_eq!(rt; row.figures, NO_FIGURES);
+}
+
+fn one_life<L: Ledger, R: Abort>(rt: &R, alloc: Global, ledger: Blank)
+    requires name { ledger.name ≡ L.name }
+    requires parts { ledger.parts ≡ L.parts }
+    requires enough { 1024 < ledger.parts }
+{
+    let mut system = made::<L>(rt, alloc, config(0, 1, 9), ledger);
+    let got = Got {
+        id: Id::from_number(0),
+        made: Some(0),
+    };
+    assert_eq!(rt; get(&mut system, 0, NEW, 4), Ok(got));
+    let text = refused(rt, &mut system);
+    sent(rt, &mut system, text);
+    removed(rt, &mut system);
+    let Closed { slots, arena } = system.close();
+    assert_eq!(rt; slots.len(), 1);
+    for slot in slots {
+        assert_eq!(rt; slot.past.as_slice(), LOG.as_slice());
+        assert!(rt; slot.last.is_empty());
+        assert_eq!(rt; slot.left, 0);
+    }
+    assert_eq!(rt; arena.free_pages(), 1);
+}
+
+#[test]
+fn a_queue_is_made_filled_shown_and_removed(rt: HostRuntime) {
+    one_life::<Brand, HostRuntime>(&rt, rt.alloc(), Blank::new(PARTS));
+}
+
+fn rows_shown<L: Ledger, R: Abort>(rt: &R, alloc: Global, ledger: Blank)
+    requires name { ledger.name ≡ L.name }
+    requires parts { ledger.parts ≡ L.parts }
+    requires enough { 1024 < ledger.parts }
+{
+    let mut system = made::<L>(rt, alloc, config(0, 3, 9), ledger);
+    assert!(rt; get(&mut system, 0, NO_FLAG, 0).is_ok());
+    assert!(rt; get(&mut system, -8, NEW, 4).is_ok());
+    let text = written(rt, &mut system, b"hi");
+    taken(rt, &mut system, 1, 1, text);
+    let first = row(rt, &system, 0);
+    let second = row(rt, &system, 1);
+    let third = row(rt, &system, 2);
+    assert_eq!(rt; (first.made, first.live, first.key), (1, true, 0));
+    assert_eq!(rt; (first.figures.qbytes, first.figures.qnum), (16_384, 0));
+    assert_eq!(rt; (second.made, second.live, second.key), (1, true, -8));
+    assert_eq!(rt; second.figures, FIGURES);
+    assert_eq!(rt; (third.made, third.live, third.key), (0, false, 0));
+    assert_eq!(rt; third.figures, NO_FIGURES);
+    let Closed { slots: _, arena } = system.close();
+    assert_eq!(rt; arena.free_pages(), 1);
+}
+
+#[test]
+fn each_row_shows_its_own_slot(rt: HostRuntime) {
+    rows_shown::<Brand, HostRuntime>(&rt, rt.alloc(), Blank::new(PARTS));
+}

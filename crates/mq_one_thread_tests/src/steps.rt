@@ -1,0 +1,165 @@
+//! Tables of calls and of what they answer.
+ghost use Rattle.std.specs.Prelude.{◌≡◌, ◌<◌};
+
+use crate::calls::{PARTS, Wanted, get, made, receive, remove, send, set};
+use mq_arena::Homecoming;
+use mq_message::Body;
+use mq_one_thread::{
+    Closed, Config, Delivered, Errno, GetFlags, Got, OneThread, Refused, SendRefused,
+};
+use mq_table::Id;
+use std::alloc::Global;
+use std::marker::Brand;
+use std::process::Abort;
+use std::sync::ledger::{Blank, Ledger};
+
+/// A call, at the moment that its number in the table says.
+#[derive(Clone, Copy, Debug)]
+pub(crate) enum Step {
+    /// A key and flags.
+    Get(i32, GetFlags),
+    /// An id, a type and a length.
+    Send(u32, i64, u64),
+    Receive(u32, Wanted),
+    /// An id and a quota.
+    Set(u32, u64),
+    Remove(u32),
+    Stat(u32),
+    /// How many pages are free, and the greatest order that fits.
+    Free,
+}
+
+#[derive(Clone, Copy, Debug, PartialEq, Eq)]
+pub(crate) enum Answer {
+    /// The id, and the entry of its making.
+    Id(u32, Option<u64>),
+    /// Why a queue is neither found nor made nor shown, or a text not drafted.
+    Errno(Errno),
+    At(u64),
+    /// The entry, the type, the whole length, and the length that is left.
+    Got(u64, i64, u64, u64),
+    /// The entry, and the number of events in the queue's log.
+    Removed(u64, u64),
+    Refused(Errno, Option<u64>),
+    /// How many messages and bytes wait, and may wait.
+    Shown(u64, u64, u64),
+    Free(u32, Option<u8>),
+    /// A text that was spent did not come home.
+    Astray,
+}
+
+fn refusal(refused: Refused) -> Answer {
+    Answer::Refused(refused.errno, refused.entry)
+}
+
+fn got<L: Ledger>(system: &mut OneThread<L>, key: i32, flags: GetFlags, moment: u64) -> Answer {
+    match get(system, key, flags, moment) {
+        Ok(Got { id, made }) => Answer::Id(id.number(), made),
+        Err(errno) => Answer::Errno(errno),
+    }
+}
+
+fn sent<L: Ledger>(
+    system: &mut OneThread<L>,
+    id: u32,
+    mtype: i64,
+    length: u64,
+    moment: u64,
+) -> Answer {
+    let text = match system.draft(length) {
+        Ok(text) => text,
+        Err(refusal) => return Answer::Errno(refusal.errno()),
+    };
+    match send(system, id, mtype, text, moment) {
+        Ok(entry) => Answer::At(entry),
+        Err(SendRefused { refused, text }) => match system.spend(text) {
+            Homecoming::Home => refusal(refused),
+            Homecoming::Stray => Answer::Astray,
+        },
+    }
+}
+
+fn received<L: Ledger>(system: &mut OneThread<L>, id: u32, wanted: Wanted, moment: u64) -> Answer {
+    match receive(system, id, wanted, moment) {
+        Ok(
+            Delivered {
+                entry,
+                mtype,
+                sender: _,
+                tag: _,
+                length,
+                text,
+            },
+        ) => {
+            let left = text.len();
+            match system.spend(text) {
+                Homecoming::Home => Answer::Got(entry, mtype, length, left),
+                Homecoming::Stray => Answer::Astray,
+            }
+        }
+        Err(refused) => refusal(refused),
+    }
+}
+
+fn changed<L: Ledger>(system: &mut OneThread<L>, id: u32, qbytes: u64, moment: u64) -> Answer {
+    match set(system, id, qbytes, moment) {
+        Ok(entry) => Answer::At(entry),
+        Err(refused) => refusal(refused),
+    }
+}
+
+fn removed<L: Ledger>(system: &mut OneThread<L>, id: u32, moment: u64) -> Answer {
+    match remove(system, id, moment) {
+        Ok(removal) => Answer::Removed(removal.entry, removal.log.len()),
+        Err(refused) => refusal(refused),
+    }
+}
+
+fn shown<L: Ledger>(system: &OneThread<L>, id: u32) -> Answer {
+    match system.stat(Id::from_number(id)) {
+        Ok(figures) => Answer::Shown(figures.qnum, figures.cbytes, figures.qbytes),
+        Err(errno) => Answer::Errno(errno),
+    }
+}
+
+fn called<L: Ledger>(system: &mut OneThread<L>, step: Step, moment: u64) -> Answer {
+    match step {
+        Step::Get(key, flags) => got(system, key, flags, moment),
+        Step::Send(id, mtype, length) => sent(system, id, mtype, length, moment),
+        Step::Receive(id, wanted) => received(system, id, wanted, moment),
+        Step::Set(id, qbytes) => changed(system, id, qbytes, moment),
+        Step::Remove(id) => removed(system, id, moment),
+        Step::Stat(id) => shown(system, id),
+        Step::Free => Answer::Free(system.free_pages(), system.largest()),
+    }
+}
+
+fn play<L: Ledger, R: Abort>(
+    rt: &R,
+    alloc: Global,
+    config: Config,
+    ledger: Blank,
+    table: &[(Step, Answer)],
+)
+    requires name { ledger.name ≡ L.name }
+    requires parts { ledger.parts ≡ L.parts }
+    requires enough { 1024 < ledger.parts }
+{
+    let mut system = made::<L>(rt, alloc, config, ledger);
+    let mut moment = 0u64;
+    for (step, wanted) in table {
+        assert_eq!(rt;
+            called(&mut system, *step, moment),
+            *wanted,
+            "{moment}: {step:?}"
+        );
+        moment = moment.saturating_add(1);
+    }
+    let Closed { slots: _, arena } = system.close();
+    assert_eq!(rt; arena.free_pages(), arena.pages());
+}
+
+/// A new system answers these calls so, one after another, and all its pages are home at the end.
+pub(crate) fn plays<R: Abort>(rt: &R, alloc: Global, config: Config, table: &[(Step, Answer)]) {
+    play::<Brand, R>(rt, alloc, config, Blank::new(PARTS), table);
+}

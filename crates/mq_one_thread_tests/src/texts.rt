@@ -1,0 +1,200 @@
+//! Texts that are drafted, sent, received and spent.
+ghost use Rattle.std.specs.Prelude.{◌≡◌, ◌<◌};
+
+use crate::calls::{
+    CREATE, PARTS, Wanted, config, delivered, first, get, has, made, receive, spent, taken, written,
+};
+use crate::steps::{Answer, Step, plays};
+use mq_message::{Body, Text};
+use mq_one_thread::{Closed, Delivered, DraftError, Errno, OneThread, Refused};
+use std::alloc::Global;
+use std::marker::Brand;
+use std::process::Abort;
+use std::sync::ledger::{Blank, Ledger};
+
+fn drafted<L: Ledger>(rt: &impl Abort, system: &mut OneThread<L>, len: u64) -> Text<L> {
+    match system.draft(len) {
+        Ok(text) => {
+            assert_eq!(rt; text.len(), len);
+            text
+        }
+        Err(refusal) => panic!(rt; "{refusal}"),
+    }
+}
+
+fn not_drafted<L: Ledger>(rt: &impl Abort, system: &mut OneThread<L>, len: u64) -> DraftError {
+    match system.draft(len) {
+        Ok(_text) => panic!(rt; "{len} bytes were drafted"),
+        Err(refusal) => refusal,
+    }
+}
+
+/// Texts of these lengths, and what is free beside each.
+const LENGTHS: [(u64, u32, Option<u8>, Option<u32>); 9] = [
+    (0, 16, Some(4), None),
+    (1, 15, Some(3), Some(0)),
+    (1024, 15, Some(3), Some(0)),
+    (1025, 14, Some(3), Some(0)),
+    (2048, 14, Some(3), Some(0)),
+    (2049, 12, Some(3), Some(0)),
+    (4096, 12, Some(3), Some(0)),
+    (4097, 8, Some(3), Some(0)),
+    (8192, 8, Some(3), Some(0)),
+];
+
+fn lengths_drafted<L: Ledger, R: Abort>(rt: &R, alloc: Global, ledger: Blank)
+    requires name { ledger.name ≡ L.name }
+    requires parts { ledger.parts ≡ L.parts }
+    requires enough { 1024 < ledger.parts }
+{
+    let mut system = made::<L>(rt, alloc, config(4, 1, 9), ledger);
+    assert_eq!(rt; system.pages(), 16);
+    for (len, free, largest, start) in LENGTHS {
+        let text = drafted(rt, &mut system, len);
+        assert_eq!(rt; text.start(), start, "{len}");
+        assert!(rt;
+            text.parts().all(|part| part.iter().all(|byte| *byte == 0)),
+            "{len}"
+        );
+        assert_eq!(rt;
+            (system.free_pages(), system.largest()),
+            (free, largest),
+            "{len}"
+        );
+        spent(rt, &mut system, text);
+        assert_eq!(rt; system.free_pages(), 16, "{len}");
+    }
+    let Closed { slots: _, arena } = system.close();
+    assert_eq!(rt; arena.free_pages(), 16);
+}
+
+#[test]
+fn a_draft_is_zero_and_takes_the_smallest_block(rt: HostRuntime) {
+    lengths_drafted::<Brand, HostRuntime>(&rt, rt.alloc(), Blank::new(PARTS));
+}
+
+fn drafts_refused<L: Ledger, R: Abort>(rt: &R, alloc: Global, ledger: Blank)
+    requires name { ledger.name ≡ L.name }
+    requires parts { ledger.parts ≡ L.parts }
+    requires enough { 1024 < ledger.parts }
+{
+    let mut system = made::<L>(rt, alloc, config(3, 1, 9), ledger);
+    let page = drafted(rt, &mut system, 1);
+    assert_eq!(rt; system.largest(), Some(2));
+    assert_eq!(rt; not_drafted(rt, &mut system, 8192), DraftError::NoRun);
+    assert_eq!(rt; not_drafted(rt, &mut system, 8193), DraftError::TooLong);
+    spent(rt, &mut system, page);
+    let whole = drafted(rt, &mut system, 8192);
+    assert_eq!(rt; (system.free_pages(), system.largest()), (0, None));
+    assert_eq!(rt; not_drafted(rt, &mut system, 1), DraftError::NoRun);
+    assert_eq!(rt; not_drafted(rt, &mut system, 8193), DraftError::TooLong);
+    assert_eq!(rt; not_drafted(rt, &mut system, u64::MAX), DraftError::TooLong);
+    // The empty text needs no page.
+    let empty = drafted(rt, &mut system, 0);
+    assert_eq!(rt; empty.start(), None);
+    spent(rt, &mut system, empty);
+    spent(rt, &mut system, whole);
+    assert_eq!(rt; (system.free_pages(), system.largest()), (8, Some(3)));
+    let Closed { slots: _, arena } = system.close();
+    assert_eq!(rt; arena.free_pages(), 8);
+}
+
+#[test]
+fn a_draft_is_refused_where_it_is_too_long_or_no_run_is_free(rt: HostRuntime) {
+    drafts_refused::<Brand, HostRuntime>(&rt, rt.alloc(), Blank::new(PARTS));
+}
+
+/// A message of type 3 and a tag of 7, the second event of its slot, that seat 1 sent.
+fn text_of<L: Ledger>(rt: &impl Abort, delivered: Delivered<Text<L>>, length: u64) -> Text<L> {
+    let Delivered {
+        entry,
+        mtype,
+        sender,
+        tag,
+        length: whole,
+        text,
+    } = delivered;
+    assert_eq!(rt; (entry, mtype, sender, tag), (2, 3, 1, 7));
+    assert_eq!(rt; whole, length);
+    text
+}
+
+fn hello_cut<L: Ledger, R: Abort>(rt: &R, alloc: Global, ledger: Blank)
+    requires name { ledger.name ≡ L.name }
+    requires parts { ledger.parts ≡ L.parts }
+    requires enough { 1024 < ledger.parts }
+{
+    let mut system = made::<L>(rt, alloc, config(1, 1, 9), ledger);
+    assert!(rt; get(&mut system, 9, CREATE, 4).is_ok());
+    let before = written(rt, &mut system, b"before");
+    let text = written(rt, &mut system, b"hello");
+    spent(rt, &mut system, before);
+    taken(rt, &mut system, 0, 3, text);
+    match receive(&mut system, 0, first(4), 6) {
+        Ok(_delivered) => panic!(rt; "a text that is too long was handed out"),
+        Err(Refused { errno, entry }) => assert_eq!(rt; (errno, entry), (Errno::E2BIG, Some(2))),
+    }
+    let cut = Wanted {
+        noerror: true,
+        ..first(2)
+    };
+    let delivered = delivered(rt, &mut system, 0, cut);
+    let text = text_of(rt, delivered, 5);
+    assert!(rt; has(&text, b"he"));
+    assert_eq!(rt; text.start(), Some(1));
+    assert_eq!(rt; system.free_pages(), 1);
+    spent(rt, &mut system, text);
+    let Closed { slots: _, arena } = system.close();
+    assert_eq!(rt; arena.free_pages(), 2);
+}
+
+#[test]
+fn a_text_is_cut_by_noerror_and_keeps_its_block(rt: HostRuntime) {
+    hello_cut::<Brand, HostRuntime>(&rt, rt.alloc(), Blank::new(PARTS));
+}
+
+#[test]
+fn each_flag_of_msgrcv_does_its_own(rt: HostRuntime) {
+    let any = first(9);
+    let except = Wanted {
+        msgtyp: 1,
+        except: true,
+        ..any
+    };
+    let cut = Wanted {
+        size: 1,
+        msgtyp: 1,
+        noerror: true,
+        ..any
+    };
+    let lowest = Wanted { msgtyp: -2, ..any };
+    let table: [(Step, Answer); 10] = [
+        (Step::Get(0, CREATE), Answer::Id(0, Some(0))),
+        (Step::Send(0, 2, 4), Answer::At(1)),
+        (Step::Send(0, 1, 3), Answer::At(2)),
+        (Step::Send(0, 1, 0), Answer::At(3)),
+        (Step::Free, Answer::Free(2, Some(1))),
+        (Step::Receive(0, lowest), Answer::Got(4, 1, 3, 3)),
+        (Step::Receive(0, except), Answer::Got(5, 2, 4, 4)),
+        (
+            Step::Receive(0, except),
+            Answer::Refused(Errno::ENOMSG, Some(6)),
+        ),
+        (Step::Receive(0, cut), Answer::Got(6, 1, 0, 0)),
+        (Step::Free, Answer::Free(4, Some(2))),
+    ];
+    plays(&rt, rt.alloc(), config(2, 1, 9), &table);
+}
+
+#[test]
+fn a_text_that_is_not_drafted_is_not_sent(rt: HostRuntime) {
+    let table: [(Step, Answer); 6] = [
+        (Step::Get(0, CREATE), Answer::Id(0, Some(0))),
+        (Step::Send(0, 0, 8193), Answer::Errno(Errno::EINVAL)),
+        (Step::Send(0, 1, 1), Answer::At(1)),
+        (Step::Send(0, 1, 1), Answer::Errno(Errno::ENOMEM)),
+        (Step::Send(0, 1, 0), Answer::At(2)),
+        (Step::Stat(0), Answer::Shown(2, 1, 16_384)),
+    ];
+    plays(&rt, rt.alloc(), config(0, 1, 9), &table);
+}
