@@ -24,6 +24,10 @@ class Crates:
         own = [it for it in self.uses[name] if it in self.uses]
         return {*own, *(it for dep in own for it in self.below(dep))}
 
+    def level(self, name):
+        """How many crates stand one on another up to this one."""
+        return 1 + max((self.level(it) for it in self.uses[name] if it in self.uses), default=0)
+
     def rlib(self, name):
         return self.top / "crates" / name / "out" / "rlib"
 

@@ -2,11 +2,19 @@
 
 FILES = {
     "crates.txt": "trial:\n",
-    "crates/trial/src/lib.rt": """//! Two functions.
+    "crates/trial/src/lib.rt": """//! Functions and constants.
 
 #![tactic(auto)]
 
 ghost use Rattle.std.specs.Prelude.{◌≡◌, ◌+◌, ◌*◌, ◌<◌, ◌≤◌, length};
+
+pub const MOST: u8 = 9;
+
+pub const LEAST: u8 = 1;
+
+pub fn the_most()
+    ensures { MOST ≡ 9 }
+{}
 
 pub fn next(n: u8) -> u8
     requires { n < 9 }
@@ -42,6 +50,17 @@ MISTAKES = {
         "it does not change the body of total",
         "total",
         [("    n + 1", "    n + 2")],
+    ),
+    "another_value_of_a_constant_is_refused": (None, "the_most", [("MOST: u8 = 9", "MOST: u8 = 8")]),
+    "a_value_that_no_clause_says": (
+        "it is still proved",
+        "the_most",
+        [("LEAST: u8 = 1", "LEAST: u8 = 2")],
+    ),
+    "a_constant_and_a_body_are_changed": (
+        "it does not change the body of the_most",
+        "the_most",
+        [("MOST: u8 = 9", "MOST: u8 = 8"), ("    n + 1", "    1 + n")],
     ),
     "a_text_is_not_there": ("its text stands 0 times", "next", [("    n + 7", "    n + 8")]),
     "only_a_name_is_gone": (

@@ -1,7 +1,8 @@
 #!/usr/bin/env bash
 # Runs mqsim over each script of tests/scripts, three of examples/ and its own first one, without
-# words and with those of the list below, with its Nth allocation refused, for N from 1 until a run
-# makes fewer. Each run must end in one of these ways:
+# words and with those of the list below, and over each of serial_tables.sh with its own words, with
+# its Nth allocation refused, for N from 1 until a run makes fewer. Each run must end in one of these
+# ways:
 #   status 2, `out of memory` on standard error and nothing written: the words were not read;
 #   status 5, `mqsim: out of memory` and a prefix of the answers written;
 #   as where none is refused, all written, where a growth had another way.
@@ -51,15 +52,31 @@ trap 'rm -rf "$folder"' EXIT
 shim=$folder/refuse.so
 cc -shared -fPIC -O1 -o "$shim" tests/refuse_nth.c -ldl || exit 1
 jobs=0
+
+# Tries the script $1 with the words $2 beside the others, as many as there are processors.
+begin() {
+    jobs=$((jobs + 1))
+    mkdir "$folder/$jobs"
+    while [ "$(jobs -rp | wc -l)" -ge "$(nproc)" ]; do
+        wait -n
+    done
+    try "$folder/$jobs" "$1" "$2" &
+}
+
+table() {
+    :
+}
+
+case_of() {
+    printf "$2" > "$folder/script-$jobs"
+    begin "$folder/script-$jobs" "$1"
+}
+
+source tests/serial_tables.sh
 for words in '' 'serial --height 6 --slots 16 --last-seq 32767' 'serial --height 2 --slots 2' \
     '--help' 'serial --height 11'; do
     for script in crates/mqsim/stdin tests/scripts/* examples/{keys,pages,quota}; do
-        jobs=$((jobs + 1))
-        mkdir "$folder/$jobs"
-        while [ "$(jobs -rp | wc -l)" -ge "$(nproc)" ]; do
-            wait -n
-        done
-        try "$folder/$jobs" "$script" "$words" &
+        begin "$script" "$words"
     done
 done
 wait

@@ -5,8 +5,6 @@
 mod bytes;
 mod ended;
 mod program;
-#[cfg(test)]
-mod tests;
 
 pub use bytes::{receive_bytes, send_bytes};
 pub use ended::Ended;

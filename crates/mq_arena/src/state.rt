@@ -106,6 +106,9 @@ impl<L: Ledger> ArenaState<L> {
     }
 
     /// Takes a block back: home where that very block is lent, else a stray.
+    // Inlined, so that the block's fields go to registers one by one: as one value it is copied in
+    // pieces that overlap, and each copy waits for the one before it.
+    #[inline(always)]
     pub fn put(&mut self, block: Block<L>) -> Homecoming
         ensures home { (result ≡ Homecoming.Home) ↔ IsTrue (is_lent (place block) self.old.lent) }
         ensures back { self.new ≡ gives_back (place block) self.old }

@@ -9,6 +9,10 @@ use Rattle.mq_cli.specs.Session.{State}
 use Rattle.mq_cli.specs.Serial.{AppendsPrefix, Runs, RunsLine}
 use Rattle.mq_cli.specs.Transcript.{Run, before, goes_on, run_from, said}
 
+-- before anything is written a prefix is
+pub nothing_yet : (now : Option (List ℕ)) (text : List ℕ) → AppendsPrefix now now text
+nothing_yet now text = ([], (text, refl), Appends-nil now)
+
 -- the writer took some text, and the whole run is that text before the rest of the run
 pub record SoFar (old now : Option (List ℕ)) (whole rest : Run) : Type 0 where
   pub text : List ℕ

@@ -1,4 +1,4 @@
-ghost use Rattle.std.specs.Prelude.{◌≡◌, ◌+◌, ◌^◌, ◌==◌};
+ghost use Rattle.std.specs.Prelude.{◌≡◌, ◌+◌, ◌^◌, ◌==◌, length};
 ghost use Rattle.std.specs.List.{list_all, list_any};
 ghost use Rattle.std.specs.Option.{option_map};
 ghost use Rattle.mq_cli.specs.Commands.{arena_of, command_of, flags_of, get_flags_of, get_of};
@@ -6,7 +6,7 @@ ghost use Rattle.mq_cli.specs.Commands.{ipcs_of, is_filled, named, receive_of, r
 ghost use Rattle.mq_cli.specs.Commands.{remove_of, seat_of, send_of, set_of, stat_of, text_of};
 ghost use Rattle.mq_cli.specs.Commands.{is_skipped as is_skipped_line};
 ghost use Rattle.mq_cli.specs.Commands.{is_text as is_text_form};
-ghost use Rattle.mq_cli.specs.Drafts.{length_of_text};
+ghost use Rattle.mq_cli.specs.Drafts.{bytes_of_text};
 ghost use Rattle.mq_cli.specs.Lines.{is_printable, words_of};
 ghost use Rattle.mq_cli.specs.Numbers.{above_zero, number_of, under};
 ghost use Rattle.mq_cli.specs.Parts.{parts_left};
@@ -80,8 +80,9 @@ pub enum Command<'a> {
 
 impl TextForm<'_> {
     /// The number of its bytes.
+    #[tactic(auto, using(crate::proofs::DraftLemmas::letters_length))]
     pub fn len(&self) -> u64
-        ensures { result ≡ length_of_text (text_seen self.now) }
+        ensures { result ≡ length (bytes_of_text (text_seen self.now)) }
     {
         match self {
             TextForm::Plain(bytes) => bytes.len() as u64,

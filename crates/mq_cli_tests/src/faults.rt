@@ -19,11 +19,13 @@ fn a_reader_that_fails_leaves_nothing_written(rt: HostRuntime) -> Result<(), Fai
         let ended = run_serial(rt.alloc(), &mut reader, &mut written, ONE_PAGE);
         // One call for each byte, and one that finds the end.
         if fails_at <= 48 {
-            assert_eq!(rt; ended, Err(RunFault::Read), "at {fails_at}");
+            assert!(rt; ended != Err(RunFault::Memory), "out of memory");
+            assert!(rt; ended == Err(RunFault::Read), "at {fails_at}");
             assert!(rt; written.is_empty(), "at {fails_at}");
         } else {
-            assert_eq!(rt; ended, Ok(()), "at {fails_at}");
-            assert_eq!(rt; written.as_slice(), OUTPUT.as_bytes(), "at {fails_at}");
+            assert!(rt; ended != Err(RunFault::Memory), "out of memory");
+            assert!(rt; ended == Ok(()), "at {fails_at}");
+            assert!(rt; written.as_slice() == OUTPUT.as_bytes(), "at {fails_at}");
         }
     }
     Ok(())
@@ -44,10 +46,10 @@ fn a_writer_that_fails_has_a_prefix_of_the_answers(rt: HostRuntime) -> Result<()
             } else {
                 Ok(())
             };
-            assert_eq!(rt; ended, expected, "with room for {room}");
-            assert_eq!(rt;
-                writer.taken.as_slice(),
-                &OUTPUT.as_bytes()[..room],
+            assert!(rt; ended != Err(RunFault::Memory), "out of memory");
+            assert!(rt; ended == expected, "with room for {room}");
+            assert!(rt;
+                writer.taken.as_slice() == &OUTPUT.as_bytes()[..room],
                 "with room for {room}"
             );
         }
@@ -71,13 +73,15 @@ fn a_script_is_too_long_past_its_limit(rt: HostRuntime) -> Result<(), Fail> {
     };
     let mut written = Vec::new(rt.alloc());
     let ended = run_serial(rt.alloc(), &mut reader, &mut written, ONE_PAGE);
-    assert_eq!(rt; ended, Ok(()));
+    assert!(rt; ended != Err(RunFault::Memory), "out of memory");
+    assert!(rt; ended == Ok(()));
     assert!(rt; written.is_empty());
-    assert_eq!(rt; reader.calls, 1_048_577);
+    assert!(rt; reader.calls == 1_048_577);
 
     script.push(b'#')?;
     let ended = run_serial(rt.alloc(), &mut script.as_slice(), &mut written, ONE_PAGE);
-    assert_eq!(rt; ended, Err(RunFault::Size));
+    assert!(rt; ended != Err(RunFault::Memory), "out of memory");
+    assert!(rt; ended == Err(RunFault::Size));
     assert!(rt; written.is_empty());
     Ok(())
 }

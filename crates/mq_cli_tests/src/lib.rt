@@ -1,9 +1,7 @@
-//! Tests of scripts through `run_serial`: what is written, and how faults end a run.
+//! Tests of `run_serial` over readers and writers of their own, and of what is long.
 
 #![tactic(auto)]
 
-#[cfg(test)]
-mod changes;
 #[cfg(test)]
 mod fakes;
 #[cfg(test)]
@@ -13,10 +11,6 @@ mod flushes;
 #[cfg(test)]
 mod long;
 #[cfg(test)]
-mod scripts;
-#[cfg(test)]
 mod sizes;
-#[cfg(test)]
-mod systems;
 #[cfg(test)]
 mod texts;

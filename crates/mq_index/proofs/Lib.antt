@@ -1,4 +1,10 @@
+pub mod Changes
 pub mod Edits
+pub mod Firsts
 pub mod Heaps
 pub mod Leasts
+pub mod Lowests
+pub mod Merging
 pub mod Nodes
+pub mod Plain
+pub mod Takes

@@ -1,3 +1,4 @@
 pub mod Fronts
 pub mod Heap
+pub mod Index
 pub mod Queue

@@ -1,5 +1,5 @@
-ghost use Rattle.std.specs.Prelude.{◌≡◌, ◌<◌, ◌≤◌, ℕ, ℤ, true, cond, not, Some, None, OnOk};
-ghost use Rattle.std.specs.Option.{IsSomeAnd};
+ghost use Rattle.std.specs.Prelude.{◌≡◌, ◌<◌, ◌≤◌, ℕ, ℤ, true, cond, not, Some, None, IfSome, OnOk};
+ghost use Rattle.std.specs.Option.{option_or, IsSomeAnd};
 ghost use Rattle.std.specs.Ordering.{int_eq};
 ghost use Rattle.mq_index.specs.Fronts.{first_of, IsLeastAt};
 
@@ -40,6 +40,7 @@ impl Fronts {
     pub fn reserve(&mut self) -> Result<(), AllocError>
         ensures unchanged { (t : ℤ) → first_of self.new t ≡ first_of self.old t }
         ensures ok { OnOk result (0 < self.new.spare) }
+        ensures room { self.old.spare ≤ self.new.spare }
     {
         self.heap.reserve(1)
     }
@@ -91,6 +92,31 @@ impl Fronts {
         let i = self.heap.get_index_of(&mtype).unwrap();
         *self.heap.get_index_mut(i).unwrap() = place;
         sink(&mut self.heap, i);
+    }
+
+    /// Enters a type with this place, unless it has one.
+    pub fn enter(&mut self, mtype: i64, place: u64)
+        requires above { (t : ℤ) (n : ℕ) → first_of self.old t ≡ Some n → n ≤ place }
+        requires room { 0 < self.old.spare }
+        ensures { (t : ℤ) → first_of self.new t
+            ≡ option_or (first_of self.old t) (cond (int_eq mtype t) (Some place) None) }
+    {
+        if self.place_of(mtype).is_none() {
+            self.add(mtype, place);
+        }
+    }
+
+    /// Moves a type on to the place of its first message, or takes it out where there is none.
+    pub fn renew(&mut self, mtype: i64, first: Option<u64>)
+        requires later { IfSome first (λ place. IsSomeAnd (first_of self.old mtype)
+            (λ n. n ≤ place)) }
+        ensures { (t : ℤ) →
+            first_of self.new t ≡ cond (int_eq mtype t) first (first_of self.old t) }
+    {
+        match first {
+            Some(place) => self.move_on(mtype, place),
+            None => self.take_out(mtype),
+        }
     }
 
     /// Takes a type out.

@@ -1,14 +1,16 @@
--- A text that is drafted with its bytes.
-use Rattle.std.proofs.Common.{◌≡◌, ◌∙◌, ℕ, ◌<◌, ◌≤◌, ◌==◌, nat_lt, true, false, List, length, Option, Some, None, Result, Ok, Err, if◌then◌else◌, refl, ap, arith}
+-- A text that is drafted with its bytes, and spent.
+use Rattle.std.proofs.Common.{◌≡◌, ◌∙◌, ℕ, ◌<◌, ◌≤◌, ◌==◌, nat_lt, Bool, true, false, cond, List, length, Option, Some, None, Result, Ok, Err, if◌then◌else◌, refl, sym, ap, arith}
 use Rattle.std.proofs.lemmas.Bool.Decides.{nat_tests}
 use Rattle.std.specs.Option.{option_map, option_map_or}
-use Rattle.mq_tree.specs.Blocks.{Block}
-use Rattle.mq_tree.specs.LentSet.{Lending}
-use Rattle.mq_arena.specs.Lent.{lend}
+use Rattle.mq_tree.specs.Blocks.{Block, block}
+use Rattle.mq_tree.specs.Fit.{fit}
+use Rattle.mq_tree.specs.LentSet.{Lending, joined}
+use Rattle.mq_tree.proofs.Kept.{left_fit}
+use Rattle.mq_arena.specs.Lent.{lend, with_lent}
 use Rattle.mq_message.specs.Text.{PlainText, no_text, order_for, text_in}
 use Rattle.mq_queue.specs.declared.limits.TheConstants.{MSGMAX}
 use Rattle.mq_one_thread.specs.State.{State, with_arena}
-use Rattle.mq_one_thread.specs.Texts.{in_block, drafts_of, with_bytes}
+use Rattle.mq_one_thread.specs.Texts.{in_block, drafts_of, spends, with_bytes}
 use Rattle.mq_one_thread.specs.declared.draft_error.DraftError.{DraftError}
 use Rattle.mq_one_thread.specs.declared.draft_error.DraftError.TheVariants.{TooLong, NoRun}
 
@@ -41,3 +43,36 @@ drafted s bytes some short =
     ap (λ t. with_bytes bytes (if t then Err TooLong else (if n == 0 then Ok (no_text, s) else lent))) over
     ∙ ap (λ t. with_bytes bytes (if t then Ok (no_text, s) else lent)) none
     ∙ placed s bytes (lend s.arena (order_for n))
+
+-- the queues once what was drafted is spent
+home : State → Result (PlainText × State) DraftError → State
+home s (Ok d) = with_arena d.1 (spends d.0 d.1.arena)
+home s (Err e) = s
+
+-- a block that was lent and is home again leaves the arena as it was
+found_home : (s : State) (bytes : List ℕ) (order : ℕ) (found : Option ℕ) → fit s.arena.height s.arena.lent order ≡ found
+    → home s (with_bytes bytes (in_block s (length bytes) (option_map (λ start. (block start order, with_lent s.arena (joined (block start order) s.arena.lent))) found))) ≡ s
+unfolding home
+found_home s bytes order None e = refl
+found_home s bytes order (Some start) e =
+    ap (λ (lent : List Block). with_arena s (with_lent s.arena lent)) (left_fit s.arena.height s.arena.lent order start e)
+
+either_home : (s : State) (bytes : List ℕ) (b : Bool) (x y : Result (PlainText × State) DraftError)
+    → home s (with_bytes bytes x) ≡ s → home s (with_bytes bytes y) ≡ s → home s (with_bytes bytes (cond b x y)) ≡ s
+either_home s bytes true x y one other = one
+either_home s bytes false x y one other = other
+
+all_home : (s : State) (bytes : List ℕ) → home s (drafts_of s bytes) ≡ s
+unfolding home
+all_home s bytes =
+    let n : ℕ = length bytes in
+    let order : ℕ = order_for n in
+    either_home s bytes (nat_lt MSGMAX n) (Err TooLong) (cond (n == 0) (Ok (no_text, s)) (in_block s n (lend s.arena order))) refl
+    (either_home s bytes (n == 0) (Ok (no_text, s)) (in_block s n (lend s.arena order)) refl
+    (found_home s bytes order (fit s.arena.height s.arena.lent order) refl))
+
+-- a text that is spent after it was drafted leaves the queues as they were
+pub spent_after : (s after : State) (bytes : List ℕ) (text : PlainText) → drafts_of s bytes ≡ Ok (text, after)
+    → with_arena after (spends text after.arena) ≡ s
+unfolding home
+spent_after s after bytes text e = ap (home s) (sym e) ∙ all_home s bytes

@@ -158,6 +158,8 @@ impl<L: Ledger> OneThread<L> {
     }
 
     /// Spends a text: its block goes home. A text without a block is at home.
+    // Inlined for the same reason as `ArenaState::put`.
+    #[inline(always)]
     pub fn spend(&mut self, text: Text<L>) -> Homecoming
         ensures back { self.new ≡ with_arena self.old (spends text self.old.arena) }
         ensures home { result ≡ comes_home text self.old.arena }

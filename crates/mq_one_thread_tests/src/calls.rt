@@ -194,7 +194,7 @@ pub(crate) fn written<L: Ledger>(
 ) -> Text<L> {
     match system.draft_of(bytes) {
         Ok(text) => {
-            assert_eq!(rt; text.len(), bytes.len() as u64);
+            assert!(rt; text.len() == bytes.len() as u64);
             text
         }
         Err(refusal) => panic!(rt; "{refusal}"),
@@ -235,7 +235,7 @@ pub(crate) fn delivered<L: Ledger>(
 
 /// Spends a text that is the system's own.
 pub(crate) fn spent<L: Ledger>(rt: &impl Abort, system: &mut OneThread<L>, text: Text<L>) {
-    assert_eq!(rt; system.spend(text), Homecoming::Home);
+    assert!(rt; system.spend(text) == Homecoming::Home);
 }
 
 /// Whether a text of one page has these bytes.

@@ -46,7 +46,7 @@ fn counts(slot: &ClosedSlot) -> (usize, usize, u64) {
 
 fn comes_home<L: Ledger>(rt: &impl Abort, arena: &mut ArenaState<L>, text: Text<L>) {
     match text.into_block() {
-        Some(block) => assert_eq!(rt; arena.put(block), Homecoming::Home),
+        Some(block) => assert!(rt; arena.put(block) == Homecoming::Home),
         None => panic!(rt; "no block"),
     }
 }
@@ -58,17 +58,17 @@ fn closed_with_texts<L: Ledger, R: Abort>(rt: &R, alloc: Global, ledger: Blank)
 {
     let mut system = made::<L>(rt, alloc, config(3, 4, 9), ledger);
     let outside = used(rt, &mut system);
-    assert_eq!(rt; system.free_pages(), 4);
+    assert!(rt; system.free_pages() == 4);
     let Closed { slots, mut arena } = system.close();
     let wanted: [(usize, usize, u64); 4] = [(3, 3, 2), (2, 0, 0), (0, 4, 1), (0, 0, 0)];
-    assert_eq!(rt; slots.len(), 4);
+    assert!(rt; slots.len() == 4);
     for (slot, wanted) in slots.iter().zip(wanted) {
-        assert_eq!(rt; counts(slot), wanted);
+        assert!(rt; counts(slot) == wanted);
     }
-    assert_eq!(rt; arena.free_pages(), 7);
+    assert!(rt; arena.free_pages() == 7);
     comes_home(rt, &mut arena, outside);
-    assert_eq!(rt; arena.free_pages(), 8);
-    assert_eq!(rt; arena.lent_pages(), 0);
+    assert!(rt; arena.free_pages() == 8);
+    assert!(rt; arena.lent_pages() == 0);
 }
 
 #[test]

@@ -60,42 +60,42 @@ fn row<L: Ledger>(rt: &impl Abort, system: &OneThread<L>, slot: u8) -> BoardRow 
 fn refused<L: Ledger>(rt: &impl Abort, system: &mut OneThread<L>) -> Text<L> {
     match receive(system, 0, first(9), 5) {
         Ok(_delivered) => panic!(rt; "a message waits"),
-        Err(Refused { errno, entry }) => assert_eq!(rt; (errno, entry), (Errno::ENOMSG, Some(1))),
+        Err(Refused { errno, entry }) => assert!(rt; (errno, entry) == (Errno::ENOMSG, Some(1))),
     }
     let text = written(rt, system, b"hi");
     match send(system, 0, 0, text, 5) {
         Ok(_) => panic!(rt; "type 0 was sent"),
         Err(SendRefused { refused, text }) => {
-            assert_eq!(rt; (refused.errno, refused.entry), (Errno::EINVAL, None));
+            assert!(rt; (refused.errno, refused.entry) == (Errno::EINVAL, None));
             assert!(rt; has(&text, b"hi"));
-            assert_eq!(rt; text.start(), Some(0));
+            assert!(rt; text.start() == Some(0));
             text
         }
     }
 }
 
 fn sent<L: Ledger>(rt: &impl Abort, system: &mut OneThread<L>, text: Text<L>) {
-    assert_eq!(rt; taken(rt, system, 0, 1, text), 1);
-    assert_eq!(rt; system.stat(Id::from_number(0)), Ok(FIGURES));
+    assert!(rt; taken(rt, system, 0, 1, text) == 1);
+    assert!(rt; system.stat(Id::from_number(0)) == Ok(FIGURES));
     let row = row(rt, system, 0);
-    assert_eq!(rt; (row.made, row.live, row.key), (1, true, 0));
-    assert_eq!(rt; row.figures, FIGURES);
-    assert_eq!(rt; system.free_pages(), 0);
+    assert!(rt; (row.made, row.live, row.key) == (1, true, 0));
+    assert!(rt; row.figures == FIGURES);
+    assert!(rt; system.free_pages() == 0);
 }
 
 fn removed<L: Ledger>(rt: &impl Abort, system: &mut OneThread<L>) {
     match remove(system, 0, 6) {
         Ok(Removal { entry, log }) => {
-            assert_eq!(rt; entry, 2);
-            assert_eq!(rt; log.into_events().as_slice(), LOG.as_slice());
+            assert!(rt; entry == 2);
+            assert!(rt; log.into_events().as_slice() == LOG.as_slice());
         }
         Err(refused) => panic!(rt; "{refused:?}"),
     }
-    assert_eq!(rt; system.free_pages(), 1);
-    assert_eq!(rt; system.stat(Id::from_number(0)), Err(Errno::EIDRM));
+    assert!(rt; system.free_pages() == 1);
+    assert!(rt; system.stat(Id::from_number(0)) == Err(Errno::EIDRM));
     let row = row(rt, system, 0);
-    assert_eq!(rt; (row.made, row.live, row.key), (1, false, 0));
-    assert_eq!(rt; row.figures, NO_FIGURES);
+    assert!(rt; (row.made, row.live, row.key) == (1, false, 0));
+    assert!(rt; row.figures == NO_FIGURES);
 }
 
 fn one_life<L: Ledger, R: Abort>(rt: &R, alloc: Global, ledger: Blank)
@@ -108,18 +108,18 @@ fn one_life<L: Ledger, R: Abort>(rt: &R, alloc: Global, ledger: Blank)
         id: Id::from_number(0),
         made: Some(0),
     };
-    assert_eq!(rt; get(&mut system, 0, NEW, 4), Ok(got));
+    assert!(rt; get(&mut system, 0, NEW, 4) == Ok(got));
     let text = refused(rt, &mut system);
     sent(rt, &mut system, text);
     removed(rt, &mut system);
     let Closed { slots, arena } = system.close();
-    assert_eq!(rt; slots.len(), 1);
+    assert!(rt; slots.len() == 1);
     for slot in slots {
-        assert_eq!(rt; slot.past.as_slice(), LOG.as_slice());
+        assert!(rt; slot.past.as_slice() == LOG.as_slice());
         assert!(rt; slot.last.is_empty());
-        assert_eq!(rt; slot.left, 0);
+        assert!(rt; slot.left == 0);
     }
-    assert_eq!(rt; arena.free_pages(), 1);
+    assert!(rt; arena.free_pages() == 1);
 }
 
 #[test]
@@ -140,14 +140,14 @@ fn rows_shown<L: Ledger, R: Abort>(rt: &R, alloc: Global, ledger: Blank)
     let first = row(rt, &system, 0);
     let second = row(rt, &system, 1);
     let third = row(rt, &system, 2);
-    assert_eq!(rt; (first.made, first.live, first.key), (1, true, 0));
-    assert_eq!(rt; (first.figures.qbytes, first.figures.qnum), (16_384, 0));
-    assert_eq!(rt; (second.made, second.live, second.key), (1, true, -8));
-    assert_eq!(rt; second.figures, FIGURES);
-    assert_eq!(rt; (third.made, third.live, third.key), (0, false, 0));
-    assert_eq!(rt; third.figures, NO_FIGURES);
+    assert!(rt; (first.made, first.live, first.key) == (1, true, 0));
+    assert!(rt; (first.figures.qbytes, first.figures.qnum) == (16_384, 0));
+    assert!(rt; (second.made, second.live, second.key) == (1, true, -8));
+    assert!(rt; second.figures == FIGURES);
+    assert!(rt; (third.made, third.live, third.key) == (0, false, 0));
+    assert!(rt; third.figures == NO_FIGURES);
     let Closed { slots: _, arena } = system.close();
-    assert_eq!(rt; arena.free_pages(), 1);
+    assert!(rt; arena.free_pages() == 1);
 }
 
 #[test]

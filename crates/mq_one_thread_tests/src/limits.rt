@@ -23,7 +23,10 @@ fn sized<L: Ledger, R: Abort>(
 {
     match OneThread::<L>::new(alloc, config, ledger) {
         Ok(system) => {
-            assert_eq!(rt; Ok((system.pages(), system.slots())), wanted, "{config:?}");
+            assert!(rt;
+                Ok((system.pages(), system.slots())) == wanted,
+                "{config:?}"
+            );
             let Closed { slots: _, arena: _ } = system.close();
         }
         Err(refusal) => assert_eq!(rt; Err(refusal), wanted, "{config:?}"),

@@ -21,8 +21,8 @@ fn a_refusal_is_named_as_in_the_manual(rt: HostRuntime) {
         (Errno::ENOSPC, "ENOSPC", 28),
     ];
     for (errno, name, number) in cases {
-        assert_eq!(rt; errno.name(), name);
-        assert_eq!(rt; errno.number(), number);
+        assert!(rt; errno.name() == name);
+        assert!(rt; errno.number() == number);
     }
 }
 
@@ -38,18 +38,18 @@ fn each_layers_refusal_has_its_errno(rt: HostRuntime) {
         (QueueError::Memory, Errno::ENOMEM),
     ];
     for (refusal, errno) in of_queue {
-        assert_eq!(rt; Errno::from(refusal), errno);
+        assert!(rt; Errno::from(refusal) == errno);
     }
-    assert_eq!(rt; Errno::from(IdRefusal::Never), Errno::EINVAL);
-    assert_eq!(rt; Errno::from(IdRefusal::Removed), Errno::EIDRM);
-    assert_eq!(rt; DraftError::TooLong.errno(), Errno::EINVAL);
-    assert_eq!(rt; DraftError::NoRun.errno(), Errno::ENOMEM);
+    assert!(rt; Errno::from(IdRefusal::Never) == Errno::EINVAL);
+    assert!(rt; Errno::from(IdRefusal::Removed) == Errno::EIDRM);
+    assert!(rt; DraftError::TooLong.errno() == Errno::EINVAL);
+    assert!(rt; DraftError::NoRun.errno() == Errno::ENOMEM);
 }
 
 /// Checks what a value prints.
 fn prints<T: Display>(rt: &impl Abort, alloc: Global, value: &T, text: &str) -> Result<(), Fail> {
     let printed = format!(in alloc; "{value}")?;
-    assert_eq!(rt; printed.as_str(), text);
+    assert!(rt; printed.as_str() == text);
     Ok(())
 }
 
@@ -98,10 +98,7 @@ fn an_unsent_text_prints_its_refusal_and_is_handed_back(rt: HostRuntime) -> Resu
     let unsent = SendRefused { refused, text: 7u8 };
     prints(&rt, alloc, &unsent, "EAGAIN after 5 entries")?;
     let debug = format!(in alloc; "{unsent:?}")?;
-    assert_eq!(rt;
-        debug.as_str(),
-        "SendRefused(Refused { errno: EAGAIN, entry: Some(5) })"
-    );
-    assert_eq!(rt; unsent.into_text(), (refused, 7));
+    assert!(rt; debug.as_str() == "SendRefused(Refused { errno: EAGAIN, entry: Some(5) })");
+    assert!(rt; unsent.into_text() == (refused, 7));
     Ok(())
 }

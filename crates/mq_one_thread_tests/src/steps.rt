@@ -148,15 +148,14 @@ fn play<L: Ledger, R: Abort>(
     let mut system = made::<L>(rt, alloc, config, ledger);
     let mut moment = 0u64;
     for (step, wanted) in table {
-        assert_eq!(rt;
-            called(&mut system, *step, moment),
-            *wanted,
+        assert!(rt;
+            called(&mut system, *step, moment) == *wanted,
             "{moment}: {step:?}"
         );
         moment = moment.saturating_add(1);
     }
     let Closed { slots: _, arena } = system.close();
-    assert_eq!(rt; arena.free_pages(), arena.pages());
+    assert!(rt; arena.free_pages() == arena.pages());
 }
 
 /// A new system answers these calls so, one after another, and all its pages are home at the end.

@@ -15,7 +15,7 @@ use std::sync::ledger::{Blank, Ledger};
 fn drafted<L: Ledger>(rt: &impl Abort, system: &mut OneThread<L>, len: u64) -> Text<L> {
     match system.draft(len) {
         Ok(text) => {
-            assert_eq!(rt; text.len(), len);
+            assert!(rt; text.len() == len);
             text
         }
         Err(refusal) => panic!(rt; "{refusal}"),
@@ -48,24 +48,23 @@ fn lengths_drafted<L: Ledger, R: Abort>(rt: &R, alloc: Global, ledger: Blank)
     requires enough { 1024 < ledger.parts }
 {
     let mut system = made::<L>(rt, alloc, config(4, 1, 9), ledger);
-    assert_eq!(rt; system.pages(), 16);
+    assert!(rt; system.pages() == 16);
     for (len, free, largest, start) in LENGTHS {
         let text = drafted(rt, &mut system, len);
-        assert_eq!(rt; text.start(), start, "{len}");
+        assert!(rt; text.start() == start, "{len}");
         assert!(rt;
             text.parts().all(|part| part.iter().all(|byte| *byte == 0)),
             "{len}"
         );
-        assert_eq!(rt;
-            (system.free_pages(), system.largest()),
-            (free, largest),
+        assert!(rt;
+            (system.free_pages(), system.largest()) == (free, largest),
             "{len}"
         );
         spent(rt, &mut system, text);
-        assert_eq!(rt; system.free_pages(), 16, "{len}");
+        assert!(rt; system.free_pages() == 16, "{len}");
     }
     let Closed { slots: _, arena } = system.close();
-    assert_eq!(rt; arena.free_pages(), 16);
+    assert!(rt; arena.free_pages() == 16);
 }
 
 #[test]
@@ -80,23 +79,23 @@ fn drafts_refused<L: Ledger, R: Abort>(rt: &R, alloc: Global, ledger: Blank)
 {
     let mut system = made::<L>(rt, alloc, config(3, 1, 9), ledger);
     let page = drafted(rt, &mut system, 1);
-    assert_eq!(rt; system.largest(), Some(2));
-    assert_eq!(rt; not_drafted(rt, &mut system, 8192), DraftError::NoRun);
-    assert_eq!(rt; not_drafted(rt, &mut system, 8193), DraftError::TooLong);
+    assert!(rt; system.largest() == Some(2));
+    assert!(rt; not_drafted(rt, &mut system, 8192) == DraftError::NoRun);
+    assert!(rt; not_drafted(rt, &mut system, 8193) == DraftError::TooLong);
     spent(rt, &mut system, page);
     let whole = drafted(rt, &mut system, 8192);
-    assert_eq!(rt; (system.free_pages(), system.largest()), (0, None));
-    assert_eq!(rt; not_drafted(rt, &mut system, 1), DraftError::NoRun);
-    assert_eq!(rt; not_drafted(rt, &mut system, 8193), DraftError::TooLong);
-    assert_eq!(rt; not_drafted(rt, &mut system, u64::MAX), DraftError::TooLong);
+    assert!(rt; (system.free_pages(), system.largest()) == (0, None));
+    assert!(rt; not_drafted(rt, &mut system, 1) == DraftError::NoRun);
+    assert!(rt; not_drafted(rt, &mut system, 8193) == DraftError::TooLong);
+    assert!(rt; not_drafted(rt, &mut system, u64::MAX) == DraftError::TooLong);
     // The empty text needs no page.
     let empty = drafted(rt, &mut system, 0);
-    assert_eq!(rt; empty.start(), None);
+    assert!(rt; empty.start() == None);
     spent(rt, &mut system, empty);
     spent(rt, &mut system, whole);
-    assert_eq!(rt; (system.free_pages(), system.largest()), (8, Some(3)));
+    assert!(rt; (system.free_pages(), system.largest()) == (8, Some(3)));
     let Closed { slots: _, arena } = system.close();
-    assert_eq!(rt; arena.free_pages(), 8);
+    assert!(rt; arena.free_pages() == 8);
 }
 
 #[test]
@@ -114,8 +113,8 @@ fn text_of<L: Ledger>(rt: &impl Abort, delivered: Delivered<Text<L>>, length: u6
         length: whole,
         text,
     } = delivered;
-    assert_eq!(rt; (entry, mtype, sender, tag), (2, 3, 1, 7));
-    assert_eq!(rt; whole, length);
+    assert!(rt; (entry, mtype, sender, tag) == (2, 3, 1, 7));
+    assert!(rt; whole == length);
     text
 }
 
@@ -141,11 +140,11 @@ fn hello_cut<L: Ledger, R: Abort>(rt: &R, alloc: Global, ledger: Blank)
     let delivered = delivered(rt, &mut system, 0, cut);
     let text = text_of(rt, delivered, 5);
     assert!(rt; has(&text, b"he"));
-    assert_eq!(rt; text.start(), Some(1));
-    assert_eq!(rt; system.free_pages(), 1);
+    assert!(rt; text.start() == Some(1));
+    assert!(rt; system.free_pages() == 1);
     spent(rt, &mut system, text);
     let Closed { slots: _, arena } = system.close();
-    assert_eq!(rt; arena.free_pages(), 2);
+    assert!(rt; arena.free_pages() == 2);
 }
 
 #[test]

@@ -140,7 +140,7 @@ fn a_selection_hands_out_the_message_that_the_manual_names(rt: HostRuntime) -> R
     ];
     for (types, selections, places) in cases {
         let got = places_of::<ListWaiting<VecBody>>(rt.alloc(), types, selections)?;
-        assert_eq!(rt; got.as_slice(), places);
+        assert!(rt; got.as_slice() == places);
     }
     Ok(())
 }
@@ -168,8 +168,8 @@ fn a_msgtyp_is_read_as_the_manual_says(rt: HostRuntime) {
         ),
     ];
     for (msgtyp, plain, excepting) in cases {
-        assert_eq!(rt; Selection::read(msgtyp, false), plain, "at {msgtyp}");
-        assert_eq!(rt; Selection::read(msgtyp, true), excepting, "at {msgtyp}");
+        assert!(rt; Selection::read(msgtyp, false) == plain, "at {msgtyp}");
+        assert!(rt; Selection::read(msgtyp, true) == excepting, "at {msgtyp}");
     }
 }
 
@@ -183,10 +183,10 @@ fn a_message_comes_back_whole(rt: HostRuntime) -> Result<(), Fail> {
     discard(list);
     put?;
     let message = message.ok_or("nothing waits")?;
-    assert_eq!(rt; lengths, [Some(5), None]);
-    assert_eq!(rt; (message.mtype, message.sender, message.tag), (5, 1, 3));
-    assert_eq!(rt; message.body.bytes(), b"first".as_slice());
-    assert_eq!(rt; more, None);
+    assert!(rt; lengths == [Some(5), None]);
+    assert!(rt; (message.mtype, message.sender, message.tag) == (5, 1, 3));
+    assert!(rt; message.body.bytes() == b"first".as_slice());
+    assert!(rt; more == None);
     Ok(())
 }
 
@@ -200,7 +200,7 @@ fn no_message_is_lost_on_the_way_out(rt: HostRuntime) -> Result<(), Fail> {
         let mut list: ListWaiting<VecBody> = filled(rt.alloc(), types)?;
         let got = popped(rt.alloc(), &mut list);
         discard(list);
-        assert_eq!(rt; got?.as_slice(), tags);
+        assert!(rt; got?.as_slice() == tags);
     }
     Ok(())
 }
@@ -212,9 +212,6 @@ fn a_refused_growth_leaves_the_list(rt: HostRuntime) -> Result<(), Fail> {
     let _ = list.prepare(4);
     let got = handed_out(rt.alloc(), &mut list, &[Selection::Any; 5]);
     discard(list);
-    assert_eq!(rt;
-        got?.as_slice(),
-        [Some(0), Some(1), Some(2), Some(3), None].as_slice()
-    );
+    assert!(rt; got?.as_slice() == [Some(0), Some(1), Some(2), Some(3), None].as_slice());
     Ok(())
 }

@@ -40,7 +40,7 @@ fn figures_show_the_last_moment_whatever_it_is(rt: HostRuntime) -> Result<(), Fa
         let visited = visit(rt.alloc(), &mut queue, moments);
         let figures = queue.figures();
         close(queue);
-        assert_eq!(rt; visited?, VISITED);
+        assert!(rt; visited? == VISITED);
         let wanted = Figures {
             qnum: 0,
             cbytes: 0,
@@ -51,7 +51,7 @@ fn figures_show_the_last_moment_whatever_it_is(rt: HostRuntime) -> Result<(), Fa
             lspid: 3,
             lrpid: 4,
         };
-        assert_eq!(rt; figures, wanted);
+        assert!(rt; figures == wanted);
     }
     Ok(())
 }
@@ -74,8 +74,8 @@ fn refusals_leave_log_and_figures(rt: HostRuntime) -> Result<(), Fail> {
     let count = queue.log_len();
     close(queue);
     checked?;
-    assert_eq!(rt; (after, count), (before, 1));
-    assert_eq!(rt; (before.qbytes, before.ctime), (16384, 50));
+    assert!(rt; (after, count) == (before, 1));
+    assert!(rt; (before.qbytes, before.ctime) == (16384, 50));
     Ok(())
 }
 
@@ -101,7 +101,7 @@ fn the_log_of_a_removed_queue_tells_all(rt: HostRuntime) -> Result<(), Fail> {
     let last = queue.event(4);
     let beyond = (queue.event(5), queue.event(u64::MAX));
     let log = removed(queue, 90);
-    assert_eq!(rt; visited?, VISITED);
+    assert!(rt; visited? == VISITED);
     let changed = |moment: u64| Event::Changed {
         seat: 5,
         moment,
@@ -135,11 +135,11 @@ fn the_log_of_a_removed_queue_tells_all(rt: HostRuntime) -> Result<(), Fail> {
             moment: 90,
         },
     ];
-    assert_eq!(rt; last, Some(changed(80)));
-    assert_eq!(rt; beyond, (None, None));
-    assert_eq!(rt; log.len(), 6);
-    assert_eq!(rt; (log.get(0), log.get(6)), (Some(events[0]), None));
-    assert_eq!(rt; log.into_events().as_slice(), events.as_slice());
+    assert!(rt; last == Some(changed(80)));
+    assert!(rt; beyond == (None, None));
+    assert!(rt; log.len() == 6);
+    assert!(rt; (log.get(0), log.get(6)) == (Some(events[0]), None));
+    assert!(rt; log.into_events().as_slice() == events.as_slice());
     Ok(())
 }
 
@@ -183,7 +183,7 @@ fn no_more_messages_wait_than_the_quota_has_bytes(rt: HostRuntime) -> Result<(),
         _ => Ok(()),
     };
     close(queue);
-    assert_eq!(rt; last?, 16_384);
+    assert!(rt; last? == 16_384);
     checked?;
     Ok(())
 }
@@ -196,7 +196,7 @@ fn a_long_log_refuses_no_call(rt: HostRuntime) -> Result<(), Fail> {
     let count = queue.log_len();
     let log = removed(queue, 90);
     played?;
-    assert_eq!(rt; more, Answer::Refused(QueueError::NoMessage));
-    assert_eq!(rt; (count, log.len()), (120_001, 120_002));
+    assert!(rt; more == Answer::Refused(QueueError::NoMessage));
+    assert!(rt; (count, log.len()) == (120_001, 120_002));
     Ok(())
 }

@@ -28,7 +28,7 @@ fn drafted<L: Ledger>(rt: &impl Abort, arena: &mut ArenaState<L>) -> Text<L>
 
 fn spent<L: Ledger>(rt: &impl Abort, arena: &mut ArenaState<L>, text: Text<L>) {
     match text.into_block() {
-        Some(block) => assert_eq!(rt; arena.put(block), Homecoming::Home),
+        Some(block) => assert!(rt; arena.put(block) == Homecoming::Home),
         None => panic!(rt; "no block"),
     }
 }
@@ -138,17 +138,17 @@ fn sent_on<L: Ledger, R: Abort + Threads>(rt: &R, alloc: Global, unopened: Unope
     let mut second = made(rt, alloc);
     let text = filled(rt, &mut arena);
     let start = text.start();
-    assert_eq!(rt; start, Some(4));
+    assert!(rt; start == Some(4));
     let text = handed_on(rt, &mut first, text);
     assert!(rt; is_as_filled(&text, start));
     let text = handed_on(rt, &mut second, text);
     assert!(rt; is_as_filled(&text, start));
-    assert_eq!(rt; arena.free_pages(), 60);
+    assert!(rt; arena.free_pages() == 60);
     let mut text = text;
     written_over(rt, &mut text, b'C');
     assert!(rt; has_letters(&text, b'C', b'C'));
     spent(rt, &mut arena, text);
-    assert_eq!(rt; arena.free_pages(), 64);
+    assert!(rt; arena.free_pages() == 64);
     ended(rt, first);
     ended(rt, second);
 }
@@ -168,14 +168,14 @@ fn part_copied<L: Ledger>(rt: &impl Abort, copy: &mut Text<L>, text: &Text<L>, i
 {
     let bytes = text.part(i);
     let part = copy.part_mut(i);
-    assert_eq!(rt; part.len(), bytes.len());
+    assert!(rt; part.len() == bytes.len());
     part.copy_from_slice(bytes);
 }
 
 /// The same bytes in another block.
 fn copied<L: Ledger>(rt: &impl Abort, arena: &mut ArenaState<L>, text: Text<L>) -> Text<L> {
     let mut copy = drafted(rt, arena);
-    assert_eq!(rt; text.len(), LEN as u64);
+    assert!(rt; text.len() == LEN as u64);
     part_copied(rt, &mut copy, &text, 0);
     part_copied(rt, &mut copy, &text, 1);
     part_copied(rt, &mut copy, &text, 2);
@@ -204,7 +204,7 @@ fn copied_on_its_way<L: Ledger, R: Abort + Threads>(
     assert!(rt; !is_as_filled(&text, start));
     assert!(rt; is_as_filled(&text, text.start()));
     spent(rt, &mut arena, text);
-    assert_eq!(rt; arena.free_pages(), 64);
+    assert!(rt; arena.free_pages() == 64);
     ended(rt, first);
     ended(rt, second);
 }

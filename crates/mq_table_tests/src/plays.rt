@@ -138,7 +138,7 @@ fn check(
     steps: &[Step],
     answers: &[Answer],
 ) -> Result<(), AllocError> {
-    assert_eq!(rt; played(alloc, number, steps)?.as_slice(), answers);
+    assert!(rt; played(alloc, number, steps)?.as_slice() == answers);
     Ok(())
 }
 

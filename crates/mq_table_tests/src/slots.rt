@@ -92,20 +92,17 @@ fn an_id_is_never_given_then_live_then_removed_for_good(rt: HostRuntime) -> Resu
     for seq in 0..4u32 {
         let id = Id::of(63, seq);
         let next = Id::of(63, seq + 1);
-        assert_eq!(rt; look(&slot, id), Some(Err(IdRefusal::Never)));
-        assert_eq!(rt; make(&mut keys, &mut slot, 0, MAX_SEQ), Some(id));
-        assert_eq!(rt; look(&slot, id), Some(Ok(())));
-        assert_eq!(rt; look(&slot, next), Some(Err(IdRefusal::Never)));
-        assert_eq!(rt; look(&slot, last), Some(Err(IdRefusal::Never)));
+        assert!(rt; look(&slot, id) == Some(Err(IdRefusal::Never)));
+        assert!(rt; make(&mut keys, &mut slot, 0, MAX_SEQ) == Some(id));
+        assert!(rt; look(&slot, id) == Some(Ok(())));
+        assert!(rt; look(&slot, next) == Some(Err(IdRefusal::Never)));
+        assert!(rt; look(&slot, last) == Some(Err(IdRefusal::Never)));
         for earlier in 0..seq {
-            assert_eq!(rt;
-                look(&slot, Id::of(63, earlier)),
-                Some(Err(IdRefusal::Removed))
-            );
+            assert!(rt; look(&slot, Id::of(63, earlier)) == Some(Err(IdRefusal::Removed)));
         }
         assert!(rt; remove(&mut keys, &mut slot).is_some());
-        assert_eq!(rt; look(&slot, id), Some(Err(IdRefusal::Removed)));
-        assert_eq!(rt; slot.made(), seq + 1);
+        assert!(rt; look(&slot, id) == Some(Err(IdRefusal::Removed)));
+        assert!(rt; slot.made() == seq + 1);
     }
     close(slot);
     Ok(())
@@ -123,34 +120,34 @@ fn removal_forgets_that_key_and_the_others_keep_their_order(rt: HostRuntime) -> 
     let _ = make(&mut keys, &mut private, 0, 9);
     let _ = make(&mut keys, &mut first, i32::MIN, 9);
     let _ = make(&mut keys, &mut third, 5, 9);
-    assert_eq!(rt; keys.len(), 3);
+    assert!(rt; keys.len() == 3);
     // A queue without a key takes none with it.
     assert!(rt; remove(&mut keys, &mut private).is_some());
-    assert_eq!(rt; keys.len(), 3);
+    assert!(rt; keys.len() == 3);
     assert!(rt; remove(&mut keys, &mut second).is_some());
-    assert_eq!(rt; keys.look(-1), None);
-    assert_eq!(rt;
-        keys.entry(0),
-        Some(KeyEntry {
-            key: i32::MIN,
-            id: Id::of(0, 0)
-        })
+    assert!(rt; keys.look(-1) == None);
+    assert!(rt;
+        keys.entry(0)
+            == Some(KeyEntry {
+                key: i32::MIN,
+                id: Id::of(0, 0)
+            })
     );
-    assert_eq!(rt;
-        keys.entry(1),
-        Some(KeyEntry {
-            key: 5,
-            id: Id::of(2, 0)
-        })
+    assert!(rt;
+        keys.entry(1)
+            == Some(KeyEntry {
+                key: 5,
+                id: Id::of(2, 0)
+            })
     );
     // The same key goes last again, with the slot's next id.
-    assert_eq!(rt; make(&mut keys, &mut second, -1, 9), Some(Id::of(1, 1)));
-    assert_eq!(rt;
-        keys.entry(2),
-        Some(KeyEntry {
-            key: -1,
-            id: Id::of(1, 1)
-        })
+    assert!(rt; make(&mut keys, &mut second, -1, 9) == Some(Id::of(1, 1)));
+    assert!(rt;
+        keys.entry(2)
+            == Some(KeyEntry {
+                key: -1,
+                id: Id::of(1, 1)
+            })
     );
     close(first);
     close(second);
@@ -182,10 +179,10 @@ fn a_slot_shows_the_queue_that_is_in_it(rt: HostRuntime) -> Result<(), Fail> {
         key: 0,
         figures: NOTHING,
     };
-    assert_eq!(rt; slot.row(), empty);
-    assert_eq!(rt; slot.key(), 0);
+    assert!(rt; slot.row() == empty);
+    assert!(rt; slot.key() == 0);
     let _ = make(&mut keys, &mut slot, 9, 1);
-    assert_eq!(rt; sent(&mut slot, five), Answer::At(1));
+    assert!(rt; sent(&mut slot, five) == Answer::At(1));
     let figures = Figures {
         qnum: 1,
         cbytes: 5,
@@ -195,27 +192,27 @@ fn a_slot_shows_the_queue_that_is_in_it(rt: HostRuntime) -> Result<(), Fail> {
         lspid: 3,
         ..NOTHING
     };
-    assert_eq!(rt;
-        slot.row(),
-        BoardRow {
-            made: 1,
-            live: true,
-            key: 9,
-            figures
-        }
+    assert!(rt;
+        slot.row()
+            == BoardRow {
+                made: 1,
+                live: true,
+                key: 9,
+                figures
+            }
     );
     if slot.is_live() {
-        assert_eq!(rt; slot.figures(), figures);
-        assert_eq!(rt; slot.key(), 9);
-        assert_eq!(rt; slot.last_id(), Id::of(8, 0));
+        assert!(rt; slot.figures() == figures);
+        assert!(rt; slot.key() == 9);
+        assert!(rt; slot.last_id() == Id::of(8, 0));
     }
-    assert_eq!(rt; slot.offset(), 0);
+    assert!(rt; slot.offset() == 0);
     assert!(rt; remove(&mut keys, &mut slot).is_some());
-    assert_eq!(rt; slot.row(), BoardRow { made: 1, ..empty });
-    assert_eq!(rt; slot.offset(), 3);
+    assert!(rt; slot.row() == BoardRow { made: 1, ..empty });
+    assert!(rt; slot.offset() == 3);
     let _ = make(&mut keys, &mut slot, 7, 1);
-    assert_eq!(rt; slot.offset(), 3);
-    assert_eq!(rt; slot.events(), 4);
+    assert!(rt; slot.offset() == 3);
+    assert!(rt; slot.events() == 4);
     let removed = Event::Removed {
         seat: 2,
         moment: 20,
@@ -225,18 +222,18 @@ fn a_slot_shows_the_queue_that_is_in_it(rt: HostRuntime) -> Result<(), Fail> {
         moment: 10,
         key: 7,
     };
-    assert_eq!(rt; slot.event(2), Some(removed));
-    assert_eq!(rt; slot.event(3), Some(made));
-    assert_eq!(rt; slot.event(4), None);
-    assert_eq!(rt; slot.event(u64::MAX), None);
+    assert!(rt; slot.event(2) == Some(removed));
+    assert!(rt; slot.event(3) == Some(made));
+    assert!(rt; slot.event(4) == None);
+    assert!(rt; slot.event(u64::MAX) == None);
     let (past, live) = slot.into_parts();
-    assert_eq!(rt; past.len(), 3);
-    assert_eq!(rt; past[2], removed);
+    assert!(rt; past.len() == 3);
+    assert!(rt; past[2] == removed);
     assert!(rt; live.is_some());
     if let Some(queue) = live {
         let (log, waiting) = queue.into_parts();
         discard(waiting);
-        assert_eq!(rt; log.get(0), Some(made));
+        assert!(rt; log.get(0) == Some(made));
     }
     Ok(())
 }

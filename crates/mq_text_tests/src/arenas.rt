@@ -22,9 +22,9 @@ fn taken<L: OfHeight, R: Abort + Wait>(
 ) -> Option<Block<L>> {
     let block = arena.take_filled(rt, 1, &[letter; 1500])?;
     assert!(rt; out.fetch_add(2, Ordering::SeqCst) <= 2);
-    assert_eq!(rt; block.part(0)[0], letter);
-    assert_eq!(rt; block.part(1)[475], letter);
-    assert_eq!(rt; block.part(1)[476], 0);
+    assert!(rt; block.part(0)[0] == letter);
+    assert!(rt; block.part(1)[475] == letter);
+    assert!(rt; block.part(1)[476] == 0);
     Some(block)
 }
 
@@ -36,7 +36,7 @@ fn given<L: OfHeight, R: Abort + Wait>(
 ) {
     if let Some(block) = block {
         out.fetch_sub(2, Ordering::SeqCst);
-        assert_eq!(rt; arena.put(rt, block), Homecoming::Home);
+        assert!(rt; arena.put(rt, block) == Homecoming::Home);
     }
 }
 
@@ -73,11 +73,11 @@ fn shared<L: OfHeight + Send + Sync, R: Abort + Threads + Wait + Sync>(
         || takes_and_gives(rt, &arena, &out, b'B'),
     );
     if let Some(block) = arena.take(rt, 1) {
-        assert_eq!(rt; block.part(0)[0], 0);
-        assert_eq!(rt; arena.put(rt, block), Homecoming::Home);
+        assert!(rt; block.part(0)[0] == 0);
+        assert!(rt; arena.put(rt, block) == Homecoming::Home);
     }
     let state = arena.into_state();
-    assert_eq!(rt; state.free_pages(), 4);
+    assert!(rt; state.free_pages() == 4);
 }
 
 #[test]

@@ -18,7 +18,7 @@ fn taken<L: Ledger>(rt: &impl Abort, arena: &mut ArenaState<L>, order: u8, start
 {
     match arena.take(order) {
         Some(block) => {
-            assert_eq!(rt; block.start(), start);
+            assert!(rt; block.start() == start);
             block
         }
         None => panic!(rt; "no block of order {order} at {start}"),
@@ -55,23 +55,23 @@ fn used_again<L: Ledger>(rt: &impl Abort, unopened: Unopened, ledger: Blank)
     block.fill(&[7; 2048]);
     block.part_mut(1)[1023] = 9;
     block.front_mut(0, 5).fill(8);
-    assert_eq!(rt; block.part(0)[4], 8);
-    assert_eq!(rt; block.part(0)[5], 7);
-    assert_eq!(rt; block.part(1)[1023], 9);
-    assert_eq!(rt; arena.put(block), Homecoming::Home);
+    assert!(rt; block.part(0)[4] == 8);
+    assert!(rt; block.part(0)[5] == 7);
+    assert!(rt; block.part(1)[1023] == 9);
+    assert!(rt; arena.put(block) == Homecoming::Home);
 
     let block = taken(rt, &mut arena, 1, 0);
     shows(rt, &block, &[0; 2048]);
-    assert_eq!(rt; block.parts().count(), 2);
-    assert_eq!(rt; arena.put(block), Homecoming::Home);
+    assert!(rt; block.parts().count() == 2);
+    assert!(rt; arena.put(block) == Homecoming::Home);
 
     let Some(block) = arena.take_filled(1, &[5; 1500]) else {
         panic!(rt; "no block for 1,500 bytes")
     };
     shows(rt, &block, &[5; 1500]);
-    assert_eq!(rt; block.part(1)[475], 5);
+    assert!(rt; block.part(1)[475] == 5);
     assert!(rt; block.part(1)[476..].iter().all(|byte| *byte == 0));
-    assert_eq!(rt; arena.put(block), Homecoming::Home);
+    assert!(rt; arena.put(block) == Homecoming::Home);
 }
 
 #[test]
@@ -87,21 +87,21 @@ fn fills_up<L: Ledger>(rt: &impl Abort, unopened: Unopened, ledger: Blank)
     requires enough { 2 ^ unopened < ledger.parts }
 {
     let mut arena = unopened.open::<L>(ledger);
-    assert_eq!(rt; arena.pages(), 4);
+    assert!(rt; arena.pages() == 4);
     finds_none(rt, &mut arena, 3);
     let mut pair = taken(rt, &mut arena, 1, 0);
     let one = taken(rt, &mut arena, 0, 2);
     finds_none(rt, &mut arena, 1);
-    assert_eq!(rt; arena.largest(), Some(0));
-    assert_eq!(rt; arena.free_pages(), 1);
-    assert_eq!(rt; arena.lent_pages(), 3);
+    assert!(rt; arena.largest() == Some(0));
+    assert!(rt; arena.free_pages() == 1);
+    assert!(rt; arena.lent_pages() == 3);
 
     arena.account(from_mut(&mut pair));
-    assert_eq!(rt; arena.put(pair), Homecoming::Home);
-    assert_eq!(rt; arena.largest(), Some(1));
-    assert_eq!(rt; arena.put(one), Homecoming::Home);
-    assert_eq!(rt; arena.largest(), Some(2));
-    assert_eq!(rt; arena.lent_pages(), 0);
+    assert!(rt; arena.put(pair) == Homecoming::Home);
+    assert!(rt; arena.largest() == Some(1));
+    assert!(rt; arena.put(one) == Homecoming::Home);
+    assert!(rt; arena.largest() == Some(2));
+    assert!(rt; arena.lent_pages() == 0);
 }
 
 #[test]
@@ -116,11 +116,11 @@ fn is_cut<L: Ledger>(rt: &impl Abort, block: &Block<L>, i: usize, letters: (u8, 
     for part in block.parts() {
         let want = if k < i { letters.0 } else { letters.1 };
         for byte in part {
-            assert_eq!(rt; *byte, want, "part {k} of {i}");
+            assert!(rt; *byte == want, "part {k} of {i}");
         }
         k = k.saturating_add(1);
     }
-    assert_eq!(rt; k, 4);
+    assert!(rt; k == 4);
 }
 
 fn cut_at<L: Ledger, R: Abort + Threads>(
@@ -167,8 +167,8 @@ fn halves<L: Ledger, R: Abort + Threads>(
     cut_at(rt, &mut block, 0, first, second);
     cut_at(rt, &mut block, 1, first, second);
     cut_at(rt, &mut block, 4, first, second);
-    assert_eq!(rt; block.order(), 2);
-    assert_eq!(rt; arena.put(block), Homecoming::Home);
+    assert!(rt; block.order() == 2);
+    assert!(rt; arena.put(block) == Homecoming::Home);
 }
 
 #[test]
@@ -184,9 +184,9 @@ fn two_threads_write_the_two_halves(rt: HostRuntime) -> Result<(), Fail> {
 fn an_arena_is_refused_by_height_and_by_memory_alone(rt: HostRuntime) {
     match Unopened::new(rt.alloc(), 11) {
         Ok(_) => panic!(rt; "a height of 11"),
-        Err(refused) => assert_eq!(rt; refused, TreeError::Height),
+        Err(refused) => assert!(rt; refused == TreeError::Height),
     }
     if let Err(refused) = Unopened::new(rt.alloc(), 2) {
-        assert_eq!(rt; refused, TreeError::Memory);
+        assert!(rt; refused == TreeError::Memory);
     }
 }

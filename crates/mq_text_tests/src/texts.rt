@@ -24,14 +24,14 @@ fn taken<L: Ledger>(rt: &impl Abort, arena: &mut ArenaState<L>, order: u8) -> Bl
 
 fn home<L: Ledger>(rt: &impl Abort, arena: &mut ArenaState<L>, text: Text<L>) {
     match text.into_block() {
-        Some(block) => assert_eq!(rt; arena.put(block), Homecoming::Home),
+        Some(block) => assert!(rt; arena.put(block) == Homecoming::Home),
         None => panic!(rt; "no block"),
     }
-    assert_eq!(rt; arena.lent_pages(), 0);
+    assert!(rt; arena.lent_pages() == 0);
 }
 
 fn holds(rt: &impl Abort, part: &[u8], len: usize, letter: u8) {
-    assert_eq!(rt; part.len(), len);
+    assert!(rt; part.len() == len);
     assert!(rt; part.iter().all(|byte| *byte == letter));
 }
 
@@ -48,7 +48,7 @@ fn shows<L: Ledger>(rt: &impl Abort, text: &Text<L>, bytes: &[u8]) {
         i = i.saturating_add(1);
     }
     assert!(rt; rest.is_empty());
-    assert_eq!(rt; i, text.count());
+    assert!(rt; i == text.count());
 }
 
 fn filled_at<L: Ledger, R: Abort + Threads>(rt: &R, text: &mut Text<L>, i: usize, bytes: &[u8])
@@ -87,8 +87,8 @@ fn two_threads<L: Ledger, R: Abort + Threads>(
     let block = taken(rt, &mut arena, 2);
     let mut text = Text::of(block, 2050);
     arena.put(before);
-    assert_eq!(rt; text.len(), 2050);
-    assert_eq!(rt; text.start(), Some(4));
+    assert!(rt; text.len() == 2050);
+    assert!(rt; text.start() == Some(4));
     shows(rt, &text, &[0; 2050]);
     filled_at(rt, &mut text, 1, letters);
     holds(rt, text.part(0), 1024, b'A');
@@ -102,7 +102,7 @@ fn two_threads<L: Ledger, R: Abort + Threads>(
     part_filled(&mut text, 0, b'D');
     holds(rt, text.part(0), 1024, b'D');
     holds(rt, text.part(1), 1024, b'B');
-    assert_eq!(rt; text.start(), Some(4));
+    assert!(rt; text.start() == Some(4));
     home(rt, &mut arena, text);
 }
 
@@ -123,14 +123,14 @@ fn pages_lent<L: Ledger, R: Abort + Threads>(rt: &R, unopened: Unopened, ledger:
     let mut arena = unopened.open::<L>(ledger);
     let block = taken(rt, &mut arena, 1);
     let mut text = Text::of(block, 1030);
-    assert_eq!(rt; text.len(), 1030);
+    assert!(rt; text.len() == 1030);
     text.write_halves(
         rt,
         1,
         |pages: &mut [Page]| fill(pages, &[b'A'; 1024]),
         |pages: &mut [Page]| fill(pages, &[b'B'; 1024]),
     );
-    assert_eq!(rt; text.len(), 1030);
+    assert!(rt; text.len() == 1030);
     holds(rt, text.part(0), 1024, b'A');
     holds(rt, text.part(1), 6, b'B');
     home(rt, &mut arena, text);
@@ -153,14 +153,14 @@ fn drafted<L: Ledger>(
     requires some { 0 < len }
     requires most { len ≤ TEXT_LEN }
 {
-    assert_eq!(rt; order_for(len), order);
+    assert!(rt; order_for(len) == order);
     let block = taken(rt, arena, order_for(len));
     let mut text = Text::of(block, len);
-    assert_eq!(rt; text.count(), count);
+    assert!(rt; text.count() == count);
     for part in text.parts() {
         assert!(rt; part.iter().all(|byte| *byte == 0));
     }
-    assert_eq!(rt; text.len(), len as u64);
+    assert!(rt; text.len() == len as u64);
     let letters = [b'E'; TEXT_LEN];
     text.fill(&letters[..len]);
     shows(rt, &text, &letters[..len]);
@@ -169,7 +169,7 @@ fn drafted<L: Ledger>(
     let Some(text) = Text::of_bytes(arena, &letters[..len]) else {
         panic!(rt; "no block for {len} bytes")
     };
-    assert_eq!(rt; text.order(), Some(order));
+    assert!(rt; text.order() == Some(order));
     shows(rt, &text, &letters[..len]);
     home(rt, arena, text);
 }
@@ -199,7 +199,7 @@ fn a_drafted_text_is_zero_and_can_be_filled(rt: HostRuntime) -> Result<(), Fail>
 fn cut_to<B: Body>(rt: &impl Abort, body: &mut B, n: u64) {
     let len = body.len();
     body.cut(n);
-    assert_eq!(rt; body.len(), len.min(n));
+    assert!(rt; body.len() == len.min(n));
 }
 
 fn cut_and_spent<L: Ledger>(rt: &impl Abort, unopened: Unopened, ledger: Blank)
@@ -211,13 +211,13 @@ fn cut_and_spent<L: Ledger>(rt: &impl Abort, unopened: Unopened, ledger: Blank)
     let block = taken(rt, &mut arena, 2);
     let mut text = Text::of(block, 2050);
     cut_to(rt, &mut text, 3000);
-    assert_eq!(rt; text.count(), 3);
+    assert!(rt; text.count() == 3);
     cut_to(rt, &mut text, 2048);
-    assert_eq!(rt; text.count(), 2);
+    assert!(rt; text.count() == 2);
     cut_to(rt, &mut text, 0);
     shows(rt, &text, &[]);
-    assert_eq!(rt; text.start(), Some(0));
-    assert_eq!(rt; arena.lent_pages(), 4);
+    assert!(rt; text.start() == Some(0));
+    assert!(rt; arena.lent_pages() == 4);
     home(rt, &mut arena, text);
 }
 
@@ -238,8 +238,8 @@ fn has_nothing<L: Ledger, R: Abort + Threads>(rt: &R, unopened: Unopened, ledger
     filled_at(rt, &mut text, 0, &[]);
     text.fill(&[]);
     cut_to(rt, &mut text, 5);
-    assert_eq!(rt; text.count(), 0);
-    assert_eq!(rt; text.start(), None);
+    assert!(rt; text.count() == 0);
+    assert!(rt; text.start() == None);
     if let Some(block) = text.into_block() {
         arena.put(block);
         panic!(rt; "a block");
@@ -257,8 +257,8 @@ fn the_empty_text_has_no_block_and_no_part(rt: HostRuntime) -> Result<(), Fail> 
 fn a_vector_is_a_body(rt: HostRuntime) -> Result<(), Fail> {
     let mut body = VecBody::from_slice(rt.alloc(), b"hello")?;
     cut_to(&rt, &mut body, 4);
-    assert_eq!(rt; body.bytes(), b"hell".as_slice());
+    assert!(rt; body.bytes() == b"hell".as_slice());
     let body = VecBody::from_vec(vec![in rt.alloc(); b'x'; 3]?);
-    assert_eq!(rt; body.bytes(), b"xxx".as_slice());
+    assert!(rt; body.bytes() == b"xxx".as_slice());
     Ok(())
 }

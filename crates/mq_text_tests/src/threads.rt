@@ -45,7 +45,7 @@ fn drafted<L: Ledger>(rt: &impl Abort, arena: &mut ArenaState<L>, len: usize) ->
 
 fn home<L: Ledger>(rt: &impl Abort, arena: &mut ArenaState<L>, text: Text<L>) {
     match text.into_block() {
-        Some(block) => assert_eq!(rt; arena.put(block), Homecoming::Home),
+        Some(block) => assert!(rt; arena.put(block) == Homecoming::Home),
         None => panic!(rt; "no block"),
     }
 }

@@ -7,7 +7,7 @@ fn tree_of(rt: &impl Abort, alloc: Global, height: u8) -> OrderTree {
     match OrderTree::new(alloc, height) {
         Ok(tree) => tree,
         Err(e) => {
-            assert_eq!(rt; e, TreeError::Memory);
+            assert!(rt; e == TreeError::Memory);
             OrderTree::new(alloc, height).expect(rt, "memory is refused once at most")
         }
     }
@@ -111,17 +111,17 @@ impl Plain {
 fn step(rt: &impl Abort, tree: &mut OrderTree, plain: &mut Plain, choice: u32) {
     if choice <= plain.height as u32 {
         let order = choice as u8;
-        assert_eq!(rt; tree.lend(order), plain.lend(order));
+        assert!(rt; tree.lend(order) == plain.lend(order));
     } else {
         let start = plain.lent_start(choice - plain.height as u32 - 1);
         let order = plain.orders[start as usize % 8].unwrap_or(0);
         assert!(rt; !tree.give(start, order ^ 1), "another order at that start");
         assert!(rt; !tree.give(start ^ 8, order), "another start of that order");
-        assert_eq!(rt; tree.give(start, order), plain.give(start, order));
+        assert!(rt; tree.give(start, order) == plain.give(start, order));
         assert!(rt; !tree.give(start, order), "given twice");
     }
-    assert_eq!(rt; tree.largest(), plain.largest());
-    assert_eq!(rt; tree.free_pages(), plain.free_pages());
+    assert!(rt; tree.largest() == plain.largest());
+    assert!(rt; tree.free_pages() == plain.free_pages());
 }
 
 #[test]
@@ -141,14 +141,14 @@ fn a_height_over_ten_is_refused(rt: HostRuntime) {
 fn blocks_are_lent_at_the_least_start_and_buddies_merge(rt: HostRuntime) {
     let mut tree = tree_of(&rt, rt.alloc(), 3);
     for (order, start) in [(0, 0), (1, 2), (2, 4), (0, 1)] {
-        assert_eq!(rt; tree.lend(order), Some(start));
+        assert!(rt; tree.lend(order) == Some(start));
     }
-    assert_eq!(rt; tree.lend(0), None);
-    assert_eq!(rt; tree.largest(), None);
+    assert!(rt; tree.lend(0) == None);
+    assert!(rt; tree.largest() == None);
     for (start, order) in [(0, 0), (1, 0), (2, 1)] {
         assert!(rt; tree.give(start, order));
     }
-    assert_eq!(rt; tree.lend(2), Some(0));
+    assert!(rt; tree.lend(2) == Some(0));
     assert!(rt; !tree.give(1, 0));
 }
 
@@ -202,14 +202,14 @@ fn each_short_run_answers_as_a_plain_set_of_pages(rt: HostRuntime) {
 #[test]
 fn the_largest_arena_lends_each_page_once(rt: HostRuntime) {
     let mut tree = tree_of(&rt, rt.alloc(), MAX_HEIGHT);
-    assert_eq!(rt; tree.pages(), 1024);
+    assert!(rt; tree.pages() == 1024);
     for page in 0..1024u32 {
-        assert_eq!(rt; tree.lend(0), Some(page));
+        assert!(rt; tree.lend(0) == Some(page));
     }
-    assert_eq!(rt; tree.lend(0), None);
-    assert_eq!(rt; tree.free_pages(), 0);
+    assert!(rt; tree.lend(0) == None);
+    assert!(rt; tree.free_pages() == 0);
     for page in 0..1024u32 {
         assert!(rt; tree.give(page ^ 0b1010101010, 0));
     }
-    assert_eq!(rt; tree.lend(MAX_HEIGHT), Some(0));
+    assert!(rt; tree.lend(MAX_HEIGHT) == Some(0));
 }

@@ -2,23 +2,22 @@ use Rattle.std.proofs.Common.{rules, ap, ◌∙◌, w64}
 use Rattle.std.proofs.lemmas.Int.{to_z-of_z}
 use mir.Val.{SFits}
 use Rattle.mq_message.specs.Text.{PlainText}
+use Rattle.mq_one_thread.proofs.DraftLemmas.{spent_after}
 use Rattle.mq_one_thread.specs.State.{State}
 use Rattle.mq_one_thread.specs.declared.results.Refused.{Refused}
-use Rattle.mq.proofs.SendLemmas.{drafted_of, refused_whole, spent, spent_is_home}
+use Rattle.mq.proofs.SendLemmas.{refused_whole, spent}
 use Rattle.mq.proofs.bytes.send_bytes.Goals as goal
 
 pub returns-in-Err-msgsnd-clause-refused : goal.returns-in-Err-msgsnd-clause-refused
 returns-in-Err-msgsnd-clause-refused g c =
     let fits : SFits w64 c.args.mtype = search rules in
     let is = simp to_z-of_z at c.in-Err-msgsnd.ensures.refused in
-    let m = drafted_of c.args.queues.now c.draft_of.new.self c.args.bytes.now c.in-Ok.text c.in-Ok.ensures.ok in
     ap (λ (r : Refused). r.errno)
     (refused_whole c.args.queues.now c.draft_of.new.self c.args.seat c.args.id c.args.mtype c.args.tag c.args.bytes.now c.args.moment
-    m.made c.in-Ok.text c.in-Err-msgsnd.refusal.refused m.drafted m.filled is)
+    c.in-Ok.text c.in-Err-msgsnd.refusal.refused c.in-Ok.ensures.ok is)
 
 pub returns-in-Err-msgsnd-clause-unchanged : goal.returns-in-Err-msgsnd-clause-unchanged
 returns-in-Err-msgsnd-clause-unchanged g c =
-    let gone = c.spend.ensures.back ∙ ap (λ (t : PlainText). spent t c.msgsnd.new.self) c.in-Err-msgsnd.ensures.handed_back
-    ∙ ap (λ (s : State). spent c.in-Ok.text s) c.in-Err-msgsnd.ensures.unchanged in
-    let m = drafted_of c.args.queues.now c.draft_of.new.self c.args.bytes.now c.in-Ok.text c.in-Ok.ensures.ok in
-    spent_is_home c.args.queues.now c.draft_of.new.self c.spend.new.self c.args.bytes.now m.made c.in-Ok.text m.drafted m.filled gone
+    c.spend.ensures.back ∙ ap (λ (t : PlainText). spent t c.msgsnd.new.self) c.in-Err-msgsnd.ensures.handed_back
+    ∙ ap (λ (s : State). spent c.in-Ok.text s) c.in-Err-msgsnd.ensures.unchanged
+    ∙ spent_after c.args.queues.now c.draft_of.new.self c.args.bytes.now c.in-Ok.text c.in-Ok.ensures.ok

@@ -1,8 +1,14 @@
-use Rattle.std.proofs.lemmas.List.FromFn.{take-map-range_with_len}
-use Rattle.mq_queue.specs.declared.limits.TheConstants.{MSGMAX}
-use Rattle.mq_cli.specs.Drafts.{letter}
+use Rattle.std.proofs.Common.{length, ap, sym, ◌∙◌}
+use Rattle.mq_cli.proofs.DraftLemmas.{letters_cut, letters_length}
 use Rattle.mq_cli.proofs.draft.bytes_of.Goals as goal
 
-pub returns-in-Letters-clause-bytes : goal.returns-in-Letters-clause-bytes
-returns-in-Letters-clause-bytes c =
-    rw (c.requires.letters, c.in-Letters.is) (take-map-range_with_len letter 0 MSGMAX c.in-Letters.count (rw c.in-Letters.is at c.requires.fits))
+pub returns-in-Letters : goal.returns-in-Letters
+returns-in-Letters c =
+    let most = rw c.in-Letters.is at c.requires.fits in
+    rw c.in-Letters.is (letters_cut c.args.letters.now c.in-Letters.count c.requires.letters most)
+
+pub slice_bounds-result-end : goal.slice_bounds-result-end
+slice_bounds-result-end c =
+    let most = rw c.in-Letters.is at c.requires.fits in
+    let cut = letters_cut c.args.letters.now c.in-Letters.count c.requires.letters most in
+    sym (ap length cut ∙ letters_length c.in-Letters.count)

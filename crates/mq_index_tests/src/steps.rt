@@ -1,0 +1,83 @@
+use mq_message::{Message, VecBody};
+use mq_queue::{QueueError, QueueState};
+use mq_select::{Selection, Waiting, discard};
+use std::alloc::{AllocError, Global};
+
+/// What is done to a queue.
+#[derive(Clone, Copy, Debug, PartialEq, Eq)]
+pub(crate) enum Step {
+    /// A message of this type is sent.
+    Send(i64),
+    Receive(Selection),
+}
+
+/// A message of this type, with a text of as many bytes as its type tells, below 8.
+fn message(alloc: Global, mtype: i64) -> Result<Message<VecBody>, AllocError> {
+    let bytes = vec![in alloc; b'a'; (mtype & 7) as usize]?;
+    Ok(Message {
+        mtype,
+        sender: 3,
+        tag: 70,
+        body: VecBody::from_vec(bytes),
+    })
+}
+
+/// Sends a message, and where memory was refused once more. The place of the sending.
+fn send<W: Waiting<VecBody>>(
+    queue: &mut QueueState<VecBody, W>,
+    message: Message<VecBody>,
+) -> Option<u64> {
+    let answer = match queue.send(message, 60) {
+        Err((QueueError::Memory, message)) => queue.send(message, 60),
+        answer => answer,
+    };
+    match answer {
+        Ok(place) => Some(place),
+        Err(_) => None,
+    }
+}
+
+/// Receives a message, and where memory was refused once more. The place of its sending.
+fn receive<W: Waiting<VecBody>>(
+    queue: &mut QueueState<VecBody, W>,
+    selection: Selection,
+) -> Option<u64> {
+    let answer = match queue.receive(8192, selection, false, 4, 80) {
+        Err(QueueError::Memory) => queue.receive(8192, selection, false, 4, 80),
+        answer => answer,
+    };
+    match answer {
+        Ok(received) => Some(received.place),
+        Err(_) => None,
+    }
+}
+
+/// Makes the steps, and writes down the place that each tells.
+fn made<W: Waiting<VecBody>>(
+    alloc: Global,
+    queue: &mut QueueState<VecBody, W>,
+    steps: &[Step],
+) -> Result<Vec<Option<u64>>, AllocError> {
+    let mut places = Vec::with_capacity(alloc, steps.len())?;
+    for step in steps {
+        let place = match *step {
+            Step::Send(mtype) => send(queue, message(alloc, mtype)?),
+            Step::Receive(selection) => receive(queue, selection),
+        };
+        places.push(place)?;
+    }
+    Ok(places)
+}
+
+/// The places that a new queue tells, step by step; what waits after the last of them leaves by
+/// itself.
+pub(crate) fn places<W: Waiting<VecBody>>(
+    alloc: Global,
+    steps: &[Step],
+) -> Result<Vec<Option<u64>>, AllocError> {
+    let mut queue: QueueState<VecBody, W> = QueueState::made(alloc, 7, 2, 50)?;
+    let places = made(alloc, &mut queue, steps);
+    let (_log, waiting) = queue.into_parts();
+    discard(waiting);
+    places
+}

@@ -1,0 +1,273 @@
+# Scripts with what they write, which serial.sh runs and allocations.sh runs with each allocation
+# refused. Either defines these and then sources this file:
+#   table NAME              the property of the cases that follow
+#   case_of WORDS SCRIPT OUTPUT [FAULT]
+#                           mqsim with these words, a script, what it writes, and, where a line is
+#                           not well formed, what it says of that on standard error, all for printf
+
+table each_script_writes_its_answers
+case_of '' \
+    '' \
+    ''
+case_of '' \
+    '\n\n# nothing said\n' \
+    ''
+case_of '' \
+    'get 0 c\nsnd 0 5 =hello\nrcv 0 100 0\n' \
+    'id 0\nat 1\nmsg 5 seat 1 tag 2 len 5 =hello\n'
+# Words of a text keep their spaces; the last line needs no end.
+case_of '' \
+    'get 0 c\nsnd 0 1 = two  words \nrcv 0 12 0' \
+    'id 0\nat 1\nmsg 1 seat 1 tag 2 len 12 = two  words \n'
+# One CR is the line's end; a second one is a byte of the line.
+case_of '' \
+    'get 0 c\r\nsnd 0 1 =a\r\n\r\nrcv 0 1 0\r' \
+    'id 0\nat 1\nmsg 1 seat 1 tag 2 len 1 =a\n'
+case_of '' \
+    'get 0 c\r\r\n' \
+    '' \
+    'mqsim: line 1: byte\n'
+# Each refusal, which leaves all as it was.
+case_of '' \
+    'snd 0 1 =a\nrcv 0 1 0\nget 0 c\nget 0 c\nsnd 1 1 =a\nrcv 4294967295 1 0\n' \
+    'EINVAL\nEINVAL\nid 0\nid 1\nat 1\nEINVAL\n'
+case_of '' \
+    'get 0 c\nrcv 0 9 0\nsnd 0 0 =a\nsnd 0 -9223372036854775808 =a\nsnd 0 1 =\n' \
+    'id 0\nENOMSG\nEINVAL\nEINVAL\nat 1\n'
+case_of '' \
+    'get 0 c\nsnd 0 9223372036854775807 =ab\nsnd 0 2 =c\nrcv 0 1 0\nrcv 0 2 0\nrcv 0 0 0\nrcv 0 1 0\n' \
+    'id 0\nat 1\nat 2\nE2BIG\nmsg 9223372036854775807 seat 1 tag 2 len 2 =ab\nE2BIG\nmsg 2 seat 1 tag 3 len 1 =c\n'
+# A comment counts as a line, and has no answer.
+case_of '' \
+    '# made\nget 0 c\n#snd 0\nsnd 0 1 =a\nrcv 0 1 0\n' \
+    'id 0\nat 1\nmsg 1 seat 1 tag 4 len 1 =a\n'
+# The lowest type up to a bound; of one type the message that was sent first.
+case_of '' \
+    'get 0 c\nsnd 0 3 =c\nsnd 0 1 =a\nsnd 0 2 =b\nsnd 0 1 =z\nrcv 0 9 -2\nrcv 0 9 -2\nrcv 0 9 -2\nrcv 0 9 -2\n' \
+    'id 0\nat 1\nat 2\nat 3\nat 4\nmsg 1 seat 1 tag 3 len 1 =a\nmsg 1 seat 1 tag 5 len 1 =z\nmsg 2 seat 1 tag 4 len 1 =b\nENOMSG\n'
+# The bounds of the types.
+case_of '' \
+    'get 0 c\nsnd 0 9223372036854775807 =m\nrcv 0 9 -9223372036854775807\nsnd 0 9223372036854775807 =m\nsnd 0 8 =k\nrcv 0 9 -9223372036854775808\nrcv 0 9 -9223372036854775808\n' \
+    'id 0\nat 1\nmsg 9223372036854775807 seat 1 tag 2 len 1 =m\nat 3\nat 4\nmsg 8 seat 1 tag 5 len 1 =k\nmsg 9223372036854775807 seat 1 tag 4 len 1 =m\n'
+# All but one type; MSG_EXCEPT says nothing at 0 and below.
+case_of '' \
+    'get 0 c\nsnd 0 7 =a\nsnd 0 5 =b\nsnd 0 7 =c\nsnd 0 4 =d\nrcv 0 9 7 e\nrcv 0 9 7 e\nrcv 0 9 7 e\nrcv 0 9 0 e\nrcv 0 9 -7 e\n' \
+    'id 0\nat 1\nat 2\nat 3\nat 4\nmsg 5 seat 1 tag 3 len 1 =b\nmsg 4 seat 1 tag 5 len 1 =d\nENOMSG\nmsg 7 seat 1 tag 2 len 1 =a\nmsg 7 seat 1 tag 4 len 1 =c\n'
+# A text that is longer than the size stays, or is cut.
+case_of '' \
+    'get 0 c\nsnd 0 1 =hello\nrcv 0 3 0\nrcv 0 3 0 n\nsnd 0 1 =hello\nrcv 0 0 0 n\nsnd 0 2 =\nrcv 0 0 0 n\n' \
+    'id 0\nat 1\nE2BIG\nmsg 1 seat 1 tag 2 len 5 =hel\nat 3\nmsg 1 seat 1 tag 5 len 5 =\nat 5\nmsg 2 seat 1 tag 7 len 0 =\n'
+# Both flags.
+case_of '' \
+    'get 0 c\nsnd 0 1 =long\nsnd 0 2 =longer\nrcv 0 4 1 en\n' \
+    'id 0\nat 1\nat 2\nmsg 2 seat 1 tag 3 len 6 =long\n'
+# The quota is bytes and messages; an empty text still has room beside full bytes.
+case_of '' \
+    'get 0 c\nsnd 0 1 *8192\nsnd 0 1 *8192\nsnd 0 1 =a\nsnd 0 1 =\n' \
+    'id 0\nat 1\nat 2\nEAGAIN\nat 3\n'
+# A text over the limit is refused before it is made, whatever the id and the type.
+case_of '' \
+    'snd 0 1 *8193\nget 0 c\nsnd 0 1 *18446744073709551615\nsnd 9 0 *8193\nsnd 0 1 *0\nsnd 0 1 *28\nrcv 0 99 0\nrcv 0 99 0\n' \
+    'EINVAL\nid 0\nEINVAL\nEINVAL\nat 1\nat 2\nmsg 1 seat 1 tag 5 len 0 =\nmsg 1 seat 1 tag 6 len 28 =abcdefghijklmnopqrstuvwxyzab\n'
+# Each seat sends as itself.
+case_of '' \
+    'seat 16\nget 0 c\nsnd 0 1 =a\nseat 2\nrcv 0 1 0\nsnd 0 1 =b\nseat 1\nrcv 0 1 0\n' \
+    'id 0\nat 1\nmsg 1 seat 16 tag 3 len 1 =a\nat 3\nmsg 1 seat 2 tag 6 len 1 =b\n'
+# E2BIG does not look for a later message that fits.
+case_of '' \
+    'get 0 c\nsnd 0 1 =long\nsnd 0 1 =s\nrcv 0 1 1\nrcv 0 1 -1\nrcv 0 1 9 e\nrcv 0 4 1\n' \
+    'id 0\nat 1\nat 2\nE2BIG\nE2BIG\nE2BIG\nmsg 1 seat 1 tag 2 len 4 =long\n'
+case_of '' \
+    'get 0 c\nrcv 0 9 9223372036854775808\n' \
+    'id 0\n' \
+    'mqsim: line 2: number\n'
+# The first line that is not well formed ends the run.
+case_of '' \
+    'get 0 c\nrcv 0 9\nget 0 c\n' \
+    'id 0\n' \
+    'mqsim: line 2: words\n'
+case_of '' \
+    'get 0 c\nsnd 0 01 =a\nsnd 0 1 =a\n' \
+    'id 0\n' \
+    'mqsim: line 2: number\n'
+
+table each_arena_lends_as_it_must
+case_of 'serial --height 6' \
+    'arena' \
+    'pages 64 free 64 largest 6\n'
+case_of 'serial --height 6' \
+    'get 0 c\nsnd 0 1 =hello\nrcv 0 3 0\nrcv 0 3 0 n\nsnd 0 1 =hello\nrcv 0 0 0 n\narena\n' \
+    'id 0\nat 1\nE2BIG\nmsg 1 seat 1 tag 2 len 5 =hel\nat 3\nmsg 1 seat 1 tag 5 len 5 =\npages 64 free 64 largest 6\n'
+case_of 'serial --height 6' \
+    'get 0 c\nsnd 0 1 *0\narena\nsnd 0 1 *1\nsnd 0 1 *1024\nsnd 0 1 *1025\nsnd 0 1 *2049\nsnd 0 1 *8192\narena\nsnd 0 1 *8193\n' \
+    'id 0\nat 1\npages 64 free 64 largest 6\nat 2\nat 3\nat 4\nat 5\nat 6\npages 64 free 48 largest 5\nEINVAL\n'
+# One page: a text that finds no run of pages is refused, an empty one needs none.
+case_of 'serial --height 0' \
+    'get 0 c\nsnd 0 1 =a\nsnd 0 1 =b\nsnd 0 1 =\nrcv 0 9 0\nsnd 0 1 =b\narena\n' \
+    'id 0\nat 1\nENOMEM\nat 2\nmsg 1 seat 1 tag 2 len 1 =a\nat 4\npages 1 free 0 largest none\n'
+# Pages are free, but no two buddies are.
+case_of 'serial --height 2' \
+    'get 0 c\nsnd 0 1 =a\nsnd 0 2 =b\nsnd 0 3 =c\nsnd 0 4 =d\nrcv 0 9 1\nrcv 0 9 3\narena\nsnd 0 5 *1025\nrcv 0 9 2\nsnd 0 5 *1025\n' \
+    'id 0\nat 1\nat 2\nat 3\nat 4\nmsg 1 seat 1 tag 2 len 1 =a\nmsg 3 seat 1 tag 4 len 1 =c\npages 4 free 2 largest 0\nENOMEM\nmsg 2 seat 1 tag 3 len 1 =b\nat 8\n'
+# The text is made first, so its refusal comes before that of the id and of the type.
+case_of 'serial --height 0' \
+    'get 0 c\nsnd 0 1 =a\nsnd 9 0 *1\nsnd 9 0 *8193\nsnd 9 0 =\nrcv 0 1 0\nsnd 9 1 =b\narena\n' \
+    'id 0\nat 1\nENOMEM\nEINVAL\nEINVAL\nmsg 1 seat 1 tag 2 len 1 =a\nEINVAL\npages 1 free 1 largest 0\n'
+
+table each_change_of_a_queue_is_seen
+# The quota limits bytes and messages; an empty text counts as a message.
+case_of '' \
+    'get 0 c\nset 0 4\nsnd 0 1 =ab\nsnd 0 1 =cd\nsnd 0 1 =ef\nsnd 0 1 =\nsnd 0 1 =\nsnd 0 1 =\n' \
+    'id 0\nat 1\nat 2\nat 3\nEAGAIN\nat 4\nat 5\nEAGAIN\n'
+# A queue over its quota takes nothing, and takes again once it is under.
+case_of '' \
+    'get 0 c\nsnd 0 1 =abcdef\nset 0 4\nsnd 0 1 =\nrcv 0 9 0\nsnd 0 1 =\nset 0 16385\nset 0 0\nrcv 0 9 0\nsnd 0 1 =\n' \
+    'id 0\nat 1\nat 2\nEAGAIN\nmsg 1 seat 1 tag 2 len 6 =abcdef\nat 4\nEPERM\nat 5\nmsg 1 seat 1 tag 6 len 0 =\nEAGAIN\n'
+# The greatest quota is taken, the next one and the greatest number are not.
+case_of '' \
+    'get 0 c\nset 0 16384\nset 0 16385\nset 0 18446744073709551615\nset 1 0\n' \
+    'id 0\nat 1\nEPERM\nEPERM\nEINVAL\n'
+# A removal gives the pages of all that waits back, and no call finds the queue again.
+case_of '' \
+    'get 0 c\nsnd 0 1 *3000\nsnd 0 1 *3000\nsnd 0 2 =x\nrm 0\narena\nsnd 0 1 =a\nrcv 0 9 0\nstat 0\nsnd 5 1 =a\n' \
+    'id 0\nat 1\nat 2\nat 3\nat 4 events 5\npages 64 free 64 largest 6\nEIDRM\nEIDRM\nEIDRM\nEINVAL\n'
+# A type below 1 is refused before the id is looked at; a removed id is given no more.
+case_of '' \
+    'rm 0\nset 0 1\nstat 0\nget 0 c\nrm 0\nsnd 0 0 =a\nsnd 0 1 =a\nset 0 16385\nrm 0\nget 0 c\nrm 1\narena\n' \
+    'EINVAL\nEINVAL\nEINVAL\nid 0\nat 1 events 2\nEINVAL\nEIDRM\nEIDRM\nEIDRM\nid 64\nEINVAL\npages 64 free 64 largest 6\n'
+# The figures, and who changed the queue last and when.
+case_of '' \
+    'get 0 c\nsnd 0 5 =hello\nstat 0\nset 0 100\nrcv 0 5 -9\nstat 0\n' \
+    'id 0\nat 1\nqnum 1 cbytes 5 qbytes 16384 lspid 1 lrpid 0 stime 2 rtime 0 ctime 1\nat 2\nmsg 5 seat 1 tag 2 len 5 =hello\nqnum 0 cbytes 0 qbytes 100 lspid 1 lrpid 1 stime 2 rtime 5 ctime 4\n'
+# A refused call leaves the figures; the same quota can be set once more.
+case_of '' \
+    'seat 3\nget 0 c\nseat 4\nsnd 0 1 =abc\nseat 5\nsnd 0 0 =a\nrcv 0 2 0\nrcv 0 9 2\nset 0 16385\nstat 0\nset 0 16384\nstat 0\n' \
+    'id 0\nat 1\nEINVAL\nE2BIG\nENOMSG\nEPERM\nqnum 1 cbytes 3 qbytes 16384 lspid 4 lrpid 0 stime 4 rtime 0 ctime 2\nat 2\nqnum 1 cbytes 3 qbytes 16384 lspid 4 lrpid 0 stime 4 rtime 0 ctime 11\n'
+# A cut text gives back the room of its whole length.
+case_of '' \
+    'get 0 c\nset 0 5\nsnd 0 1 =hello\nrcv 0 1 0 n\nstat 0\nsnd 0 1 =world\n' \
+    'id 0\nat 1\nat 2\nmsg 1 seat 1 tag 3 len 5 =h\nqnum 0 cbytes 0 qbytes 5 lspid 1 lrpid 1 stime 3 rtime 4 ctime 2\nat 4\n'
+# A queue may be left with messages at the end of a run.
+case_of '' \
+    'get 0 c\nsnd 0 1 *8192\nset 0 0' \
+    'id 0\nat 1\nat 2\n'
+
+table each_system_gives_ids_and_keys_as_it_must
+# Keys and their flags; a slot whose queue is removed has the next id.
+case_of 'serial --slots 1 --last-seq 32767' \
+    'get 9\nget 9 c\nget 9 cx\nget 9\nget 8 c\nrm 0\nget 9 c\nstat 0\nsnd 64 1 =n\nrm 1\nget 9 c\n' \
+    'ENOENT\nid 0\nEEXIST\nid 0\nENOSPC\nat 1 events 2\nid 64\nEIDRM\nat 3\nEINVAL\nid 64\n'
+# A table of the live queues, and seats that send and receive.
+case_of 'serial --slots 16 --last-seq 32767' \
+    'get 9 c\nseat 3\nsnd 0 5 =hello\nget 0 c\nipcs\nseat 2\nrcv 0 9 5\nstat 0\n' \
+    'id 0\nat 1\nid 1\nslot      id         key   qnum  cbytes  qbytes lspid lrpid\n   0       0           9      1       5   16384     3     0\n   1       1           0      0       0   16384     0     0\nmsg 5 seat 3 tag 3 len 5 =hello\nqnum 0 cbytes 0 qbytes 16384 lspid 3 lrpid 2 stime 3 rtime 7 ctime 1\n'
+# A slot is used up; its ids stay removed, and the next one was never given.
+case_of 'serial --slots 1 --last-seq 1' \
+    'get 0 c\nrm 0\nsnd 0 0 =a\nsnd 0 -1 =a\nsnd 0 1 =a\nget 0 c\nrm 64\nget 0 c\nrm 64\nrm 128\n' \
+    'id 0\nat 1 events 2\nEINVAL\nEINVAL\nEIDRM\nid 64\nat 3 events 2\nENOSPC\nEIDRM\nEINVAL\n'
+# No queue, and one that was removed, have no row.
+case_of 'serial --slots 2 --last-seq 32767' \
+    'ipcs\nget 7 c\nget 8 c\nrm 0\nipcs\nrm 1\nipcs\n' \
+    'slot      id         key   qnum  cbytes  qbytes lspid lrpid\nid 0\nid 1\nat 1 events 2\nslot      id         key   qnum  cbytes  qbytes lspid lrpid\n   1       1           8      0       0   16384     0     0\nat 1 events 2\nslot      id         key   qnum  cbytes  qbytes lspid lrpid\n'
+# The least slot that is free is taken; key 0 never finds a queue.
+case_of 'serial --slots 3 --last-seq 32767' \
+    'get 0 c\nget 0 cx\nget 0 c\nget 0 c\nget 0\nrm 1\nrm 0\nget 0\nget 0 x\n' \
+    'id 0\nid 1\nid 2\nENOSPC\nENOSPC\nat 1 events 2\nat 1 events 2\nid 64\nid 65\n'
+# IPC_EXCL says nothing alone; the bounds of a key.
+case_of 'serial --slots 4 --last-seq 32767' \
+    'get 5 x\nget -2147483648 cx\nget 2147483647 cx\nget -1 c\nget -2147483648 x\nget 2147483647\nget -1\nget -1 cx\nipcs\n' \
+    'ENOENT\nid 0\nid 1\nid 2\nid 0\nid 1\nid 2\nEEXIST\nslot      id         key   qnum  cbytes  qbytes lspid lrpid\n   0       0 -2147483648      0       0   16384     0     0\n   1       1  2147483647      0       0   16384     0     0\n   2       2          -1      0       0   16384     0     0\n'
+# A key that is removed is forgotten, and the others are still found.
+case_of 'serial --slots 4 --last-seq 32767' \
+    'get 1 c\nget 0 c\nget 3 c\nrm 1\nget 3\nget 1\nrm 0\nget 1\nget 3\nget 1 c\n' \
+    'id 0\nid 1\nid 2\nat 1 events 2\nid 2\nid 0\nat 1 events 2\nENOENT\nid 2\nid 64\n'
+# Ids past the slots, and the greatest number; entries go on in the slot.
+case_of 'serial --slots 2 --last-seq 2' \
+    'get 0 c\nstat 2\nstat 63\nstat 4294967295\nrm 0\nget 0 c\nsnd 64 1 =a\nrcv 64 9 0\nset 64 5\nrm 64\nget 0 c\nstat 0\nstat 64\nstat 192\n' \
+    'id 0\nEINVAL\nEINVAL\nEINVAL\nat 1 events 2\nid 64\nat 3\nmsg 1 seat 1 tag 7 len 1 =a\nat 5\nat 6 events 5\nid 128\nEIDRM\nEIDRM\nEINVAL\n'
+# The messages of two queues do not mix.
+case_of 'serial --slots 2 --last-seq 0' \
+    'get 0 c\nget 0 c\nsnd 0 1 =a\nsnd 1 1 =b\nrcv 1 9 0\nrcv 1 9 0\nrcv 0 9 0\nrm 0\nget 0 c\n' \
+    'id 0\nid 1\nat 1\nat 1\nmsg 1 seat 1 tag 4 len 1 =b\nENOMSG\nmsg 1 seat 1 tag 3 len 1 =a\nat 3 events 4\nENOSPC\n'
+
+table a_line_that_is_not_well_formed_has_its_cause
+case_of 'serial --height 0' '\tget 0 c' '' 'mqsim: line 1: byte\n'
+case_of 'serial --height 0' 'get 0 c\177' '' 'mqsim: line 1: byte\n'
+case_of 'serial --height 0' '# caf\303\251' '' 'mqsim: line 1: byte\n'
+case_of 'serial --height 0' 'get 0 c\000' '' 'mqsim: line 1: byte\n'
+case_of 'serial --height 0' 'get\t0 c' '' 'mqsim: line 1: byte\n'
+case_of 'serial --height 0' ' ' '' 'mqsim: line 1: words\n'
+case_of 'serial --height 0' ' get 0 c' '' 'mqsim: line 1: words\n'
+case_of 'serial --height 0' 'get 0 c ' '' 'mqsim: line 1: words\n'
+case_of 'serial --height 0' 'get  0 c' '' 'mqsim: line 1: words\n'
+case_of 'serial --height 0' 'GET 0 c' '' 'mqsim: line 1: words\n'
+case_of 'serial --height 0' 'got 0 c' '' 'mqsim: line 1: words\n'
+case_of 'serial --height 0' 'get' '' 'mqsim: line 1: words\n'
+case_of 'serial --height 0' 'get 0 c c' '' 'mqsim: line 1: words\n'
+case_of 'serial --height 0' 'get 0 xc' '' 'mqsim: line 1: words\n'
+case_of 'serial --height 0' 'get 0 C' '' 'mqsim: line 1: words\n'
+case_of 'serial --height 0' 'get x cc' '' 'mqsim: line 1: words\n'
+case_of 'serial --height 0' 'get 5 c ' '' 'mqsim: line 1: words\n'
+case_of 'serial --height 0' 'get x c' '' 'mqsim: line 1: number\n'
+case_of 'serial --height 0' 'get 2147483648' '' 'mqsim: line 1: number\n'
+case_of 'serial --height 0' 'get -2147483649 c' '' 'mqsim: line 1: number\n'
+case_of 'serial --height 0' 'get +5' '' 'mqsim: line 1: number\n'
+case_of 'serial --height 0' 'ipcs 0' '' 'mqsim: line 1: words\n'
+case_of 'serial --height 0' 'ipcs ' '' 'mqsim: line 1: words\n'
+case_of 'serial --height 0' 'get -0 c' '' 'mqsim: line 1: number\n'
+case_of 'serial --height 0' 'get 00 c' '' 'mqsim: line 1: number\n'
+case_of 'serial --height 0' 'snd' '' 'mqsim: line 1: words\n'
+case_of 'serial --height 0' 'snd 0 5' '' 'mqsim: line 1: words\n'
+case_of 'serial --height 0' 'snd 0 5 ' '' 'mqsim: line 1: words\n'
+case_of 'serial --height 0' 'snd 0 5 hello' '' 'mqsim: line 1: words\n'
+case_of 'serial --height 0' 'snd 0 5  =hello' '' 'mqsim: line 1: words\n'
+case_of 'serial --height 0' 'snd  5 =hello' '' 'mqsim: line 1: words\n'
+case_of 'serial --height 0' 'snd 0 5 *5 ' '' 'mqsim: line 1: words\n'
+case_of 'serial --height 0' 'snd 0 5 *5 5' '' 'mqsim: line 1: words\n'
+case_of 'serial --height 0' 'snd x 5 hello' '' 'mqsim: line 1: words\n'
+case_of 'serial --height 0' 'snd 0 5 *' '' 'mqsim: line 1: number\n'
+case_of 'serial --height 0' 'snd 0 5 *05' '' 'mqsim: line 1: number\n'
+case_of 'serial --height 0' 'snd 0 5 *-1' '' 'mqsim: line 1: number\n'
+case_of 'serial --height 0' 'snd 0 5 *18446744073709551616' '' 'mqsim: line 1: number\n'
+case_of 'serial --height 0' 'snd 0 =a =b' '' 'mqsim: line 1: number\n'
+case_of 'serial --height 0' 'snd 4294967296 5 =a' '' 'mqsim: line 1: number\n'
+case_of 'serial --height 0' 'snd -1 5 =a' '' 'mqsim: line 1: number\n'
+case_of 'serial --height 0' 'snd 0 9223372036854775808 =a' '' 'mqsim: line 1: number\n'
+case_of 'serial --height 0' 'snd 0 -9223372036854775809 =a' '' 'mqsim: line 1: number\n'
+case_of 'serial --height 0' 'snd 0 -0 =a' '' 'mqsim: line 1: number\n'
+case_of 'serial --height 0' 'snd 0 -01 =a' '' 'mqsim: line 1: number\n'
+case_of 'serial --height 0' 'snd 0 +1 =a' '' 'mqsim: line 1: number\n'
+case_of 'serial --height 0' 'snd 0 1a =a' '' 'mqsim: line 1: number\n'
+case_of 'serial --height 0' 'rcv 0 18446744073709551616 0' '' 'mqsim: line 1: number\n'
+case_of 'serial --height 0' 'rcv 0 9 -9223372036854775809' '' 'mqsim: line 1: number\n'
+case_of 'serial --height 0' 'rcv 0 9' '' 'mqsim: line 1: words\n'
+case_of 'serial --height 0' 'rcv 0 9 0 ne' '' 'mqsim: line 1: words\n'
+case_of 'serial --height 0' 'rcv 0 9 x ne' '' 'mqsim: line 1: words\n'
+case_of 'serial --height 0' 'rcv 0 9 0 e n' '' 'mqsim: line 1: words\n'
+case_of 'serial --height 0' 'rcv 0  0' '' 'mqsim: line 1: words\n'
+case_of 'serial --height 0' 'seat' '' 'mqsim: line 1: words\n'
+case_of 'serial --height 0' 'seat 1 2' '' 'mqsim: line 1: words\n'
+case_of 'serial --height 0' 'seat 0' '' 'mqsim: line 1: number\n'
+case_of 'serial --height 0' 'seat 17' '' 'mqsim: line 1: number\n'
+case_of 'serial --height 0' 'seat 01' '' 'mqsim: line 1: number\n'
+case_of 'serial --height 0' 'set 0' '' 'mqsim: line 1: words\n'
+case_of 'serial --height 0' 'set 0 1 2' '' 'mqsim: line 1: words\n'
+case_of 'serial --height 0' 'set x ' '' 'mqsim: line 1: words\n'
+case_of 'serial --height 0' 'set 0 -1' '' 'mqsim: line 1: number\n'
+case_of 'serial --height 0' 'set 0 18446744073709551616' '' 'mqsim: line 1: number\n'
+case_of 'serial --height 0' 'set 4294967296 1' '' 'mqsim: line 1: number\n'
+case_of 'serial --height 0' 'rm' '' 'mqsim: line 1: words\n'
+case_of 'serial --height 0' 'rm 0 0' '' 'mqsim: line 1: words\n'
+case_of 'serial --height 0' 'rm 00' '' 'mqsim: line 1: number\n'
+case_of 'serial --height 0' 'rm 4294967296' '' 'mqsim: line 1: number\n'
+case_of 'serial --height 0' 'stat' '' 'mqsim: line 1: words\n'
+case_of 'serial --height 0' 'stat 0 0' '' 'mqsim: line 1: words\n'
+case_of 'serial --height 0' 'stat -1' '' 'mqsim: line 1: number\n'
+case_of 'serial --height 0' 'stat 4294967296' '' 'mqsim: line 1: number\n'
+
+table a_line_is_long_past_its_limit
+longest=$(printf '#%.0s' {1..4096})
+case_of 'serial --height 0' "$longest" ''
+case_of 'serial --height 0' "$longest\r\n" ''
+case_of 'serial --height 0' "$longest#" '' 'mqsim: line 1: long\n'
+case_of 'serial --height 0' "$longest#\r\n" '' 'mqsim: line 1: long\n'
