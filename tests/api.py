@@ -22,11 +22,15 @@ GROUPS = {
                   "SysError"],
     "Whole texts in one call": ["send_bytes", "receive_bytes"],
     "The queues": ["OneThread"],
+    "A program of several threads": ["with_workers", "with_two", "Worker", "WorkersError",
+                                     "Caller", "Pledge"],
+    "The queues of several threads": ["System", "Seat", "SendFlags", "RecvFlags", "TextOf",
+                                      "Names", "Pages"],
     "What the calls take and answer": ["Id", "GetFlags", "Got", "Delivered", "Removal", "Figures",
                                        "BoardRow"],
     "Refusals": ["Errno", "Refused", "SendRefused", "DraftError"],
     "Texts": ["Text", "Body", "Parts", "Homecoming", "Block", "Page"],
-    "Logs": ["Event", "Selection", "Log"],
+    "Logs": ["Event", "Selection", "Log", "Received"],
     "Limits": ["MSGMAX", "MSGMNB", "PAGE_LEN", "MAX_HEIGHT", "MAX_ORDER", "MAX_PAGES", "MAX_SLOTS",
                "MAX_SEATS", "MAX_SEQ", "LEDGER_PARTS"],
     "Without `with_queues`": ["Ledger", "Blank", "Closed", "ArenaState"],
@@ -43,8 +47,8 @@ stand in the source. The refusals of a call are told in the order in which they 
 
 # Types of the language and of std that a signature may name.
 KNOWN = set("""Self Type Option Result Vec String Global AllocError Drop Copy Clone Debug PartialEq
-Eq Hash Error Display Send FnMut Fn FnOnce Threads Iterator Item Unit Formatter Sizes State Answer
-Model""".split())
+Eq Hash Error Display Send FnMut Fn FnOnce Threads Wait Sync Iterator Item Unit Formatter Sizes State Answer
+SeatState Model""".split())
 
 
 @dataclass
@@ -62,8 +66,8 @@ class Item:
 def joined(lines):
     """A signature that stands in several lines, as one."""
     text = " ".join(line.strip() for line in lines)
-    text = re.sub(r"([(\[]) ", r"\1", text)
-    text = re.sub(r",? ([)\]])", r"\1", text)
+    text = re.sub(r"([(\[<]) ", r"\1", text)
+    text = re.sub(r",? ([)\]]|>(?=\())", r"\1", text)
     text = re.sub(r"^pub ", "", text)
     return re.sub(r"\s*(\{\}?|;)\s*$", "", text).strip()
 
@@ -167,10 +171,10 @@ def read(name, crate):
     texts = {it: it.read_text().splitlines() for it in files}
     for path, lines in texts.items():
         for at, line in enumerate(lines):
-            if re.match(rf"pub (struct|enum|trait|fn|const) {name}\b", line):
+            if re.match(rf"pub (struct|enum|trait|fn|const|type) {name}\b", line):
                 kind = line.split()[1]
                 doc, traits = above(lines, at)
-                head = constant(lines, at) if kind == "const" else signature(lines, at)
+                head = constant(lines, at) if kind in ("const", "type") else signature(lines, at)
                 item = Item(kind, head, doc, traits, path=str(path.relative_to(TOP)))
                 if kind == "trait":
                     inside = block(lines, at)

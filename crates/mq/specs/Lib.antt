@@ -1,2 +1,4 @@
 pub mod Bytes
+pub mod Caller
 pub mod Ended
+pub mod Workers

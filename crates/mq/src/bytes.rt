@@ -91,7 +91,7 @@ pub fn receive_bytes<L: Ledger>(
 }
 
 /// Copies a text's bytes into a vector that has room for them.
-fn copy_out<L: Ledger>(text: &Text<L>, bytes: &mut Vec<u8>)
+pub(crate) fn copy_out<L: Ledger>(text: &Text<L>, bytes: &mut Vec<u8>)
     requires { vec_len bytes.old + length text.now.bytes ≤ vec_capacity bytes.old }
     ensures { bytes.new.items ≡ bytes.old.items ++ text.now.bytes }
 {

@@ -1,12 +1,21 @@
-//! System V message queues for one thread: what a program names, and `with_queues`, which runs it.
+//! System V message queues: what a program names, `with_queues`, which runs one thread, and
+//! `with_workers` and `with_two`, which run several.
 
 #![tactic(auto)]
 
 mod bytes;
+mod caller;
 mod ended;
+mod gate;
 mod program;
+mod threads;
+mod two;
+mod worker;
+mod workers;
+mod workers_error;
 
 pub use bytes::{receive_bytes, send_bytes};
+pub use caller::Caller;
 pub use ended::Ended;
 pub use mq_arena::{ArenaState, Block, Homecoming, LEDGER_PARTS, MAX_ORDER, PAGE_LEN, Page, Parts};
 pub use mq_message::{Body, Text};
@@ -14,9 +23,14 @@ pub use mq_one_thread::{
     Closed, ClosedSlot, Config, DEFAULTS, Delivered, DraftError, Errno, GetFlags, Got, MAX_SEATS,
     OneThread, Refused, Removal, SendRefused, SysError,
 };
-pub use mq_queue::{BoardRow, Event, Figures, Log, MSGMAX, MSGMNB};
+pub use mq_queue::{BoardRow, Event, Figures, Log, MSGMAX, MSGMNB, Received};
 pub use mq_select::Selection;
+pub use mq_system::{Names, Pages, Pledge, RecvFlags, Seat, SendFlags, System, TextOf};
 pub use mq_table::{Id, MAX_SEQ, MAX_SLOTS};
 pub use mq_tree::MAX_HEIGHT;
 pub use program::{QueueProgram, with_queues};
 pub use std::sync::ledger::{Blank, Ledger};
+pub use two::with_two;
+pub use worker::Worker;
+pub use workers::with_workers;
+pub use workers_error::WorkersError;

@@ -1,3 +1,5 @@
+ghost use Rattle.std.specs.Prelude.{◌≡◌};
+
 /// A message as its sender sends it. It can be dropped only where its body can.
 #[derive(Drop)]
 pub struct Message<B> {
@@ -8,4 +10,19 @@ pub struct Message<B> {
     /// A number of the sender's own, which no queue reads.
     pub tag: u64,
     pub body: B,
+}
+
+impl<B> Message<B> {
+    /// The body alone.
+    pub fn into_body(self) -> B
+        ensures { result ≡ self.body }
+    {
+        let Message {
+            mtype: _,
+            sender: _,
+            tag: _,
+            body,
+        } = self;
+        body
+    }
 }

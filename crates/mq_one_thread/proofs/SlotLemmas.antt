@@ -1,9 +1,10 @@
 -- Slots at the start and at the end, and the limits of a configuration.
-use Rattle.std.proofs.Common.{◌≡◌, ℕ, ◌<◌, ◌≤◌, nat_le, Bool, true, false, cond, List, [], ◌++◌, length, take, drop, arith, refl, sym, ap, ◌∙◌, get_or, length-append}
+use Rattle.std.proofs.Common.{◌≡◌, ℕ, ◌<◌, nat_le, Bool, true, false, cond, List, [], ◌++◌, length, take, drop, arith, refl, sym, ap, ◌∙◌, get_or, length-append}
 use Rattle.std.proofs.lemmas.Bool.{and_parts, leb-true}
 use Rattle.std.proofs.lemmas.Grind.{common_steps}
 use Rattle.std.proofs.lemmas.List.{length-map}
 use Rattle.std.proofs.lemmas.List.FromFn.{get_or-map-range_with_len, length-map-range_with_len}
+use Rattle.mq_tree.specs.declared.limits.TheConstants.{MAX_HEIGHT}
 use Rattle.mq_message.specs.Text.{PlainText}
 use Rattle.mq_queue.specs.declared.event.Event.{Event}
 use Rattle.mq_queue.specs.declared.figures.Figures.{Figures}
@@ -13,7 +14,7 @@ use Rattle.mq_queue.specs.Waiting.{header_of}
 use Rattle.mq_table.specs.Slot.{SlotState, empty_slot}
 use Rattle.mq_table.specs.SlotList.{is_live, last_log, offset}
 use Rattle.mq_one_thread.specs.Closed.{ends}
-use Rattle.mq_one_thread.specs.Limits.{empty_slots, keeps_limits}
+use Rattle.mq_one_thread.specs.Limits.{empty_slots, keeps_limits, IsWithin}
 use Rattle.mq_table.specs.declared.limits.TheConstants.{MAX_SLOTS, MAX_SEQ}
 use Rattle.mq_one_thread.specs.declared.config.Config.{Config}
 use Rattle.mq_one_thread.specs.declared.limits.TheConstants.{MAX_SEATS}
@@ -65,20 +66,18 @@ count_of bytes queue kept e sound =
     ∙ length-map queue.messages (header_of bytes)
 
 -- what the test of a configuration says
-pub record IsWithin (c : Config) : Type 0 where
-  pub height : c.height ≤ 10
-  pub slots : c.slots ≤ MAX_SLOTS
-  pub last_seq : c.last_seq ≤ MAX_SEQ
-
 pub within_limits : (c : Config) → keeps_limits c ≡ true → IsWithin c
 within_limits c h =
     let seq = and_parts _ (nat_le c.last_seq MAX_SEQ) h in
     let seats = and_parts _ (nat_le c.seats MAX_SEATS) seq.0 in
     let seat = and_parts _ (nat_le 1 c.seats) seats.0 in
     let slots = and_parts _ (nat_le c.slots MAX_SLOTS) seat.0 in
-    let slot = and_parts (nat_le c.height 10) (nat_le 1 c.slots) slots.0 in
+    let slot = and_parts (nat_le c.height MAX_HEIGHT) (nat_le 1 c.slots) slots.0 in
     record {
-      height = leb-true c.height 10 slot.0;
+      height = leb-true c.height MAX_HEIGHT slot.0;
+      some_slot = leb-true 1 c.slots slot.1;
       slots = leb-true c.slots MAX_SLOTS slots.1;
+      some_seat = leb-true 1 c.seats seat.1;
+      seats = leb-true c.seats MAX_SEATS seats.1;
       last_seq = leb-true c.last_seq MAX_SEQ seq.1;
     }

@@ -1,5 +1,5 @@
 -- The sizes of a queue system, and how it starts.
-use Rattle.std.specs.Prelude.{ℕ, nat_le, ◌&&◌, Bool, List, [], map}
+use Rattle.std.specs.Prelude.{ℕ, nat_le, ◌≤◌, ◌&&◌, Bool, List, [], map}
 use Rattle.std.specs.List.{range_with_len}
 use Rattle.mq_tree.specs.declared.limits.TheConstants.{MAX_HEIGHT}
 use Rattle.mq_message.specs.Text.{PlainText}
@@ -14,6 +14,15 @@ abbrev pub keeps_limits : Config → Bool
 keeps_limits c =
     nat_le c.height MAX_HEIGHT && nat_le 1 c.slots && nat_le c.slots MAX_SLOTS && nat_le 1 c.seats
     && nat_le c.seats MAX_SEATS && nat_le c.last_seq MAX_SEQ
+
+-- the same, as facts
+pub record IsWithin (c : Config) : Type 0 where
+  pub height : c.height ≤ MAX_HEIGHT
+  pub some_slot : 1 ≤ c.slots
+  pub slots : c.slots ≤ MAX_SLOTS
+  pub some_seat : 1 ≤ c.seats
+  pub seats : c.seats ≤ MAX_SEATS
+  pub last_seq : c.last_seq ≤ MAX_SEQ
 
 -- slots in which no queue was made
 abbrev pub empty_slots : ℕ → List (SlotState PlainText)

@@ -56,7 +56,7 @@ impl<L: Ledger> OneThread<L> {
 }
 
 /// Ends a slot, and spends the texts that wait in it.
-fn end_slot<L: Ledger>(arena: &mut ArenaState<L>, slot: TextSlot<L>) -> ClosedSlot
+pub fn end_slot<L: Ledger>(arena: &mut ArenaState<L>, slot: TextSlot<L>) -> ClosedSlot
     ensures slot { ending_of result ≡ ends slot }
     ensures arena { arena.new ≡ spends_all slot.messages arena.old }
 {

@@ -1,5 +1,5 @@
-ghost use Rattle.std.specs.Prelude.{◌≡◌};
-ghost use Rattle.mq_one_thread.specs.Limits.{keeps_limits};
+ghost use Rattle.std.specs.Prelude.{◌≡◌, IsTrue};
+ghost use Rattle.mq_one_thread.specs.Limits.{keeps_limits, IsWithin};
 
 use crate::MAX_SEATS;
 use mq_table::{MAX_SEQ, MAX_SLOTS};
@@ -41,7 +41,8 @@ pub const DEFAULTS: Config = Config {
 impl Config {
     /// Whether each value is within its limits.
     pub fn is_valid(self) -> bool
-        ensures { result ≡ keeps_limits self }
+        ensures value { result ≡ keeps_limits self }
+        ensures limits { IsTrue result → IsWithin self }
     {
         self.height <= MAX_HEIGHT
             && 1 <= self.slots

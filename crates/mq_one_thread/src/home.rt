@@ -2,7 +2,7 @@ ghost use Rattle.std.specs.Prelude.{◌≡◌};
 ghost use Rattle.mq_one_thread.specs.Texts.{comes_home, spends, spends_all};
 
 use mq_arena::{ArenaState, Homecoming};
-use mq_message::{Message, Text};
+use mq_message::Text;
 use mq_select::{ListWaiting, Waiting};
 use std::sync::ledger::Ledger;
 
@@ -24,20 +24,7 @@ pub fn take_home<L: Ledger>(arena: &mut ArenaState<L>, mut waiting: ListWaiting<
     ensures { arena.new ≡ spends_all waiting.messages arena.old }
 {
     while let Some(message) = waiting.pop_any() {
-        take_back(arena, body_of(message));
+        take_back(arena, message.into_body());
     }
     waiting.end();
-}
-
-/// The body of a message.
-pub fn body_of<L: Ledger>(message: Message<Text<L>>) -> Text<L>
-    ensures { result ≡ message.body }
-{
-    let Message {
-        mtype: _,
-        sender: _,
-        tag: _,
-        body,
-    } = message;
-    body
 }

@@ -5,10 +5,8 @@ ghost use Rattle.mq_one_thread.specs.Calls.{msgsnd as msgsnd_answer, msgrcv as m
 ghost use Rattle.mq_one_thread.specs.Look.{look, refused_or_memory};
 ghost use Rattle.mq_one_thread.specs.State.{slot_at};
 
-use crate::home::body_of;
 use crate::{Delivered, Errno, OneThread, Refused, SendRefused};
 use mq_message::{Message, Text};
-use mq_queue::Received;
 use mq_select::Selection;
 use mq_table::{Id, IdRefusal};
 use std::sync::ledger::Ledger;
@@ -53,7 +51,7 @@ impl<L: Ledger> OneThread<L> {
             Ok(entry) => Ok(entry),
             Err((refusal, message)) => Err(SendRefused {
                 refused: self.refused(k, Errno::from(refusal)),
-                text: body_of(message),
+                text: message.into_body(),
             }),
         }
     }
@@ -80,7 +78,7 @@ impl<L: Ledger> OneThread<L> {
         let k = self.place_of(id)?;
         let selection = Selection::read(msgtyp, except);
         match self.slots[k].receive(size, selection, noerror, seat, moment) {
-            Ok(received) => Ok(delivery(received)),
+            Ok(received) => Ok(Delivered::of(received)),
             Err(refusal) => Err(self.refused(k, Errno::from(refusal))),
         }
     }
@@ -116,35 +114,5 @@ impl<L: Ledger> OneThread<L> {
             errno,
             entry: Some(self.slots[k].events()),
         }
-    }
-}
-
-/// What is handed out of what was received.
-fn delivery<L: Ledger>(received: Received<Text<L>>) -> Delivered<Text<L>>
-    ensures { result ≡ record {
-      entry = received.entry;
-      mtype = received.mtype;
-      sender = received.sender;
-      tag = received.tag;
-      length = received.length;
-      text = received.body;
-    } }
-{
-    let Received {
-        entry,
-        place: _,
-        mtype,
-        sender,
-        tag,
-        length,
-        body,
-    } = received;
-    Delivered {
-        entry,
-        mtype,
-        sender,
-        tag,
-        length,
-        text: body,
     }
 }

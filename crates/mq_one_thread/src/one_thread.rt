@@ -26,7 +26,8 @@ use std::alloc::Global;
 use std::marker::Model;
 use std::sync::ledger::{Blank, Ledger};
 
-pub(crate) type TextSlot<L> = Slot<Text<L>, ListWaiting<Text<L>>>;
+/// A slot whose messages are texts.
+pub type TextSlot<L> = Slot<Text<L>, ListWaiting<Text<L>>>;
 
 /// The queues of one thread, by the calls of the manual, of which none waits: a full queue answers
 /// EAGAIN, and a queue with no message to hand out ENOMSG. `close` ends it.

@@ -1,5 +1,7 @@
+ghost use Rattle.std.specs.Prelude.{◌≡◌};
+
 use crate::Errno;
-use mq_queue::Log;
+use mq_queue::{Log, Received};
 use mq_table::Id;
 
 /// The flags of msgget: IPC_CREAT and IPC_EXCL, of which the second says nothing alone.
@@ -31,6 +33,38 @@ pub struct Delivered<B> {
     pub length: u64,
     /// The text, cut to the receiver's size.
     pub text: B,
+}
+
+impl<B> Delivered<B> {
+    /// What is handed out of what was received.
+    pub fn of(received: Received<B>) -> Delivered<B>
+        ensures { result ≡ record {
+          entry = received.entry;
+          mtype = received.mtype;
+          sender = received.sender;
+          tag = received.tag;
+          length = received.length;
+          text = received.body;
+        } }
+    {
+        let Received {
+            entry,
+            place: _,
+            mtype,
+            sender,
+            tag,
+            length,
+            body,
+        } = received;
+        Delivered {
+            entry,
+            mtype,
+            sender,
+            tag,
+            length,
+            text: body,
+        }
+    }
 }
 
 /// A queue that was removed.

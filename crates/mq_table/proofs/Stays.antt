@@ -53,7 +53,7 @@ left (Ok turn) s = turn.1
 left (Err refusal) s = s
 
 -- what is left where a call is not refused
-left_is : {B : Type 0} (o : Option QueueError) (s after t : SlotState B) (n : ℕ)
+pub left_is : {B : Type 0} (o : Option QueueError) (s after t : SlotState B) (n : ℕ)
     → unless o s after ≡ Ok (n, t) → after ≡ t
 left_is None s after t n e = ap (λ turn. left turn t) e
 left_is (Some refusal) s after t n e = cc

@@ -14,7 +14,7 @@ loop-message-preserved g c =
     let came = c.in-Some.ensures.some in
     let left = c.pop_any.new.self.messages in
     ap (λ (a : Lending). spends_all left a)
-    (c.take_back.ensures.back ∙ ap (λ (t : PlainText). spends t c.loop-message.arena) c.body_of.ensures)
+    (c.take_back.ensures.back ∙ ap (λ (t : PlainText). spends t c.loop-message.arena) c.into_body.ensures)
     ∙ sym (one_home came.0 c.in-Some.message left c.loop-message.arena)
     ∙ order_home ((came.0, c.in-Some.message) ∷ left) c.loop-message.waiting.messages c.loop-message.arena came.1
     ∙ c.loop-message.invariant

@@ -1,0 +1,50 @@
+use std::sync::{Condvar, Mutex, Wait};
+
+/// What is said to those who wait at a gate.
+#[derive(Clone, Copy, PartialEq, Eq)]
+enum Word {
+    Wait,
+    Go,
+    End,
+}
+
+/// Where threads wait until all of them are made.
+#[derive(Drop)]
+pub(crate) struct Gate {
+    word: Mutex<Word>,
+    said: Condvar,
+}
+
+impl Gate {
+    pub(crate) fn new() -> Gate {
+        Gate {
+            word: Mutex::new(Word::Wait),
+            said: Condvar::new(),
+        }
+    }
+
+    /// Lets all through.
+    pub(crate) fn open<R: Wait>(&self, rt: &R) {
+        self.say(rt, Word::Go);
+    }
+
+    /// Sends all home.
+    pub(crate) fn shut<R: Wait>(&self, rt: &R) {
+        self.say(rt, Word::End);
+    }
+
+    fn say<R: Wait>(&self, rt: &R, word: Word) {
+        let mut held = self.word.lock(rt);
+        *held = word;
+        drop(held);
+        self.said.notify_all();
+    }
+
+    /// Waits until the gate is opened or shut, and answers whether it was opened.
+    pub(crate) fn lets_through<R: Wait>(&self, rt: &R) -> bool {
+        let held = self
+            .said
+            .wait_while(rt, self.word.lock(rt), |word| *word == Word::Wait);
+        *held == Word::Go
+    }
+}

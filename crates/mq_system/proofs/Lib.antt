@@ -1,0 +1,6 @@
+pub mod ClosedLemmas
+pub mod KeysLemmas
+pub mod PledgeLemmas
+pub mod RefusalLemmas
+pub mod RowLemmas
+pub mod SharedLemmas

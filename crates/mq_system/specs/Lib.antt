@@ -1,0 +1,9 @@
+pub mod Answer
+pub mod Closed
+pub mod Get
+pub mod Pledge
+pub mod Refusals
+pub mod Seat
+pub mod Shared
+pub mod Shown
+pub mod Sizes

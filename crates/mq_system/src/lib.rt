@@ -1,0 +1,43 @@
+//! The queues of several threads, each at a seat of its own: keys, ids, slots and texts by the
+//! calls of the manual, which wait where the manual says so.
+//!
+//! **Locks.** The key table has one, each slot has one, and the arena has one; in that order they
+//! are taken, and none is taken twice at a time.
+//! - The keys' lock is held throughout a `msgget` and the change of an `rmid`, so that a key is
+//!   entered with its queue and forgotten with it. Slots are looked at one by one under it.
+//! - A slot's lock protects its slot list and what waits in its queue. A call holds it for one look
+//!   and one change. A call that waits lets it go, and looks at the id and the queue anew.
+//! - The arena's lock protects which pages are lent; it is held while a block leaves or comes home.
+//!   Texts are drafted before a slot is locked, their pages are cleared and written with no lock,
+//!   and the texts of a removed queue go home after its slot's lock is let go.
+//!
+//! **Who is woken**, each after the lock is let go: a send wakes the receivers of its queue; a
+//! receipt and a new quota wake its senders; a removal wakes both, who then answer EIDRM. A making
+//! wakes none, for nobody waits for an id that was never given. All that wait are woken: the first
+//! of them may want another message, or less room, than the one that the change can serve.
+//!
+//! No contract says that a thread runs, wakes or comes first.
+
+#![tactic(auto)]
+
+mod close;
+mod control;
+mod flags;
+mod get;
+mod messages;
+mod names;
+mod place;
+mod pledge;
+mod seat;
+pub mod shared;
+mod system;
+
+pub use flags::{RecvFlags, SendFlags};
+pub use mq_one_thread::{
+    Closed, ClosedSlot, Config, DEFAULTS, Delivered, DraftError, Errno, GetFlags, Got, MAX_HEIGHT,
+    MAX_SEATS, MAX_SEQ, MAX_SLOTS, OneThread, Refused, Removal, SendRefused, SysError,
+};
+pub use names::{Names, Pages, TextOf};
+pub use pledge::Pledge;
+pub use seat::Seat;
+pub use system::System;

@@ -1,0 +1,63 @@
+ghost use Rattle.std.specs.Prelude.{ℕ};
+
+use mq_arena::OfHeight;
+use mq_message::Text;
+use mq_one_thread::TextSlot;
+use mq_select::ListWaiting;
+use std::marker::{Brand, PhantomData};
+use std::sync::ledger::Ledger;
+
+/// What tells the parts of one system from those of another, and the sizes that they share. None of
+/// it is there when the program runs.
+pub trait Names {
+    /// The ledger of the arena's pages, and its parts.
+    ghost pages: { ℕ };
+
+    ghost page_parts: { ℕ };
+
+    /// The arena has `2 ^ height` pages.
+    ghost height: { ℕ };
+
+    ghost slots: { ℕ };
+
+    ghost seats: { ℕ };
+
+    /// The seq with which a slot is used up.
+    ghost last_seq: { ℕ };
+}
+
+impl Names for Brand {
+    ghost pages = { 0 };
+
+    ghost page_parts = { 0 };
+
+    ghost height = { 0 };
+
+    ghost slots = { 0 };
+
+    ghost seats = { 0 };
+
+    ghost last_seq = { 0 };
+}
+
+/// The ledger of a system's pages.
+pub struct Pages<N: Names> {
+    names: PhantomData<N>,
+}
+
+impl<N: Names> Ledger for Pages<N> {
+    ghost name = { N.pages };
+
+    ghost parts = { N.page_parts };
+}
+
+impl<N: Names> OfHeight for Pages<N> {
+    ghost height = { N.height };
+}
+
+/// A text of a system.
+pub type TextOf<N> = Text<Pages<N>>;
+
+pub(crate) type SlotOf<N> = TextSlot<Pages<N>>;
+
+pub(crate) type WaitingOf<N> = ListWaiting<TextOf<N>>;

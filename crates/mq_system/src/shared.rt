@@ -1,0 +1,8 @@
+//! What the locks of a system protect, and what a call does under them.
+
+mod calls;
+mod keys;
+mod slot;
+
+pub use keys::Keys;
+pub use slot::SharedSlot;

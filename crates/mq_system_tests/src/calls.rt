@@ -1,0 +1,189 @@
+//! The calls of a system, each made once more where there was no memory. Seat 1 makes, sends, sets
+//! and removes, and seat 2 receives.
+
+use crate::day::Anything;
+use mq_system::{
+    Delivered, Errno, GetFlags, Got, Names, RecvFlags, Refused, Removal, Seat, SendFlags,
+    SendRefused, System, TextOf,
+};
+use mq_table::Id;
+use std::process::Abort;
+use std::sync::Wait;
+
+pub(crate) const NO_FLAG: GetFlags = GetFlags {
+    create: false,
+    exclusive: false,
+};
+
+pub(crate) const CREATE: GetFlags = GetFlags {
+    create: true,
+    exclusive: false,
+};
+
+pub(crate) const EXCLUSIVE: GetFlags = GetFlags {
+    create: false,
+    exclusive: true,
+};
+
+pub(crate) const NEW: GetFlags = GetFlags {
+    create: true,
+    exclusive: true,
+};
+
+/// The tag of all that is sent.
+pub(crate) const TAG: u64 = 7;
+
+const NOWAIT: SendFlags = SendFlags { nowait: true };
+
+/// What a receiver asks for.
+#[derive(Clone, Copy)]
+pub(crate) struct Wanted {
+    pub(crate) size: u64,
+    pub(crate) msgtyp: i64,
+    pub(crate) except: bool,
+    pub(crate) noerror: bool,
+}
+
+/// The first message, up to so many bytes.
+pub(crate) fn first(size: u64) -> Wanted {
+    Wanted {
+        size,
+        msgtyp: 0,
+        except: false,
+        noerror: false,
+    }
+}
+
+pub(crate) fn seat<'s, N: Names>(
+    rt: &impl Abort,
+    seats: &'s mut [Seat<N>],
+    k: usize,
+) -> &'s mut Seat<N> {
+    match seats.get_mut(k) {
+        Some(seat) => seat,
+        None => panic!(rt; "there is no seat {k}"),
+    }
+}
+
+pub(crate) fn get<N: Names, R: Abort + Wait>(
+    rt: &R,
+    system: &System<Anything, N>,
+    seats: &mut [Seat<N>],
+    key: i32,
+    flags: GetFlags,
+    moment: u64,
+) -> Result<Got, Errno> {
+    let seat = seat(rt, seats, 0);
+    match system.msgget(rt, seat, key, flags, moment) {
+        Err(Errno::ENOMEM) => system.msgget(rt, seat, key, flags, moment),
+        answer => answer,
+    }
+}
+
+pub(crate) fn send<N: Names, R: Abort + Wait>(
+    rt: &R,
+    system: &System<Anything, N>,
+    seats: &mut [Seat<N>],
+    id: u32,
+    mtype: i64,
+    text: TextOf<N>,
+    moment: u64,
+) -> Result<u64, SendRefused<TextOf<N>>> {
+    let seat = seat(rt, seats, 0);
+    let id = Id::from_number(id);
+    match system.msgsnd(rt, seat, id, mtype, TAG, text, NOWAIT, moment) {
+        Err(
+            SendRefused {
+                refused: Refused {
+                    errno: Errno::ENOMEM,
+                    ..
+                },
+                text,
+            },
+        ) => system.msgsnd(rt, seat, id, mtype, TAG, text, NOWAIT, moment),
+        answer => answer,
+    }
+}
+
+pub(crate) fn receive<N: Names, R: Abort + Wait>(
+    rt: &R,
+    system: &System<Anything, N>,
+    seats: &mut [Seat<N>],
+    id: u32,
+    wanted: Wanted,
+    moment: u64,
+) -> Result<Delivered<TextOf<N>>, Refused> {
+    let seat = seat(rt, seats, 1);
+    let id = Id::from_number(id);
+    let flags = RecvFlags {
+        nowait: true,
+        noerror: wanted.noerror,
+        except: wanted.except,
+    };
+    match system.msgrcv(rt, seat, id, wanted.size, wanted.msgtyp, flags, moment) {
+        Err(
+            Refused {
+                errno: Errno::ENOMEM,
+                ..
+            },
+        ) => system.msgrcv(rt, seat, id, wanted.size, wanted.msgtyp, flags, moment),
+        answer => answer,
+    }
+}
+
+pub(crate) fn set<N: Names, R: Abort + Wait>(
+    rt: &R,
+    system: &System<Anything, N>,
+    seats: &mut [Seat<N>],
+    id: u32,
+    qbytes: u64,
+    moment: u64,
+) -> Result<u64, Refused> {
+    let seat = seat(rt, seats, 0);
+    let id = Id::from_number(id);
+    match system.set(rt, seat, id, qbytes, moment) {
+        Err(
+            Refused {
+                errno: Errno::ENOMEM,
+                ..
+            },
+        ) => system.set(rt, seat, id, qbytes, moment),
+        answer => answer,
+    }
+}
+
+pub(crate) fn remove<N: Names, R: Abort + Wait>(
+    rt: &R,
+    system: &System<Anything, N>,
+    seats: &mut [Seat<N>],
+    id: u32,
+    moment: u64,
+) -> Result<Removal, Refused> {
+    let seat = seat(rt, seats, 0);
+    let id = Id::from_number(id);
+    match system.rmid(rt, seat, id, moment) {
+        Err(
+            Refused {
+                errno: Errno::ENOMEM,
+                ..
+            },
+        ) => system.rmid(rt, seat, id, moment),
+        answer => answer,
+    }
+}
+
+/// Whether a text has these bytes, at most a page of them.
+pub(crate) fn has<N: Names>(text: &TextOf<N>, bytes: &[u8]) -> bool {
+    match text.count() {
+        0 => bytes.is_empty(),
+        1 => text.part(0) == bytes,
+        _ => false,
+    }
+}
+
+/// Checks what must be so.
+pub(crate) fn holds(rt: &impl Abort, is: bool, what: &str) {
+    if !is {
+        panic!(rt; "{what}");
+    }
+}

@@ -1,0 +1,227 @@
+//! One queue from its making to its end, on one page and in one slot.
+ghost use Rattle.std.specs.Prelude.{◌≡◌};
+
+use crate::calls::{CREATE, first, get, has, holds, receive, remove, seat, send};
+use crate::day::{Anything, Day, config, left_by, lives};
+use mq_queue::{Event, Figures};
+use mq_system::{
+    Config, Errno, Got, Names, Refused, Removal, Seat, SendRefused, SysError, System, TextOf,
+};
+use mq_table::Id;
+use std::alloc::Global;
+use std::process::Abort;
+use std::sync::Wait;
+use std::thread::Threads;
+
+const FIGURES: Figures = Figures {
+    qnum: 1,
+    cbytes: 2,
+    qbytes: 16_384,
+    stime: 5,
+    rtime: 0,
+    ctime: 4,
+    lspid: 1,
+    lrpid: 0,
+};
+
+const LOG: [Event; 3] = [
+    Event::Made {
+        seat: 1,
+        moment: 4,
+        key: 0,
+    },
+    Event::Sent {
+        seat: 1,
+        moment: 5,
+        tag: 7,
+        mtype: 1,
+        length: 2,
+    },
+    Event::Removed { seat: 1, moment: 6 },
+];
+
+/// Nothing can be received, and what is sent with type 0 is handed back.
+fn refused<N: Names, R: Abort + Wait>(
+    rt: &R,
+    system: &System<Anything, N>,
+    seats: &mut [Seat<N>],
+) -> TextOf<N> {
+    match receive(rt, system, seats, 0, first(9), 5) {
+        Ok(_delivered) => panic!(rt; "a message waits"),
+        Err(Refused { errno, entry }) => {
+            holds(
+                rt,
+                errno == Errno::ENOMSG && entry == Some(1),
+                "ENOMSG after 1 entry",
+            );
+        }
+    }
+    let Ok(text) = system.draft_of(rt, b"hi") else {
+        panic!(rt; "no page");
+    };
+    match send(rt, system, seats, 0, 0, text, 5) {
+        Ok(_) => panic!(rt; "type 0 was sent"),
+        Err(SendRefused { refused, text }) => {
+            let Refused { errno, entry } = refused;
+            holds(
+                rt,
+                errno == Errno::EINVAL && entry == None,
+                "EINVAL before any entry",
+            );
+            holds(rt, has::<N>(&text, b"hi"), "the text is handed back");
+            text
+        }
+    }
+}
+
+fn sent<N: Names, R: Abort + Wait>(
+    rt: &R,
+    system: &System<Anything, N>,
+    seats: &mut [Seat<N>],
+    text: TextOf<N>,
+) {
+    match send(rt, system, seats, 0, 1, text, 5) {
+        Ok(entry) => holds(rt, entry == 1, "it is sent by entry 1"),
+        Err(_refused) => panic!(rt; "a text was not sent"),
+    }
+    let seat = seat(rt, seats, 0);
+    match system.stat(rt, seat, Id::from_number(0)) {
+        Ok(figures) => holds(rt, figures == FIGURES, "one message of two bytes waits"),
+        Err(errno) => panic!(rt; "{errno}"),
+    }
+}
+
+fn removed<N: Names, R: Abort + Wait>(rt: &R, system: &System<Anything, N>, seats: &mut [Seat<N>]) {
+    match remove(rt, system, seats, 0, 6) {
+        Ok(Removal { entry, log }) => {
+            holds(rt, entry == 2, "it is removed by entry 2");
+            holds(
+                rt,
+                log.into_events().as_slice() == LOG.as_slice(),
+                "its own log",
+            );
+        }
+        Err(refused) => panic!(rt; "{refused}"),
+    }
+    let seat = seat(rt, seats, 0);
+    match system.stat(rt, seat, Id::from_number(0)) {
+        Ok(_) => panic!(rt; "a removed queue is shown"),
+        Err(errno) => holds(rt, errno == Errno::EIDRM, "EIDRM of a removed queue"),
+    }
+}
+
+#[derive(Drop)]
+struct OneLife;
+
+impl Day<Anything> for OneLife {
+    fn spend<N: Names, R: Abort + Threads + Wait>(
+        &self,
+        rt: &R,
+        _alloc: Global,
+        _config: Config,
+        system: &System<Anything, N>,
+        seats: &mut [Seat<N>],
+    ) {
+        match get(rt, system, seats, 0, CREATE, 4) {
+            Ok(Got { id, made }) => {
+                holds(
+                    rt,
+                    id.number() == 0 && made == Some(0),
+                    "id 0, made by entry 0",
+                );
+            }
+            Err(errno) => panic!(rt; "{errno}"),
+        }
+        let text = refused(rt, system, seats);
+        sent(rt, system, seats, text);
+        removed(rt, system, seats);
+    }
+}
+
+#[test]
+fn a_queue_is_made_filled_shown_and_removed(rt: HostRuntime) {
+    let left = left_by(&rt, rt.alloc(), config(0, 1, 9), &OneLife);
+    holds(&rt, left.free_pages == 1, "its page is free");
+    holds(&rt, left.slots.len() == 1, "there was one slot");
+    for slot in left.slots {
+        holds(
+            &rt,
+            slot.past.as_slice() == LOG.as_slice(),
+            "all that happened in it",
+        );
+        holds(
+            &rt,
+            slot.last.is_empty() && slot.left == 0,
+            "no queue is left",
+        );
+    }
+}
+
+/// Each seat has its number.
+#[derive(Drop)]
+struct Numbered;
+
+impl Day<Anything> for Numbered {
+    fn spend<N: Names, R: Abort + Threads + Wait>(
+        &self,
+        rt: &R,
+        _alloc: Global,
+        config: Config,
+        system: &System<Anything, N>,
+        seats: &mut [Seat<N>],
+    ) {
+        holds(
+            rt,
+            system.slots() == config.slots,
+            "as many slots as were asked for",
+        );
+        holds(rt, seats.len() == config.seats as usize, "as many seats");
+        let mut number = 1u16;
+        for seat in seats.iter() {
+            holds(rt, seat.number() == number, "the seats are numbered from 1");
+            number = number.saturating_add(1);
+        }
+    }
+}
+
+#[test]
+fn seats_are_numbered_from_one(rt: HostRuntime) {
+    for count in [1u16, 2, 16] {
+        let config = Config {
+            seats: count,
+            ..config(3, 64, 32_767)
+        };
+        let left = left_by(&rt, rt.alloc(), config, &Numbered);
+        holds(
+            &rt,
+            left.free_pages == 8 && left.slots.len() == 64,
+            "nothing was used",
+        );
+    }
+}
+
+#[test]
+fn a_size_out_of_its_limits_is_refused(rt: HostRuntime) {
+    let whole = config(0, 1, 9);
+    let configs: [Config; 6] = [
+        Config { slots: 0, ..whole },
+        Config { slots: 65, ..whole },
+        Config { seats: 0, ..whole },
+        Config { seats: 17, ..whole },
+        Config {
+            height: 11,
+            ..whole
+        },
+        Config {
+            last_seq: 32_768,
+            ..whole
+        },
+    ];
+    for config in configs {
+        match lives(&rt, rt.alloc(), config, &Numbered) {
+            Err(SysError::Config) => (),
+            Ok(_) => panic!(rt; "a size was accepted"),
+            Err(SysError::Memory) => panic!(rt; "out of memory"),
+        }
+    }
+}

@@ -1,0 +1,12 @@
+//! Tests of programs of several threads.
+
+#![tactic(auto)]
+
+#[cfg(test)]
+mod flags;
+#[cfg(test)]
+mod runs;
+#[cfg(test)]
+mod two;
+#[cfg(test)]
+mod workers;

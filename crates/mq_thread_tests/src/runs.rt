@@ -1,0 +1,23 @@
+//! What the tests share.
+ghost use Rattle.std.specs.Prelude.{⊤};
+
+use mq::{Config, Pledge, WorkersError};
+
+pub(crate) const SMALL: Config = Config {
+    height: 5,
+    slots: 4,
+    seats: 3,
+    last_seq: 9,
+};
+
+/// Nothing is pledged.
+pub(crate) struct Nothing;
+
+impl Pledge for Nothing {
+    ghost kept = { λ _ _ _ _. ⊤ };
+}
+
+/// Whether no worker has begun, for lack of memory.
+pub(crate) fn found_no_memory(error: WorkersError) -> bool {
+    error == WorkersError::Memory || error == WorkersError::Thread
+}

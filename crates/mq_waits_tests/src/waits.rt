@@ -1,0 +1,241 @@
+//! Each worker says on the queue with key 2 that it is ready, and then waits on the one with key 1;
+//! another worker takes what is said before it does what they wait for. So nobody sleeps to let
+//! another go first, and a wake that is lost lets the test run out of its time.
+
+use crate::calls::{Nothing, SMALL, queue, receive, remove, send, set};
+use mq::{Ended, Errno, Id, Names, Seat, System, Worker, WorkersError, with_workers};
+use std::alloc::Global;
+use std::sync::Wait;
+use std::thread::Threads;
+
+const FULL: u64 = 8192;
+
+/// What a worker does.
+#[derive(Clone, Copy, Drop)]
+enum Part {
+    /// Waits for a message of this type, of up to so many bytes.
+    Receives(i64, u64),
+    /// Sends so many texts of `FULL` bytes, of which the last has to wait.
+    Sends(u8),
+    /// Sends to so many that wait for the types from 1 on, the last type first, each once the one
+    /// before has its message.
+    Serves(u8),
+    /// Receives one message once a sender is ready.
+    MakesRoom,
+    /// Sets a quota with room for one text, and sends two.
+    SendsUnderQuota,
+    /// Sets a quota with room for two texts once the sender is ready.
+    RaisesQuota,
+    /// Removes the queue once so many are ready.
+    Removes(u8),
+    /// Sends five bytes once a receiver of one byte is ready, and receives them after it.
+    SendsFive,
+}
+
+/// The answer of a worker: how many texts it sent, or the type and length that it received.
+type Done = Result<(i64, u64), Errno>;
+
+/// The two queues, at a seat.
+#[derive(Drop)]
+struct At<'a, N: Names, R: Wait> {
+    rt: &'a R,
+    system: &'a System<Nothing, N>,
+    seat: &'a mut Seat<N>,
+    here: Id,
+    said: Id,
+}
+
+impl<'a, N: Names, R: Wait> At<'a, N, R> {
+    fn ready(&mut self) -> Result<(), Errno> {
+        send(self.rt, self.system, self.seat, self.said, 1, 0)
+    }
+
+    fn hears(&mut self) -> Result<(), Errno> {
+        receive(self.rt, self.system, self.seat, self.said, 0, 0)?;
+        Ok(())
+    }
+
+    fn receives(&mut self, msgtyp: i64, size: u64) -> Done {
+        receive(self.rt, self.system, self.seat, self.here, size, msgtyp)
+    }
+
+    fn sends(&mut self, mtype: i64, len: u64) -> Result<(), Errno> {
+        send(self.rt, self.system, self.seat, self.here, mtype, len)
+    }
+
+    fn quota(&mut self, qbytes: u64) -> Result<(), Errno> {
+        set(self.rt, self.system, self.seat, self.here, qbytes)
+    }
+
+    fn waits_for(&mut self, msgtyp: i64, size: u64) -> Done {
+        self.ready()?;
+        let done = self.receives(msgtyp, size);
+        self.ready()?;
+        done
+    }
+
+    fn fills(&mut self, count: u8) -> Done {
+        for sent in 0..count {
+            if sent + 1 == count {
+                self.ready()?;
+            }
+            self.sends(1, FULL)?;
+        }
+        Ok((i64::from(count), 0))
+    }
+
+    fn serves(&mut self, types: u8) -> Done {
+        for _ in 0..types {
+            self.hears()?;
+        }
+        for before in 0..types {
+            self.sends(i64::from(types - before), 3)?;
+            self.hears()?;
+        }
+        Ok((i64::from(types), 0))
+    }
+
+    fn sends_under_quota(&mut self) -> Done {
+        self.quota(FULL)?;
+        self.fills(2)
+    }
+
+    fn raises_quota(&mut self) -> Done {
+        self.hears()?;
+        self.quota(2 * FULL)?;
+        Ok((0, 0))
+    }
+
+    fn removes(&mut self, waiting: u8) -> Done {
+        for _ in 0..waiting {
+            self.hears()?;
+        }
+        remove(self.rt, self.system, self.seat, self.here)?;
+        Ok((0, 0))
+    }
+
+    fn sends_five(&mut self) -> Done {
+        self.hears()?;
+        self.sends(1, 5)?;
+        self.hears()?;
+        self.receives(0, 10)
+    }
+
+    fn makes_room(&mut self) -> Done {
+        self.hears()?;
+        self.receives(0, FULL)
+    }
+
+    fn plays(&mut self, part: Part) -> Done {
+        match part {
+            Part::Receives(msgtyp, size) => self.waits_for(msgtyp, size),
+            Part::Sends(count) => self.fills(count),
+            Part::Serves(types) => self.serves(types),
+            Part::MakesRoom => self.makes_room(),
+            Part::SendsUnderQuota => self.sends_under_quota(),
+            Part::RaisesQuota => self.raises_quota(),
+            Part::Removes(waiting) => self.removes(waiting),
+            Part::SendsFive => self.sends_five(),
+        }
+    }
+}
+
+impl Worker<Nothing> for Part {
+    type Answer = Done;
+
+    fn work<N: Names, R: Wait>(
+        self,
+        rt: &R,
+        _alloc: Global,
+        system: &System<Nothing, N>,
+        seat: &mut Seat<N>,
+    ) -> Done {
+        let here = queue(rt, system, seat, 1)?;
+        let said = queue(rt, system, seat, 2)?;
+        let mut at = At {
+            rt,
+            system,
+            seat,
+            here,
+            said,
+        };
+        at.plays(self)
+    }
+}
+
+/// Plays the parts, once more where no thread had begun for lack of memory.
+fn played<R: Threads + Wait + Sync>(
+    rt: &R,
+    alloc: Global,
+    parts: &[Part],
+) -> Result<Ended<Vec<Done>>, WorkersError> {
+    for _ in 0..2 {
+        let Ok(copied) = parts.to_vec(alloc) else {
+            continue;
+        };
+        match with_workers(rt, alloc, SMALL, copied) {
+            Err(WorkersError::Memory | WorkersError::Thread) => (),
+            ended => return ended,
+        }
+    }
+    Err(WorkersError::Memory)
+}
+
+/// Wants these answers, so many messages left, and all pages home.
+fn wants<R: Threads + Wait + Sync>(
+    rt: &R,
+    alloc: Global,
+    parts: &[Part],
+    answers: &[Done],
+    left: u64,
+) -> bool {
+    match played(rt, alloc, parts) {
+        Ok(ended) => {
+            ended.answer.as_slice() == answers
+                && matches!(ended.slots.first(), Some(slot) if slot.left == left)
+                && ended.free_pages == 32
+        }
+        Err(_) => false,
+    }
+}
+
+#[test]
+fn a_waiting_receiver_gets_what_fits_it_beside_others_that_wait(rt: HostRuntime) {
+    let parts = [
+        Part::Receives(1, 10),
+        Part::Receives(2, 10),
+        Part::Receives(3, 10),
+        Part::Receives(4, 10),
+        Part::Serves(4),
+    ];
+    let answers = [Ok((1, 3)), Ok((2, 3)), Ok((3, 3)), Ok((4, 3)), Ok((4, 0))];
+    assert!(rt; wants(&rt, rt.alloc(), &parts, &answers, 0));
+}
+
+#[test]
+fn a_waiting_sender_goes_on_after_a_receipt(rt: HostRuntime) {
+    let parts = [Part::Sends(3), Part::MakesRoom];
+    let answers = [Ok((3, 0)), Ok((1, FULL))];
+    assert!(rt; wants(&rt, rt.alloc(), &parts, &answers, 2));
+}
+
+#[test]
+fn a_waiting_sender_goes_on_under_a_higher_quota(rt: HostRuntime) {
+    let parts = [Part::SendsUnderQuota, Part::RaisesQuota];
+    let answers = [Ok((2, 0)), Ok((0, 0))];
+    assert!(rt; wants(&rt, rt.alloc(), &parts, &answers, 2));
+}
+
+#[test]
+fn who_waits_in_a_queue_that_is_removed_answers_eidrm(rt: HostRuntime) {
+    let parts = [Part::Receives(9, 10), Part::Sends(3), Part::Removes(2)];
+    let answers = [Err(Errno::EIDRM), Err(Errno::EIDRM), Ok((0, 0))];
+    assert!(rt; wants(&rt, rt.alloc(), &parts, &answers, 0));
+}
+
+#[test]
+fn a_woken_receiver_with_too_little_room_leaves_the_message_for_another(rt: HostRuntime) {
+    let parts = [Part::Receives(0, 1), Part::SendsFive];
+    let answers = [Err(Errno::E2BIG), Ok((1, 5))];
+    assert!(rt; wants(&rt, rt.alloc(), &parts, &answers, 0));
+}
