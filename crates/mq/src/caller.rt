@@ -53,7 +53,8 @@ impl<'a, P: Pledge, N: Names, R: Wait> Caller<'a, P, N, R> {
     /// The queue with this key, which is made where it is not there (msgget(2) with IPC_CREAT).
     pub fn queue(&mut self, key: i32) -> Result<Id, Errno>
         ensures within { IfOk result (λ id. out_of_slots N.slots id ≡ false) }
-        ensures refused { IfErr result (MayRefuse key (record { create = true; exclusive = false })) }
+        ensures refused { IfErr result
+            (MayRefuse key (record { create = true; exclusive = false })) }
         ensures seat { IsSame self.old.seat.now self.new.seat.now }
     {
         let flags = GetFlags {
