@@ -1,18 +1,23 @@
-"""Where the functions of a source file stand: their names, contracts and bodies."""
+"""Where the functions of a source file stand: their names, contracts, bodies and proofs."""
 import re
+from pathlib import Path
+
+from edits import Refused
 
 # Comments, strings and characters, which may hold braces.
 QUOTED = re.compile(r"//[^\n]*|b?\"(?:\\.|[^\"\\])*\"|b?'(?:\\.[^']*|[^'\\])'", re.S)
 CLAUSE = re.compile(r"\b(?:requires|ensures)\*?(?:\s+\w+)?\s*\Z|\bghost\s+\w+\s*:\s*\Z")
 IMPL = re.compile(r"(?m)^ *impl\b(?P<head>[^{]*)\{")
+TRAIT = re.compile(r"(?m)^ *(?:pub(?:\(\w+\))? )?trait\b")
 FUNCTION = re.compile(r"\bfn\s+(?P<name>\w+)")
 
 
 class Function:
     """A function: its type, if it is a method, its name, and its text from `fn` on."""
 
-    def __init__(self, owner, name, start, body, end):
-        self.owner, self.name, self.start, self.body, self.end = owner, name, start, body, end
+    def __init__(self, owner, of_trait, name, start, body, end):
+        self.owner, self.of_trait, self.name = owner, of_trait, name
+        self.start, self.body, self.end = start, body, end
 
     def text(self, source):
         """Its body in the text that it was found in."""
@@ -67,9 +72,51 @@ def owner_of(head):
 def functions_in(source):
     """The functions of a file that have a body."""
     text = masked(source)
-    impls = [(it.start(), closing(text, it.end() - 1), owner_of(it["head"])) for it in IMPL.finditer(text)]
+    blocks = [
+        (it.start(), closing(text, it.end() - 1), owner_of(it["head"]), " for " in it["head"])
+        for it in IMPL.finditer(text)
+    ]
+    for it in TRAIT.finditer(text):
+        blocks.append((it.start(), closing(text, text.index("{", it.end())), "", True))
     for it in FUNCTION.finditer(text):
         body = body_of(text, it.end())
         if body is not None:
-            owner = next((of for start, end, of in impls if start < it.start() < end), "")
-            yield Function(owner, it["name"], it.start(), body, closing(text, body))
+            around = (block[2:] for block in blocks if block[0] < it.start() < block[1])
+            owner, of_trait = next(around, ("", False))
+            yield Function(owner, of_trait, it["name"], it.start(), body, closing(text, body))
+
+
+def module_of(path):
+    """The path of the module that is this file below src/."""
+    names = path.with_suffix("").parts
+    return Path(*names[:-1]) if names[-1] in ("lib", "main", "mod") else Path(*names)
+
+
+def proof_of(crate, file, function, owner=None):
+    """The folder below proofs/ of a function in this file: under its module, or its type's. A
+    method of a trait has its trait's name behind its type's, which is then the given owner."""
+    source = crate / "src"
+    if not function.owner:
+        return module_of((crate / file).relative_to(source)) / function.name
+    declared = re.compile(rf"(?m)^ *(?:pub(?:\(\w+\))? )?(?:struct|enum) {function.owner}\b")
+    files = [it for it in sorted(source.glob("**/*.rt")) if declared.search(it.read_text())]
+    if len(files) != 1:
+        raise Refused(f"{len(files)} files declare {function.owner}")
+    return module_of(files[0].relative_to(source)) / (owner or function.owner) / function.name
+
+
+def is_recursive(crate, place):
+    """Whether the function whose proof would be in this folder calls itself: functions that call
+    one another have one proof, in a folder with the names of all, each behind a `+`."""
+    beside = (crate / "proofs" / place).parent
+    return any(place.name in it.name.split("+") for it in beside.glob("+*"))
+
+
+def other_proofs(crate, proofs):
+    """The folders of the functions' proofs but these, and but those of traits' methods and of
+    recursive functions."""
+    for file in sorted(crate.glob("src/**/*.rt")):
+        for function in functions_in(file.read_text()):
+            place = None if function.of_trait else proof_of(crate, file, function)
+            if place and place not in proofs and not is_recursive(crate, place):
+                yield place

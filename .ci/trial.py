@@ -23,6 +23,13 @@ pub fn next(n: u8) -> u8
     n + 1
 }
 
+pub fn after_next(n: u8) -> u8
+    requires { n < 8 }
+    ensures { result ≡ n + 2 }
+{
+    next(n) + 1
+}
+
 pub fn total(bytes: &[u8]) -> usize
     requires { length bytes.now ≤ 65536 }
     ensures { result ≤ 255 * length bytes.now }
@@ -45,7 +52,17 @@ invariant-loop-byte l = l.sum ≤ 255 * l.byte-index
 # The mistakes: what is wanted of each, its function, and its pairs.
 MISTAKES = {
     "a_mistake_is_refused": (None, "next", [("    n + 1", "    n + 2")]),
-    "a_right_body_is_still_proved": ("it is still proved", "next", [("    n + 1", "    1 + n")]),
+    "a_right_body_is_still_proved": (
+        "no goal of it is named as not proved",
+        "next",
+        [("    n + 1", "    1 + n")],
+    ),
+    "a_mistake_over_a_call_is_refused": (None, "after_next", [("next(n) + 1", "next(n) + 2")]),
+    "a_right_body_over_a_call": (
+        "no goal of it is named as not proved",
+        "after_next",
+        [("next(n) + 1", "1 + next(n)")],
+    ),
     "another_function_is_named": (
         "it does not change the body of total",
         "total",
@@ -53,7 +70,7 @@ MISTAKES = {
     ),
     "another_value_of_a_constant_is_refused": (None, "the_most", [("MOST: u8 = 9", "MOST: u8 = 8")]),
     "a_value_that_no_clause_says": (
-        "it is still proved",
+        "no goal of it is named as not proved",
         "the_most",
         [("LEAST: u8 = 1", "LEAST: u8 = 2")],
     ),

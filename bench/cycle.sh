@@ -1,13 +1,13 @@
 #!/bin/bash
 # Counts and times one text that is drafted with its bytes, sent, received and spent, at height 10
 # with nothing else lent: `bench/cycle.sh [CYCLES] [ROUNDS]`, at least 15 rounds.
-# Instructions by callgrind, as the difference of two runs. Times as medians of rounds in which
-# bench_cycle and kernel_cycle, which sends and receives on a queue of the kernel, take turns; what
-# a run of no cycles takes is left out. Fails where a size takes more instructions than its target.
+# Instructions by callgrind, as the difference of two runs. Times as medians of rounds in which it
+# and kernel_cycle, which sends and receives on a queue of the kernel, take turns; what a run of no
+# cycles takes is left out. Fails where a size takes more instructions than its target.
 # Wants valgrind and cc. The times are printed beside the ratio that is wanted, and fail nothing.
 set -euo pipefail
 cd "$(dirname "$0")/.."
-(cd crates/bench_cycle && rt run > /dev/null)
+(cd crates/bench && rt run > /dev/null)
 folder=$(mktemp -d)
 trap 'rm -rf "$folder"' EXIT
 cc -O2 -Wall -Wextra -o "$folder/kernel_cycle" bench/kernel_cycle.c
@@ -20,8 +20,8 @@ import sys
 import time
 
 CYCLES, ROUNDS, FOLDER = int(sys.argv[1]), int(sys.argv[2]), sys.argv[3]
-OURS = "crates/bench_cycle/out/bench_cycle"
-KERNELS = f"{FOLDER}/kernel_cycle"
+OURS = ("crates/bench/out/bench", "cycle")
+KERNELS = (f"{FOLDER}/kernel_cycle",)
 # The most instructions of a cycle, for each size.
 TARGETS = {0: 450, 16: 1100, 1024: 1200, 8192: 2600}
 WANTED = 0.25
@@ -30,7 +30,7 @@ WANTED = 0.25
 def run(program, size, cycles):
     """Seconds of one run, whose answer is looked at."""
     begin = time.perf_counter()
-    line = subprocess.run([program, str(size), str(cycles)], check=True, capture_output=True,
+    line = subprocess.run([*program, str(size), str(cycles)], check=True, capture_output=True,
                           text=True).stdout
     seconds = time.perf_counter() - begin
     assert line.startswith(f"{size * cycles} bytes came"), line
@@ -39,7 +39,7 @@ def run(program, size, cycles):
 
 def counted(size, cycles):
     """How many instructions a run takes."""
-    command = ["valgrind", "--tool=callgrind", f"--callgrind-out-file={FOLDER}/callgrind", OURS,
+    command = ["valgrind", "--tool=callgrind", f"--callgrind-out-file={FOLDER}/callgrind", *OURS,
                str(size), str(cycles)]
     error = subprocess.run(command, check=True, capture_output=True, text=True).stderr
     return int(re.search(r"Collected : (\d+)", error).group(1))

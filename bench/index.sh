@@ -1,12 +1,14 @@
 #!/bin/bash
 # Counts the instructions of one message that is sent and one that is received behind others that
-# wait, in the list found by type: `bench/index.sh`. By callgrind, as the difference of two runs.
-# Prints the figures for each selection, behind 16,000 messages of 1, of 100 and of 16,000 types,
-# and behind a few; beside the latter those of the plain list, which is read from its front. Fails
-# where behind many it takes more than three times what it takes behind none. Wants valgrind.
+# wait, in the waiting list of a queue: `bench/index.sh`. By callgrind, as the difference of two runs.
+# Few messages wait in a list: fails where the pair behind 8 or fewer takes more than 1.1 times the
+# plain list's. Many are found by type: fails where the pair behind 16,000 messages of 1, of 100 and
+# of 16,000 types takes more than three times the one behind 33 messages, the first number of which
+# none is kept in a list. Beside them it prints how many times the plain list's pair behind none that
+# is. Wants valgrind.
 set -euo pipefail
 cd "$(dirname "$0")/.."
-(cd crates/bench_index && rt run > /dev/null)
+(cd crates/bench && rt run > /dev/null)
 folder=$(mktemp -d)
 trap 'rm -rf "$folder"' EXIT
 python3 - "$folder" <<'PYTHON'
@@ -15,18 +17,22 @@ import subprocess
 import sys
 
 FOLDER = sys.argv[1]
-PROGRAM = "crates/bench_index/out/bench_index"
+PROGRAM = ["crates/bench/out/bench", "waiting"]
 SELECTIONS = ("any", "exact", "except", "upto")
 MANY = 16000
 TYPES = (1, 100, MANY)
 FEW = (0, 1, 2, 4, 8)
-# How many times the instructions behind none those behind many may be.
+# The first number of messages behind which the pair's own makes more than are kept in a list.
+BY_TYPE = 33
+# How many times the list's instructions those behind few may be.
+LIKE_A_LIST = 1.1
+# How many times the instructions behind the first of many those behind 16,000 may be.
 MOST = 3
 
 
 def counted(body, waiting, types, selection, pairs):
     """How many instructions a run takes."""
-    command = ["valgrind", "--tool=callgrind", f"--callgrind-out-file={FOLDER}/callgrind", PROGRAM,
+    command = ["valgrind", "--tool=callgrind", f"--callgrind-out-file={FOLDER}/callgrind", *PROGRAM,
                body, str(waiting), str(types), selection, str(pairs)]
     run = subprocess.run(command, check=True, capture_output=True, text=True)
     return int(re.search(r"Collected : (\d+)", run.stderr).group(1))
@@ -41,20 +47,23 @@ def instructions(body, waiting, types, selection):
 
 
 missed = 0
-for selection in SELECTIONS:
-    for types in TYPES:
-        # Behind none the message that was sent is the one received, whichever its type is.
-        none = instructions("index", 0, types, "any")
-        behind = instructions("index", MANY, types, selection)
-        over = behind > MOST * none
-        missed += over
-        print(f"{selection}, {types} types: {none:.0f} behind none, {behind:.0f} behind {MANY}, "
-              f"{behind / none:.2f} times{' MISSED' if over else ''}", flush=True)
 for waiting in FEW:
     for selection in SELECTIONS:
         list_, index = (instructions(body, waiting, 1, selection) for body in ("list", "index"))
+        over = index > LIKE_A_LIST * list_
+        missed += over
         print(f"{selection}, behind {waiting} of 1 type: list {list_:.0f}, index {index:.0f}, "
-              f"{index / list_:.2f} times", flush=True)
+              f"{index / list_:.2f} times{' MISSED' if over else ''}", flush=True)
+none = instructions("list", 0, 1, "any")
+for selection in SELECTIONS:
+    for types in TYPES:
+        first = instructions("index", BY_TYPE, types, selection)
+        behind = instructions("index", MANY, types, selection)
+        over = behind > MOST * first
+        missed += over
+        print(f"{selection}, {types} types: {first:.0f} behind {BY_TYPE}, {behind:.0f} behind {MANY}, "
+              f"{behind / first:.2f} times{' MISSED' if over else ''}; {behind / none:.1f} times the "
+              f"list's {none:.0f} behind none", flush=True)
 print(f"index: {missed} bounds missed")
 sys.exit(missed > 0)
 PYTHON

@@ -1,6 +1,6 @@
 /* Sends a text of that many bytes to one of the kernel's System V message queues and receives it,
    that many times, and counts the bytes that came: `kernel_cycle BYTES CYCLES`. The program that
-   bench/cycle.sh times bench_cycle against. */
+   bench/cycle.sh times a cycle of one thread against. */
 #define _GNU_SOURCE
 #include <stdio.h>
 #include <stdlib.h>

@@ -1,6 +1,6 @@
 /* Two threads pass a text of that many bytes there and back on two of the kernel's System V message
    queues, that many times, and the first counts the bytes that came: `kernel_two BYTES CYCLES`. The
-   program that bench/system.sh times bench_system against. */
+   program that bench/system.sh times two threads of a system against. */
 #define _GNU_SOURCE
 #include <pthread.h>
 #include <stdio.h>

@@ -7,9 +7,7 @@
 # Wants cc, and a machine with nothing else to do.
 set -euo pipefail
 cd "$(dirname "$0")/.."
-for program in bench_cycle bench_system; do
-    (cd "crates/$program" && rt run > /dev/null)
-done
+(cd crates/bench && rt run > /dev/null)
 folder=$(mktemp -d)
 trap 'rm -rf "$folder"' EXIT
 for program in kernel_cycle kernel_two; do
@@ -23,8 +21,8 @@ import sys
 import time
 
 CYCLES, ROUNDS, FOLDER = int(sys.argv[1]), int(sys.argv[2]), sys.argv[3]
-ONE_THREAD = ["crates/bench_cycle/out/bench_cycle"]
-SYSTEM = ["crates/bench_system/out/bench_system"]
+ONE_THREAD = ["crates/bench/out/bench", "cycle"]
+SYSTEM = ["crates/bench/out/bench", "system"]
 # The most of the kernel's time, and the most nanoseconds more than OneThread's.
 OF_KERNEL, MORE = 0.4, 130
 

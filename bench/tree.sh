@@ -5,7 +5,7 @@
 # height 10 takes more than 2.5 times as long as one at height 5.
 set -euo pipefail
 cd "$(dirname "$0")/.."
-(cd crates/bench_tree && rt run > /dev/null)
+(cd crates/bench && rt run > /dev/null)
 python3 - "${1:-2000000}" "${2:-7}" <<'PYTHON'
 import statistics
 import subprocess
@@ -17,7 +17,7 @@ heights = range(2, 11)
 times = {height: [] for height in heights}
 for _ in range(rounds):
     for height in heights:
-        command = ["crates/bench_tree/out/bench_tree", str(height), str(pairs)]
+        command = ["crates/bench/out/bench", "tree", str(height), str(pairs)]
         begin = time.perf_counter()
         line = subprocess.run(command, check=True, capture_output=True, text=True).stdout
         times[height].append(time.perf_counter() - begin)

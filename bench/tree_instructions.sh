@@ -5,20 +5,20 @@
 # a pair at height 10 takes more than 500 instructions, or more than 2.5 times those at height 5.
 set -euo pipefail
 cd "$(dirname "$0")/.."
-(cd crates/bench_tree && rt run > /dev/null)
+(cd crates/bench && rt run > /dev/null)
 python3 - <<'PYTHON'
 import re
 import subprocess
 import sys
 
-PROGRAM = "crates/bench_tree/out/bench_tree"
+PROGRAM = ["crates/bench/out/bench", "tree"]
 FREE = {"empty": lambda pages: pages, "half": lambda pages: pages // 2, "last": lambda pages: 1}
 FEW, MORE = 1000, 11000
 
 
 def collected(height, state, pairs):
     command = ["valgrind", "--tool=callgrind", "--callgrind-out-file=/dev/null"]
-    command += [PROGRAM, str(height), str(pairs), state]
+    command += [*PROGRAM, str(height), str(pairs), state]
     run = subprocess.run(command, check=True, capture_output=True, text=True)
     expected = f"{pairs} of {pairs} pairs met, {FREE[state](2 ** height)} pages free\n"
     assert run.stdout == expected, run.stdout

@@ -6,10 +6,43 @@
 #   status 2, `out of memory` on standard error and nothing written: the words were not read;
 #   status 5, `mqsim: out of memory` and a prefix of the answers written;
 #   as where none is refused, all written, where a growth had another way.
-# Wants mqsim to be built, and `cc`. Prints the runs that fail; the last line counts.
+# Scripts of workers, each of whom takes only what it has put itself, are tried so too. Their runs
+# may end as above, or in one of these ways; what is written never depends on a worker's time:
+#   status 6, `mqsim: thread not started` and the answers of the main part written;
+#   status 0, and of just one worker it is told that it ended with ENOMEM: it has then sent and
+#   received no more than it should, the others have done all, the slots have as many entries as
+#   that, and all pages are free.
+# Such a run that does not end within a minute is stopped, and fails. Wants mqsim to be built, and `cc`.
+# Prints the runs that fail; the last line counts.
 set -uo pipefail
 cd "$(dirname "$0")/.."
 program=crates/mqsim/out/mqsim
+
+# Whether just one of the workers that `out` tells of lacked memory, and all the rest is as it must
+# be: of each slot the entries but those that are sent or received are as in `whole`.
+one_worker_lacked() {
+    awk '
+        $1 == "worker" && FNR == NR { sent[$2] = $4; received[$2] = $6; next }
+        $1 == "slot" && FNR == NR { other[$2] = $4 - $6 - $8; next }
+        FNR == NR { whole[FNR] = $0; next }
+        $1 == "worker" && $10 == "ENOMEM" {
+            lacked++
+            if ($8 != "yes" || $4 > sent[$2] || $6 > received[$2] || $6 > $4) wrong++
+        }
+        $1 == "worker" && $10 != "ENOMEM" {
+            if ($8 != "yes" || $10 != "done" || $4 != sent[$2] || $6 != received[$2]) wrong++
+        }
+        $1 == "worker" { more += $4; taken += $6; next }
+        $1 == "slot" {
+            more -= $6; taken -= $8
+            if ($4 - $6 - $8 != other[$2] || $10 != $6 - $8) wrong++
+            next
+        }
+        whole[FNR] != $0 { wrong++ }
+        END { exit !(lacked == 1 && !wrong && more == 0 && taken == 0) }
+    ' "$seen/whole" "$seen/out" && [ ! -s "$seen/err" ] \
+        && [ "$(wc -l < "$seen/out")" -eq "$(wc -l < "$seen/whole")" ]
+}
 
 # Whether the run that has ended with status $1 may end so.
 is_right() {
@@ -17,6 +50,9 @@ is_right() {
         return 0
     fi
     case $1 in
+        0) [ "${list[0]-}" = threads ] && one_worker_lacked ;;
+        6) [ "${list[0]-}" = threads ] && sed '/^worker/,$d' "$seen/whole" | cmp -s - "$seen/out" \
+            && [ "$(< "$seen/err")" = "mqsim: thread not started" ] ;;
         2) [ ! -s "$seen/out" ] \
             && grep -qx '\(mqsim: command line\|error\): out of memory' "$seen/err" ;;
         5) cmp -s -n "$(stat -c %s "$seen/out")" "$seen/out" "$seen/whole" \
@@ -30,17 +66,22 @@ try() {
     seen=$1
     local list usual=0 status n passed=0 failed=0
     read -ra list <<< "$3"
+    local bounded=(env "LD_PRELOAD=$shim")
+    # Only workers may wait for good.
+    [ "${list[0]-}" != threads ] || bounded=(timeout 60 "${bounded[@]}")
     "$program" "${list[@]}" < "$2" > "$seen/whole" 2> "$seen/err" || usual=$?
     for ((n = 1; n < 10000; n++)); do
         status=0
         rm -f "$seen/mark"
-        REFUSE_NTH=$n REFUSE_MARK="$seen/mark" LD_PRELOAD="$shim" \
+        REFUSE_NTH=$n REFUSE_MARK="$seen/mark" "${bounded[@]}" \
             "$program" "${list[@]}" < "$2" > "$seen/out" 2> "$seen/err" || status=$?
         if is_right "$status"; then
             passed=$((passed + 1))
         else
             failed=$((failed + 1))
             echo "allocations: mqsim $3 < $2, allocation $n: status $status"
+            # A run that hangs is not tried again.
+            [ "$status" -ne 124 ] || break
         fi
         [ -e "$seen/mark" ] || break
     done
@@ -71,6 +112,18 @@ case_of() {
     printf "$2" > "$folder/script-$jobs"
     begin "$folder/script-$jobs" "$1"
 }
+
+# Workers that each take what they have put: a type each, a queue each, and more than one type each.
+printf 'get 0 c\n' > "$folder/types"
+printf 'get 9 c\nset 0 3000\nget 0 c\nget 0\n' > "$folder/queues"
+printf 'worker\nput 0 1 5 1000\ntake 0 1 5\nworker\nput 0 2 5 1000\ntake 0 2 5\n' >> "$folder/types"
+for k in 0 1 2; do
+    printf 'worker\n'
+    printf "put $k %d 2 800\ntake $k 0 2\nput $k 7 1 0\ntake $k -9 1\n" {1..9}
+done >> "$folder/queues"
+begin "$folder/types" threads
+begin "$folder/types" 'threads --height 4 --slots 1 --last-seq 0'
+begin "$folder/queues" 'threads --slots 64'
 
 source tests/serial_tables.sh
 for words in '' 'serial --height 6 --slots 16 --last-seq 32767' 'serial --height 2 --slots 2' \

@@ -24,8 +24,9 @@ GROUPS = {
     "The queues": ["OneThread"],
     "A program of several threads": ["with_workers", "with_two", "Worker", "WorkersError",
                                      "Caller", "Pledge"],
+    "One thread at all seats": ["with_system", "SystemProgram"],
     "The queues of several threads": ["System", "Seat", "SendFlags", "RecvFlags", "TextOf",
-                                      "Names", "Pages"],
+                                      "Names", "Pages", "Blanks"],
     "What the calls take and answer": ["Id", "GetFlags", "Got", "Delivered", "Removal", "Figures",
                                        "BoardRow"],
     "Refusals": ["Errno", "Refused", "SendRefused", "DraftError"],
@@ -35,6 +36,9 @@ GROUPS = {
                "MAX_SEATS", "MAX_SEQ", "LEDGER_PARTS"],
     "Without `with_queues`": ["Ledger", "Blank", "Closed", "ArenaState"],
 }
+
+# What only `mq_system` and its tests call, with parts of a ledger that no program holds.
+LEFT_OUT = {("Seat", "new"), ("Seat", "into_part")}
 
 HEAD = """\
 # The public calls
@@ -149,6 +153,11 @@ def functions(lines, public):
     return found
 
 
+def name_of(signature):
+    """The name of a function."""
+    return re.search(r"\bfn (\w+)|$", signature).group(1)
+
+
 def parts(lines):
     """The fields of a struct, or the variants of an enum."""
     found = []
@@ -191,7 +200,8 @@ def read(name, crate):
             own = re.match(rf"impl(<.*?>)? {name}(<.*>)? \{{", line)
             other = re.match(rf"impl(<.*?>)? (\S.*?) for {name}(<.*>)? \{{", line)
             if own:
-                item.members += functions(block(lines, at), "pub ")
+                item.members += [it for it in functions(block(lines, at), "pub ")
+                                 if (name, name_of(it[0])) not in LEFT_OUT]
             elif other and not re.match(r"Model|MadeWith|From<", other.group(2)):
                 item.traits.append(re.sub(r"^\w+::", "", other.group(2)))
     return item

@@ -1,11 +1,13 @@
 # What the scripts of this folder that try mqsim share, each of which sources it: they run at the
 # top of the repository, keep what the program writes in a folder that goes with them, and count
-# their cases.
+# their cases. A run of the program that does not end within a minute is stopped, with status 124.
 set -uo pipefail
 cd "$(dirname "$0")/.."
-program=$PWD/crates/mqsim/out/mqsim
 seen=$(mktemp -d)
 trap 'rm -rf "$seen"' EXIT
+program=$seen/mqsim
+printf '#!/bin/sh\nexec timeout 60 %q "$@"\n' "$PWD/crates/mqsim/out/mqsim" > "$program"
+chmod +x "$program"
 passed=0
 failed=0
 

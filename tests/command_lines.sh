@@ -75,10 +75,17 @@ run 2       none         error  serial --seats 16
 run 2       none         error  serial -H 3
 run 2       none         error  serial extra
 run 2       none         error  serial serial
+run 2       none         error  serial threads
+run 2       none         error  threads serial
+run 2       none         error  threads --height 11
+run 2       none         error  threads --slots 0
+run 2       none         error  threads --last-seq 32768
+run 2       none         error  threads --height
+run 2       none         error  threads extra
+run 2       none         error  --height 3 threads
 run 2       none         error  serial -- extra
 run 2       none         error  --height 3 serial
 run 2       none         error  --height 3
-run 2       none         error  threads
 run 2       none         error  Serial
 run 2       none         error  nonsense
 run 2       none         error  ''
@@ -92,12 +99,15 @@ run 0       help         none   help
 run 0       help         none   help serial
 run 0       help         none   serial --help
 run 0       help         none   serial --height 3 --help
+run 0       help         none   help threads
+run 0       help         none   threads --help
+run 0       help         none   threads --slots 3 --help
 
 # What the help names.
 for words in --help -h help; do
     "$program" "$words" > "$seen/out" 2> "$seen/err"
     status=$?
-    for name in --height --slots --last-seq docs/SCRIPT.md Ctrl-D; do
+    for name in --height --slots --last-seq threads 'waits for good' docs/SCRIPT.md Ctrl-D; do
         grep -q -e "$name" "$seen/out"
         ran $? "$words" "($name)"
     done
@@ -161,6 +171,30 @@ last_seq 16 32767  serial
 for last in 0 1 1000 32766 32767; do
     last_seq 1 $last serial --slots 1 --last-seq $last
 done
+
+# The same options after threads: the pages, the slots, and the queues of a slot.
+: > "$seen/script"
+echo 'pages 64 free 64' > "$seen/wanted"
+effect threads
+echo 'pages 8 free 8' > "$seen/wanted"
+effect threads --height 3
+yes 'get 0 c' | head -3 > "$seen/script"
+printf '%s\n' 'id 0' 'id 1' ENOSPC > "$seen/wanted"
+for slot in 0 1; do
+    echo "slot $slot events 1 sent 0 received 0 left 0"
+done >> "$seen/wanted"
+echo 'pages 64 free 64' >> "$seen/wanted"
+effect threads --slots 2
+# A slot whose last queue has seq 0: the next id was never given.
+printf '%s\n' 'get 0 c' worker 'rm 0' worker 'put 64 1 1 1' > "$seen/script"
+{
+    echo 'id 0'
+    echo 'worker 2 sent 0 received 0 order yes end done'
+    echo 'worker 3 sent 0 received 0 order yes end EINVAL'
+    echo 'slot 0 events 2 sent 0 received 0 left 0'
+    echo 'pages 64 free 64'
+} > "$seen/wanted"
+effect threads --slots 1 --last-seq 0
 
 echo "command_lines: $passed passed, $failed failed"
 [ "$failed" -eq 0 ]

@@ -1,21 +1,20 @@
 /* Preloaded before a program: its allocation number $REFUSE_NTH, from 1, finds no memory, and the
-   file $REFUSE_MARK is made. */
+   file $REFUSE_MARK is made. The allocations of all its threads are counted together, so in a
+   program of several threads the same number may be another's in another run. */
 #define _GNU_SOURCE
 #include <dlfcn.h>
 #include <errno.h>
 #include <fcntl.h>
+#include <stdatomic.h>
 #include <stddef.h>
 #include <stdlib.h>
 #include <unistd.h>
 
-static long left = -1;
+static atomic_long made;
 
 static int refused(void) {
-    if (left < 0) {
-        const char *nth = getenv("REFUSE_NTH");
-        left = nth ? atol(nth) : 0;
-    }
-    if (left == 0 || --left > 0)
+    const char *nth = getenv("REFUSE_NTH");
+    if (!nth || atomic_fetch_add(&made, 1) + 1 != atol(nth))
         return 0;
     const char *mark = getenv("REFUSE_MARK");
     if (mark)

@@ -1,26 +1,47 @@
 #!/usr/bin/env python3
 """Runs each test with its Nth allocation refused, for N from 1 until it makes fewer; of a test that
-makes more than 600, which repeats what it does, some of the later ones.
+makes more than 600, or takes long, and so repeats what it does, some of the later ones.
 
 `tests/refused_calls.py [CRATE ..]`, or without a name for every crate that has tests. A test makes
 a call that found no memory once more, so each run must end in one of these ways: all its checks
 passed, which says that the call made again answered as if nothing had happened; or the test ends by
-its own word that memory was wanted, where it does not make the call twice. Wants the tests to be
-built, as crates/CRATE/out/CRATE_tests, and `cc`. Prints the runs that fail; the last line counts.
+its own word that memory was wanted, where it does not make the call twice. A run that does not end
+fails. Tests whose threads wait for what another thread does are left out where that thread may end
+for want of memory without having done it: they wait for good then, as they must. Wants the tests to
+be built, as crates/CRATE/out/CRATE_tests, and `cc`. Prints the runs that fail, and which tests took
+longest; the last line counts.
 """
+import collections
 import concurrent.futures
 import glob
+import itertools
 import os
 import subprocess
 import sys
 import tempfile
+import time
 
 TOP = os.path.dirname(os.path.dirname(os.path.abspath(__file__)))
 NO_MEMORY = ("memory", "allocerror", "allocfailed", "no page", "no queue", "not sent")
 # The failures of a test that are told; the others are only counted.
 TOLD = 3
-# The allocations that are refused one by one; beyond them the steps grow.
+# The allocations that are refused one by one, as far as a lane comes in so many seconds; beyond
+# them the steps grow.
 EACH = 600
+PATIENCE = 20
+# The runs of a test that are tried side by side.
+LANES = 4
+# The tests that are named as those that took longest.
+LONGEST = 5
+# The seconds after which a run counts as one that hangs.
+SECONDS = 300
+# The status that such a run is given.
+HANGS = 124
+# What is left out: workers of scripts, each of which waits for what another worker sends or removes.
+WAIT_FOR_OTHERS = {
+    "mq_cli_thread_tests worked::two_pairs_of_workers_hand_on_all",
+    "mq_cli_thread_tests worked::a_removal_ends_who_waits",
+}
 
 
 def crates_with_tests():
@@ -40,7 +61,8 @@ def tests_of(crate):
         listed = subprocess.run([program_of(crate), "--list"], capture_output=True, text=True)
     except OSError:
         return []
-    return [line[:-6] for line in listed.stdout.splitlines() if line.endswith(": test")]
+    names = [line[:-6] for line in listed.stdout.splitlines() if line.endswith(": test")]
+    return [name for name in names if f"{crate} {name}" not in WAIT_FOR_OTHERS]
 
 
 def refused_run(command, shim, mark, nth):
@@ -48,7 +70,11 @@ def refused_run(command, shim, mark, nth):
     if os.path.exists(mark):
         os.unlink(mark)
     refusal = {"REFUSE_NTH": str(nth), "REFUSE_MARK": mark, "LD_PRELOAD": shim}
-    run = subprocess.run(command, env={**os.environ, **refusal}, capture_output=True, text=True)
+    limits = {"env": {**os.environ, **refusal}, "timeout": SECONDS}
+    try:
+        run = subprocess.run(command, capture_output=True, text=True, **limits)
+    except subprocess.TimeoutExpired:
+        return subprocess.CompletedProcess(command, HANGS, "", f"not ended after {SECONDS} s")
     return run if os.path.exists(mark) else None
 
 
@@ -57,21 +83,33 @@ def says_no_memory(run):
     return any(word in said for word in NO_MEMORY)
 
 
-def judge(crate, test, shim, mark):
-    """How many runs of a test ended well, and what is to be said of the others."""
-    passed = nth = 0
-    wrong = []
+def allocations(lane, begun):
+    """The numbers that are refused in a lane, one after another."""
+    nth = lane + 1
     while True:
-        nth += 1 if nth < EACH else nth // 32
+        yield nth
+        each = nth < EACH and time.monotonic() - begun < PATIENCE
+        nth += LANES if each else max(LANES, LANES * nth // 32)
+
+
+def judge(crate, test, lane, shim, mark):
+    """How many of the runs of a lane ended well, what is to be said of the others, and the time."""
+    begun = time.monotonic()
+    passed = 0
+    wrong = []
+    for nth in allocations(lane, begun):
         run = refused_run([program_of(crate), test], shim, mark, nth)
         if run is None:
-            return passed, wrong
+            break
         if run.returncode == 0 or says_no_memory(run):
             passed += 1
-        else:
-            said = " ".join((run.stdout + run.stderr).split())[:300]
-            wrong.append(f"refused_calls: {crate} {test}, allocation {nth}: "
-                         f"status {run.returncode}: {said}")
+            continue
+        said = " ".join((run.stdout + run.stderr).split())[:300]
+        wrong.append(f"refused_calls: {crate} {test}, allocation {nth}: "
+                     f"status {run.returncode}: {said}")
+        if run.returncode == HANGS:
+            break
+    return passed, wrong, time.monotonic() - begun
 
 
 def main():
@@ -86,13 +124,18 @@ def main():
         shim = f"{folder}/refuse.so"
         subprocess.run(["cc", "-shared", "-fPIC", "-O1", "-o", shim, f"{TOP}/tests/refuse_nth.c",
                         "-ldl"], check=True)
+        times = collections.Counter()
         with concurrent.futures.ThreadPoolExecutor(os.cpu_count()) as pool:
-            ends = [pool.submit(judge, *tested, shim, f"{folder}/mark{place}")
-                    for place, tested in enumerate(tests)]
-            for end in ends:
-                right, others = end.result()
+            marks = (f"{folder}/mark{count}" for count in itertools.count())
+            ends = [(tested, pool.submit(judge, *tested, lane, shim, next(marks)))
+                    for tested in tests for lane in range(LANES)]
+            for tested, end in ends:
+                right, others, seconds = end.result()
                 passed, failed = passed + right, failed + len(others)
+                times[" ".join(tested)] += seconds
                 print(*others[:TOLD], sep="\n", end="\n" if others else "")
+    longest = (f"{test} {seconds:.0f} s" for test, seconds in times.most_common(LONGEST))
+    print(f"refused_calls: {times.total():.0f} s in all lanes, longest {', '.join(longest)}")
     print(f"refused_calls: {passed} passed, {failed} failed")
     return 1 if failed else 0
 

@@ -165,6 +165,10 @@ case_of 'serial --slots 16 --last-seq 32767' \
 case_of 'serial --slots 1 --last-seq 1' \
     'get 0 c\nrm 0\nsnd 0 0 =a\nsnd 0 -1 =a\nsnd 0 1 =a\nget 0 c\nrm 64\nget 0 c\nrm 64\nrm 128\n' \
     'id 0\nat 1 events 2\nEINVAL\nEINVAL\nEIDRM\nid 64\nat 3 events 2\nENOSPC\nEIDRM\nEINVAL\n'
+# Each slot has one queue, and is used up with it; an old id is removed for good.
+case_of 'serial --slots 2 --last-seq 0' \
+    'get 0 c\nget 0 c\nrm 0\nget 0 c\nrm 1\nget 0 c\nsnd 1 1 =a\n' \
+    'id 0\nid 1\nat 1 events 2\nENOSPC\nat 1 events 2\nENOSPC\nEIDRM\n'
 # No queue, and one that was removed, have no row.
 case_of 'serial --slots 2 --last-seq 32767' \
     'ipcs\nget 7 c\nget 8 c\nrm 0\nipcs\nrm 1\nipcs\n' \

@@ -73,6 +73,28 @@ for words in --help 'help serial'; do
     ended 'the help to no standard output' 4 '' 'mqsim: write failed\n'
 done
 
+# A threads script: no fault, a line that is not well formed, which is found before anything is run,
+# a read and a write that fail, and threads that cannot be made. That last one is status 6: a limit
+# on the address space lets the program start, and leaves no room for the stacks of 15 threads.
+pair='get 0 c\nworker\nput 0 1 3 10\nworker\ntake 0 1 3\n'
+told='id 0\nworker 2 sent 3 received 0 order yes end done\n'
+told+='worker 3 sent 0 received 3 order yes end done\n'
+told+='slot 0 events 7 sent 3 received 3 left 0\npages 64 free 64\n'
+run "$pair" threads;            ended 'a run of threads' 0 "$told" ''
+run '' threads;                 ended 'an empty threads script' 0 'pages 64 free 64\n' ''
+run 'put 0 1 1 1\n' threads;    ended 'put in the main part' 1 '' 'mqsim: line 1: words\n'
+run "${pair}get 0 c\n" threads; ended 'get in a section' 1 '' 'mqsim: line 6: words\n'
+run "${pair}rm 01\n" threads;   ended 'a number in a section' 1 '' 'mqsim: line 6: number\n'
+run "$(printf 'worker\\n%.0s' {1..16})" threads
+ended 'a sixteenth worker' 1 '' 'mqsim: line 16: words\n'
+"$program" threads < / > "$seen/out" 2> "$seen/err"
+ended 'a directory as standard input of threads' 3 '' 'mqsim: read failed\n'
+printf "$pair" | "$program" threads > /dev/full 2> "$seen/err"
+ended 'threads to a full device' 4 '' 'mqsim: write failed\n'
+{ echo 'get 0 c'; yes worker | head -15; } > "$seen/script"
+(ulimit -v 60000; exec "$program" threads < "$seen/script" > "$seen/out" 2> "$seen/err")
+ended 'no room for threads' 6 'id 0\n' 'mqsim: thread not started\n'
+
 # A standard error that takes nothing changes no status and no answer.
 printf 'get 0 c\nget\n' > "$seen/script"
 "$program" < "$seen/script" 2> /dev/full > "$seen/out"

@@ -54,10 +54,22 @@ impl Worker<Signed> for Sender {
         seat: &mut Seat<N>,
     ) -> Result<u64, Errno> {
         let mut caller = Caller::new(rt, alloc, system, seat);
-        let id = caller.queue(1234)?;
+        // The receiver waits for a text: what finds no memory is done once more.
+        let id = match caller.queue(1234) {
+            Ok(id) => id,
+            Err(_) => caller.queue(1234)?,
+        };
         let mut text = *b"0 says hello";
         text[0] = b'0' + (caller.number() % 10) as u8;
-        caller.send(id, 7, 0, &text)
+        if let Ok(entry) = caller.send(id, 7, 0, &text) {
+            return Ok(entry);
+        }
+        let sent = caller.send(id, 7, 0, &text);
+        if sent.is_err() {
+            // Then the queue goes, and whoever waits in it is answered EIDRM.
+            caller.remove(id)?;
+        }
+        sent
     }
 }
 

@@ -1,2 +1,3 @@
+pub mod EitherLemmas
 pub mod SendLemmas
 pub mod WorkerLemmas

@@ -1,4 +1,5 @@
 pub mod Bytes
 pub mod Caller
+pub mod Either
 pub mod Ended
 pub mod Workers

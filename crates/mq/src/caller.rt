@@ -1,9 +1,10 @@
-ghost use Rattle.std.specs.Prelude.{◌≡◌, ◌≤◌, true, false, length, IfOk, IfErr, OnOk};
+ghost use Rattle.std.specs.Prelude.{◌≡◌, ◌<◌, ◌≤◌, true, false, length, slice_index, IfOk, IfErr, OnOk, MatchResult};
+ghost use Rattle.mq_table.specs.Ids.{slot_of};
 ghost use Rattle.mq_system.specs.Get.{MayRefuse};
 ghost use Rattle.mq_system.specs.Refusals.{MayReceive, MayRemove, MaySend, never_sent, out_of_slots};
 ghost use Rattle.mq_system.specs.Shown.{IsRemoval};
-ghost use Rattle.mq_system.specs.Seat.{IsSame};
-ghost use Rattle.mq.specs.Caller.{MeetsCut};
+ghost use Rattle.mq_system.specs.Seat.{IsCounted, IsSame};
+ghost use Rattle.mq.specs.Caller.{MayCount, MeetsCut};
 
 use crate::bytes::copy_out;
 use mq_one_thread::{Delivered, Errno, GetFlags, Removal, SendRefused};
@@ -50,12 +51,22 @@ impl<'a, P: Pledge, N: Names, R: Wait> Caller<'a, P, N, R> {
         self.seat.number()
     }
 
+    /// How many changes its seat made in the slot: a queue that was made, a message that was sent
+    /// or received, a quota that was set, or a removal.
+    pub fn count(&self, slot: usize) -> u64
+        requires slot { slot < N.slots }
+        ensures { result ≡ slice_index self.now.seat.now.by_slot slot }
+    {
+        self.seat.count(slot)
+    }
+
     /// The queue with this key, which is made where it is not there (msgget(2) with IPC_CREAT).
     pub fn queue(&mut self, key: i32) -> Result<Id, Errno>
         ensures within { IfOk result (λ id. out_of_slots N.slots id ≡ false) }
         ensures refused { IfErr result
             (MayRefuse key (record { create = true; exclusive = false })) }
-        ensures seat { IsSame self.old.seat.now self.new.seat.now }
+        ensures counted { MatchResult result (MayCount self.old.seat.now self.new.seat.now)
+            (λ _. IsSame self.old.seat.now self.new.seat.now) }
     {
         let flags = GetFlags {
             create: true,
@@ -72,7 +83,9 @@ impl<'a, P: Pledge, N: Names, R: Wait> Caller<'a, P, N, R> {
         ensures ok { OnOk result (out_of_slots N.slots id ≡ false) }
         ensures log { IfOk result (IsRemoval N.last_seq) }
         ensures refused { IfErr result MayRemove }
-        ensures seat { IsSame self.old.seat.now self.new.seat.now }
+        ensures counted { MatchResult result
+            (λ _. IsCounted self.old.seat.now self.new.seat.now (slot_of id))
+            (λ _. IsSame self.old.seat.now self.new.seat.now) }
     {
         match self.system.rmid(self.rt, self.seat, id, self.moment) {
             Ok(removal) => Ok(removal),
@@ -85,7 +98,9 @@ impl<'a, P: Pledge, N: Names, R: Wait> Caller<'a, P, N, R> {
         requires pledge { P.kept self.old.seat.now.number tag mtype bytes.now }
         ensures ok { OnOk result (never_sent N.slots id mtype ≡ false) }
         ensures refused { IfErr result (MaySend false) }
-        ensures seat { IsSame self.old.seat.now self.new.seat.now }
+        ensures counted { MatchResult result
+            (λ _. IsCounted self.old.seat.now self.new.seat.now (slot_of id))
+            (λ _. IsSame self.old.seat.now self.new.seat.now) }
     {
         self.send_with(id, mtype, tag, bytes, SendFlags { nowait: false })
     }
@@ -102,7 +117,9 @@ impl<'a, P: Pledge, N: Names, R: Wait> Caller<'a, P, N, R> {
         requires pledge { P.kept self.old.seat.now.number tag mtype bytes.now }
         ensures ok { OnOk result (never_sent N.slots id mtype ≡ false) }
         ensures refused { IfErr result (MaySend flags.nowait) }
-        ensures seat { IsSame self.old.seat.now self.new.seat.now }
+        ensures counted { MatchResult result
+            (λ _. IsCounted self.old.seat.now self.new.seat.now (slot_of id))
+            (λ _. IsSame self.old.seat.now self.new.seat.now) }
     {
         let text = match self.system.draft_of(self.rt, bytes) {
             Ok(text) => text,
@@ -126,7 +143,9 @@ impl<'a, P: Pledge, N: Names, R: Wait> Caller<'a, P, N, R> {
         ensures fits { IfOk result (λ d. length d.text.items ≤ size) }
         ensures pledge { IfOk result (λ d. P.kept d.sender d.tag d.mtype d.text.items) }
         ensures refused { IfErr result (MayReceive false false) }
-        ensures seat { IsSame self.old.seat.now self.new.seat.now }
+        ensures counted { MatchResult result
+            (λ _. IsCounted self.old.seat.now self.new.seat.now (slot_of id))
+            (λ _. IsSame self.old.seat.now self.new.seat.now) }
     {
         let flags = RecvFlags {
             nowait: false,
@@ -150,7 +169,9 @@ impl<'a, P: Pledge, N: Names, R: Wait> Caller<'a, P, N, R> {
             flags.noerror ≡ false → P.kept d.sender d.tag d.mtype d.text.items) }
         ensures cut { IfOk result (λ d. MeetsCut P.kept size d d.text.items) }
         ensures refused { IfErr result (MayReceive flags.nowait flags.noerror) }
-        ensures seat { IsSame self.old.seat.now self.new.seat.now }
+        ensures counted { MatchResult result
+            (λ _. IsCounted self.old.seat.now self.new.seat.now (slot_of id))
+            (λ _. IsSame self.old.seat.now self.new.seat.now) }
     {
         let Ok(mut bytes) = Vec::with_capacity(self.alloc, size as usize) else {
             return Err(Errno::ENOMEM);

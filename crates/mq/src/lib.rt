@@ -1,14 +1,15 @@
-//! System V message queues: what a program names, `with_queues`, which runs one thread, and
-//! `with_workers` and `with_two`, which run several.
+//! System V message queues: what a program names; `with_queues`, which runs one thread;
+//! `with_workers` and `with_two`, which run several; and `with_system`, one at all seats.
 
 #![tactic(auto)]
 
+mod at_seat;
 mod bytes;
 mod caller;
+mod either;
 mod ended;
-mod gate;
 mod program;
-mod threads;
+mod system_program;
 mod two;
 mod worker;
 mod workers;
@@ -25,11 +26,12 @@ pub use mq_one_thread::{
 };
 pub use mq_queue::{BoardRow, Event, Figures, Log, MSGMAX, MSGMNB, Received};
 pub use mq_select::Selection;
-pub use mq_system::{Names, Pages, Pledge, RecvFlags, Seat, SendFlags, System, TextOf};
+pub use mq_system::{Blanks, Names, Pages, Pledge, RecvFlags, Seat, SendFlags, System, TextOf};
 pub use mq_table::{Id, MAX_SEQ, MAX_SLOTS};
 pub use mq_tree::MAX_HEIGHT;
 pub use program::{QueueProgram, with_queues};
 pub use std::sync::ledger::{Blank, Ledger};
+pub use system_program::{SystemProgram, with_system};
 pub use two::with_two;
 pub use worker::Worker;
 pub use workers::with_workers;

@@ -1,10 +1,17 @@
+pub mod ClosingLemmas
 pub mod DraftLemmas
+pub mod EndLemmas
 pub mod FilledLemmas
+pub mod LettersLemmas
 pub mod LinesLemmas
+pub mod MainLemmas
 pub mod NumberLemmas
 pub mod PartsLemmas
 pub mod ReportLemmas
 pub mod Runs
 pub mod Seats
 pub mod SpellingLemmas
+pub mod ThreadsLemmas
+pub mod ThreadsRuns
 pub mod Transfers
+pub mod WantedLemmas

@@ -2,7 +2,7 @@ use Rattle.std.proofs.Common.{◌≡◌, ℕ, ◌+◌, List, [], ◌∷◌, ◌+
 use Rattle.std.specs.List.{flat_map, range_with_len}
 use Rattle.std.proofs.lemmas.Grind.{flat_map-append}
 use Rattle.std.proofs.lemmas.List.FromFn.{map-range_with_len_more}
-use Rattle.mq_table.specs.Shown.{row}
+use Rattle.mq_queue.specs.Row.{row}
 use Rattle.mq_one_thread.specs.State.{State, slot_at}
 use Rattle.mq_cli.specs.Reports.{line_of_row, lines_to}
 

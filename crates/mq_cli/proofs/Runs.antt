@@ -3,7 +3,7 @@ use Rattle.std.specs.Io.KnownBytes.{Appends, Keeps}
 use Rattle.std.proofs.KnownBytes.{Appends-kept, Appends-nil, Appends-trans}
 use Rattle.mq_cli.specs.declared.fault.Cause.{Cause}
 use Rattle.mq_cli.specs.declared.fault.RunFault.{RunFault}
-use Rattle.mq_cli.specs.declared.fault.RunFault.TheVariants.{Script, Size, Read, Write, Memory}
+use Rattle.mq_cli.specs.declared.fault.RunFault.TheVariants.{Script, Size, Read, Write, Memory, Thread}
 use Rattle.mq_cli.specs.Commands.{reading}
 use Rattle.mq_cli.specs.Session.{State}
 use Rattle.mq_cli.specs.Serial.{AppendsPrefix, Runs, RunsLine}
@@ -66,6 +66,7 @@ line_failed old now new n s whole rest (Ok turn) Memory so ran = prefix_before o
 line_failed old now new n s whole rest (Ok turn) (Script line cause) so ran = absurd ran
 line_failed old now new n s whole rest (Ok turn) Size so ran = absurd ran
 line_failed old now new n s whole rest (Ok turn) Read so ran = absurd ran
+line_failed old now new n s whole rest (Ok turn) Thread so ran = absurd ran
 line_failed old now new n s whole rest (Err cause) (Script line named) so ran = (
   ap (λ (w : Run). w.fault) so.whole_is ∙ ap (λ (k : ℕ). Some (k, cause)) (sym ran.0) ∙ ap (λ (c : Cause). Some (line, c)) (sym ran.1),
   subst (λ (w : List ℕ). Appends old new w) (sym (ap (λ (w : Run). w.written) so.whole_is))
@@ -75,6 +76,7 @@ line_failed old now new n s whole rest (Err cause) Write so ran = absurd ran
 line_failed old now new n s whole rest (Err cause) Memory so ran = absurd ran
 line_failed old now new n s whole rest (Err cause) Size so ran = absurd ran
 line_failed old now new n s whole rest (Err cause) Read so ran = absurd ran
+line_failed old now new n s whole rest (Err cause) Thread so ran = absurd ran
 
 -- a line that ends the run ends it as the definition says
 pub so_far_failed : (old now new : Option (List ℕ)) (n : ℕ) (s t : State) (whole : Run) (line : List ℕ) (lines : List (List ℕ)) (e : RunFault)
@@ -99,6 +101,7 @@ runs_prefix old now run (Err Write) ran = ran
 runs_prefix old now run (Err Memory) ran = ran
 runs_prefix old now run (Err Size) ran = absurd ran
 runs_prefix old now run (Err Read) ran = absurd ran
+runs_prefix old now run (Err Thread) ran = absurd ran
 
 -- and a flush keeps it so
 pub prefix_kept : (old now new : Option (List ℕ)) (text : List ℕ) → AppendsPrefix old now text → Keeps now new → AppendsPrefix old new text

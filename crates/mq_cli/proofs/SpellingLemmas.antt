@@ -1,4 +1,4 @@
-use Rattle.std.proofs.Common.{◌≡◌, ℕ, ℤ, pos, negsuc, ◌+◌, ◌-◌, ◌^◌, ◌<◌, ◌≤◌, ◌==◌, ◌&&◌, ◌||◌, nat_le, nat_lt, ◌*◌, Bool, true, false, cond, List, [], ◌∷◌, ◌++◌, length, get_or, drop, suc, Option, Some, None, Result, Ok, Err, codes, refl, sym, ap, subst, ◌∙◌, arith, lit<, lit≤, length-append}
+use Rattle.std.proofs.Common.{◌≡◌, ℕ, ℤ, pos, negsuc, ◌+◌, ◌-◌, ◌^◌, ◌<◌, ◌≤◌, ◌==◌, ◌&&◌, ◌||◌, nat_le, nat_lt, ◌*◌, Bool, true, false, not, cond, List, [], ◌∷◌, ◌++◌, length, get_or, drop, suc, Option, Some, None, Result, Ok, Err, codes, refl, sym, ap, subst, ◌∙◌, arith, lit<, lit≤, length-append}
 use Rattle.std.specs.Fmt.{decimal, signed_decimal}
 use Rattle.std.specs.Int.{w32, w64}
 use Rattle.std.specs.Int.RustNames.{FitsSigned}
@@ -19,7 +19,7 @@ use Rattle.mq_one_thread.specs.declared.results.GetFlags.{GetFlags}
 use Rattle.mq_cli.specs.declared.limits.TheConstants.{LINE_LIMIT}
 use Rattle.mq_cli.specs.declared.fault.Cause.{Cause}
 use Rattle.mq_cli.specs.declared.fault.Cause.TheVariants.{Words}
-use Rattle.mq_cli.specs.Commands.{Call, sit, show, get, snd, rcv, set, rm, stat, ipcs, Text, plain, letters, Flags, ok_map, ◌>>=◌, worded, is_filled, is_plain, is_text, text_of, flags_of, seat_of, arena_of, get_flags_of, get_of, set_of, remove_of, stat_of, ipcs_of, send_of, receive_of, command_of, is_skipped, reading}
+use Rattle.mq_cli.specs.Commands.{Call, sit, show, get, snd, rcv, set, rm, stat, ipcs, Text, plain, letters, Flags, ok_map, ◌>>=◌, worded, is_filled, is_plain, is_text, text_of, flags_of, seat_of, arena_of, get_flags_of, get_of, set_of, remove_of, stat_of, ipcs_of, send_of, receive_of, command_of, is_skipped, speaks, spoken, reading_by, reading}
 use Rattle.mq_cli.specs.Laws.{flag_words, get_flag_words, spelling, text_spelling, CanBeSpelled, Spells, ReadsBack, SpelledOneWay}
 use Rattle.mq_cli.specs.Lines.{is_printable, line_of, words_of}
 use Rattle.mq_cli.specs.Numbers.{number_of, integer_of, is_key, key_of, under, above_zero, below_zero}
@@ -36,7 +36,7 @@ pub record IsWord (word : List ℕ) : Type 0 where
   short : length word ≤ 21
 
 -- each of these is a word
-abbrev AreWords : List (List ℕ) → Type 0
+abbrev pub AreWords : List (List ℕ) → Type 0
 AreWords [] = Unit {0}
 AreWords (word ∷ words) = IsWord word × AreWords words
 
@@ -73,7 +73,7 @@ signed_word (negsuc n) fits =
     }
 
 -- and a name that passes the tests
-name_word : (name : List ℕ) → (is_filled name && list_all is_word_byte name && nat_le (length name) 20) ≡ true → IsWord name
+pub name_word : (name : List ℕ) → (is_filled name && list_all is_word_byte name && nat_le (length name) 20) ≡ true → IsWord name
 name_word name h =
     let tests = and_parts (is_filled name && list_all is_word_byte name) (nat_le (length name) 20) h in
     let front = and_parts (is_filled name) (list_all is_word_byte name) tests.0 in
@@ -111,7 +111,7 @@ words_of_word : (word : List ℕ) → IsWord word → words_of word ≡ word ∷
 words_of_word word is = slice_split_none (λ b. b == 32) word (no_space word is.bytes)
 
 -- each word is filled
-all_filled : (words : List (List ℕ)) → AreWords words → list_all is_filled words ≡ true
+pub all_filled : (words : List (List ℕ)) → AreWords words → list_all is_filled words ≡ true
 all_filled [] are = refl
 all_filled (word ∷ words) are = and_from _ _ are.0.filled (all_filled words are.1)
 
@@ -140,7 +140,7 @@ first_byte [] b above e = let is = eqb-true _ _ e in absurd (omega arith)
 first_byte (c ∷ text) b above e = ap (λ x. x ∷ text) (eqb-true c b e)
 
 -- a number below a limit is read from its spelling
-under-decimal : (limit n : ℕ) → limit ≤ 2 ^ 64 → n < limit → under limit (number_of (decimal n)) ≡ Some n
+pub under-decimal : (limit n : ℕ) → limit ≤ 2 ^ 64 → n < limit → under limit (number_of (decimal n)) ≡ Some n
 under-decimal limit n most below = rw (number_of-decimal n (omega arith)) (cond-true _ _ _ (lt-ltb n limit below))
 
 -- and from nothing else
@@ -151,7 +151,7 @@ under-Some limit word n e = option_and_then_some _ _ n e (λ m read below.
     (spelled.0 ∙ ap decimal is.1, omega (arith, ltb-true _ _ is.0, is.1)))
 
 -- a number with a sign is read from its spelling
-integer_of-signed_decimal : (z : ℤ) → FitsSigned w64 z → integer_of (signed_decimal z) ≡ Some z
+pub integer_of-signed_decimal : (z : ℤ) → FitsSigned w64 z → integer_of (signed_decimal z) ≡ Some z
 unfolding integer_of
 integer_of-signed_decimal (pos n) fits =
     let plain = not_in_digits numerals (decimal n) 45 (digits_decimal numerals n (omega (arith, fits.sfits))) (λ range. omega (arith, range)) 0 (decimal_nonempty n (omega (arith, fits.sfits))) in
@@ -209,34 +209,36 @@ needed true x cause y e = (refl, e)
 needed false x cause y e = absurd (cc e)
 
 -- a test that was ruled out failed
-ruled_out : {A : Type 0} (b : Bool) (x : Result A Cause) (cause : Cause) (y : A) → cond b (Err cause) x ≡ Ok y → (b ≡ false) × (x ≡ Ok y)
+pub ruled_out : {A : Type 0} (b : Bool) (x : Result A Cause) (cause : Cause) (y : A) → cond b (Err cause) x ≡ Ok y → (b ≡ false) × (x ≡ Ok y)
 ruled_out true x cause y e = absurd (cc e)
 ruled_out false x cause y e = (refl, e)
 
 -- what a result was before it was mapped
-mapped_ok : {A B : Type 0} (f : A → B) (r : Result A Cause) (y : B) → ok_map f r ≡ Ok y → (x : A) × (r ≡ Ok x) × (f x ≡ y)
+pub mapped_ok : {A B : Type 0} (f : A → B) (r : Result A Cause) (y : B) → ok_map f r ≡ Ok y → (x : A) × (r ≡ Ok x) × (f x ≡ y)
 mapped_ok f (Ok x) y e = (x, refl, cc e)
 mapped_ok f (Err cause) y e = absurd (cc e)
 
--- a line that asks for a call is short and printable, and its words are a command
-record IsCommand (line : List ℕ) (call : Call) : Type 0 where
-  short : length line ≤ LINE_LIMIT
-  printable : list_all is_printable line ≡ true
-  command : command_of (words_of line) ≡ Ok call
+-- a line that says something is short and printable, and its words say it
+pub record IsSaid {A : Type 0} (say : List (List ℕ) → Result A Cause) (line : List ℕ) (x : A) : Type 0 where
+  pub short : length line ≤ LINE_LIMIT
+  pub printable : list_all is_printable line ≡ true
+  pub said : say (words_of line) ≡ Ok x
 
--- what is known of a line that is read as a call
-reading-Ok : (line : List ℕ) (call : Call) → reading line ≡ Ok (Some call) → IsCommand line call
-reading-Ok line call e =
-    let length_test = ruled_out _ _ _ _ e in
+spoken_some : {A : Type 0} (s : Result Bool Cause) (said : Result A Cause) (x : A) → spoken s said ≡ Ok (Some x) → (s ≡ Ok true) × (said ≡ Ok x)
+spoken_some (Ok true) said x e = let is = mapped_ok Some said (Some x) e in (refl, cc (is.1, is.2))
+spoken_some (Ok false) said x e = absurd (cc e)
+spoken_some (Err cause) said x e = absurd (cc e)
+
+-- what is known of a line that says something
+pub reading-Ok : {A : Type 0} (say : List (List ℕ) → Result A Cause) (line : List ℕ) (x : A) → reading_by say line ≡ Ok (Some x) → IsSaid say line x
+reading-Ok say line x e =
+    let told = spoken_some (speaks line) (say (words_of line)) x e in
+    let length_test = ruled_out _ _ _ _ told.0 in
     let byte_test = ruled_out _ _ _ _ length_test.1 in
-    chosen (is_skipped line) (Ok None) (ok_map Some (command_of (words_of line))) (Ok (Some call)) byte_test.1
-    (λ skipped nothing. absurd (cc nothing))
-    (λ asks something.
-    let is = mapped_ok Some (command_of (words_of line)) (Some call) something in
-    record { short = ltb-false _ _ length_test.0; printable = not-false _ byte_test.0; command = cc (is.1, is.2) })
+    record { short = ltb-false _ _ length_test.0; printable = not-false _ byte_test.0; said = told.1 }
 
 -- the words of a line, put together again, with the command's name
-rejoined : (line name text : List ℕ) (words : List (List ℕ)) → words_of line ≡ name ∷ words → bytes_eq name text ≡ true → line ≡ line_of (text ∷ words)
+pub rejoined : (line name text : List ℕ) (words : List (List ℕ)) → words_of line ≡ name ∷ words → bytes_eq name text ≡ true → line ≡ line_of (text ∷ words)
 rejoined line name text words e named =
     sym (join_with_byte-slice_split 32 line) ∙ ap line_of (e ∙ ap (λ word. word ∷ words) ((bytes_eq-Decides name text).0 named))
 
@@ -271,7 +273,7 @@ listed line [] call is e =
 listed line (word ∷ words) call is e = absurd (cc e)
 
 -- and set
-changed : (line : List ℕ) (words : List (List ℕ)) (call : Call) → line ≡ line_of (codes "set" ∷ words) → set_of words ≡ Ok call → Spells line call
+pub changed : (line : List ℕ) (words : List (List ℕ)) (call : Call) → line ≡ line_of (codes "set" ∷ words) → set_of words ≡ Ok call → Spells line call
 changed line (id ∷ qbytes ∷ []) call is e =
     bind_ok _ _ call e (λ i read_id told.
     bind_ok (number_of qbytes) (λ q. Ok (set i q)) call told (λ q read_qbytes done.
@@ -369,7 +371,7 @@ key_of-Some word z e = option_and_then_some _ (integer_of word) z e (λ m read k
     subst P is.1 (spelled.0, key_is m is.0))
 
 -- and get
-got : (line : List ℕ) (words : List (List ℕ)) (call : Call) → line ≡ line_of (codes "get" ∷ words) → get_of words ≡ Ok call → Spells line call
+pub got : (line : List ℕ) (words : List (List ℕ)) (call : Call) → line ≡ line_of (codes "get" ∷ words) → get_of words ≡ Ok call → Spells line call
 got line (key ∷ words) call is e =
     worded_ok (get_flags_of words) _ call e (λ flags read_flags keyed.
     bind_ok (key_of key) (λ k. Ok (get k flags)) call keyed (λ k read done.
@@ -498,8 +500,8 @@ commanded line (name ∷ words) call are short printable e =
 -- a call is read from its spelling alone
 pub spelled_one_way : SpelledOneWay
 spelled_one_way line call e =
-    let is = reading-Ok line call e in
-    commanded line (words_of line) call refl is.short is.printable is.command
+    let is = reading-Ok command_of line call e in
+    commanded line (words_of line) call refl is.short is.printable is.said
 
 -- a line that begins with a letter is not skipped
 not_skipped : (line : List ℕ) → nat_lt 35 (get_or line 0 0) ≡ true → is_skipped line ≡ false
@@ -508,48 +510,51 @@ not_skipped (b ∷ line) letter =
     let above = ltb-true 35 b letter in
     rw (ne_eqb (length (b ∷ line)) 0 (λ e. omega arith), ne_eqb b 35 (λ e. omega arith)) refl
 
--- a short and printable line is read as the command that its words are
-reads : (words : List (List ℕ)) (last : List ℕ) (call : Call) → AreWords words → length (before_last words last) ≤ LINE_LIMIT → list_all is_printable last ≡ true → nat_lt 35 (get_or (before_last words last) 0 0) ≡ true → command_of (words ++ words_of last) ≡ Ok call → reading (before_last words last) ≡ Ok (Some call)
-reads words last call are short printable letter command =
+-- a short and printable line is read as its words are
+reads : {A : Type 0} (say : List (List ℕ) → Result A Cause) (words : List (List ℕ)) (last : List ℕ) (x : A) → AreWords words → length (before_last words last) ≤ LINE_LIMIT → list_all is_printable last ≡ true → nat_lt 35 (get_or (before_last words last) 0 0) ≡ true → say (words ++ words_of last) ≡ Ok x → reading_by say (before_last words last) ≡ Ok (Some x)
+reads say words last x are short printable letter said =
     let line = before_last words last in
+    let told : Bool → Result Bool Cause = λ skipped. Ok (not skipped) in
+    let speaks_line : speaks line ≡ Ok true =
     cond-false _ _ _ (le-ltb _ _ short)
     ∙ cond-false _ _ _ (not_from_true _ (printable_before_last words last are printable))
-    ∙ cond-false (is_skipped line) (Ok None) _ (not_skipped line letter)
-    ∙ ap (ok_map Some) (ap command_of (words_before_last words last are) ∙ command)
+    ∙ ap told (not_skipped line letter) in
+    ap (λ s. spoken s (say (words_of line))) speaks_line
+    ∙ ap (ok_map Some) (ap say (words_before_last words last are) ∙ said)
 
 -- the same of a line of words alone, which is short where they are few
-reads_words : (words : List (List ℕ)) (last : List ℕ) (call : Call) → AreWords words → IsWord last → length words ≤ 100 → nat_lt 35 (get_or (before_last words last) 0 0) ≡ true → command_of (words ++ last ∷ []) ≡ Ok call → reading (before_last words last) ≡ Ok (Some call)
-reads_words words last call are is few letter command =
+pub reads_words : {A : Type 0} (say : List (List ℕ) → Result A Cause) (words : List (List ℕ)) (last : List ℕ) (x : A) → AreWords words → IsWord last → length words ≤ 100 → nat_lt 35 (get_or (before_last words last) 0 0) ≡ true → say (words ++ last ∷ []) ≡ Ok x → reading_by say (before_last words last) ≡ Ok (Some x)
+reads_words say words last x are is few letter said =
     let short = short_before_last words last are in
-    reads words last call are (omega (arith, short, is.short, few)) (word_printable last is.bytes) letter
-    (ap (λ rest. command_of (words ++ rest)) (words_of_word last is) ∙ command)
+    reads say words last x are (omega (arith, short, is.short, few)) (word_printable last is.bytes) letter
+    (ap (λ rest. say (words ++ rest)) (words_of_word last is) ∙ said)
+
+-- what the words of get say, whatever more is said of them
+abbrev GetSays : {A : Type 0} → (List (List ℕ) → Result A Cause) → Call → A → Type 0
+GetSays say call x = (words : List (List ℕ)) → list_all is_filled words ≡ true → get_of words ≡ Ok call → say (codes "get" ∷ words) ≡ Ok x
 
 -- the words of get are read back
-get_again : (key : ℤ) (words : List (List ℕ)) (flags : GetFlags) → FitsSigned w32 key → list_all is_filled words ≡ true → get_flags_of words ≡ Some flags
-    → command_of (codes "get" ∷ signed_decimal key ∷ words) ≡ Ok (get key flags)
-get_again key words flags fits filled read =
-    let word = signed_word key (key_fits key fits).1 in
-    let all : list_all is_filled (signed_decimal key ∷ words) ≡ true = and_from _ _ word.filled filled in
-    let is : get_of (signed_decimal key ∷ words) ≡ Ok (get key flags) = rw (read, key_of-signed_decimal key fits) refl in
-    cond-false _ _ _ (not_from_true _ all) ∙ is
+get_is : (key : ℤ) (words : List (List ℕ)) (flags : GetFlags) → FitsSigned w32 key → get_flags_of words ≡ Some flags → get_of (signed_decimal key ∷ words) ≡ Ok (get key flags)
+get_is key words flags fits read = rw (read, key_of-signed_decimal key fits) refl
 
 -- with a word of flags
-flagged_get_again : (key : ℤ) (word : List ℕ) (flags : GetFlags) → IsWord word → get_flags_of (word ∷ []) ≡ Some flags → FitsSigned w32 key
-    → reading (line_of (codes "get" ∷ signed_decimal key ∷ word ∷ [])) ≡ Ok (Some (get key flags))
-flagged_get_again key word flags is read fits =
+flagged_get_again : {A : Type 0} (say : List (List ℕ) → Result A Cause) (x : A) (key : ℤ) (word : List ℕ) (flags : GetFlags) → IsWord word → get_flags_of (word ∷ []) ≡ Some flags → FitsSigned w32 key
+    → GetSays say (get key flags) x → reading_by say (line_of (codes "get" ∷ signed_decimal key ∷ word ∷ [])) ≡ Ok (Some x)
+flagged_get_again say x key word flags is read fits says =
     let key_word = signed_word key (key_fits key fits).1 in
-    reads_words (codes "get" ∷ signed_decimal key ∷ []) word (get key flags) (name_word (codes "get") refl, (key_word, tt)) is (lit≤ tt) refl
-    (get_again key (word ∷ []) flags fits (all_filled (word ∷ []) (is, tt)) read)
+    reads_words say (codes "get" ∷ signed_decimal key ∷ []) word x (name_word (codes "get") refl, (key_word, tt)) is (lit≤ tt) refl
+    (says (signed_decimal key ∷ word ∷ []) (all_filled (signed_decimal key ∷ word ∷ []) (key_word, (is, tt))) (get_is key (word ∷ []) flags fits read))
 
 -- and in each way
-key_again : (key : ℤ) (create exclusive : Bool) → FitsSigned w32 key
-    → reading (spelling (get key (record { create = create; exclusive = exclusive }))) ≡ Ok (Some (get key (record { create = create; exclusive = exclusive })))
-key_again key false false fits =
-    reads_words (codes "get" ∷ []) (signed_decimal key) (get key (record { create = false; exclusive = false })) (name_word (codes "get") refl, tt) (signed_word key (key_fits key fits).1) (lit≤ tt) refl
-    (get_again key [] (record { create = false; exclusive = false }) fits refl refl)
-key_again key true false fits = flagged_get_again key (codes "c") (record { create = true; exclusive = false }) (name_word (codes "c") refl) refl fits
-key_again key false true fits = flagged_get_again key (codes "x") (record { create = false; exclusive = true }) (name_word (codes "x") refl) refl fits
-key_again key true true fits = flagged_get_again key (codes "cx") (record { create = true; exclusive = true }) (name_word (codes "cx") refl) refl fits
+pub key_again : {A : Type 0} (say : List (List ℕ) → Result A Cause) (x : A) (key : ℤ) (create exclusive : Bool) → FitsSigned w32 key
+    → GetSays say (get key (record { create = create; exclusive = exclusive })) x → reading_by say (spelling (get key (record { create = create; exclusive = exclusive }))) ≡ Ok (Some x)
+key_again say x key false false fits says =
+    let key_word = signed_word key (key_fits key fits).1 in
+    reads_words say (codes "get" ∷ []) (signed_decimal key) x (name_word (codes "get") refl, tt) key_word (lit≤ tt) refl
+    (says (signed_decimal key ∷ []) (all_filled (signed_decimal key ∷ []) (key_word, tt)) (get_is key [] (record { create = false; exclusive = false }) fits refl))
+key_again say x key true false fits says = flagged_get_again say x key (codes "c") (record { create = true; exclusive = false }) (name_word (codes "c") refl) refl fits says
+key_again say x key false true fits says = flagged_get_again say x key (codes "x") (record { create = false; exclusive = true }) (name_word (codes "x") refl) refl fits says
+key_again say x key true true fits says = flagged_get_again say x key (codes "cx") (record { create = true; exclusive = true }) (name_word (codes "cx") refl) refl fits says
 
 -- a seat is read back
 seat_again : (n : ℕ) → 1 ≤ n → n ≤ MAX_SEATS → command_of (codes "seat" ∷ decimal n ∷ []) ≡ Ok (sit n)
@@ -587,7 +592,7 @@ plain_rcv_again id size z id_fits size_fits z_fits =
     let size_word = decimal_word size size_fits in
     let type_word = signed_word z z_fits in
     let words = decimal id ∷ decimal size ∷ signed_decimal z ∷ [] in
-    reads_words (codes "rcv" ∷ decimal id ∷ decimal size ∷ []) (signed_decimal z) (rcv id size z false false)
+    reads_words command_of (codes "rcv" ∷ decimal id ∷ decimal size ∷ []) (signed_decimal z) (rcv id size z false false)
     (name_word (codes "rcv") refl, (id_word, (size_word, tt))) type_word (lit≤ tt) refl
     (rcv_again words (rcv id size z false false) (all_filled words (id_word, (size_word, (type_word, tt))))
     (receive_again id size z [] (record { except = false; noerror = false }) id_fits size_fits z_fits refl))
@@ -600,7 +605,7 @@ flagged_rcv_again id size z word flags is read id_fits size_fits z_fits =
     let size_word = decimal_word size size_fits in
     let type_word = signed_word z z_fits in
     let words = decimal id ∷ decimal size ∷ signed_decimal z ∷ word ∷ [] in
-    reads_words (codes "rcv" ∷ decimal id ∷ decimal size ∷ signed_decimal z ∷ []) word (rcv id size z flags.except flags.noerror)
+    reads_words command_of (codes "rcv" ∷ decimal id ∷ decimal size ∷ signed_decimal z ∷ []) word (rcv id size z flags.except flags.noerror)
     (name_word (codes "rcv") refl, (id_word, (size_word, (type_word, tt)))) is (lit≤ tt) refl
     (rcv_again words (rcv id size z flags.except flags.noerror) (all_filled words (id_word, (size_word, (type_word, (is, tt)))))
     (receive_again id size z (word ∷ []) flags id_fits size_fits z_fits read))
@@ -632,16 +637,17 @@ letters_word count fits =
 -- each call that can be spelled is read back
 pub reads_back : ReadsBack
 reads_back (sit number) can =
-    reads_words (codes "seat" ∷ []) (decimal number) (sit number) (name_word (codes "seat") refl, tt) (decimal_word number (omega (arith, can.1))) (lit≤ tt) refl
+    reads_words command_of (codes "seat" ∷ []) (decimal number) (sit number) (name_word (codes "seat") refl, tt) (decimal_word number (omega (arith, can.1))) (lit≤ tt) refl
     (seat_again number can.0 can.1)
 reads_back show can = refl
-reads_back (get key flags) can = key_again key flags.create flags.exclusive can
+reads_back (get key flags) can =
+    key_again command_of (get key flags) key flags.create flags.exclusive can (λ words filled is. cond-false _ _ _ (not_from_true _ filled) ∙ is)
 reads_back (snd id mtype (plain bytes)) can =
     let words = codes "snd" ∷ decimal id ∷ signed_decimal mtype ∷ [] in
     let id_word = decimal_word id (omega (arith, can.0)) in
     let type_word = signed_word mtype can.1 in
     let are : AreWords words = (name_word (codes "snd") refl, (id_word, (type_word, tt))) in
-    reads words (61 ∷ bytes) (snd id mtype (plain bytes)) are can.3 can.2 refl
+    reads command_of words (61 ∷ bytes) (snd id mtype (plain bytes)) are can.3 can.2 refl
     (send_again (decimal id) (signed_decimal mtype) (words_of (61 ∷ bytes)) (61 ∷ bytes) (plain bytes) id mtype id_word.filled type_word.filled
     (join_with_byte-slice_split 32 (61 ∷ bytes)) refl refl (under-decimal (2 ^ 32) id (lit≤ tt) can.0) (integer_of-signed_decimal mtype can.1))
 reads_back (snd id mtype (letters count)) can =
@@ -650,7 +656,7 @@ reads_back (snd id mtype (letters count)) can =
     let type_word = signed_word mtype can.1 in
     let word = letters_word count can.2 in
     let are : AreWords words = (name_word (codes "snd") refl, (id_word, (type_word, tt))) in
-    reads_words words (42 ∷ decimal count) (snd id mtype (letters count)) are word (lit≤ tt) refl
+    reads_words command_of words (42 ∷ decimal count) (snd id mtype (letters count)) are word (lit≤ tt) refl
     (send_again (decimal id) (signed_decimal mtype) ((42 ∷ decimal count) ∷ []) (42 ∷ decimal count) (letters count) id mtype id_word.filled type_word.filled
     refl (rw (spaceless (42 ∷ decimal count) word.bytes) refl) (ap (option_map letters) (number_of-decimal count can.2))
     (under-decimal (2 ^ 32) id (lit≤ tt) can.0) (integer_of-signed_decimal mtype can.1))
@@ -663,10 +669,10 @@ reads_back (rcv id size mtype true true) can =
     flagged_rcv_again id size mtype (codes "en") (record { except = true; noerror = true }) (name_word (codes "en") refl) refl can.0 can.1 can.2
 reads_back (set id qbytes) can =
     let id_word = decimal_word id (omega (arith, can.0)) in
-    reads_words (codes "set" ∷ decimal id ∷ []) (decimal qbytes) (set id qbytes) (name_word (codes "set") refl, (id_word, tt)) (decimal_word qbytes can.1) (lit≤ tt) refl
+    reads_words command_of (codes "set" ∷ decimal id ∷ []) (decimal qbytes) (set id qbytes) (name_word (codes "set") refl, (id_word, tt)) (decimal_word qbytes can.1) (lit≤ tt) refl
     (set_again id qbytes can.0 can.1)
 reads_back (rm id) can =
-    reads_words (codes "rm" ∷ []) (decimal id) (rm id) (name_word (codes "rm") refl, tt) (decimal_word id (omega (arith, can))) (lit≤ tt) refl (remove_again id can)
+    reads_words command_of (codes "rm" ∷ []) (decimal id) (rm id) (name_word (codes "rm") refl, tt) (decimal_word id (omega (arith, can))) (lit≤ tt) refl (remove_again id can)
 reads_back (stat id) can =
-    reads_words (codes "stat" ∷ []) (decimal id) (stat id) (name_word (codes "stat") refl, tt) (decimal_word id (omega (arith, can))) (lit≤ tt) refl (stat_again id can)
+    reads_words command_of (codes "stat" ∷ []) (decimal id) (stat id) (name_word (codes "stat") refl, tt) (decimal_word id (omega (arith, can))) (lit≤ tt) refl (stat_again id can)
 reads_back ipcs can = refl

@@ -165,10 +165,25 @@ command_of (name ∷ words) =
 abbrev pub is_skipped : List ℕ → Bool
 is_skipped line = (length line == 0) || (slice_index_or line 0 0 == 35)
 
--- what a line without its end says: nothing, a call, or the first cause why it is not well formed
-abbrev pub reading : List ℕ → Result (Option Call) Cause
-reading line =
+-- whether a line without its end says something, or the first cause why it is not well formed
+-- that is not in its words
+abbrev pub speaks : List ℕ → Result Bool Cause
+speaks line =
     if nat_lt LINE_LIMIT (length line) then Err Long
     else (if not (list_all is_printable line) then Err Byte
-    else (if is_skipped line then Ok None
-    else ok_map Some (command_of (words_of line))))
+    else Ok (not (is_skipped line)))
+
+-- what a line says where its words are looked at
+abbrev pub spoken : {A : Type 0} → Result Bool Cause → Result A Cause → Result (Option A) Cause
+spoken (Ok true) said = ok_map Some said
+spoken (Ok false) said = Ok None
+spoken (Err cause) said = Err cause
+
+-- the same by what words say: nothing, that, or the first cause why the line is not well formed
+abbrev pub reading_by : {A : Type 0} → (List (List ℕ) → Result A Cause) → List ℕ
+    → Result (Option A) Cause
+reading_by say line = spoken (speaks line) (say (words_of line))
+
+-- what a line of a serial script says
+abbrev pub reading : List ℕ → Result (Option Call) Cause
+reading line = reading_by command_of line

@@ -4,7 +4,7 @@ use Rattle.std.specs.Fmt.{decimal, signed_decimal}
 use Rattle.std.specs.List.{flat_map, range_with_len}
 use Rattle.mq_queue.specs.declared.figures.BoardRow.{BoardRow}
 use Rattle.mq_table.specs.Ids.{id_of}
-use Rattle.mq_table.specs.Shown.{row}
+use Rattle.mq_queue.specs.Row.{row}
 use Rattle.mq_one_thread.specs.State.{State, slot_at}
 
 -- a text at the right end of its column

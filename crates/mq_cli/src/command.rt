@@ -1,20 +1,20 @@
 ghost use Rattle.std.specs.Prelude.{◌≡◌, ◌+◌, ◌^◌, ◌==◌, length};
-ghost use Rattle.std.specs.List.{list_all, list_any};
+ghost use Rattle.std.specs.List.{list_any};
 ghost use Rattle.std.specs.Option.{option_map};
 ghost use Rattle.mq_cli.specs.Commands.{arena_of, command_of, flags_of, get_flags_of, get_of};
-ghost use Rattle.mq_cli.specs.Commands.{ipcs_of, is_filled, named, receive_of, reading};
+ghost use Rattle.mq_cli.specs.Commands.{ipcs_of, named, receive_of, reading};
 ghost use Rattle.mq_cli.specs.Commands.{remove_of, seat_of, send_of, set_of, stat_of, text_of};
-ghost use Rattle.mq_cli.specs.Commands.{is_skipped as is_skipped_line};
 ghost use Rattle.mq_cli.specs.Commands.{is_text as is_text_form};
 ghost use Rattle.mq_cli.specs.Drafts.{bytes_of_text};
-ghost use Rattle.mq_cli.specs.Lines.{is_printable, words_of};
+ghost use Rattle.mq_cli.specs.Lines.{words_of};
 ghost use Rattle.mq_cli.specs.Numbers.{above_zero, number_of, under};
 ghost use Rattle.mq_cli.specs.Parts.{parts_left};
 ghost use Rattle.mq_cli.specs.Seen.{flags_seen, seen, seen_line, text_seen};
 
+use crate::Cause;
+use crate::form::{are_filled, says_something};
 use crate::number::{integer, key, number};
 use crate::words::Words;
-use crate::{Cause, LINE_LIMIT};
 use mq_one_thread::{GetFlags, MAX_SEATS};
 
 /// The text of a message as a line spells it.
@@ -95,34 +95,10 @@ impl TextForm<'_> {
 pub fn read_line(line: &[u8]) -> Result<Option<Command<'_>>, Cause>
     ensures { seen_line result ≡ reading line.now }
 {
-    if line.len() > LINE_LIMIT {
-        return Err(Cause::Long);
-    }
-    if !is_printable_line(line) {
-        return Err(Cause::Byte);
-    }
-    if is_skipped(line) {
+    if !says_something(line)? {
         return Ok(None);
     }
     Ok(Some(read_command(line)?))
-}
-
-// It has no early way out, so that many bytes are compared at a time.
-fn is_printable_line(line: &[u8]) -> bool
-    ensures { result ≡ list_all is_printable line.now }
-{
-    line.iter()
-        .copied()
-        .fold(true, |all, b| all & (b >= 0x20 && b <= 0x7e))
-}
-
-fn is_skipped(line: &[u8]) -> bool
-    ensures { result ≡ is_skipped_line line.now }
-{
-    match line {
-        [] => true,
-        [first, ..] => *first == b'#',
-    }
 }
 
 fn read_command(line: &[u8]) -> Result<Command<'_>, Cause>
@@ -174,18 +150,7 @@ fn read_named<'a>(name: &[u8], words: Words<'a>) -> Result<Command<'a>, Cause>
     Err(Cause::Words)
 }
 
-fn are_filled(line: &[u8]) -> bool
-    ensures { result ≡ list_all is_filled (words_of line.now) }
-{
-    for word in Words::new(line) {
-        if word.is_empty() {
-            return false;
-        }
-    }
-    true
-}
-
-fn read_get(mut words: Words<'_>) -> Result<Command<'_>, Cause>
+pub fn read_get(mut words: Words<'_>) -> Result<Command<'_>, Cause>
     ensures { seen result ≡ get_of (parts_left 32 words.entry.rest) }
 {
     let Some(word) = words.next() else {
@@ -317,7 +282,7 @@ fn read_flags(mut words: Words<'_>) -> Option<ReceiveFlags>
     Some(ReceiveFlags { except, noerror })
 }
 
-fn read_set(mut words: Words<'_>) -> Result<Command<'_>, Cause>
+pub fn read_set(mut words: Words<'_>) -> Result<Command<'_>, Cause>
     ensures { seen result ≡ set_of (parts_left 32 words.entry.rest) }
 {
     match (words.next(), words.next(), words.next()) {
@@ -353,7 +318,7 @@ fn read_stat(mut words: Words<'_>) -> Result<Command<'_>, Cause>
     }
 }
 
-fn id_of(word: &[u8]) -> Option<u32>
+pub fn id_of(word: &[u8]) -> Option<u32>
     ensures { result ≡ under (2 ^ 32) (number_of word.now) }
 {
     u32::try_from(number(word)?).ok()

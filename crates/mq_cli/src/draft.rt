@@ -12,11 +12,11 @@ use mq_queue::MSGMAX;
 use std::alloc::{AllocError, Global};
 use std::sync::ledger::Ledger;
 
-/// As many letters as the longest text has: `a` to `z`, over and over.
-pub fn letters(alloc: Global) -> Result<Vec<u8>, AllocError>
-    ensures { IfOk result (λ bytes. bytes.items ≡ map letter_at (range_with_len 0 MSGMAX)) }
+/// So many letters: `a` to `z`, over and over.
+pub fn letters(alloc: Global, count: u64) -> Result<Vec<u8>, AllocError>
+    ensures { IfOk result (λ bytes. bytes.items ≡ map letter_at (range_with_len 0 count)) }
 {
-    (0..MSGMAX).map(|place| letter(place)).collect(alloc)
+    (0..count).map(|place| letter(place)).collect(alloc)
 }
 
 /// The letter at this place.

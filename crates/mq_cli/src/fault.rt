@@ -32,4 +32,7 @@ pub enum RunFault {
     Write,
     #[error("out of memory")]
     Memory,
+    /// A worker's thread could not be made, so no worker made a call.
+    #[error("thread not started")]
+    Thread,
 }

@@ -3,23 +3,49 @@
 #![tactic(auto)]
 
 mod answer;
+mod closing;
 mod command;
 mod draft;
 mod fault;
+mod form;
 mod laws;
 mod limits;
 mod lines;
+mod main_part;
+mod notes;
 mod number;
+mod outcome;
 mod output;
 mod parts;
+mod plan;
+mod port;
 mod reply;
 mod report;
 mod script;
 mod serial;
 mod session;
+mod step;
+mod system_port;
+mod taken;
+mod threads;
+mod threads_line;
+mod threads_script;
 mod words;
+pub mod worked;
+mod workers;
 
 pub use fault::{Cause, RunFault};
-pub use laws::{a_command_is_spelled_one_way, a_spelled_command_is_read_back};
+pub use laws::{
+    a_command_is_spelled_one_way, a_spelled_command_is_read_back,
+    a_spelled_threads_line_is_read_back, a_threads_line_is_spelled_one_way,
+};
 pub use limits::{LINE_LIMIT, SCRIPT_LIMIT, the_limits};
+pub use outcome::Outcome;
+pub use plan::work;
+pub use port::Port;
 pub use serial::run_serial;
+pub use step::Step;
+pub use system_port::{Letters, SystemPort};
+pub use taken::Taken;
+pub use threads::run_threads;
+pub use workers::run_workers;

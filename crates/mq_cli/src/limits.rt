@@ -10,9 +10,18 @@ pub const LINE_LIMIT: usize = 4096;
 /// least, so a reader that keeps its contract is never asked so often.
 pub(crate) const READ_CALLS: u32 = 2_097_152;
 
+/// How many sections a threads script has at most: the main part has seat 1, and each section one
+/// of the others.
+pub(crate) const MAX_WORKERS: usize = 15;
+
+/// How many messages a line of a section sends or receives at most.
+pub(crate) const MAX_COUNT: u32 = 100_000;
+
 /// The limits as numbers.
 pub fn the_limits()
     ensures script { SCRIPT_LIMIT ≡ 1048576 }
     ensures line { LINE_LIMIT ≡ 4096 }
     ensures reads { READ_CALLS ≡ 2097152 }
+    ensures workers { MAX_WORKERS ≡ 15 }
+    ensures count { MAX_COUNT ≡ 100000 }
 {}

@@ -14,7 +14,7 @@ use std::sync::ledger::Ledger;
 /// Appends a word and the number that it names.
 // Where it is inlined, the word's length is known, and the word is written without a call.
 #[inline(always)]
-fn write_field<I: Integer>(out: &mut Vec<u8>, word: &[u8], number: I) -> Result<(), AllocError>
+pub fn write_field<I: Integer>(out: &mut Vec<u8>, word: &[u8], number: I) -> Result<(), AllocError>
     ensures { OnOk result (out.new.items ≡ out.old.items ++ word.now ++ I.text number) }
 {
     let mut digits = Buffer::new();
@@ -24,7 +24,7 @@ fn write_field<I: Integer>(out: &mut Vec<u8>, word: &[u8], number: I) -> Result<
 
 /// The same, and the end of the line.
 #[inline(always)]
-fn write_last<I: Integer>(out: &mut Vec<u8>, word: &[u8], number: I) -> Result<(), AllocError>
+pub fn write_last<I: Integer>(out: &mut Vec<u8>, word: &[u8], number: I) -> Result<(), AllocError>
     ensures { OnOk result
         (out.new.items ≡ out.old.items ++ word.now ++ I.text number ++ 10 ∷ []) }
 {

@@ -4,6 +4,7 @@ ghost use Rattle.mq_cli.specs.Session.{start};
 use crate::draft::letters;
 use mq_arena::LEDGER_PARTS;
 use mq_one_thread::{Config, OneThread};
+use mq_queue::MSGMAX;
 use std::alloc::{AllocError, Global};
 use std::marker::Model;
 use std::sync::ledger::{Blank, Ledger};
@@ -38,7 +39,7 @@ impl<L: Ledger> Session<L> {
         requires enough { LEDGER_PARTS ≤ ledger.parts }
         ensures { IfOk result (λ session. session ≡ start config) }
     {
-        let letters = letters(alloc)?;
+        let letters = letters(alloc, MSGMAX)?;
         match OneThread::new(alloc, config, ledger) {
             Ok(queues) => Ok(Session {
                 queues,

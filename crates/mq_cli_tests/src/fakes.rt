@@ -1,4 +1,14 @@
+ghost use Rattle.std.specs.Prelude.{◌≡◌, IfOk, length};
+
 use std::io::{ErrorKind, Read, Result, Write};
+
+/// Keeps these bytes, and tells how many they are.
+fn kept(taken: &mut Vec<u8>, bytes: &[u8]) -> Result<usize>
+    ensures { IfOk result (λ n. n ≡ length bytes.now) }
+{
+    taken.extend_from_slice(bytes)?;
+    Ok(bytes.len())
+}
 
 /// A reader that gives one byte a call, and fails at a call of its own.
 #[derive(Drop)]
@@ -41,9 +51,7 @@ impl Write for Narrow {
         if left == 0 && self.fails {
             return Err(ErrorKind::Other.into());
         }
-        let count = left.min(buf.len());
-        self.taken.extend_from_slice(&buf[..count])?;
-        Ok(count)
+        kept(&mut self.taken, &buf[..left.min(buf.len())])
     }
 
     fn flush(&mut self) -> Result<()> {
@@ -64,8 +72,7 @@ pub struct Flushed {
 
 impl Write for Flushed {
     fn write(&mut self, buf: &[u8]) -> Result<usize> {
-        self.taken.extend_from_slice(buf)?;
-        Ok(buf.len())
+        kept(&mut self.taken, buf)
     }
 
     fn flush(&mut self) -> Result<()> {
@@ -95,8 +102,7 @@ impl Write for FailsOnce {
         if self.calls == self.fails_at {
             return Err(self.kind.into());
         }
-        self.taken.extend_from_slice(buf)?;
-        Ok(buf.len())
+        kept(&mut self.taken, buf)
     }
 
     fn flush(&mut self) -> Result<()> {

@@ -1,6 +1,7 @@
 -- The waiting messages found by type: those of each type in a queue, and all of them in the order
 -- of their places.
-use Rattle.std.specs.Prelude.{◌≡◌, ℕ, ℤ, ◌<◌, ◌^◌, Bool, true, false, IsSome, length, Option, Some, None, List, [], ◌∷◌, filter, find, nat_lt, if◌then◌else◌}
+use Rattle.std.specs.Prelude.{◌≡◌, ℕ, ℤ, ◌<◌, ◌^◌, Bool, true, false, nat_lt, if◌then◌else◌}
+use Rattle.std.specs.Prelude.{Option, Some, None, IsSome, List, [], ◌∷◌, length, filter, find}
 use Rattle.std.specs.List.{AllByRecursion}
 use Rattle.std.specs.List.Sorted.{IsStrictlySortedBy}
 use Rattle.std.specs.Map.{keys_of, lookup}
@@ -58,7 +59,9 @@ IsRising (x ∷ xs) = AllByRecursion (λ y. x.0 < y.0) xs × IsRising xs
 
 -- the queues, the fronts and the types are those of these messages, and no queue is empty but
 -- that of the type for which there is room
-pub record IsIndex {X : Type 0} (type_of : X → ℤ) (all : List (ℕ × X)) (queues : List (ℤ × List (ℕ × X))) (fronts : ℤ → Option ℕ) (types : ℕ → Option ℤ) (prepared : Option ℤ) : Type 0 where
+pub record IsIndex {X : Type 0} (type_of : X → ℤ) (all : List (ℕ × X))
+    (queues : List (ℤ × List (ℕ × X))) (fronts : ℤ → Option ℕ) (types : ℕ → Option ℤ)
+    (prepared : Option ℤ) : Type 0 where
   pub rising : IsRising all
   pub ordered : IsStrictlySortedBy int_cmp (keys_of queues)
   pub parted : (t : ℤ) → queue_of queues t ≡ of_type type_of all t
@@ -67,7 +70,8 @@ pub record IsIndex {X : Type 0} (type_of : X → ℤ) (all : List (ℕ × X)) (q
   pub typed : (place : ℕ) → types place ≡ option_map type_of (message_at place all)
 
 -- there is a queue of this type, and room for one more message of it
-pub record IsReady {X : Type 0} (queues : List (ℤ × List (ℕ × X))) (fronts types : ℕ) (room : Bool) (mtype : ℤ) : Type 0 where
+pub record IsReady {X : Type 0} (queues : List (ℤ × List (ℕ × X))) (fronts types : ℕ)
+    (room : Bool) (mtype : ℤ) : Type 0 where
   pub queue : IsSome (queue_at queues mtype)
   pub few : length (queue_of queues mtype) < 2 ^ 62
   pub front : 0 < fronts

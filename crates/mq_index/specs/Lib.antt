@@ -1,4 +1,5 @@
 pub mod Fronts
 pub mod Heap
+pub mod Held
 pub mod Index
 pub mod Queue

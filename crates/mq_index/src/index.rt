@@ -1,131 +1,113 @@
-ghost use Rattle.std.specs.Prelude.{◌≡◌, ◌<◌, ◌++◌, ◌∷◌, [], All, None, Some};
-ghost use Rattle.std.specs.Prelude.{IsSome, int_le, nat_eq, pos};
-ghost use Rattle.indexmap.specs.IndexMap.{get};
-ghost use Rattle.std.specs.Option.{option_map};
-ghost use Rattle.mq_select.specs.declared.selection.Selection.TheVariants.{Except, UpTo};
-ghost use Rattle.mq_select.specs.Selection.{pick};
-ghost use Rattle.mq_select.specs.Waiting.{message_at, without};
+ghost use Rattle.std.specs.Prelude.{◌≡◌, ◌<◌, ◌++◌, ◌∷◌, [], All, IfErr, IfOk, None};
+ghost use Rattle.std.specs.Prelude.{OnErr, OnOk, Some, false};
+ghost use Rattle.mq_index.specs.declared.index.TheConstants.{FEW, MOST_LISTED};
+ghost use Rattle.mq_index.specs.Held.{stays, waiting_in};
 
-use crate::queues::{self, Queues};
-use crate::{Fronts, Room};
-use indexmap::IndexMap;
+use crate::ByType;
+use crate::crossing::{by_type, listed};
 use mq_message::{Body, Message};
-use mq_select::{Selection, Waiting};
+use mq_select::{ListWaiting, Selection, Waiting};
 use std::alloc::{AllocError, Global};
-use std::collections::BTreeMap;
 use std::marker::Model;
+use std::mem;
 
-/// The waiting messages found by type: whatever is selected, to find and take a message takes time
-/// by the logarithm of the number of types that wait. It can't be dropped, whatever its bodies
-/// are: `end` alone takes it.
+/// The most messages that are kept as a list.
+const MOST_LISTED: usize = 32;
+
+/// The most messages with which a list by type becomes a list again.
+const FEW: usize = 8;
+
+/// The waiting messages: as a list while few wait, by type once there are many.
+enum Held<B> {
+    Few(ListWaiting<B>),
+    Many(ByType<B>),
+}
+
+/// The waiting messages: in a list while few wait, which is cheapest then, and found by type while
+/// many do. It goes from one to the other where room is made for a message: at more than 32
+/// messages, and back at 8 or fewer, so that a queue does not change with each call. It can't be
+/// dropped, whatever its bodies are: `end` alone takes it.
 pub struct IndexWaiting<B> {
-    queues: Queues<B>,
-    /// The place of the first message of each type.
-    fronts: Fronts,
-    /// The type of the message at each place.
-    types: IndexMap<u64, i64>,
-    room: Room<B>,
-    /// The type for which there is room for one more message, and a queue.
-    prepared: Option<i64>,
+    held: Held<B>,
     alloc: Global,
 }
 
 impl<B> Model for IndexWaiting<B> {
-    ghost use Rattle.std.specs.Prelude.{nat_eq};
-    ghost use Rattle.std.specs.Option.{ForSome};
-    ghost use Rattle.indexmap.specs.IndexMap.{get, spare};
     ghost use Rattle.mq_select.specs.Waiting.{Listed};
-    ghost use Rattle.mq_index.specs.Fronts.{first_of};
-    ghost use Rattle.mq_index.specs.Index.{merged, IsIndex, IsReady};
 
     ghost Value = { Listed B };
 
-    ghost view = { λ w. record { messages = merged w.queues.entries; prepared = w.prepared } };
+    ghost use Rattle.mq_index.specs.Held.{waiting_in};
 
-    ghost invariant = { λ w. IsIndex (λ m. m.mtype) (merged w.queues.entries) w.queues.entries
-        (first_of w.fronts) (get nat_eq w.types) w.prepared
-        × ForSome w.prepared (IsReady w.queues.entries w.fronts.spare (spare w.types) w.room) };
+    ghost view = { λ w. waiting_in w.held };
 }
 
-/// The type of the message at a place.
-fn type_at(types: &IndexMap<u64, i64>, place: u64) -> i64
-    requires { IsSome (get nat_eq types.now place) }
-    ensures { get nat_eq types.now place ≡ Some result }
+/// Whether one message more is held in the same way.
+#[inline(always)]
+fn has_room<B>(held: &Held<B>) -> bool
+    ensures { result ≡ stays MOST_LISTED FEW held.now }
 {
-    *types.get(&place).unwrap()
+    match held {
+        Held::Few(list) => list.len() < MOST_LISTED,
+        Held::Many(index) => FEW < index.len(),
+    }
 }
 
-/// Whether a type is at most the bound.
-fn is_within(mtype: i64, bound: u64) -> bool
-    ensures { result ≡ int_le mtype (pos bound) }
+/// Ends what holds nothing.
+fn end<B: Body>(held: Held<B>)
+    requires { (waiting_in held).messages ≡ [] }
 {
-    i128::from(mtype) <= i128::from(bound)
-}
-
-impl<B> IndexWaiting<B> {
-    /// Gives up what was prepared.
-    fn forget_prepared(&mut self)
-        ensures unchanged { self.new.messages ≡ self.old.messages }
-        ensures unprepared { self.new.prepared ≡ None }
-    {
-        if let Some(mtype) = self.prepared.take() {
-            queues::forget_empty(&mut self.queues, mtype);
-        }
-    }
-
-    /// The place of the first message of any other type.
-    fn first_other(&self, other: i64) -> Option<u64>
-        ensures { result ≡ option_map (λ m. m.0)
-            (pick (λ m. m.1.mtype) self.now.messages (Except other)) }
-    {
-        self.fronts.least_beside(other)
-    }
-
-    /// The place of the first message of the lowest type that is at most the bound.
-    fn first_within(&self, bound: u64) -> Option<u64>
-        ensures { result ≡ option_map (λ m. m.0)
-            (pick (λ m. m.1.mtype) self.now.messages (UpTo bound)) }
-    {
-        match queues::lowest(&self.queues) {
-            Some(lowest) if is_within(lowest, bound) => self.fronts.place_of(lowest),
-            _ => None,
-        }
-    }
-
-    /// Adds a message of this type at the end.
-    fn put_at(&mut self, mtype: i64, place: u64, message: Message<B>)
-        requires of_type { message.mtype ≡ mtype }
-        requires prepared { self.old.prepared ≡ Some mtype }
-        requires above { All (λ m. m.0 < place) self.old.messages }
-        ensures added { self.new.messages ≡ self.old.messages ++ (place, message) ∷ [] }
-        ensures unprepared { self.new.prepared ≡ None }
-    {
-        self.prepared = None;
-        self.fronts.enter(mtype, place);
-        match self.types.insert(place, mtype) {
-            Ok(_) => (),
-            Err(_) => unreachable!(),
-        }
-        queues::put(&mut self.queues, &mut self.room, mtype, place, message);
-    }
-
-    /// Takes out the message at this place.
-    fn take_at(&mut self, place: u64) -> Message<B>
-        requires { IsSome (message_at place self.old.messages) }
-        ensures taken { message_at place self.old.messages ≡ Some result }
-        ensures rest { self.new.messages ≡ without place self.old.messages }
-        ensures unprepared { self.new.prepared ≡ None }
-    {
-        self.forget_prepared();
-        let mtype = type_at(&self.types, place);
-        let _mtype = self.types.swap_remove(&place);
-        let message = queues::take(&mut self.queues, mtype, place);
-        self.fronts
-            .renew(mtype, queues::first_of(&self.queues, mtype));
-        message
+    match held {
+        Held::Few(list) => list.end(),
+        Held::Many(index) => index.end(),
     }
 }
 
+/// The messages held the other way, with room for one more of this type; or as they were, out of
+/// memory.
+fn crossed<B: Body>(held: Held<B>, alloc: Global, mtype: i64) -> Result<Held<B>, Held<B>>
+    requires { stays MOST_LISTED FEW held ≡ false }
+    ensures messages { IfOk result (λ new. (waiting_in new).messages
+        ≡ (waiting_in held).messages) }
+    ensures prepared { IfOk result (λ new. (waiting_in new).prepared ≡ Some mtype) }
+    ensures handed_back { IfErr result (λ same. waiting_in same ≡ waiting_in held) }
+{
+    match held {
+        Held::Few(list) => match by_type(list, alloc, mtype) {
+            Ok(index) => Ok(Held::Many(index)),
+            Err(list) => Err(Held::Few(list)),
+        },
+        Held::Many(index) => match listed(index, alloc, MOST_LISTED, mtype) {
+            Ok(list) => Ok(Held::Few(list)),
+            Err(index) => Err(Held::Many(index)),
+        },
+    }
+}
+
+/// Holds the messages the other way, with room for one more of this type. `Err` means out of
+/// memory.
+#[cold]
+#[inline(never)]
+fn cross<B: Body>(held: &mut Held<B>, alloc: Global, mtype: i64) -> Result<(), AllocError>
+    requires { stays MOST_LISTED FEW held.old ≡ false }
+    ensures unchanged { (waiting_in held.new).messages ≡ (waiting_in held.old).messages }
+    ensures ok { OnOk result ((waiting_in held.new).prepared ≡ Some mtype) }
+    ensures err { OnErr result ((waiting_in held.new).prepared ≡ (waiting_in held.old).prepared) }
+{
+    let old = mem::replace(held, Held::Few(ListWaiting::fresh(alloc)));
+    match crossed(old, alloc, mtype) {
+        Ok(new) => {
+            end(mem::replace(held, new));
+            Ok(())
+        }
+        Err(same) => {
+            end(mem::replace(held, same));
+            Err(AllocError)
+        }
+    }
+}
+
+// Each call is one test, and then the call of the list or of the list by type: so it is inlined.
 impl<B: Body> Waiting<B> for IndexWaiting<B> {
     ghost messages = { λ w. w.messages };
 
@@ -133,77 +115,68 @@ impl<B: Body> Waiting<B> for IndexWaiting<B> {
 
     fn fresh(alloc: Global) -> Self {
         IndexWaiting {
-            queues: BTreeMap::new(alloc),
-            fronts: Fronts::new(alloc),
-            types: IndexMap::new(alloc),
-            room: Room::new(alloc),
-            prepared: None,
+            held: Held::Few(ListWaiting::fresh(alloc)),
             alloc,
         }
     }
 
+    #[inline(always)]
     fn find(&self, selection: Selection) -> Option<u64> {
-        match selection {
-            Selection::Any => self.fronts.least(),
-            Selection::Exact(wanted) => self.fronts.place_of(wanted),
-            Selection::Except(other) => self.first_other(other),
-            Selection::UpTo(bound) => self.first_within(bound),
+        match &self.held {
+            Held::Few(list) => list.find(selection),
+            Held::Many(index) => index.find(selection),
         }
     }
 
+    #[inline(always)]
     fn prepare(&mut self, mtype: i64) -> Result<(), AllocError> {
-        if !queues::has_room(&self.queues, mtype) {
-            return Err(AllocError);
+        if !has_room(&self.held) {
+            return cross(&mut self.held, self.alloc, mtype);
         }
-        self.fronts.reserve()?;
-        self.types.reserve(1)?;
-        self.room.make()?;
-        queues::make(&mut self.queues, self.alloc, mtype)?;
-        queues::forget_older(&mut self.queues, self.prepared, mtype);
-        self.prepared = Some(mtype);
-        Ok(())
+        match &mut self.held {
+            Held::Few(list) => list.prepare(mtype),
+            Held::Many(index) => index.prepare(mtype),
+        }
     }
 
+    #[inline(always)]
     fn put_prepared(&mut self, place: u64, message: Message<B>)
         requires prepared { self.old.prepared ≡ Some message.mtype }
         requires above { All (λ m. m.0 < place) self.old.messages }
         ensures added { self.new.messages ≡ self.old.messages ++ (place, message) ∷ [] }
         ensures unprepared { self.new.prepared ≡ None }
     {
-        self.put_at(message.mtype, place, message);
+        match &mut self.held {
+            Held::Few(list) => list.put_prepared(place, message),
+            Held::Many(index) => index.put_prepared(place, message),
+        }
     }
 
+    #[inline(always)]
     fn take(&mut self, place: u64) -> Message<B> {
-        self.take_at(place)
+        match &mut self.held {
+            Held::Few(list) => list.take(place),
+            Held::Many(index) => index.take(place),
+        }
     }
 
+    #[inline(always)]
     fn length_of(&self, place: u64) -> u64 {
-        let mtype = type_at(&self.types, place);
-        queues::length_of(&self.queues, mtype, place)
+        match &self.held {
+            Held::Few(list) => list.length_of(place),
+            Held::Many(index) => index.length_of(place),
+        }
     }
 
     fn pop_any(&mut self) -> Option<Message<B>> {
-        match self.fronts.least() {
-            Some(place) => Some(self.take_at(place)),
-            None => {
-                self.forget_prepared();
-                None
-            }
+        match &mut self.held {
+            Held::Few(list) => list.pop_any(),
+            Held::Many(index) => index.pop_any(),
         }
     }
 
     fn end(self) {
-        let mut waiting = self;
-        waiting.forget_prepared();
-        let IndexWaiting {
-            queues,
-            fronts: _,
-            types: _,
-            room,
-            prepared: _,
-            alloc: _,
-        } = waiting;
-        queues.destroy_empty();
-        room.end();
+        let IndexWaiting { held, alloc: _ } = self;
+        end(held);
     }
 }

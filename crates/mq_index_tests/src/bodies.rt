@@ -1,5 +1,5 @@
 use crate::steps::{Step, places};
-use mq_index::IndexWaiting;
+use mq_index::{ByType, IndexWaiting};
 use mq_message::VecBody;
 use mq_select::{ListWaiting, Selection};
 use std::alloc::{AllocError, Global};
@@ -8,20 +8,23 @@ use std::test::Fail;
 
 type List = ListWaiting<VecBody>;
 
+type Typed = ByType<VecBody>;
+
 type Index = IndexWaiting<VecBody>;
 
 /// How many empty messages fit into a queue.
 const MOST: u64 = 16384;
 
-/// Checks what both bodies tell, step by step.
+/// Checks what each body tells, step by step.
 fn check(
     rt: &impl Abort,
     alloc: Global,
     steps: &[Step],
     wanted: &[Option<u64>],
 ) -> Result<(), AllocError> {
-    assert_eq!(rt; places::<List>(alloc, steps)?.as_slice(), wanted);
-    assert_eq!(rt; places::<Index>(alloc, steps)?.as_slice(), wanted);
+    assert!(rt; places::<List>(alloc, steps)?.as_slice() == wanted);
+    assert!(rt; places::<Typed>(alloc, steps)?.as_slice() == wanted);
+    assert!(rt; places::<Index>(alloc, steps)?.as_slice() == wanted);
     Ok(())
 }
 
@@ -127,43 +130,106 @@ fn next(seed: u64) -> u64 {
         .wrapping_add(1442695040888963407)
 }
 
-/// A step that the seed picks: of five, three send at first and two later.
-fn step(seed: u64, types: u64, later: bool) -> Step {
+/// A step that the seed picks, of which that many of ten send.
+fn step(seed: u64, types: u64, sends: u64) -> Step {
     let mtype = 1 + (seed >> 33) % types.max(1);
     let kind = (seed >> 17) % 10;
-    let sends = if later { 4 } else { 6 };
     if kind < sends {
-        Step::Send(mtype as i64)
-    } else if kind == 6 {
-        Step::Receive(Selection::Any)
-    } else if kind == 7 {
-        Step::Receive(Selection::Exact(mtype as i64))
-    } else if kind == 8 {
-        Step::Receive(Selection::Except(mtype as i64))
-    } else {
-        Step::Receive(Selection::UpTo(mtype))
+        return Step::Send(mtype as i64);
+    }
+    match (seed >> 11) % 4 {
+        0 => Step::Receive(Selection::Any),
+        1 => Step::Receive(Selection::Exact(mtype as i64)),
+        2 => Step::Receive(Selection::Except(mtype as i64)),
+        _ => Step::Receive(Selection::UpTo(mtype)),
     }
 }
 
-/// A list of steps on up to that many types. It ends with messages that wait.
+/// A list of steps on up to that many types: at first most of them send, then few, then half of
+/// them. It ends with messages that wait.
 fn generated(alloc: Global, seed: u64, types: u64) -> Result<Vec<Step>, AllocError> {
     let mut steps = Vec::new(alloc);
     let mut seed = next(seed);
-    for i in 0..120u32 {
+    for i in 0..300u32 {
         seed = next(seed);
-        steps.push(step(seed, types, 60 < i))?;
+        let sends = if i < 70 {
+            8
+        } else if i < 200 {
+            2
+        } else {
+            6
+        };
+        steps.push(step(seed, types, sends))?;
     }
     Ok(steps)
 }
 
+/// Whether more than 32 messages wait after one of the steps, and 8 or fewer after a later one.
+fn crosses(steps: &[Step], answers: &[Option<u64>]) -> bool {
+    let mut waiting = 0u64;
+    let mut many = false;
+    for i in 0..steps.len().min(answers.len()) {
+        match steps[i] {
+            Step::Send(_) => waiting = waiting.wrapping_add(1),
+            Step::Receive(_) if answers[i].is_some() => waiting = waiting.wrapping_sub(1),
+            Step::Receive(_) => (),
+        }
+        if 32 < waiting {
+            many = true;
+        }
+        if many && waiting <= 8 {
+            return true;
+        }
+    }
+    false
+}
+
+/// Whether the bodies tell the same from that list of steps, and the list crosses to many messages
+/// and back; or nothing where they differ.
+fn agree(alloc: Global, steps: &[Step]) -> Result<Option<bool>, AllocError> {
+    let wanted = places::<List>(alloc, steps)?;
+    let typed = places::<Typed>(alloc, steps)?;
+    let told = places::<Index>(alloc, steps)?;
+    if *typed.as_slice() != *wanted.as_slice() || *told.as_slice() != *wanted.as_slice() {
+        return Ok(None);
+    }
+    Ok(Some(crosses(steps, wanted.as_slice())))
+}
+
 #[test]
-fn both_bodies_give_the_same_answers(rt: HostRuntime) -> Result<(), Fail> {
+fn the_bodies_give_the_same_answers(rt: HostRuntime) -> Result<(), Fail> {
+    let mut crossed = 0u64;
     for seed in 0..1000u64 {
         let steps = generated(rt.alloc(), seed, 1 + seed % 40)?;
-        let wanted = places::<List>(rt.alloc(), &steps)?;
-        let told = places::<Index>(rt.alloc(), &steps)?;
-        assert_eq!(rt; told.as_slice(), wanted.as_slice(), "from {seed}");
+        let Some(crosses) = agree(rt.alloc(), &steps)? else {
+            return Err("the bodies differ".into());
+        };
+        crossed = crossed.wrapping_add(u64::from(crosses));
     }
+    assert!(rt; 500 < crossed);
+    Ok(())
+}
+
+/// So many messages are sent, all but some received, and so on: twice over to many and back.
+fn there_and_back(alloc: Global) -> Result<Vec<Step>, AllocError> {
+    let mut steps = Vec::new(alloc);
+    for i in 0..160u32 {
+        let mtype = i64::from(i % 5) + 1;
+        let sends = i % 80 < 40;
+        steps.push(if sends {
+            Step::Send(mtype)
+        } else {
+            Step::Receive(Selection::Except(mtype))
+        })?;
+    }
+    Ok(steps)
+}
+
+/// Run with each allocation refused in turn: what is refused at a crossing is asked once more.
+#[test]
+fn a_refused_crossing_goes_on_where_it_was(rt: HostRuntime) -> Result<(), Fail> {
+    let steps = there_and_back(rt.alloc())?;
+    assert!(rt; agree(rt.alloc(), &steps)? == Some(true));
     Ok(())
 }
 
@@ -205,15 +271,15 @@ fn a_full_queue_of_as_many_types_is_emptied(rt: HostRuntime) -> Result<(), Fail>
     for i in 0..MOST as usize {
         let place = i as u64 + 1;
         let at = MOST as usize + i;
-        assert_eq!(rt; by_any.get(i).copied(), Some(Some(place)));
-        assert_eq!(rt; by_any.get(at).copied(), Some(Some(place)));
-        assert_eq!(rt; by_exact.get(at).copied(), Some(Some(place)));
+        assert!(rt; by_any.get(i).copied() == Some(Some(place)));
+        assert!(rt; by_any.get(at).copied() == Some(Some(place)));
+        assert!(rt; by_exact.get(at).copied() == Some(Some(place)));
         let other = if place < MOST { Some(place + 1) } else { None };
-        assert_eq!(rt; by_except.get(at).copied(), Some(other));
+        assert!(rt; by_except.get(at).copied() == Some(other));
         let Some(Some(low)) = by_lowest.get(at).copied() else {
             return Err("nothing waits".into());
         };
-        assert!(rt; last < type_of(low), "type {last} before {place}");
+        assert!(rt; last < type_of(low));
         last = type_of(low);
     }
     Ok(())

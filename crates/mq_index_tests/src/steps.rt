@@ -1,5 +1,5 @@
 use mq_message::{Message, VecBody};
-use mq_queue::{QueueError, QueueState};
+use mq_queue::{NoNotice, QueueError, QueueState};
 use mq_select::{Selection, Waiting, discard};
 use std::alloc::{AllocError, Global};
 
@@ -27,8 +27,8 @@ fn send<W: Waiting<VecBody>>(
     queue: &mut QueueState<VecBody, W>,
     message: Message<VecBody>,
 ) -> Option<u64> {
-    let answer = match queue.send(message, 60) {
-        Err((QueueError::Memory, message)) => queue.send(message, 60),
+    let answer = match queue.send(message, 60, &mut NoNotice) {
+        Err((QueueError::Memory, message)) => queue.send(message, 60, &mut NoNotice),
         answer => answer,
     };
     match answer {
@@ -42,8 +42,8 @@ fn receive<W: Waiting<VecBody>>(
     queue: &mut QueueState<VecBody, W>,
     selection: Selection,
 ) -> Option<u64> {
-    let answer = match queue.receive(8192, selection, false, 4, 80) {
-        Err(QueueError::Memory) => queue.receive(8192, selection, false, 4, 80),
+    let answer = match queue.receive(8192, selection, false, 4, 80, &mut NoNotice) {
+        Err(QueueError::Memory) => queue.receive(8192, selection, false, 4, 80, &mut NoNotice),
         answer => answer,
     };
     match answer {
@@ -75,7 +75,7 @@ pub(crate) fn places<W: Waiting<VecBody>>(
     alloc: Global,
     steps: &[Step],
 ) -> Result<Vec<Option<u64>>, AllocError> {
-    let mut queue: QueueState<VecBody, W> = QueueState::made(alloc, 7, 2, 50)?;
+    let mut queue: QueueState<VecBody, W> = QueueState::made(alloc, 7, 2, 50, &mut NoNotice)?;
     let places = made(alloc, &mut queue, steps);
     let (_log, waiting) = queue.into_parts();
     discard(waiting);

@@ -9,7 +9,8 @@ use Rattle.mq_message.specs.Text.{PlainText}
 use Rattle.mq_table.specs.Calls.{makes, removes}
 use Rattle.mq_table.specs.Keys.{entered, forget}
 use Rattle.mq_table.specs.Slot.{SlotState, Waits, empty_slot, last_id, next_id}
-use Rattle.mq_table.specs.SlotList.{IsSlotList, made_count, is_live}
+use Rattle.mq_queue.specs.Row.{made_count, is_live}
+use Rattle.mq_table.specs.SlotList.{IsSlotList}
 use Rattle.mq_table.specs.declared.limits.TheConstants.{MAX_SEQ, MAX_SLOTS}
 use Rattle.mq_table.proofs.Stays.{Stays, narrowed, makings_few, makes_one_more, makes_live, makes_key, removes_none, removes_live}
 use Rattle.mq_one_thread.specs.Holds.{HasQueue, AreKeysOf}

@@ -3,7 +3,8 @@ use Rattle.std.proofs.Common.{◌≡◌, ℕ, ◌<◌, false, [], refl, sym, ◌
 use Rattle.std.proofs.lemmas.List.FromFn.{get_or-map-range_with_len, length-map-range_with_len}
 use Rattle.mq_message.specs.Text.{PlainText}
 use Rattle.mq_table.specs.Slot.{SlotState, Waits, empty_slot}
-use Rattle.mq_table.specs.SlotList.{IsSlotList, is_live}
+use Rattle.mq_queue.specs.Row.{is_live}
+use Rattle.mq_table.specs.SlotList.{IsSlotList}
 use Rattle.mq_one_thread.specs.Holds.{HasQueue, AreKeysOf}
 use Rattle.mq_one_thread.specs.Limits.{empty_slots}
 use Rattle.mq_one_thread.specs.Texts.{bytes_of}

@@ -10,9 +10,10 @@ use Rattle.mq_queue.specs.declared.event.Event.{Event}
 use Rattle.mq_queue.specs.declared.figures.Figures.{Figures}
 use Rattle.mq_queue.specs.Figures.{figures, live_figures, no_figures}
 use Rattle.mq_queue.specs.Queue.{Queue, IsSound}
+use Rattle.mq_queue.specs.Row.{is_live, last_log}
 use Rattle.mq_queue.specs.Waiting.{header_of}
 use Rattle.mq_table.specs.Slot.{SlotState, empty_slot}
-use Rattle.mq_table.specs.SlotList.{is_live, last_log, offset}
+use Rattle.mq_table.specs.SlotList.{offset}
 use Rattle.mq_one_thread.specs.Closed.{ends}
 use Rattle.mq_one_thread.specs.Limits.{empty_slots, keeps_limits, IsWithin}
 use Rattle.mq_table.specs.declared.limits.TheConstants.{MAX_SLOTS, MAX_SEQ}

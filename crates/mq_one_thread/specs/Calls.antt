@@ -3,13 +3,13 @@ use Rattle.std.specs.Prelude.{ℕ, ℤ, pos, int_lt, if◌then◌else◌, Bool, 
 use Rattle.mq_message.specs.Text.{PlainText}
 use Rattle.mq_select.specs.Selection.{selection_of}
 use Rattle.mq_queue.specs.Figures.{figures}
+use Rattle.mq_queue.specs.Row.{last_log}
 use Rattle.mq_queue.specs.declared.event.Event.{Event}
 use Rattle.mq_queue.specs.declared.figures.Figures.{Figures}
 use Rattle.mq_table.specs.Calls.{Turn, Receipt, sends, receives, sets, removes}
 use Rattle.mq_table.specs.Ids.{slot_of}
 use Rattle.mq_table.specs.Keys.{forget}
 use Rattle.mq_table.specs.Slot.{SlotState, last_id}
-use Rattle.mq_table.specs.SlotList.{last_log}
 use Rattle.mq_one_thread.specs.Look.{Answer, look, once, in_queue, refused_early}
 use Rattle.mq_one_thread.specs.State.{State, slot_at, with_slot}
 use Rattle.mq_one_thread.specs.Texts.{bytes_of, cut_to, text_at, spends_all}

@@ -2,8 +2,8 @@
 use Rattle.std.specs.Prelude.{◌≡◌, ◌≢◌, ◌↔◌, ℕ, ℤ, pos, true, List, Any, Contains}
 use Rattle.mq_message.specs.Text.{PlainText}
 use Rattle.mq_queue.specs.Log.{made_key}
+use Rattle.mq_queue.specs.Row.{is_live, last_log}
 use Rattle.mq_table.specs.Slot.{SlotState, last_id}
-use Rattle.mq_table.specs.SlotList.{is_live, last_log}
 
 -- a queue is in the slot, which was made with this key and has this id
 pub record HasQueue (key : ℤ) (id : ℕ) (slot : SlotState PlainText) : Type 0 where

@@ -4,7 +4,7 @@ ghost use Rattle.mq_one_thread.specs.Look.{refused_or_memory};
 
 use crate::home::take_home;
 use crate::{Errno, OneThread, Refused, Removal};
-use mq_queue::Figures;
+use mq_queue::{Figures, NoNotice};
 use mq_table::{Id, remove_under};
 use std::sync::ledger::Ledger;
 
@@ -19,7 +19,7 @@ impl<L: Ledger> OneThread<L> {
         ensures unchanged { OnErr result (self.new ≡ self.old) }
     {
         let k = self.place_of(id)?;
-        match self.slots[k].set(qbytes, seat, moment) {
+        match self.slots[k].set(qbytes, seat, moment, &mut NoNotice) {
             Ok(entry) => Ok(entry),
             Err(refusal) => Err(self.refused(k, Errno::from(refusal))),
         }
@@ -36,7 +36,13 @@ impl<L: Ledger> OneThread<L> {
     {
         let k = self.place_of(id)?;
         let entry = self.slots[k].events();
-        match remove_under(&mut self.keys, &mut self.slots[k], seat, moment) {
+        match remove_under(
+            &mut self.keys,
+            &mut self.slots[k],
+            seat,
+            moment,
+            &mut NoNotice,
+        ) {
             Ok((log, waiting)) => {
                 take_home(&mut self.arena, waiting);
                 Ok(Removal { entry, log })

@@ -1,11 +1,12 @@
 ghost use Rattle.std.specs.Prelude.{◌≡◌, ◌≢◌, ◌<◌, ◌≤◌, false, pos, Ok, None, IfOk, IfErr, IfSome, OnErr, length};
 ghost use Rattle.mq_table.specs.Keys.{id_of_key};
-ghost use Rattle.mq_table.specs.SlotList.{is_live, made_count};
+ghost use Rattle.mq_queue.specs.Row.{made_count, is_live};
 ghost use Rattle.mq_one_thread.specs.Get.{errno_or_memory, free_slot, makes_one};
 ghost use Rattle.mq_one_thread.specs.Get.{msgget as msgget_answer};
 ghost use Rattle.mq_one_thread.specs.State.{slot_at};
 
 use crate::{Errno, GetFlags, Got, OneThread};
+use mq_queue::NoNotice;
 use mq_table::{MAX_SEQ, make_under};
 use std::sync::ledger::Ledger;
 
@@ -48,7 +49,14 @@ impl<L: Ledger> OneThread<L> {
             return Err(Errno::ENOSPC);
         };
         let entry = self.slots[k].events();
-        match make_under(&mut self.keys, &mut self.slots[k], key, seat, moment) {
+        match make_under(
+            &mut self.keys,
+            &mut self.slots[k],
+            key,
+            seat,
+            moment,
+            &mut NoNotice,
+        ) {
             Ok(id) => Ok(Got {
                 id,
                 made: Some(entry),

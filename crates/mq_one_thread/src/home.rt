@@ -2,8 +2,9 @@ ghost use Rattle.std.specs.Prelude.{◌≡◌};
 ghost use Rattle.mq_one_thread.specs.Texts.{comes_home, spends, spends_all};
 
 use mq_arena::{ArenaState, Homecoming};
+use mq_index::IndexWaiting;
 use mq_message::Text;
-use mq_select::{ListWaiting, Waiting};
+use mq_select::Waiting;
 use std::sync::ledger::Ledger;
 
 /// Spends a text: its block goes home.
@@ -20,7 +21,7 @@ pub fn take_back<L: Ledger>(arena: &mut ArenaState<L>, text: Text<L>) -> Homecom
 }
 
 /// Spends the texts of all that waits.
-pub fn take_home<L: Ledger>(arena: &mut ArenaState<L>, mut waiting: ListWaiting<Text<L>>)
+pub fn take_home<L: Ledger>(arena: &mut ArenaState<L>, mut waiting: IndexWaiting<Text<L>>)
     ensures { arena.new ≡ spends_all waiting.messages arena.old }
 {
     while let Some(message) = waiting.pop_any() {

@@ -1,12 +1,13 @@
 ghost use Rattle.std.specs.Prelude.{◌≡◌, ◌<◌, true, Ok, Some, IfOk, IfErr, OnErr, length};
 ghost use Rattle.mq_table.specs.Ids.{slot_of};
-ghost use Rattle.mq_table.specs.SlotList.{is_live};
+ghost use Rattle.mq_queue.specs.Row.{is_live};
 ghost use Rattle.mq_one_thread.specs.Calls.{msgsnd as msgsnd_answer, msgrcv as msgrcv_answer};
 ghost use Rattle.mq_one_thread.specs.Look.{look, refused_or_memory};
 ghost use Rattle.mq_one_thread.specs.State.{slot_at};
 
 use crate::{Delivered, Errno, OneThread, Refused, SendRefused};
 use mq_message::{Message, Text};
+use mq_queue::NoNotice;
 use mq_select::Selection;
 use mq_table::{Id, IdRefusal};
 use std::sync::ledger::Ledger;
@@ -47,7 +48,7 @@ impl<L: Ledger> OneThread<L> {
             tag,
             body: text,
         };
-        match self.slots[k].send(message, moment) {
+        match self.slots[k].send(message, moment, &mut NoNotice) {
             Ok(entry) => Ok(entry),
             Err((refusal, message)) => Err(SendRefused {
                 refused: self.refused(k, Errno::from(refusal)),
@@ -77,7 +78,7 @@ impl<L: Ledger> OneThread<L> {
     {
         let k = self.place_of(id)?;
         let selection = Selection::read(msgtyp, except);
-        match self.slots[k].receive(size, selection, noerror, seat, moment) {
+        match self.slots[k].receive(size, selection, noerror, seat, moment, &mut NoNotice) {
             Ok(received) => Ok(Delivered::of(received)),
             Err(refusal) => Err(self.refused(k, Errno::from(refusal))),
         }

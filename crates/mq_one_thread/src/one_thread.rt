@@ -6,7 +6,7 @@ ghost use Rattle.mq_tree.specs.LentSet.{free_pages};
 ghost use Rattle.mq_arena.specs.Lent.{place};
 ghost use Rattle.mq_arena.specs.declared.page.TheConstants.{PAGE_LEN};
 ghost use Rattle.mq_message.specs.Text.{order_for};
-ghost use Rattle.mq_table.specs.Shown.{row};
+ghost use Rattle.mq_queue.specs.Row.{row};
 ghost use Rattle.mq_table.specs.Slot.{Waits};
 ghost use Rattle.mq_table.specs.SlotList.{IsSlotList};
 ghost use Rattle.mq_one_thread.specs.Holds.{AreKeysOf};
@@ -18,16 +18,16 @@ use crate::close::ClosedSlot;
 use crate::home::take_back;
 use crate::{Config, DraftError, SysError};
 use mq_arena::{ArenaState, Block, Homecoming, LEDGER_PARTS, Unopened};
+use mq_index::IndexWaiting;
 use mq_message::{Text, order_for};
 use mq_queue::{BoardRow, MSGMAX};
-use mq_select::ListWaiting;
 use mq_table::{KeyTable, MAX_SEQ, MAX_SLOTS, Slot};
 use std::alloc::Global;
 use std::marker::Model;
 use std::sync::ledger::{Blank, Ledger};
 
 /// A slot whose messages are texts.
-pub type TextSlot<L> = Slot<Text<L>, ListWaiting<Text<L>>>;
+pub type TextSlot<L> = Slot<Text<L>, IndexWaiting<Text<L>>>;
 
 /// The queues of one thread, by the calls of the manual, of which none waits: a full queue answers
 /// EAGAIN, and a queue with no message to hand out ENOMSG. `close` ends it.

@@ -4,7 +4,8 @@ ghost use Rattle.std.specs.Prelude.{◌≡◌, ◌<◌};
 use mq_arena::Homecoming;
 use mq_message::{Body, Text};
 use mq_one_thread::{
-    Config, Delivered, Errno, GetFlags, Got, OneThread, Refused, Removal, SendRefused,
+    Closed, Config, Delivered, Errno, GetFlags, Got, OneThread, Refused, Removal, SendRefused,
+    SysError,
 };
 use mq_table::Id;
 use std::alloc::Global;
@@ -74,7 +75,10 @@ pub(crate) fn made<L: Ledger>(
 {
     match OneThread::new(alloc, config, ledger) {
         Ok(system) => system,
-        Err(refusal) => panic!(rt; "{refusal}"),
+        Err(refusal) => {
+            assert!(rt; refusal != SysError::Memory, "out of memory");
+            panic!(rt; "no system");
+        }
     }
 }
 
@@ -197,7 +201,7 @@ pub(crate) fn written<L: Ledger>(
             assert!(rt; text.len() == bytes.len() as u64);
             text
         }
-        Err(refusal) => panic!(rt; "{refusal}"),
+        Err(_) => panic!(rt; "not drafted"),
     }
 }
 
@@ -213,10 +217,10 @@ pub(crate) fn taken<L: Ledger>(
         Ok(entry) => entry,
         Err(
             SendRefused {
-                refused,
+                refused: _,
                 text: _text,
             },
-        ) => panic!(rt; "{refused}"),
+        ) => panic!(rt; "not taken"),
     }
 }
 
@@ -229,13 +233,19 @@ pub(crate) fn delivered<L: Ledger>(
 ) -> Delivered<Text<L>> {
     match receive(system, id, wanted, 6) {
         Ok(delivered) => delivered,
-        Err(refused) => panic!(rt; "{refused}"),
+        Err(_) => panic!(rt; "not received"),
     }
 }
 
 /// Spends a text that is the system's own.
 pub(crate) fn spent<L: Ledger>(rt: &impl Abort, system: &mut OneThread<L>, text: Text<L>) {
     assert!(rt; system.spend(text) == Homecoming::Home);
+}
+
+/// Ends a system, all of whose pages are free or under a text that waits.
+pub(crate) fn ended<L: Ledger>(rt: &impl Abort, system: OneThread<L>) {
+    let Closed { slots: _, arena } = system.close();
+    assert!(rt; arena.free_pages() == arena.pages());
 }
 
 /// Whether a text of one page has these bytes.

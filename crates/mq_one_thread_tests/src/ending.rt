@@ -22,7 +22,7 @@ fn used<L: Ledger>(rt: &impl Abort, system: &mut OneThread<L>) -> Text<L> {
     sent(rt, system, 0, b"gone");
     assert!(rt; remove(system, 0, 5).is_ok());
     for key in 5..8i32 {
-        assert!(rt; get(system, key, CREATE, 6).is_ok(), "{key}");
+        assert!(rt; get(system, key, CREATE, 6).is_ok());
     }
     assert!(rt; remove(system, 1, 7).is_ok());
     sent(rt, system, 64, b"one");
@@ -40,8 +40,17 @@ fn used<L: Ledger>(rt: &impl Abort, system: &mut OneThread<L>) -> Text<L> {
     text
 }
 
-fn counts(slot: &ClosedSlot) -> (usize, usize, u64) {
-    (slot.past.len(), slot.last.len(), slot.left)
+/// The slot at this place has so many events of removed queues and of its last one, and left so
+/// many messages.
+fn left(rt: &impl Abort, slots: &[ClosedSlot], at: usize, past: usize, last: usize, left: u64) {
+    match slots.get(at) {
+        Some(slot) => {
+            assert!(rt; slot.past.len() == past);
+            assert!(rt; slot.last.len() == last);
+            assert!(rt; slot.left == left);
+        }
+        None => panic!(rt; "no slot"),
+    }
 }
 
 fn comes_home<L: Ledger>(rt: &impl Abort, arena: &mut ArenaState<L>, text: Text<L>) {
@@ -60,11 +69,11 @@ fn closed_with_texts<L: Ledger, R: Abort>(rt: &R, alloc: Global, ledger: Blank)
     let outside = used(rt, &mut system);
     assert!(rt; system.free_pages() == 4);
     let Closed { slots, mut arena } = system.close();
-    let wanted: [(usize, usize, u64); 4] = [(3, 3, 2), (2, 0, 0), (0, 4, 1), (0, 0, 0)];
     assert!(rt; slots.len() == 4);
-    for (slot, wanted) in slots.iter().zip(wanted) {
-        assert!(rt; counts(slot) == wanted);
-    }
+    left(rt, &slots, 0, 3, 3, 2);
+    left(rt, &slots, 1, 2, 0, 0);
+    left(rt, &slots, 2, 0, 4, 1);
+    left(rt, &slots, 3, 0, 0, 0);
     assert!(rt; arena.free_pages() == 7);
     comes_home(rt, &mut arena, outside);
     assert!(rt; arena.free_pages() == 8);

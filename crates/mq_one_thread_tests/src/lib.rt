@@ -17,6 +17,8 @@ mod life;
 #[cfg(test)]
 mod limits;
 #[cfg(test)]
+mod list;
+#[cfg(test)]
 mod names;
 #[cfg(test)]
 mod steps;

@@ -2,7 +2,8 @@
 ghost use Rattle.std.specs.Prelude.{◌≡◌, ◌<◌};
 
 use crate::calls::{
-    NEW, NO_FLAG, PARTS, config, first, get, has, made, receive, remove, send, taken, written,
+    NEW, NO_FLAG, PARTS, config, ended, first, get, has, made, receive, remove, send, taken,
+    written,
 };
 use mq_message::Text;
 use mq_one_thread::{Closed, Errno, Got, OneThread, Refused, Removal, SendRefused};
@@ -33,6 +34,30 @@ const NO_FIGURES: Figures = Figures {
     ctime: 0,
     lspid: 0,
     lrpid: 0,
+};
+
+const NO_ROW: BoardRow = BoardRow {
+    made: 0,
+    live: false,
+    key: 0,
+    figures: NO_FIGURES,
+};
+
+/// A slot whose first queue was made at the moment 0.
+const MADE: BoardRow = BoardRow {
+    made: 1,
+    live: true,
+    key: 0,
+    figures: Figures {
+        qbytes: 16_384,
+        ..NO_FIGURES
+    },
+};
+
+/// A slot in whose first queue a message waits.
+const LIVE: BoardRow = BoardRow {
+    figures: FIGURES,
+    ..MADE
 };
 
 const LOG: [Event; 3] = [
@@ -77,9 +102,7 @@ fn refused<L: Ledger>(rt: &impl Abort, system: &mut OneThread<L>) -> Text<L> {
 fn sent<L: Ledger>(rt: &impl Abort, system: &mut OneThread<L>, text: Text<L>) {
     assert!(rt; taken(rt, system, 0, 1, text) == 1);
     assert!(rt; system.stat(Id::from_number(0)) == Ok(FIGURES));
-    let row = row(rt, system, 0);
-    assert!(rt; (row.made, row.live, row.key) == (1, true, 0));
-    assert!(rt; row.figures == FIGURES);
+    assert!(rt; row(rt, system, 0) == LIVE);
     assert!(rt; system.free_pages() == 0);
 }
 
@@ -89,13 +112,11 @@ fn removed<L: Ledger>(rt: &impl Abort, system: &mut OneThread<L>) {
             assert!(rt; entry == 2);
             assert!(rt; log.into_events().as_slice() == LOG.as_slice());
         }
-        Err(refused) => panic!(rt; "{refused:?}"),
+        Err(_) => panic!(rt; "not removed"),
     }
     assert!(rt; system.free_pages() == 1);
     assert!(rt; system.stat(Id::from_number(0)) == Err(Errno::EIDRM));
-    let row = row(rt, system, 0);
-    assert!(rt; (row.made, row.live, row.key) == (1, false, 0));
-    assert!(rt; row.figures == NO_FIGURES);
+    assert!(rt; row(rt, system, 0) == BoardRow { made: 1, ..NO_ROW });
 }
 
 fn one_life<L: Ledger, R: Abort>(rt: &R, alloc: Global, ledger: Blank)
@@ -127,27 +148,25 @@ fn a_queue_is_made_filled_shown_and_removed(rt: HostRuntime) {
     one_life::<Brand, HostRuntime>(&rt, rt.alloc(), Blank::new(PARTS));
 }
 
+/// The first queue is empty, and in the second a message waits.
+fn two_made<L: Ledger>(rt: &impl Abort, system: &mut OneThread<L>) {
+    assert!(rt; get(system, 0, NO_FLAG, 0).is_ok());
+    assert!(rt; get(system, -8, NEW, 4).is_ok());
+    let text = written(rt, system, b"hi");
+    taken(rt, system, 1, 1, text);
+}
+
 fn rows_shown<L: Ledger, R: Abort>(rt: &R, alloc: Global, ledger: Blank)
     requires name { ledger.name ≡ L.name }
     requires parts { ledger.parts ≡ L.parts }
     requires enough { 1024 < ledger.parts }
 {
     let mut system = made::<L>(rt, alloc, config(0, 3, 9), ledger);
-    assert!(rt; get(&mut system, 0, NO_FLAG, 0).is_ok());
-    assert!(rt; get(&mut system, -8, NEW, 4).is_ok());
-    let text = written(rt, &mut system, b"hi");
-    taken(rt, &mut system, 1, 1, text);
-    let first = row(rt, &system, 0);
-    let second = row(rt, &system, 1);
-    let third = row(rt, &system, 2);
-    assert!(rt; (first.made, first.live, first.key) == (1, true, 0));
-    assert!(rt; (first.figures.qbytes, first.figures.qnum) == (16_384, 0));
-    assert!(rt; (second.made, second.live, second.key) == (1, true, -8));
-    assert!(rt; second.figures == FIGURES);
-    assert!(rt; (third.made, third.live, third.key) == (0, false, 0));
-    assert!(rt; third.figures == NO_FIGURES);
-    let Closed { slots: _, arena } = system.close();
-    assert!(rt; arena.free_pages() == 1);
+    two_made(rt, &mut system);
+    assert!(rt; row(rt, &system, 0) == MADE);
+    assert!(rt; row(rt, &system, 1) == BoardRow { key: -8, ..LIVE });
+    assert!(rt; row(rt, &system, 2) == NO_ROW);
+    ended(rt, system);
 }
 
 #[test]

@@ -23,13 +23,10 @@ fn sized<L: Ledger, R: Abort>(
 {
     match OneThread::<L>::new(alloc, config, ledger) {
         Ok(system) => {
-            assert!(rt;
-                Ok((system.pages(), system.slots())) == wanted,
-                "{config:?}"
-            );
+            assert!(rt; Ok((system.pages(), system.slots())) == wanted);
             let Closed { slots: _, arena: _ } = system.close();
         }
-        Err(refusal) => assert_eq!(rt; Err(refusal), wanted, "{config:?}"),
+        Err(refusal) => assert!(rt; Err(refusal) == wanted, "refused, or out of memory"),
     }
 }
 

@@ -1,12 +1,10 @@
 //! Tables of calls and of what they answer.
 ghost use Rattle.std.specs.Prelude.{◌≡◌, ◌<◌};
 
-use crate::calls::{PARTS, Wanted, get, made, receive, remove, send, set};
+use crate::calls::{PARTS, Wanted, ended, get, made, receive, remove, send, set};
 use mq_arena::Homecoming;
 use mq_message::Body;
-use mq_one_thread::{
-    Closed, Config, Delivered, Errno, GetFlags, Got, OneThread, Refused, SendRefused,
-};
+use mq_one_thread::{Config, Delivered, Errno, GetFlags, Got, OneThread, Refused, SendRefused};
 use mq_table::Id;
 use std::alloc::Global;
 use std::marker::Brand;
@@ -154,8 +152,7 @@ fn play<L: Ledger, R: Abort>(
         );
         moment = moment.saturating_add(1);
     }
-    let Closed { slots: _, arena } = system.close();
-    assert!(rt; arena.free_pages() == arena.pages());
+    ended(rt, system);
 }
 
 /// A new system answers these calls so, one after another, and all its pages are home at the end.

@@ -2,11 +2,12 @@
 ghost use Rattle.std.specs.Prelude.{◌≡◌, ◌<◌};
 
 use crate::calls::{
-    CREATE, PARTS, Wanted, config, delivered, first, get, has, made, receive, spent, taken, written,
+    CREATE, PARTS, Wanted, config, delivered, ended, first, get, has, made, receive, spent, taken,
+    written,
 };
 use crate::steps::{Answer, Step, plays};
 use mq_message::{Body, Text};
-use mq_one_thread::{Closed, Delivered, DraftError, Errno, OneThread, Refused};
+use mq_one_thread::{Delivered, DraftError, Errno, OneThread, Refused};
 use std::alloc::Global;
 use std::marker::Brand;
 use std::process::Abort;
@@ -18,19 +19,21 @@ fn drafted<L: Ledger>(rt: &impl Abort, system: &mut OneThread<L>, len: u64) -> T
             assert!(rt; text.len() == len);
             text
         }
-        Err(refusal) => panic!(rt; "{refusal}"),
+        Err(_) => panic!(rt; "not drafted"),
     }
 }
 
 fn not_drafted<L: Ledger>(rt: &impl Abort, system: &mut OneThread<L>, len: u64) -> DraftError {
     match system.draft(len) {
-        Ok(_text) => panic!(rt; "{len} bytes were drafted"),
+        Ok(_text) => panic!(rt; "a text was drafted"),
         Err(refusal) => refusal,
     }
 }
 
-/// Texts of these lengths, and what is free beside each.
-const LENGTHS: [(u64, u32, Option<u8>, Option<u32>); 9] = [
+/// The length of a text, what is free beside it, and where it begins.
+type Beside = (u64, u32, Option<u8>, Option<u32>);
+
+const LENGTHS: [Beside; 9] = [
     (0, 16, Some(4), None),
     (1, 15, Some(3), Some(0)),
     (1024, 15, Some(3), Some(0)),
@@ -42,6 +45,25 @@ const LENGTHS: [(u64, u32, Option<u8>, Option<u32>); 9] = [
     (8192, 8, Some(3), Some(0)),
 ];
 
+fn is_zero<L: Ledger>(rt: &impl Abort, text: &Text<L>) {
+    for part in text.parts() {
+        for byte in part {
+            assert!(rt; *byte == 0);
+        }
+    }
+}
+
+fn length_drafted<L: Ledger>(rt: &impl Abort, system: &mut OneThread<L>, beside: Beside) {
+    let (len, free, largest, start) = beside;
+    let text = drafted(rt, system, len);
+    assert!(rt; text.start() == start);
+    is_zero(rt, &text);
+    assert!(rt; system.free_pages() == free);
+    assert!(rt; system.largest() == largest);
+    spent(rt, system, text);
+    assert!(rt; system.free_pages() == 16);
+}
+
 fn lengths_drafted<L: Ledger, R: Abort>(rt: &R, alloc: Global, ledger: Blank)
     requires name { ledger.name ≡ L.name }
     requires parts { ledger.parts ≡ L.parts }
@@ -49,22 +71,10 @@ fn lengths_drafted<L: Ledger, R: Abort>(rt: &R, alloc: Global, ledger: Blank)
 {
     let mut system = made::<L>(rt, alloc, config(4, 1, 9), ledger);
     assert!(rt; system.pages() == 16);
-    for (len, free, largest, start) in LENGTHS {
-        let text = drafted(rt, &mut system, len);
-        assert!(rt; text.start() == start, "{len}");
-        assert!(rt;
-            text.parts().all(|part| part.iter().all(|byte| *byte == 0)),
-            "{len}"
-        );
-        assert!(rt;
-            (system.free_pages(), system.largest()) == (free, largest),
-            "{len}"
-        );
-        spent(rt, &mut system, text);
-        assert!(rt; system.free_pages() == 16, "{len}");
+    for beside in LENGTHS {
+        length_drafted(rt, &mut system, beside);
     }
-    let Closed { slots: _, arena } = system.close();
-    assert!(rt; arena.free_pages() == 16);
+    ended(rt, system);
 }
 
 #[test]
@@ -94,8 +104,7 @@ fn drafts_refused<L: Ledger, R: Abort>(rt: &R, alloc: Global, ledger: Blank)
     spent(rt, &mut system, empty);
     spent(rt, &mut system, whole);
     assert!(rt; (system.free_pages(), system.largest()) == (8, Some(3)));
-    let Closed { slots: _, arena } = system.close();
-    assert!(rt; arena.free_pages() == 8);
+    ended(rt, system);
 }
 
 #[test]
@@ -131,7 +140,7 @@ fn hello_cut<L: Ledger, R: Abort>(rt: &R, alloc: Global, ledger: Blank)
     taken(rt, &mut system, 0, 3, text);
     match receive(&mut system, 0, first(4), 6) {
         Ok(_delivered) => panic!(rt; "a text that is too long was handed out"),
-        Err(Refused { errno, entry }) => assert_eq!(rt; (errno, entry), (Errno::E2BIG, Some(2))),
+        Err(Refused { errno, entry }) => assert!(rt; (errno, entry) == (Errno::E2BIG, Some(2))),
     }
     let cut = Wanted {
         noerror: true,
@@ -143,8 +152,7 @@ fn hello_cut<L: Ledger, R: Abort>(rt: &R, alloc: Global, ledger: Blank)
     assert!(rt; text.start() == Some(1));
     assert!(rt; system.free_pages() == 1);
     spent(rt, &mut system, text);
-    let Closed { slots: _, arena } = system.close();
-    assert!(rt; arena.free_pages() == 2);
+    ended(rt, system);
 }
 
 #[test]

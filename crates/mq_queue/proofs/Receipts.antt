@@ -1,11 +1,12 @@
 -- A message is received.
-use Rattle.std.proofs.Common.{◌≡◌, ℕ, ◌+◌, ◌-◌, ◌≤◌, ◌==◌, nat_le, List, [], ◌∷◌, ◌++◌, length, map, filter, find, Some, IfSome, Ok, Bool, true, ◌||◌, not, refl, ap, sym, arith}
+use Rattle.std.proofs.Common.{◌≡◌, ℕ, ◌+◌, ◌-◌, ◌≤◌, ◌==◌, nat_le, List, [], ◌∷◌, ◌++◌, length, map, filter, find, Option, Some, None, IfSome, IsSome, Ok, Bool, true, ◌||◌, not, refl, ap, sym, arith}
 use Rattle.std.specs.Option.{option_map}
 use Rattle.std.proofs.lemmas.Option.{MatchOption-at_some}
 use Rattle.mq_message.specs.declared.message.Message.{Message}
 use Rattle.mq_select.specs.declared.selection.Selection.{Selection}
 use Rattle.mq_select.specs.Selection.{pick, eligible}
 use Rattle.mq_select.specs.Waiting.{Header, message_at, without}
+use Rattle.mq_select.proofs.Places.{picked_waits}
 use Rattle.mq_queue.specs.declared.event.Event.{Event}
 use Rattle.mq_queue.specs.declared.event.Event.TheVariants.{Received}
 use Rattle.mq_queue.specs.declared.figures.Figures.{Figures}
@@ -60,6 +61,16 @@ taken_within log kept selection size noerror m are taken =
     let count : kept.qnum ≡ length (waiting log) = ap (λ (f : Figures). f.qnum) are.same in
     let bytes : kept.cbytes ≡ bytes_of (waiting log) = ap (λ (f : Figures). f.cbytes) are.same in
     (omega arith, omega arith)
+
+-- so are those of the message that the waiting list finds
+pub found_within : {B : Type 0} (bytes : B → List ℕ) (log : List Event) (messages : List (ℕ × Message B)) (kept : Figures) (selection : Selection) (size : ℕ) (noerror : Bool) (found n : ℕ) → IsSound bytes log messages → AreFigures log kept → Some found ≡ option_map (λ m. m.0) (pick (λ m. m.1.mtype) messages selection) → IfSome (message_at found messages) (λ m. n ≡ length (bytes m.body)) → true ≡ (noerror || nat_le n size) → (n ≤ kept.cbytes) × (1 ≤ kept.qnum)
+found_within {B} bytes log messages kept selection size noerror found n sound are picked long fits =
+    by (message_at found messages) refl (picked_waits (λ (m : ℕ × Message B). m.1.mtype) messages selection found (sym picked))
+  where
+    by : (o : Option (Message B)) → message_at found messages ≡ o → IsSome o → (n ≤ kept.cbytes) × (1 ≤ kept.qnum)
+    by None at there = cc
+    by (Some m) at there =
+        taken_within log kept selection size noerror _ are (taken_is bytes log messages selection size noerror found found n m sound picked at long fits refl)
 
 -- the figures without it
 pub taken_figures : (log log' : List Event) (kept : Figures) (selection : Selection) (size : ℕ) (noerror : Bool) (m : Header) (seat moment : ℕ) → Lawful log → AreFigures log kept → IsTaken log selection size noerror m → log' ≡ log ++ Received seat moment m.place selection size noerror ∷ [] → AreFigures log' (record kept { qnum = kept.qnum - 1; cbytes = kept.cbytes - m.length; rtime = moment; lrpid = seat })

@@ -7,5 +7,6 @@ pub mod Queue
 pub mod Replay
 pub mod Replies
 pub mod Room
+pub mod Row
 pub mod Waiting
 pub mod Worked

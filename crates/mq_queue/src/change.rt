@@ -1,18 +1,26 @@
 ghost use Rattle.std.specs.Prelude.{◌≡◌, ◌++◌, ◌∷◌, [], length, unwrap_or};
 ghost use Rattle.std.specs.Prelude.{OnOk, OnErr, IfOk, IfErr};
 ghost use Rattle.mq_queue.specs.Answer.{set_refusal};
+ghost use Rattle.mq_queue.specs.Figures.{figures};
 ghost use Rattle.mq_queue.specs.Lawful.{Lawful};
 ghost use Rattle.mq_queue.specs.Queue.{IsSound};
 
-use crate::log::{append, count};
-use crate::{Event, Figures, Log, MSGMNB, QueueError, QueueState};
+use crate::log::{append, count, reserve};
+use crate::{Event, Figures, Log, MSGMNB, NO_FIGURES, Notice, QueueError, QueueState};
 use mq_message::Body;
 use mq_select::Waiting;
 
 impl<B: Body, W: Waiting<B>> QueueState<B, W> {
     /// Sets the quota, and answers the place of the event (msgctl(2), IPC_SET of msg_qbytes). What
-    /// waits stays, also where it is more than the new quota.
-    pub fn set(&mut self, qbytes: u64, seat: u16, moment: u64) -> Result<u64, QueueError>
+    /// waits stays, also where it is more than the new quota. The notice takes the event in, with
+    /// the figures after it.
+    pub fn set<N: Notice>(
+        &mut self,
+        qbytes: u64,
+        seat: u16,
+        moment: u64,
+        notice: &mut N,
+    ) -> Result<u64, QueueError>
         ensures refused { IfErr result (λ e. e ≡ unwrap_or (set_refusal qbytes) QueueError.Memory) }
         ensures unchanged { OnErr result (self.new ≡ self.old) }
 
@@ -22,42 +30,54 @@ impl<B: Body, W: Waiting<B>> QueueState<B, W> {
             (self.new.log ≡ self.old.log ++ Event.Changed seat moment qbytes ∷ []) }
         ensures messages { self.new.messages ≡ self.old.messages }
         ensures sound { IsSound B.bytes self.new.log self.new.messages }
+        ensures noticed { OnOk result (N.takes notice.old (Event.Changed seat moment qbytes)
+            (figures self.new.log) notice.new) }
+        ensures unnoticed { OnErr result (notice.new ≡ notice.old) }
     {
         let kept = self.kept;
         if qbytes > MSGMNB {
             return Err(QueueError::OverLimit);
         }
-        let Ok(()) = self.log.reserve(1) else {
-            return Err(QueueError::Memory);
-        };
         let place = count(&self.log);
-        self.kept = Figures {
+        let changed = Event::Changed {
+            seat,
+            moment,
+            qbytes,
+        };
+        let after = Figures {
             qbytes,
             ctime: moment,
             ..kept
         };
-        append(
-            &mut self.log,
-            Event::Changed {
-                seat,
-                moment,
-                qbytes,
-            },
-        );
+        let Ok(()) = reserve(&mut self.log, changed, after, notice) else {
+            return Err(QueueError::Memory);
+        };
+        self.kept = after;
+        append(&mut self.log, changed);
         Ok(place)
     }
 
     /// Removes the queue, and hands out its log and what waited (msgctl(2), IPC_RMID). `Err` means
-    /// out of memory, and hands the queue back.
-    pub fn remove(self, seat: u16, moment: u64) -> Result<(Log, W), QueueState<B, W>>
+    /// out of memory, and hands the queue back. The notice takes the event in, and no figures with
+    /// it.
+    pub fn remove<N: Notice>(
+        self,
+        seat: u16,
+        moment: u64,
+        notice: &mut N,
+    ) -> Result<(Log, W), QueueState<B, W>>
         ensures handed_back { IfErr result (λ q. q ≡ self) }
 
         ensures log { IfOk result (λ r. r.0 ≡ self.log ++ Event.Removed seat moment ∷ []) }
         ensures messages { IfOk result (λ r. W.messages r.1 ≡ self.messages) }
         ensures lawful { IfOk result (λ r. Lawful r.0) }
+        ensures noticed { IfOk result (λ r. N.takes notice.old (Event.Removed seat moment)
+            (figures r.0) notice.new) }
+        ensures unnoticed { OnErr result (notice.new ≡ notice.old) }
     {
         let mut queue = self;
-        let Ok(()) = queue.log.reserve(1) else {
+        let removed = Event::Removed { seat, moment };
+        let Ok(()) = reserve(&mut queue.log, removed, NO_FIGURES, notice) else {
             return Err(queue);
         };
         let QueueState {
@@ -66,7 +86,7 @@ impl<B: Body, W: Waiting<B>> QueueState<B, W> {
             kept: _,
             body: _,
         } = queue;
-        append(&mut log, Event::Removed { seat, moment });
+        append(&mut log, removed);
         Ok((Log::of(log), waiting))
     }
 }

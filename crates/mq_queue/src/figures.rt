@@ -19,6 +19,18 @@ pub struct Figures {
     pub lrpid: u16,
 }
 
+/// The figures where no queue is.
+pub const NO_FIGURES: Figures = Figures {
+    qnum: 0,
+    cbytes: 0,
+    qbytes: 0,
+    stime: 0,
+    rtime: 0,
+    ctime: 0,
+    lspid: 0,
+    lrpid: 0,
+};
+
 /// What a report shows of a slot, which has one queue after another.
 #[derive(Clone, Copy, Debug, PartialEq, Eq)]
 pub struct BoardRow {

@@ -9,6 +9,7 @@ mod figures;
 pub mod laws;
 mod limits;
 mod log;
+mod notice;
 mod receive;
 mod received;
 mod send;
@@ -17,8 +18,9 @@ pub mod worked;
 
 pub use error::QueueError;
 pub use event::Event;
-pub use figures::{BoardRow, Figures};
+pub use figures::{BoardRow, Figures, NO_FIGURES};
 pub use limits::{MSGMAX, MSGMNB};
 pub use log::Log;
+pub use notice::{NoNotice, Notice};
 pub use received::Received;
 pub use state::QueueState;

@@ -1,6 +1,8 @@
 ghost use Rattle.std.specs.Prelude.{◌≡◌, ◌<◌, ◌^◌, ◌++◌, ◌∷◌, [], length, slice_get, vec_len, vec_capacity};
+ghost use Rattle.std.specs.Prelude.{OnOk, OnErr};
 
-use crate::Event;
+use crate::{Event, Figures, Notice};
+use std::alloc::AllocError;
 use std::marker::Model;
 
 /// The log of a queue that was taken apart, seen as the list of its events.
@@ -59,6 +61,22 @@ pub(crate) fn event_at(events: &Vec<Event>, i: u64) -> Option<Event>
     ensures { result ≡ slice_get events.now.items i }
 {
     events.get(i as usize).copied()
+}
+
+/// Makes room for one more event, and then tells the notice of it. `Err` means out of memory.
+pub(crate) fn reserve<N: Notice>(
+    events: &mut Vec<Event>,
+    event: Event,
+    after: Figures,
+    notice: &mut N,
+) -> Result<(), AllocError>
+    ensures items { events.new.items ≡ events.old.items }
+    ensures room { OnOk result (vec_len events.new < vec_capacity events.new) }
+    ensures noticed { OnOk result (N.takes notice.old event after notice.new) }
+    ensures unnoticed { OnErr result (notice.new ≡ notice.old) }
+{
+    events.reserve(1)?;
+    notice.prepare(event, after)
 }
 
 /// Adds an event, for which there is room.

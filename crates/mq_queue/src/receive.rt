@@ -5,11 +5,12 @@ ghost use Rattle.mq_select.specs.Selection.{pick};
 ghost use Rattle.mq_select.specs.Waiting.{message_at, without};
 ghost use Rattle.mq_queue.specs.Answer.{receive_answer, receive_refusal, received_header};
 ghost use Rattle.mq_queue.specs.Answer.{refusal_or_memory};
+ghost use Rattle.mq_queue.specs.Figures.{figures};
 ghost use Rattle.mq_queue.specs.Queue.{IsSound};
 ghost use Rattle.mq_queue.specs.Waiting.{header_of, waiting};
 
-use crate::log::{append, count};
-use crate::{Event, Figures, QueueError, QueueState, Received};
+use crate::log::{append, count, reserve};
+use crate::{Event, Figures, Notice, QueueError, QueueState, Received};
 use mq_message::Body;
 use mq_select::{Selection, Waiting};
 
@@ -66,14 +67,16 @@ impl<B: Body, W: Waiting<B>> QueueState<B, W> {
 
     /// Takes out the message that the selection picks (msgop(2), msgrcv with IPC_NOWAIT). With
     /// `noerror`, the flag MSG_NOERROR, a longer text is cut to `size` bytes. A receive adds an
-    /// event to the log, for which there may be no memory.
-    pub fn receive(
+    /// event to the log, for which there may be no memory. The notice takes the event in, with the
+    /// figures after it.
+    pub fn receive<N: Notice>(
         &mut self,
         size: u64,
         selection: Selection,
         noerror: bool,
         seat: u16,
         moment: u64,
+        notice: &mut N,
     ) -> Result<Received<B>, QueueError>
         ensures refused { IfErr result (λ e. e ≡ refusal_or_memory
             (receive_answer (waiting self.old.log) size selection noerror)) }
@@ -93,14 +96,14 @@ impl<B: Body, W: Waiting<B>> QueueState<B, W> {
         ensures messages { IfOk result (λ r.
             self.new.messages ≡ without r.place self.old.messages) }
         ensures sound { IsSound B.bytes self.new.log self.new.messages }
+        ensures noticed { IfOk result (λ r. N.takes notice.old
+            (Event.Received seat moment r.place selection size noerror)
+            (figures self.new.log) notice.new) }
+        ensures unnoticed { OnErr result (notice.new ≡ notice.old) }
     {
         let kept = self.kept;
         let Chosen { place, length } = self.choose(size, selection, noerror)?;
-        let Ok(()) = self.log.reserve(1) else {
-            return Err(QueueError::Memory);
-        };
         let entry = count(&self.log);
-        let mut message = self.waiting.take(place);
         let received = Event::Received {
             seat,
             moment,
@@ -109,13 +112,18 @@ impl<B: Body, W: Waiting<B>> QueueState<B, W> {
             size,
             noerror,
         };
-        self.kept = Figures {
+        let after = Figures {
             qnum: kept.qnum - 1,
             cbytes: kept.cbytes - length,
             rtime: moment,
             lrpid: seat,
             ..kept
         };
+        let Ok(()) = reserve(&mut self.log, received, after, notice) else {
+            return Err(QueueError::Memory);
+        };
+        let mut message = self.waiting.take(place);
+        self.kept = after;
         append(&mut self.log, received);
         message.body.cut(size);
         Ok(Received {

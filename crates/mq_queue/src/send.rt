@@ -1,12 +1,13 @@
 ghost use Rattle.std.specs.Prelude.{◌≡◌, ◌+◌, ◌<◌, ◌^◌, ◌&&◌, ◌++◌, ◌∷◌, [], length, nat_le, unwrap_or};
 ghost use Rattle.std.specs.Prelude.{OnOk, OnErr, IfOk, IfErr};
 ghost use Rattle.mq_queue.specs.Answer.{send_refusal};
+ghost use Rattle.mq_queue.specs.Figures.{figures};
 ghost use Rattle.mq_queue.specs.Queue.{IsSound};
 ghost use Rattle.mq_queue.specs.Room.{quota};
 ghost use Rattle.mq_queue.specs.Waiting.{waiting};
 
-use crate::log::{append, count};
-use crate::{Event, Figures, MSGMAX, QueueError, QueueState};
+use crate::log::{append, count, reserve};
+use crate::{Event, Figures, MSGMAX, Notice, QueueError, QueueState};
 use mq_message::{Body, Message};
 use mq_select::Waiting;
 
@@ -38,11 +39,13 @@ impl<B: Body, W: Waiting<B>> QueueState<B, W> {
     }
 
     /// Adds a message at the end, and answers its place (msgop(2), msgsnd with IPC_NOWAIT). A
-    /// message that is refused is handed back.
-    pub fn send(
+    /// message that is refused is handed back. The notice takes the event in, with the figures
+    /// after it.
+    pub fn send<N: Notice>(
         &mut self,
         message: Message<B>,
         moment: u64,
+        notice: &mut N,
     ) -> Result<u64, (QueueError, Message<B>)>
         ensures refused { IfErr result (λ r. r.0 ≡ unwrap_or (send_refusal
             (waiting self.old.log) (quota self.old.log)
@@ -58,15 +61,16 @@ impl<B: Body, W: Waiting<B>> QueueState<B, W> {
         ensures messages { OnOk result
             (self.new.messages ≡ self.old.messages ++ (length self.old.log, message) ∷ []) }
         ensures sound { IsSound B.bytes self.new.log self.new.messages }
+        ensures noticed { OnOk result (N.takes notice.old (Event.Sent message.sender moment
+            message.tag message.mtype (length (B.bytes message.body)))
+            (figures self.new.log) notice.new) }
+        ensures unnoticed { OnErr result (notice.new ≡ notice.old) }
     {
         let kept = self.kept;
         let length = message.body.len();
         if let Some(refusal) = self.refuses_send(message.mtype, length) {
             return Err((refusal, message));
         }
-        let Ok(()) = self.log.reserve(1) else {
-            return Err((QueueError::Memory, message));
-        };
         let Ok(()) = self.waiting.prepare(message.mtype) else {
             return Err((QueueError::Memory, message));
         };
@@ -78,13 +82,17 @@ impl<B: Body, W: Waiting<B>> QueueState<B, W> {
             mtype: message.mtype,
             length,
         };
-        self.kept = Figures {
+        let after = Figures {
             qnum: kept.qnum + 1,
             cbytes: kept.cbytes + length,
             stime: moment,
             lspid: message.sender,
             ..kept
         };
+        let Ok(()) = reserve(&mut self.log, sent, after, notice) else {
+            return Err((QueueError::Memory, message));
+        };
+        self.kept = after;
         append(&mut self.log, sent);
         self.waiting.put_prepared(place, message);
         Ok(place)

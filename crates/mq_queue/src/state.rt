@@ -1,9 +1,9 @@
-ghost use Rattle.std.specs.Prelude.{◌≡◌, ◌<◌, ◌^◌, ◌∷◌, [], length, slice_get, IfOk};
+ghost use Rattle.std.specs.Prelude.{◌≡◌, ◌<◌, ◌^◌, ◌∷◌, [], length, slice_get, IfOk, OnErr};
 ghost use Rattle.mq_queue.specs.Figures.{figures};
 ghost use Rattle.mq_queue.specs.Queue.{IsSound};
 
 use crate::log::{append, count, event_at};
-use crate::{Event, Figures, Log, MSGMNB};
+use crate::{Event, Figures, Log, MSGMNB, Notice};
 use mq_message::Body;
 use mq_select::Waiting;
 use std::alloc::{AllocError, Global};
@@ -32,18 +32,23 @@ impl<B: Body, W: Waiting<B>> Model for QueueState<B, W> {
 
 impl<B: Body, W: Waiting<B>> QueueState<B, W> {
     /// A new queue, with no message and the greatest quota (msgget(2)). `Err` means out of memory.
-    pub fn made(
+    /// The notice takes the event in, with the figures after it.
+    pub fn made<N: Notice>(
         alloc: Global,
         key: i32,
         seat: u16,
         moment: u64,
+        notice: &mut N,
     ) -> Result<QueueState<B, W>, AllocError>
         ensures log { IfOk result (λ q. q.log ≡ Event.Made seat moment key ∷ []) }
         ensures messages { IfOk result (λ q. q.messages ≡ []) }
         ensures sound { IfOk result (λ q. IsSound B.bytes q.log q.messages) }
+        ensures noticed { IfOk result (λ q. N.takes notice.old (Event.Made seat moment key)
+            (figures q.log) notice.new) }
+        ensures unnoticed { OnErr result (notice.new ≡ notice.old) }
     {
         let mut log = Vec::with_capacity(alloc, 1)?;
-        append(&mut log, Event::Made { seat, moment, key });
+        let made = Event::Made { seat, moment, key };
         let kept = Figures {
             qnum: 0,
             cbytes: 0,
@@ -54,6 +59,8 @@ impl<B: Body, W: Waiting<B>> QueueState<B, W> {
             lspid: 0,
             lrpid: 0,
         };
+        notice.prepare(made, kept)?;
+        append(&mut log, made);
         Ok(QueueState {
             log,
             waiting: W::fresh(alloc),

@@ -1,5 +1,5 @@
 use mq_message::{Body, Message, VecBody};
-use mq_queue::{Log, QueueError, QueueState};
+use mq_queue::{Log, NoNotice, QueueError, QueueState};
 use mq_select::{ListWaiting, Selection, discard};
 use std::alloc::{AllocError, Global};
 use std::process::Abort;
@@ -45,8 +45,8 @@ pub(crate) fn message(
 /// would have.
 pub(crate) fn send(queue: &mut Queue, message: Message<VecBody>, moment: u64) -> Answer {
     let foretold = queue.refuses_send(message.mtype, message.body.len());
-    let answer = match queue.send(message, moment) {
-        Err((QueueError::Memory, message)) => queue.send(message, moment),
+    let answer = match queue.send(message, moment, &mut NoNotice) {
+        Err((QueueError::Memory, message)) => queue.send(message, moment, &mut NoNotice),
         answer => answer,
     };
     match answer {
@@ -64,8 +64,15 @@ pub(crate) fn receive(
     moment: u64,
 ) -> Answer {
     let foretold = queue.refuses_receive(size, selection, noerror);
-    let answer = match queue.receive(size, selection, noerror, 4, moment) {
-        Err(QueueError::Memory) => queue.receive(size, selection, noerror, 4, moment),
+    let answer = match queue.receive(size, selection, noerror, 4, moment, &mut NoNotice) {
+        Err(QueueError::Memory) => queue.receive(
+            size,
+            selection,
+            noerror,
+            4,
+            moment,
+            &mut NoNotice,
+        ),
         answer => answer,
     };
     match answer {
@@ -81,8 +88,8 @@ pub(crate) fn receive(
 }
 
 pub(crate) fn set(queue: &mut Queue, qbytes: u64, moment: u64) -> Answer {
-    let answer = match queue.set(qbytes, 5, moment) {
-        Err(QueueError::Memory) => queue.set(qbytes, 5, moment),
+    let answer = match queue.set(qbytes, 5, moment, &mut NoNotice) {
+        Err(QueueError::Memory) => queue.set(qbytes, 5, moment, &mut NoNotice),
         answer => answer,
     };
     match answer {
@@ -111,7 +118,7 @@ pub(crate) fn check(
 
 /// Checks what a new queue answers to these calls, one after another.
 fn check_new(rt: &impl Abort, alloc: Global, steps: &[(Step, Answer)]) -> Result<(), AllocError> {
-    let mut queue = Queue::made(alloc, 7, 2, 50)?;
+    let mut queue = Queue::made(alloc, 7, 2, 50, &mut NoNotice)?;
     let checked = check(rt, alloc, &mut queue, steps);
     close(queue);
     checked
@@ -268,7 +275,7 @@ fn a_quota_is_set_to_what_it_is(rt: HostRuntime) -> Result<(), Fail> {
 }
 
 fn handed_back(queue: &mut Queue, message: Message<VecBody>) -> Option<Message<VecBody>> {
-    match queue.send(message, 60) {
+    match queue.send(message, 60, &mut NoNotice) {
         Err((QueueError::TooLong, message)) => Some(message),
         _ => None,
     }
@@ -277,7 +284,7 @@ fn handed_back(queue: &mut Queue, message: Message<VecBody>) -> Option<Message<V
 #[test]
 fn a_text_that_is_too_long_is_handed_back(rt: HostRuntime) -> Result<(), Fail> {
     let long = message(rt.alloc(), 5, 8193)?;
-    let mut queue = Queue::made(rt.alloc(), 7, 2, 50)?;
+    let mut queue = Queue::made(rt.alloc(), 7, 2, 50, &mut NoNotice)?;
     let back = handed_back(&mut queue, long);
     close(queue);
     let back = back.ok_or("it was taken")?;
@@ -294,9 +301,9 @@ fn a_received_text_is_the_front_of_what_was_sent(rt: HostRuntime) -> Result<(), 
         tag: 70,
         body: VecBody::from_slice(rt.alloc(), b"hello")?,
     };
-    let mut queue = Queue::made(rt.alloc(), 7, 2, 50)?;
+    let mut queue = Queue::made(rt.alloc(), 7, 2, 50, &mut NoNotice)?;
     let sent = send(&mut queue, hello, 60);
-    let got = queue.receive(2, Selection::Any, true, 4, 80);
+    let got = queue.receive(2, Selection::Any, true, 4, 80, &mut NoNotice);
     close(queue);
     assert!(rt; sent == Answer::At(1));
     let got = got?;
@@ -317,7 +324,8 @@ fn each_refusal_says_why(rt: HostRuntime) -> Result<(), Fail> {
         (QueueError::Memory, "out of memory"),
     ];
     for (refusal, text) in texts {
-        assert_eq!(rt; format!(in rt.alloc(); "{refusal}")?.as_str(), text);
+        let said = format!(in rt.alloc(); "{refusal}")?;
+        assert!(rt; said.as_str() == text);
     }
     Ok(())
 }

@@ -9,4 +9,6 @@ mod lists;
 #[cfg(test)]
 mod logs;
 #[cfg(test)]
+mod notices;
+#[cfg(test)]
 mod texts;

@@ -1,5 +1,5 @@
 use crate::calls::{Answer, Queue, Step, check, close, message, receive, send, set};
-use mq_queue::{Event, Figures, Log, QueueError};
+use mq_queue::{Event, Figures, Log, NoNotice, QueueError};
 use mq_select::{Selection, discard};
 use std::alloc::{AllocError, Global};
 use std::test::Fail;
@@ -36,7 +36,7 @@ fn figures_show_the_last_moment_whatever_it_is(rt: HostRuntime) -> Result<(), Fa
     ];
     for moments in cases {
         let [stime, rtime, ctime] = moments;
-        let mut queue = Queue::made(rt.alloc(), 7, 2, 50)?;
+        let mut queue = Queue::made(rt.alloc(), 7, 2, 50, &mut NoNotice)?;
         let visited = visit(rt.alloc(), &mut queue, moments);
         let figures = queue.figures();
         close(queue);
@@ -58,7 +58,7 @@ fn figures_show_the_last_moment_whatever_it_is(rt: HostRuntime) -> Result<(), Fa
 
 #[test]
 fn refusals_leave_log_and_figures(rt: HostRuntime) -> Result<(), Fail> {
-    let mut queue = Queue::made(rt.alloc(), 7, 2, 50)?;
+    let mut queue = Queue::made(rt.alloc(), 7, 2, 50, &mut NoNotice)?;
     let before = queue.figures();
     let steps = [
         (Step::Send(0, 1), Answer::Refused(QueueError::TypeInvalid)),
@@ -81,8 +81,8 @@ fn refusals_leave_log_and_figures(rt: HostRuntime) -> Result<(), Fail> {
 
 /// The log of a queue that is removed, at the second try where there was no memory.
 fn removed(queue: Queue, moment: u64) -> Log {
-    let answer = match queue.remove(2, moment) {
-        Err(queue) => queue.remove(2, moment),
+    let answer = match queue.remove(2, moment, &mut NoNotice) {
+        Err(queue) => queue.remove(2, moment, &mut NoNotice),
         answer => answer,
     };
     match answer {
@@ -96,7 +96,7 @@ fn removed(queue: Queue, moment: u64) -> Log {
 
 #[test]
 fn the_log_of_a_removed_queue_tells_all(rt: HostRuntime) -> Result<(), Fail> {
-    let mut queue = Queue::made(rt.alloc(), 7, 2, 50)?;
+    let mut queue = Queue::made(rt.alloc(), 7, 2, 50, &mut NoNotice)?;
     let visited = visit(rt.alloc(), &mut queue, [60, 70, 80]);
     let last = queue.event(4);
     let beyond = (queue.event(5), queue.event(u64::MAX));
@@ -148,7 +148,9 @@ fn fill(alloc: Global, queue: &mut Queue, count: u64) -> Result<u64, Fail> {
     let mut last = 0;
     for i in 0..count {
         let text = message(alloc, 1 + (i % 7) as i64, 0)?;
-        last = queue.send(text, i).map_err(|(refusal, _)| refusal)?;
+        last = queue
+            .send(text, i, &mut NoNotice)
+            .map_err(|(refusal, _)| refusal)?;
     }
     Ok(last)
 }
@@ -159,7 +161,7 @@ fn fill_and_drain(alloc: Global, queue: &mut Queue, rounds: u64) -> Result<(), F
     for moment in 0..rounds {
         fill(alloc, queue, 100)?;
         for _ in 0..100u64 {
-            queue.receive(0, Selection::UpTo(7), false, 4, moment)?;
+            queue.receive(0, Selection::UpTo(7), false, 4, moment, &mut NoNotice)?;
         }
     }
     Ok(())
@@ -167,7 +169,7 @@ fn fill_and_drain(alloc: Global, queue: &mut Queue, rounds: u64) -> Result<(), F
 
 #[test]
 fn no_more_messages_wait_than_the_quota_has_bytes(rt: HostRuntime) -> Result<(), Fail> {
-    let mut queue = Queue::made(rt.alloc(), 7, 2, 50)?;
+    let mut queue = Queue::made(rt.alloc(), 7, 2, 50, &mut NoNotice)?;
     let last = fill(rt.alloc(), &mut queue, 16_384);
     let more = [
         (Step::Send(1, 0), Answer::Refused(QueueError::Full)),
@@ -190,7 +192,7 @@ fn no_more_messages_wait_than_the_quota_has_bytes(rt: HostRuntime) -> Result<(),
 
 #[test]
 fn a_long_log_refuses_no_call(rt: HostRuntime) -> Result<(), Fail> {
-    let mut queue = Queue::made(rt.alloc(), 7, 2, 50)?;
+    let mut queue = Queue::made(rt.alloc(), 7, 2, 50, &mut NoNotice)?;
     let played = fill_and_drain(rt.alloc(), &mut queue, 600);
     let more = receive(&mut queue, 0, Selection::Any, false, 80);
     let count = queue.log_len();

@@ -4,7 +4,7 @@ ghost use Rattle.mq_message.specs.Text.{count_of};
 
 use mq_arena::{ArenaState, Homecoming, LEDGER_PARTS, PAGE_LEN, Page, Unopened, fill};
 use mq_message::{Body, Message, Text};
-use mq_queue::{QueueState, Received};
+use mq_queue::{NoNotice, QueueError, QueueState, Received};
 use mq_select::{ListWaiting, Selection, Waiting};
 use std::alloc::Global;
 use std::marker::Brand;
@@ -34,7 +34,7 @@ fn spent<L: Ledger>(rt: &impl Abort, arena: &mut ArenaState<L>, text: Text<L>) {
 }
 
 fn made<L: Ledger>(rt: &impl Abort, alloc: Global) -> Queue<L> {
-    match Queue::made(alloc, 0, 1, 0) {
+    match Queue::made(alloc, 0, 1, 0, &mut NoNotice) {
         Ok(queue) => queue,
         Err(_) => panic!(rt; "out of memory"),
     }
@@ -47,14 +47,17 @@ fn sent<L: Ledger>(rt: &impl Abort, queue: &mut Queue<L>, text: Text<L>) {
         tag: 70,
         body: text,
     };
-    match queue.send(message, 1) {
+    match queue.send(message, 1, &mut NoNotice) {
         Ok(_) => (),
-        Err((refusal, _message)) => panic!(rt; "{refusal}"),
+        Err((refusal, _message)) => {
+            assert!(rt; refusal != QueueError::Memory, "out of memory");
+            panic!(rt; "refused");
+        }
     }
 }
 
 fn received<L: Ledger>(rt: &impl Abort, queue: &mut Queue<L>) -> Text<L> {
-    match queue.receive(LEN as u64, Selection::Any, false, 2, 1) {
+    match queue.receive(LEN as u64, Selection::Any, false, 2, 1, &mut NoNotice) {
         Ok(
             Received {
                 entry: _,
@@ -66,7 +69,10 @@ fn received<L: Ledger>(rt: &impl Abort, queue: &mut Queue<L>) -> Text<L> {
                 body,
             },
         ) => body,
-        Err(refusal) => panic!(rt; "{refusal}"),
+        Err(refusal) => {
+            assert!(rt; refusal != QueueError::Memory, "out of memory");
+            panic!(rt; "refused");
+        }
     }
 }
 
@@ -79,7 +85,12 @@ fn ended<L: Ledger>(rt: &impl Abort, queue: Queue<L>) {
 }
 
 fn holds(part: &[u8], len: usize, letter: u8) -> bool {
-    part.len() == len && part.iter().all(|byte| *byte == letter)
+    for byte in part {
+        if *byte != letter {
+            return false;
+        }
+    }
+    part.len() == len
 }
 
 /// Whether the text has the one letter in its first part, and the other in the rest.

@@ -9,6 +9,6 @@ mod selection;
 mod waiting;
 pub mod worked;
 
-pub use list::ListWaiting;
+pub use list::{ListWaiting, Placed};
 pub use selection::Selection;
 pub use waiting::{Waiting, discard};

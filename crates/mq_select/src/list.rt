@@ -1,7 +1,8 @@
 ghost use Rattle.std.specs.Prelude.{◌≡◌, ◌==◌, ◌<◌, ◌++◌, ◌∷◌, [], All, AllPairs};
-ghost use Rattle.std.specs.Prelude.{find, int_le, map, not, pos, position};
-ghost use Rattle.std.specs.Option.{option_map};
+ghost use Rattle.std.specs.Prelude.{find, int_le, length, map, not, pos, position};
+ghost use Rattle.std.specs.Option.{option_map, ForSome};
 ghost use Rattle.std.specs.Ordering.{int_eq};
+ghost use Rattle.std.specs.VecDeque.{deque_len, deque_capacity};
 ghost use Rattle.mq_select.specs.Lowest.{first_lowest, lower_first_of};
 
 use crate::{Selection, Waiting};
@@ -33,7 +34,8 @@ impl<B> Model for ListWaiting<B> {
         × ForSome w.prepared (λ _. deque_len w.messages < deque_capacity w.messages) };
 }
 
-type Placed<B> = (u64, Message<B>);
+/// A message at its place.
+pub type Placed<B> = (u64, Message<B>);
 
 /// The type of a message and its place.
 type Head = (i64, u64);
@@ -97,6 +99,36 @@ fn index_of<B>(messages: &VecDeque<Placed<B>>, place: u64) -> Option<usize>
     ensures { result ≡ position (λ m. m.0 == place) messages.now.items }
 {
     messages.binary_search_by_key(&place, |m| m.0).ok()
+}
+
+impl<B> ListWaiting<B> {
+    /// How many messages wait.
+    pub fn len(&self) -> usize
+        ensures { result ≡ length self.now.messages }
+    {
+        self.messages.len()
+    }
+
+    /// The messages themselves, and the type for which there is room for one more.
+    pub fn into_parts(self) -> (VecDeque<Placed<B>>, Option<i64>)
+        ensures messages { result.0.items ≡ self.messages }
+        ensures prepared { result.1 ≡ self.prepared }
+        ensures rising { AllPairs (λ a b. a.0 < b.0) result.0.items }
+        ensures room { ForSome result.1 (λ _. deque_len result.0 < deque_capacity result.0) }
+    {
+        let ListWaiting { messages, prepared } = self;
+        (messages, prepared)
+    }
+
+    /// A list of these messages, with room for one more if a type is prepared.
+    pub fn from_parts(messages: VecDeque<Placed<B>>, prepared: Option<i64>) -> ListWaiting<B>
+        requires rising { AllPairs (λ a b. a.0 < b.0) messages.items }
+        requires room { ForSome prepared (λ _. deque_len messages < deque_capacity messages) }
+        ensures messages { result.messages ≡ messages.items }
+        ensures prepared { result.prepared ≡ prepared }
+    {
+        ListWaiting { messages, prepared }
+    }
 }
 
 impl<B: Body> Waiting<B> for ListWaiting<B> {

@@ -6,9 +6,10 @@ use Rattle.std.proofs.lemmas.List.Elements.{All-tail}
 use Rattle.mq_message.specs.Text.{PlainText}
 use Rattle.mq_queue.specs.Lawful.{Lawful}
 use Rattle.mq_queue.specs.Log.{ends_with_removed, is_empty}
+use Rattle.mq_queue.specs.Row.{is_live, last_log}
 use Rattle.mq_queue.specs.declared.event.Event.{Event}
 use Rattle.mq_table.specs.Slot.{SlotState, Waits}
-use Rattle.mq_table.specs.SlotList.{IsSlotList, is_live, joined, last_log, live_log}
+use Rattle.mq_table.specs.SlotList.{IsSlotList, joined, live_log}
 use Rattle.mq_table.proofs.Lasts.{drop_offset}
 use Rattle.mq_table.proofs.Logs.{ends_as, last_log_is}
 use Rattle.mq_one_thread.specs.Closed.{Ending, ending_of, ends}

@@ -7,7 +7,7 @@ use Rattle.mq_message.specs.Text.{PlainText}
 use Rattle.mq_table.specs.Ids.{id_of, slot_of}
 use Rattle.mq_table.specs.Keys.{entered, id_of_key}
 use Rattle.mq_table.specs.Slot.{SlotState, last_id, next_id}
-use Rattle.mq_table.specs.SlotList.{made_count}
+use Rattle.mq_queue.specs.Row.{made_count}
 use Rattle.mq_table.specs.declared.limits.TheConstants.{MAX_SLOTS}
 use Rattle.mq_system.specs.Shared.{AreWithin}
 

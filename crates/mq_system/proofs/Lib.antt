@@ -4,3 +4,4 @@ pub mod PledgeLemmas
 pub mod RefusalLemmas
 pub mod RowLemmas
 pub mod SharedLemmas
+pub mod TallyLemmas

@@ -13,10 +13,10 @@ use Rattle.mq_queue.specs.declared.error.QueueError.{QueueError}
 use Rattle.mq_queue.specs.declared.event.Event.TheVariants as event
 use Rattle.mq_queue.specs.declared.received.Received.{Received}
 use Rattle.mq_queue.specs.Answer.{handed_out, received_header}
+use Rattle.mq_queue.specs.Row.{last_log}
 use Rattle.mq_queue.specs.Waiting.{header_of, waiting}
 use Rattle.mq_table.specs.Calls.{Receipt, received, receives}
 use Rattle.mq_table.specs.Slot.{SlotState}
-use Rattle.mq_table.specs.SlotList.{last_log}
 use Rattle.mq_one_thread.specs.Texts.{bytes_of}
 use Rattle.mq_one_thread.specs.declared.results.Delivered.{Delivered}
 use Rattle.mq_system.specs.Pledge.{IsPledged, MeetsPledge, MeetsWhole, Pledged}

@@ -9,6 +9,7 @@ use Rattle.mq_select.specs.Waiting.{Header}
 use Rattle.mq_queue.specs.Answer.{send_refusal}
 use Rattle.mq_queue.specs.Log.{is_removed}
 use Rattle.mq_queue.specs.Room.{has_room, quota}
+use Rattle.mq_queue.specs.Row.{last_log}
 use Rattle.mq_queue.specs.Waiting.{waiting}
 use Rattle.mq_queue.specs.declared.error.QueueError.{QueueError}
 use Rattle.mq_queue.specs.declared.error.QueueError.TheVariants.{TypeInvalid, TooLong, Full}
@@ -18,7 +19,7 @@ use Rattle.mq_table.specs.Calls.{goes_on, removes, sends, unless}
 use Rattle.mq_table.specs.Ids.{seq_of}
 use Rattle.mq_table.specs.Shown.{by_standing}
 use Rattle.mq_table.specs.Slot.{SlotState}
-use Rattle.mq_table.specs.SlotList.{IsSlotList, last_log, standing}
+use Rattle.mq_table.specs.SlotList.{IsSlotList, standing}
 use Rattle.mq_table.specs.declared.refusal.IdRefusal.{IdRefusal}
 use Rattle.mq_table.specs.declared.refusal.IdRefusal.TheVariants.{Never, Removed}
 use Rattle.mq_one_thread.specs.Look.{once}

@@ -4,13 +4,14 @@ use Rattle.std.specs.Ordering.{int_eq}
 use Rattle.mq_message.specs.Text.{PlainText}
 use Rattle.mq_message.specs.declared.message.Message.{Message}
 use Rattle.mq_queue.specs.Figures.{figures}
+use Rattle.mq_queue.specs.Row.{is_live, last_log, live_key}
 use Rattle.mq_queue.specs.declared.figures.Figures.{Figures}
 use Rattle.mq_select.specs.declared.selection.Selection.{Selection}
 use Rattle.mq_table.specs.Calls.{Turn, sends, receives, sets, removes}
 use Rattle.mq_table.specs.Ids.{seq_of}
-use Rattle.mq_table.specs.Shown.{by_standing, live_key}
+use Rattle.mq_table.specs.Shown.{by_standing}
 use Rattle.mq_table.specs.Slot.{SlotState, last_id}
-use Rattle.mq_table.specs.SlotList.{is_live, last_log, standing}
+use Rattle.mq_table.specs.SlotList.{standing}
 use Rattle.mq_table.specs.declared.refusal.IdRefusal.{IdRefusal}
 use Rattle.mq_one_thread.specs.Calls.{delivers}
 use Rattle.mq_one_thread.specs.Look.{errno_of, errno_of_id, once, refused_early}

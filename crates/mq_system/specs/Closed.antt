@@ -1,5 +1,6 @@
 -- What a system leaves at its end.
-use Rattle.std.specs.Prelude.{◌≡◌, ◌⊎◌, ℕ, false, List, []}
+use Rattle.std.specs.Prelude.{◌≡◌, ◌⊎◌, ℕ, ◌+◌, false, List, [], length}
+use Rattle.std.specs.List.{sum_by}
 use Rattle.mq_queue.specs.Lawful.{Lawful}
 use Rattle.mq_queue.specs.Log.{ends_with_removed}
 use Rattle.mq_queue.specs.declared.event.Event.{Event}
@@ -17,3 +18,7 @@ pub record IsClosed (last_seq : ℕ) (slot : ClosedSlot) : Type 0 where
   pub whole : IsWhole last_seq slot
   pub last : (slot.last.items ≡ []) ⊎ IsOpen slot.last.items
   pub left : CountsWaiting slot
+
+-- the entries of all slots together
+abbrev pub entries_in : List ClosedSlot → ℕ
+entries_in slots = sum_by (λ slot. length slot.past.items + length slot.last.items) slots

@@ -1,9 +1,12 @@
 -- What msgget may answer, whatever stands under its locks (msgget(2)).
-use Rattle.std.specs.Prelude.{◌≡◌, ℕ, ℤ, pos, ◌&&◌, ◌||◌, Bool, true, false, None, Some, Option}
+use Rattle.std.specs.Prelude.{◌≡◌, ℕ, ℤ, pos, ◌&&◌, ◌||◌, Bool, true, false, None, Some, Option, MatchOption}
 use Rattle.std.specs.Ordering.{int_eq}
 use Rattle.mq_one_thread.specs.declared.errno.Errno.{Errno}
 use Rattle.mq_one_thread.specs.declared.errno.Errno.TheVariants.{ENOMEM, EEXIST, ENOENT, ENOSPC}
 use Rattle.mq_one_thread.specs.declared.results.GetFlags.{GetFlags}
+use Rattle.mq_one_thread.specs.declared.results.Got.{Got}
+use Rattle.mq_table.specs.Ids.{slot_of}
+use Rattle.mq_system.specs.Seat.{SeatState, IsCounted, IsSame}
 
 -- key 0 is IPC_PRIVATE (msgget(2))
 abbrev pub is_private : ℤ → Bool
@@ -22,6 +25,11 @@ wants_new flags = flags.create && flags.exclusive
 abbrev pub MayGet : ℤ → GetFlags → Option ℕ → Type 0
 MayGet key flags (Some entry) = may_make key flags ≡ true
 MayGet key flags None = (is_private key ≡ false) × (wants_new flags ≡ false)
+
+-- a queue that was made counts for its maker, in its slot; one that was there does not
+abbrev pub CountsGet : SeatState → SeatState → Got → Type 0
+CountsGet old new got =
+    MatchOption got.made (IsSame old new) (λ _. IsCounted old new (slot_of got.id))
 
 -- the refusals of msgget, each with the keys and flags that it wants
 abbrev pub MayRefuse : ℤ → GetFlags → Errno → Type 0

@@ -2,11 +2,11 @@
 use Rattle.std.specs.Prelude.{◌≡◌, ℕ, ◌+◌, true, List, length}
 use Rattle.mq_queue.specs.Figures.{figures}
 use Rattle.mq_queue.specs.Log.{ends_with_removed}
+use Rattle.mq_queue.specs.Row.{is_live, last_log, row}
 use Rattle.mq_queue.specs.declared.event.Event.{Event}
 use Rattle.mq_queue.specs.declared.figures.BoardRow.{BoardRow}
 use Rattle.mq_queue.specs.declared.figures.Figures.{Figures}
-use Rattle.mq_table.specs.Shown.{row}
-use Rattle.mq_table.specs.SlotList.{IsSlotList, is_live, last_log}
+use Rattle.mq_table.specs.SlotList.{IsSlotList}
 use Rattle.mq_one_thread.specs.declared.results.Removal.{Removal}
 
 -- the figures of a queue that is there

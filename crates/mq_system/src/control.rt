@@ -1,7 +1,8 @@
-ghost use Rattle.std.specs.Prelude.{◌≡◌, ◌≤◌, false, length, All, IfOk, IfErr, OnOk};
+ghost use Rattle.std.specs.Prelude.{◌≡◌, ◌≤◌, false, length, All, IfOk, IfErr, OnOk, MatchResult};
 ghost use Rattle.mq_queue.specs.declared.limits.TheConstants.{MSGMNB};
+ghost use Rattle.mq_table.specs.Ids.{slot_of};
 ghost use Rattle.mq_system.specs.Refusals.{Refuses, MayLook, MayRemove, MaySet, out_of_slots};
-ghost use Rattle.mq_system.specs.Seat.{IsSame};
+ghost use Rattle.mq_system.specs.Seat.{IsCounted, IsSame};
 ghost use Rattle.mq_system.specs.Shown.{IsRemoval, IsRow, IsShown};
 
 use crate::messages::too_early;
@@ -26,7 +27,8 @@ impl<P: Pledge, N: Names> System<P, N> {
         ensures ok { OnOk result (out_of_slots N.slots id ≡ false) }
         ensures limit { OnOk result (qbytes ≤ MSGMNB) }
         ensures refused { IfErr result (Refuses (out_of_slots N.slots id) (MaySet qbytes)) }
-        ensures seat { IsSame seat.old seat.new }
+        ensures counted { MatchResult result (λ _. IsCounted seat.old seat.new (slot_of id))
+            (λ _. IsSame seat.old seat.new) }
     {
         let number = id.slot();
         if number as usize >= self.places.len() {
@@ -52,7 +54,8 @@ impl<P: Pledge, N: Names> System<P, N> {
         ensures ok { OnOk result (out_of_slots N.slots id ≡ false) }
         ensures log { IfOk result (IsRemoval N.last_seq) }
         ensures refused { IfErr result (Refuses (out_of_slots N.slots id) MayRemove) }
-        ensures seat { IsSame seat.old seat.new }
+        ensures counted { MatchResult result (λ _. IsCounted seat.old seat.new (slot_of id))
+            (λ _. IsSame seat.old seat.new) }
     {
         let number = id.slot();
         if number as usize >= self.places.len() {

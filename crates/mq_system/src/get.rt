@@ -1,9 +1,9 @@
-ghost use Rattle.std.specs.Prelude.{◌≡◌, ◌≢◌, ◌⊎◌, ◌<◌, None, pos, IfOk, IfErr, IfSome, IfNone, IsSome};
+ghost use Rattle.std.specs.Prelude.{◌≡◌, ◌≢◌, ◌⊎◌, ◌<◌, None, pos, IfOk, IfErr, IfSome, IfNone, IsSome, MatchResult};
 ghost use Rattle.mq_table.specs.Ids.{slot_of};
 ghost use Rattle.mq_table.specs.Keys.{id_of_key};
 ghost use Rattle.mq_one_thread.specs.declared.errno.Errno.TheVariants.{ENOMEM, ENOSPC};
-ghost use Rattle.mq_system.specs.Get.{MayGet, MayRefuse};
-ghost use Rattle.mq_system.specs.Seat.{IsSame};
+ghost use Rattle.mq_system.specs.Get.{CountsGet, MayGet, MayRefuse};
+ghost use Rattle.mq_system.specs.Seat.{IsCounted, IsSame};
 
 use crate::shared::Keys;
 use crate::{Errno, GetFlags, Got, Names, Pledge, Seat, System};
@@ -24,7 +24,8 @@ impl<P: Pledge, N: Names> System<P, N> {
         ensures ok { IfOk result (λ got. MayGet key flags got.made) }
         ensures within { IfOk result (λ got. slot_of got.id < N.slots) }
         ensures refused { IfErr result (MayRefuse key flags) }
-        ensures seat { IsSame seat.old seat.new }
+        ensures counted { MatchResult result (CountsGet seat.old seat.new)
+            (λ _. IsSame seat.old seat.new) }
     {
         let mut keys = self.keys.lock(rt);
         if key == 0 {
@@ -74,7 +75,8 @@ impl<P: Pledge, N: Names> System<P, N> {
         ensures made { IfOk result (λ got. IsSome got.made) }
         ensures within { IfOk result (λ got. slot_of got.id < N.slots) }
         ensures refused { IfErr result (λ errno. (errno ≡ ENOSPC) ⊎ (errno ≡ ENOMEM)) }
-        ensures seat { IsSame seat.old seat.new }
+        ensures counted { MatchResult result (λ got. IsCounted seat.old seat.new (slot_of got.id))
+            (λ _. IsSame seat.old seat.new) }
     {
         for number in 0..self.slots() {
             let mut held = self.places[number as usize].lock(rt, number);

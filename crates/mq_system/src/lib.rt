@@ -1,8 +1,8 @@
 //! The queues of several threads, each at a seat of its own: keys, ids, slots and texts by the
 //! calls of the manual, which wait where the manual says so.
 //!
-//! **Locks.** The key table has one, each slot has one, and the arena has one; in that order they
-//! are taken, and none is taken twice at a time.
+//! **Locks.** The key table has one, each slot has one, and the arena has one. The keys' is taken
+//! before a slot's; the arena's is taken with no other held, and none is taken twice at a time.
 //! - The keys' lock is held throughout a `msgget` and the change of an `rmid`, so that a key is
 //!   entered with its queue and forgotten with it. Slots are looked at one by one under it.
 //! - A slot's lock protects its slot list and what waits in its queue. A call holds it for one look
@@ -10,6 +10,10 @@
 //! - The arena's lock protects which pages are lent; it is held while a block leaves or comes home.
 //!   Texts are drafted before a slot is locked, their pages are cleared and written with no lock,
 //!   and the texts of a removed queue go home after its slot's lock is let go.
+//!
+//! **Counts** want no lock. All entries that the seats can ever make are dealt out to them at the
+//! start, as amounts of a ledger that are not there when the program runs; a change moves one from
+//! its seat to its slot. So at the end the slots have as many entries as the seats have counted.
 //!
 //! **Who is woken**, each after the lock is let go: a send wakes the receivers of its queue; a
 //! receipt and a new quota wake its senders; a removal wakes both, who then answer EIDRM. A making
@@ -20,18 +24,22 @@
 
 #![tactic(auto)]
 
+mod blanks;
 mod close;
 mod control;
 mod flags;
 mod get;
 mod messages;
 mod names;
+mod parts;
 mod place;
 mod pledge;
 mod seat;
 pub mod shared;
 mod system;
+mod tally;
 
+pub use blanks::Blanks;
 pub use flags::{RecvFlags, SendFlags};
 pub use mq_one_thread::{
     Closed, ClosedSlot, Config, DEFAULTS, Delivered, DraftError, Errno, GetFlags, Got, MAX_HEIGHT,
@@ -41,3 +49,4 @@ pub use names::{Names, Pages, TextOf};
 pub use pledge::Pledge;
 pub use seat::Seat;
 pub use system::System;
+use tally::Tally;

@@ -1,9 +1,10 @@
-ghost use Rattle.std.specs.Prelude.{◌≡◌, false, IfOk, IfErr, OnOk};
+ghost use Rattle.std.specs.Prelude.{◌≡◌, false, IfOk, IfErr, OnOk, MatchResult};
+ghost use Rattle.mq_table.specs.Ids.{slot_of};
 ghost use Rattle.mq_one_thread.specs.Look.{refused_early};
 ghost use Rattle.mq_one_thread.specs.declared.errno.Errno.TheVariants.{EINVAL};
 ghost use Rattle.mq_system.specs.Pledge.{MeetsPledge, MeetsWhole};
 ghost use Rattle.mq_system.specs.Refusals.{Refuses, MayReceive, MaySend, never_sent, out_of_slots};
-ghost use Rattle.mq_system.specs.Seat.{IsSame};
+ghost use Rattle.mq_system.specs.Seat.{IsCounted, IsSame};
 
 use crate::place::wait_for;
 use crate::{
@@ -34,7 +35,8 @@ impl<P: Pledge, N: Names> System<P, N> {
         ensures refused { IfErr result (λ r.
             Refuses (never_sent N.slots id mtype) (MaySend flags.nowait) r.refused) }
         ensures handed_back { IfErr result (λ r. r.text ≡ text) }
-        ensures seat { IsSame seat.old seat.new }
+        ensures counted { MatchResult result (λ _. IsCounted seat.old seat.new (slot_of id))
+            (λ _. IsSame seat.old seat.new) }
     {
         let number = id.slot();
         if mtype < 1 || number as usize >= self.places.len() {
@@ -81,7 +83,8 @@ impl<P: Pledge, N: Names> System<P, N> {
         ensures whole { IfOk result (λ d. flags.noerror ≡ false → MeetsWhole P.kept d) }
         ensures refused { IfErr result
             (Refuses (out_of_slots N.slots id) (MayReceive flags.nowait flags.noerror)) }
-        ensures seat { IsSame seat.old seat.new }
+        ensures counted { MatchResult result (λ _. IsCounted seat.old seat.new (slot_of id))
+            (λ _. IsSame seat.old seat.new) }
     {
         let number = id.slot();
         if number as usize >= self.places.len() {

@@ -1,9 +1,9 @@
-ghost use Rattle.std.specs.Prelude.{ℕ};
+ghost use Rattle.std.specs.Prelude.{ℕ, ◌+◌};
 
 use mq_arena::OfHeight;
+use mq_index::IndexWaiting;
 use mq_message::Text;
 use mq_one_thread::TextSlot;
-use mq_select::ListWaiting;
 use std::marker::{Brand, PhantomData};
 use std::sync::ledger::Ledger;
 
@@ -17,6 +17,9 @@ pub trait Names {
 
     /// The arena has `2 ^ height` pages.
     ghost height: { ℕ };
+
+    /// The ledger of the entries, with a part for each slot and for each seat.
+    ghost entries: { ℕ };
 
     ghost slots: { ℕ };
 
@@ -32,6 +35,8 @@ impl Names for Brand {
     ghost page_parts = { 0 };
 
     ghost height = { 0 };
+
+    ghost entries = { 0 };
 
     ghost slots = { 0 };
 
@@ -55,9 +60,20 @@ impl<N: Names> OfHeight for Pages<N> {
     ghost height = { N.height };
 }
 
+/// The ledger of the entries that a system's slots have and that its seats may still make.
+pub struct Entries<N: Names> {
+    names: PhantomData<N>,
+}
+
+impl<N: Names> Ledger for Entries<N> {
+    ghost name = { N.entries };
+
+    ghost parts = { N.slots + N.seats };
+}
+
 /// A text of a system.
 pub type TextOf<N> = Text<Pages<N>>;
 
 pub(crate) type SlotOf<N> = TextSlot<Pages<N>>;
 
-pub(crate) type WaitingOf<N> = ListWaiting<TextOf<N>>;
+pub(crate) type WaitingOf<N> = IndexWaiting<TextOf<N>>;

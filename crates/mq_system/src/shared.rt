@@ -4,5 +4,7 @@ mod calls;
 mod keys;
 mod slot;
 
+pub use crate::names::Entries;
+pub use crate::tally::Tally;
 pub use keys::Keys;
 pub use slot::SharedSlot;

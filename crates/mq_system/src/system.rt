@@ -1,26 +1,33 @@
 ghost use Rattle.std.specs.Prelude.{◌≡◌, ◌↔◌, ◌<◌, ◌≤◌, ℕ, true, false, length, nat_lt, replicate};
-ghost use Rattle.std.specs.Prelude.{vec_len, vec_capacity, IfOk, IsErrOf};
+ghost use Rattle.std.specs.Prelude.{vec_len, IfOk, IsErrOf};
 ghost use Rattle.mq_one_thread.specs.Limits.{keeps_limits};
-ghost use Rattle.mq_system.specs.Seat.{AreNumbered};
+ghost use Rattle.mq_system.specs.Seat.{AreFresh, AreNumbered};
 ghost use Rattle.mq_system.specs.Sizes.{AreNames};
 
+use crate::names::Entries;
+use crate::parts::{fill_places, make_seats};
 use crate::place::Place;
-use crate::shared::{Keys, SharedSlot};
-use crate::{Config, DraftError, Names, Pages, Pledge, Seat, SysError, TextOf};
+use crate::shared::Keys;
+use crate::tally::Tally;
+use crate::{Blanks, Config, DraftError, Names, Pages, Pledge, Seat, SysError, TextOf};
 use mq_arena::{Arena, Homecoming, LEDGER_PARTS, Unopened};
 use mq_message::{Text, order_for};
 use mq_one_thread::ClosedSlot;
 use mq_queue::MSGMAX;
 use mq_table::MAX_SLOTS;
 use std::alloc::Global;
-use std::marker::{Model, PhantomData};
-use std::sync::ledger::Blank;
+use std::marker::Model;
+use std::sync::ledger::{Share, Total};
 use std::sync::{Mutex, Wait};
 
 /// The queues of several threads, by the calls of the manual. `close` ends it.
 pub struct System<P: Pledge, N: Names> {
     pub(crate) places: Vec<Place<P, N>>,
     pub(crate) keys: Mutex<Keys<N>>,
+    /// What the parts of all slots and seats have together.
+    pub(crate) total: Total<Entries<N>>,
+    /// Where `close` gathers them. Nobody locks it: a share is not shared among threads.
+    pub(crate) rest: Mutex<Share<Entries<N>>>,
     pub(crate) arena: Arena<Pages<N>>,
     pub(crate) last_seq: u32,
     /// Room for what `close` answers.
@@ -35,51 +42,23 @@ impl<P: Pledge, N: Names> Model for System<P, N> {
 
     ghost view = { λ s. s.last_seq };
 
-    ghost invariant = { λ s. IsWhole N.slots N.last_seq (vec_len s.places) s.last_seq
-        s.closed.items (vec_capacity s.closed) };
-}
-
-/// The places of slots in which no queue was made, as many as there is room for.
-fn fill_places<P: Pledge, N: Names>(alloc: Global, places: &mut Vec<Place<P, N>>, count: u8)
-    requires count { count ≡ N.slots }
-    requires few { count ≤ MAX_SLOTS }
-    requires empty { vec_len places.old ≡ 0 }
-    requires room { count ≤ vec_capacity places.old }
-    ensures { vec_len places.new ≡ count }
-{
-    for number in 0..count {
-        places.push_reserved(Place::new(SharedSlot::new(alloc, number)));
-    }
-}
-
-/// The seats, numbered from 1.
-fn fill_seats<N: Names>(seats: &mut Vec<Seat<N>>, count: u16)
-    requires count { count ≡ N.seats }
-    requires empty { length seats.old.items ≡ 0 }
-    requires room { count ≤ vec_capacity seats.old }
-    ensures count { length seats.new.items ≡ count }
-    ensures numbers { AreNumbered seats.new.items }
-{
-    for before in 0..count {
-        seats.push_reserved(Seat {
-            number: before + 1,
-            names: PhantomData,
-        });
-    }
+    ghost invariant = { λ s. IsWhole N.slots N.seats N.last_seq (vec_len s.places) s.last_seq
+        s.closed.items (vec_capacity s.closed) s.total.parts s.total.amount };
 }
 
 impl<P: Pledge, N: Names> System<P, N> {
     /// A system in which no queue is made and nothing is lent, and its seats in the order of their
-    /// numbers. A ledger of more parts than an arena has pages counts for it.
+    /// numbers. `Blanks::of` has the ledgers that it wants.
     pub fn new(
         alloc: Global,
         config: Config,
-        ledger: Blank,
+        blanks: Blanks,
     ) -> Result<(System<P, N>, Vec<Seat<N>>), SysError>
-        requires names { AreNames N.Names ledger config }
-        requires enough { LEDGER_PARTS ≤ ledger.parts }
+        requires names { AreNames N.Names blanks config }
+        requires enough { LEDGER_PARTS ≤ blanks.pages.parts }
         ensures seats { IfOk result (λ r. vec_len r.1 ≡ N.seats) }
         ensures numbers { IfOk result (λ r. AreNumbered r.1.items) }
+        ensures fresh { IfOk result (λ r. AreFresh N.slots r.1.items) }
         ensures err { IsErrOf result SysError.Config ↔ (keeps_limits config ≡ false) }
     {
         if !config.is_valid() {
@@ -94,16 +73,20 @@ impl<P: Pledge, N: Names> System<P, N> {
         let Ok(mut places) = Vec::with_capacity(alloc, config.slots as usize) else {
             return Err(SysError::Memory);
         };
-        let Ok(mut seats) = Vec::with_capacity(alloc, config.seats as usize) else {
+        let Blanks { pages, entries } = blanks;
+        let mut tally = Tally::new(entries);
+        let Ok(seats) = make_seats(alloc, &mut tally, config.seats, config.slots) else {
             places.destroy_empty();
             return Err(SysError::Memory);
         };
-        fill_places(alloc, &mut places, config.slots);
-        fill_seats(&mut seats, config.seats);
+        fill_places(alloc, &mut places, &mut tally, config.slots);
+        let (total, rest) = tally.close();
         let system = System {
             places,
             keys: Mutex::new(Keys::new(alloc)),
-            arena: Arena::new(arena.open::<Pages<N>>(ledger)),
+            total,
+            rest: Mutex::new(rest),
+            arena: Arena::new(arena.open::<Pages<N>>(pages)),
             last_seq: config.last_seq,
             closed,
         };

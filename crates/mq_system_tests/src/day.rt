@@ -3,12 +3,11 @@ ghost use Rattle.std.specs.Prelude.{◌≡◌, ◌≤◌};
 ghost use Rattle.mq_system.specs.Sizes.{AreNames};
 
 use mq_arena::LEDGER_PARTS;
-use mq_system::{Closed, ClosedSlot, Config, Names, Pledge, Seat, SysError, System};
+use mq_system::{Blanks, Closed, ClosedSlot, Config, Names, Pledge, Seat, SysError, System};
 use std::alloc::Global;
 use std::marker::Brand;
 use std::process::Abort;
 use std::sync::Wait;
-use std::sync::ledger::Blank;
 use std::thread::Threads;
 
 /// Nothing is pledged of what is sent.
@@ -42,13 +41,13 @@ fn lived<P: Pledge, N: Names, D: Day<P>, R: Abort + Threads + Wait>(
     rt: &R,
     alloc: Global,
     config: Config,
-    ledger: Blank,
+    blanks: Blanks,
     day: &D,
 ) -> Result<Left, SysError>
-    requires names { AreNames N.Names ledger config }
-    requires enough { LEDGER_PARTS ≤ ledger.parts }
+    requires names { AreNames N.Names blanks config }
+    requires enough { LEDGER_PARTS ≤ blanks.pages.parts }
 {
-    let (system, mut seats) = System::<P, N>::new(alloc, config, ledger)?;
+    let (system, mut seats) = System::<P, N>::new(alloc, config, blanks)?;
     day.spend(rt, alloc, config, &system, seats.as_mut_slice());
     let Closed { slots, arena } = system.close(seats);
     Ok(Left {
@@ -63,7 +62,7 @@ fn lives_once<P: Pledge, D: Day<P>, R: Abort + Threads + Wait>(
     config: Config,
     day: &D,
 ) -> Result<Left, SysError> {
-    lived::<P, Brand, D, R>(rt, alloc, config, Blank::new(LEDGER_PARTS), day)
+    lived::<P, Brand, D, R>(rt, alloc, config, Blanks::of(config), day)
 }
 
 /// A system of this size lives this day. It is made once more where there was no memory for it.

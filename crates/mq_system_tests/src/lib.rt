@@ -11,6 +11,8 @@ mod ids;
 #[cfg(test)]
 mod limits;
 #[cfg(test)]
+mod list;
+#[cfg(test)]
 mod shared;
 #[cfg(test)]
 mod shown;

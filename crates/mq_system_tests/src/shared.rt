@@ -1,21 +1,26 @@
-//! A slot and the keys, as they are under their locks: each of their functions once.
+//! A slot and the keys as they are under their locks, a seat, and the tally of whose ledger they
+//! have parts: each of their functions once.
 ghost use Rattle.std.specs.Prelude.{◌≡◌, ◌<◌, ◌≤◌, length};
+ghost use Rattle.mq_system.specs.Sizes.{AreNames};
 
-use crate::calls::{has, holds, seat};
-use crate::day::{Anything, Day, config, left_by};
-use mq_arena::Homecoming;
-use mq_select::{ListWaiting, Selection, Waiting};
-use mq_system::shared::{Keys, SharedSlot};
-use mq_system::{Config, Delivered, Errno, MAX_SEQ, Names, Refused, Removal, Seat, System, TextOf};
+use crate::calls::{has, holds};
+use crate::day::{Anything, config};
+use mq_arena::{ArenaState, Homecoming, LEDGER_PARTS, Unopened};
+use mq_index::IndexWaiting;
+use mq_message::Text;
+use mq_select::{Selection, Waiting};
+use mq_system::shared::{Keys, SharedSlot, Tally};
+use mq_system::{
+    Blanks, Config, Delivered, Errno, MAX_SEQ, Names, Pages, Refused, Removal, Seat, TextOf,
+};
 use mq_table::Id;
 use std::alloc::Global;
+use std::marker::Brand;
 use std::process::Abort;
-use std::sync::Wait;
-use std::thread::Threads;
 
 /// A queue is made in a new slot, under key 5.
-fn made<N: Names>(
-    rt: &impl Abort,
+fn made<N: Names, R: Abort>(
+    rt: &R,
     slot: &mut SharedSlot<Anything, N>,
     keys: &mut Keys<N>,
     seat: &mut Seat<N>,
@@ -55,8 +60,8 @@ fn made<N: Names>(
     );
 }
 
-fn sent<N: Names>(
-    rt: &impl Abort,
+fn sent<N: Names, R: Abort>(
+    rt: &R,
     slot: &mut SharedSlot<Anything, N>,
     seat: &mut Seat<N>,
     text: TextOf<N>,
@@ -76,8 +81,8 @@ fn sent<N: Names>(
     holds(rt, row.live && row.made == 1 && row.key == 5, "its row");
 }
 
-fn received<N: Names>(
-    rt: &impl Abort,
+fn received<N: Names, R: Abort>(
+    rt: &R,
     slot: &mut SharedSlot<Anything, N>,
     seat: &mut Seat<N>,
 ) -> TextOf<N>
@@ -108,7 +113,7 @@ fn received<N: Names>(
 }
 
 /// A quota over the limit is refused, and one of nothing is set.
-fn changed<N: Names>(rt: &impl Abort, slot: &mut SharedSlot<Anything, N>, seat: &mut Seat<N>)
+fn changed<N: Names, R: Abort>(rt: &R, slot: &mut SharedSlot<Anything, N>, seat: &mut Seat<N>)
     requires number { slot.old.number ≡ 0 }
     ensures number { slot.new.number ≡ 0 }
 {
@@ -129,8 +134,8 @@ fn changed<N: Names>(rt: &impl Abort, slot: &mut SharedSlot<Anything, N>, seat: 
 }
 
 /// The queue is removed with nothing in it.
-fn removed<N: Names>(
-    rt: &impl Abort,
+fn removed<N: Names, R: Abort>(
+    rt: &R,
     slot: &mut SharedSlot<Anything, N>,
     keys: &mut Keys<N>,
     seat: &mut Seat<N>,
@@ -158,7 +163,7 @@ fn removed<N: Names>(
 }
 
 /// Nothing waits.
-fn ended<N: Names>(rt: &impl Abort, waiting: ListWaiting<TextOf<N>>) {
+fn ended<N: Names>(rt: &impl Abort, waiting: IndexWaiting<TextOf<N>>) {
     let mut waiting = waiting;
     match waiting.pop_any() {
         None => waiting.end(),
@@ -166,52 +171,87 @@ fn ended<N: Names>(rt: &impl Abort, waiting: ListWaiting<TextOf<N>>) {
     }
 }
 
-/// The slot after its queue is removed.
-fn taken_apart<N: Names>(rt: &impl Abort, slot: SharedSlot<Anything, N>) {
-    let (past, live) = slot.into_slot().into_parts();
+/// All is over: the slot's queue is removed, and what its entries and the seat's counts are of is
+/// whole.
+fn taken_apart<N: Names>(
+    rt: &impl Abort,
+    slot: SharedSlot<Anything, N>,
+    seat: Seat<N>,
+    tally: Tally<N>,
+)
+    requires slots { N.slots ≡ 1 }
+    requires seats { N.seats ≡ 1 }
+{
+    let (total, _rest) = tally.close();
+    let (slot, mut parts) = slot.into_parts();
+    let (past, live) = slot.into_parts();
     match live {
         None => holds(rt, past.len() == 5, "all that happened in it"),
         Some(_queue) => panic!(rt; "a removed queue is there"),
     }
+    parts.merge(seat.into_part());
+    total.audit(&mut parts);
 }
 
-#[derive(Drop)]
-struct Apart;
-
-impl Day<Anything> for Apart {
-    fn spend<N: Names, R: Abort + Threads + Wait>(
-        &self,
-        rt: &R,
-        alloc: Global,
-        config: Config,
-        system: &System<Anything, N>,
-        seats: &mut [Seat<N>],
-    ) {
-        if system.slots() == 0 || config.last_seq > MAX_SEQ {
-            panic!(rt; "the system is not of its size");
-        }
-        let Ok(text) = system.draft_of(rt, b"hi") else {
-            panic!(rt; "no page");
-        };
-        let seat = seat(rt, seats, 0);
-        let mut keys = Keys::<N>::new(alloc);
-        let mut slot = SharedSlot::<Anything, N>::new(alloc, 0);
-        made(rt, &mut slot, &mut keys, seat, config.last_seq);
-        sent(rt, &mut slot, seat, text);
-        let text = received(rt, &mut slot, seat);
-        changed(rt, &mut slot, seat);
-        removed(rt, &mut slot, &mut keys, seat);
-        taken_apart(rt, slot);
-        holds(
-            rt,
-            system.spend(rt, text) == Homecoming::Home,
-            "the text comes home",
-        );
+/// A text of an arena of its own.
+fn drafted<N: Names>(rt: &impl Abort, arena: &mut ArenaState<Pages<N>>) -> TextOf<N> {
+    match arena.take_filled(0, b"hi") {
+        Some(block) => Text::of(block, 2),
+        None => panic!(rt; "no page"),
     }
+}
+
+/// The text comes home.
+fn spent<N: Names>(rt: &impl Abort, arena: &mut ArenaState<Pages<N>>, text: TextOf<N>) {
+    match text.into_block() {
+        Some(block) => holds(
+            rt,
+            arena.put(block) == Homecoming::Home,
+            "the text comes home",
+        ),
+        None => panic!(rt; "the text has no block"),
+    }
+}
+
+/// A day of one slot and one seat, each by itself.
+fn apart<N: Names, R: Abort>(rt: &R, alloc: Global, config: Config, blanks: Blanks)
+    requires names { AreNames N.Names blanks config }
+    requires enough { LEDGER_PARTS ≤ blanks.pages.parts }
+{
+    if config.slots != 1 || config.seats != 1 || config.last_seq > MAX_SEQ {
+        panic!(rt; "another size");
+    }
+    let Ok(unopened) = Unopened::new(alloc, config.height) else {
+        panic!(rt; "out of memory");
+    };
+    let Blanks { pages, entries } = blanks;
+    let mut tally = Tally::<N>::new(entries);
+    let mut slot = SharedSlot::<Anything, N>::new(alloc, 0, tally.slot_part());
+    let Ok(mut seat) = Seat::new(alloc, 1, 1, tally.seat_part(1)) else {
+        panic!(rt; "out of memory");
+    };
+    let mut arena = unopened.open::<Pages<N>>(pages);
+    let mut keys = Keys::<N>::new(alloc);
+    made(rt, &mut slot, &mut keys, &mut seat, config.last_seq);
+    let text = drafted(rt, &mut arena);
+    sent(rt, &mut slot, &mut seat, text);
+    let text = received(rt, &mut slot, &mut seat);
+    spent(rt, &mut arena, text);
+    changed(rt, &mut slot, &mut seat);
+    removed(rt, &mut slot, &mut keys, &mut seat);
+    holds(rt, seat.count(0) == 5, "each change counts once");
+    taken_apart(rt, slot, seat, tally);
+}
+
+fn apart_once<R: Abort>(rt: &R, alloc: Global, config: Config) {
+    apart::<Brand, R>(rt, alloc, config, Blanks::of(config));
 }
 
 #[test]
 fn a_slot_and_the_keys_answer_by_themselves(rt: HostRuntime) {
-    let left = left_by(&rt, rt.alloc(), config(0, 1, 9), &Apart);
-    holds(&rt, left.free_pages == 1, "the page is free");
+    let config = Config {
+        seats: 1,
+        ..config(0, 1, 9)
+    };
+    apart_once(&rt, rt.alloc(), config);
 }

@@ -196,6 +196,25 @@ fn called<N: Names, R: Abort + Wait>(
     }
 }
 
+/// How many changes the seats made in all slots.
+fn changes<N: Names>(system: &System<Anything, N>, seats: &[Seat<N>]) -> u64 {
+    let mut all = 0u64;
+    for seat in seats.iter() {
+        for slot in 0..system.slots() {
+            all = all.wrapping_add(seat.count(slot as usize));
+        }
+    }
+    all
+}
+
+/// How many changes a call made that answers so.
+fn counts(answer: Answer) -> u64 {
+    match answer {
+        Answer::Id(_, Some(_)) | Answer::At(_) | Answer::Got(..) | Answer::Removed(..) => 1,
+        _ => 0,
+    }
+}
+
 /// A day of these calls, one after another.
 #[derive(Drop)]
 struct Table<'t> {
@@ -213,8 +232,12 @@ impl<'t> Day<Anything> for Table<'t> {
     ) {
         let mut moment = 0u64;
         for (step, wanted) in self.steps {
+            let before = changes(system, seats);
             if called(rt, system, seats, *step, moment) != *wanted {
                 panic!(rt; "call {moment} answers otherwise");
+            }
+            if changes(system, seats) != before.wrapping_add(counts(*wanted)) {
+                panic!(rt; "call {moment} counts otherwise");
             }
             moment = moment.saturating_add(1);
         }

@@ -135,6 +135,13 @@ impl Day<Anything> for OneLife {
         let text = refused(rt, system, seats);
         sent(rt, system, seats, text);
         removed(rt, system, seats);
+        if system.slots() == 0 {
+            panic!(rt; "there is no slot");
+        }
+        let made = seat(rt, seats, 0).count(0);
+        holds(rt, made == 3, "seat 1 made, sent and removed");
+        let made = seat(rt, seats, 1).count(0);
+        holds(rt, made == 0, "seat 2 was refused");
     }
 }
 

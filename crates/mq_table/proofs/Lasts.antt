@@ -4,7 +4,8 @@ use Rattle.std.proofs.lemmas.List.{append-nil, length-append}
 use Rattle.std.proofs.lemmas.Grind.{common_steps}
 use Rattle.mq_queue.specs.declared.event.Event.{Event}
 use Rattle.mq_queue.specs.Log.{is_made}
-use Rattle.mq_table.specs.SlotList.{is_live, last_log, live_log, log_after, offset}
+use Rattle.mq_queue.specs.Row.{is_live, log_after, last_log}
+use Rattle.mq_table.specs.SlotList.{live_log, offset}
 
 -- the events before the last log, where these come after a log
 record EndsWith (whole log events : List Event) : Type 0 where

@@ -7,7 +7,7 @@ use Rattle.std.proofs.lemmas.List.Sums.{fold-append, sum_by-append}
 use Rattle.mq_queue.specs.declared.event.Event.{Event}
 use Rattle.mq_queue.specs.Lawful.{Lawful, AllFollow}
 use Rattle.mq_queue.specs.Log.{is_empty, is_made, is_removed, ends_with_removed}
-use Rattle.mq_table.specs.SlotList.{made_count, is_live, last_log, log_after}
+use Rattle.mq_queue.specs.Row.{made_count, is_live, log_after, last_log}
 
 -- a list with one more event is not empty
 pub begun : (before : List Event) (event : Event) → is_empty (before ++ event ∷ []) ≡ false

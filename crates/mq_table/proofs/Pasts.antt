@@ -7,8 +7,9 @@ use Rattle.std.proofs.Math.Seq.{take-append_seam}
 use Rattle.mq_queue.specs.declared.event.Event.{Event}
 use Rattle.mq_queue.specs.Lawful.{Lawful}
 use Rattle.mq_queue.specs.Log.{ends_with_removed}
+use Rattle.mq_queue.specs.Row.{made_count, is_live}
 use Rattle.mq_table.specs.Slot.{IsEnded, ArePast}
-use Rattle.mq_table.specs.SlotList.{made_count, is_live, live_log, joined, IsSlotList}
+use Rattle.mq_table.specs.SlotList.{live_log, joined, IsSlotList}
 use Rattle.mq_table.proofs.Logs.{counted, gone, made_once}
 
 -- one more log goes last

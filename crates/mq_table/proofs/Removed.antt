@@ -9,7 +9,8 @@ use Rattle.std.proofs.lemmas.List.Elements.{All-tail}
 use Rattle.mq_queue.specs.declared.event.Event.{Event}
 use Rattle.mq_queue.specs.Lawful.{Lawful, AllFollow}
 use Rattle.mq_queue.specs.Log.{is_empty, is_made, ends_with_removed}
-use Rattle.mq_table.specs.SlotList.{made_count, is_live, joined, IsSlotList, standing, Never, Live, Removed}
+use Rattle.mq_queue.specs.Row.{made_count, is_live}
+use Rattle.mq_table.specs.SlotList.{joined, IsSlotList, standing, Never, Live, Removed}
 use Rattle.mq_table.proofs.Logs.{counted, ends_as}
 
 -- in these lists an event comes next after the events before it: it is a making, or comes after

@@ -9,7 +9,7 @@ use Rattle.mq_queue.specs.Figures.{figures, no_figures}
 use Rattle.mq_queue.specs.Lawful.{Lawful, AllFollow}
 use Rattle.mq_queue.specs.Log.{is_empty, is_made, key_told, made_key}
 use Rattle.mq_queue.specs.Queue.{Queue}
-use Rattle.mq_table.specs.Shown.{row}
+use Rattle.mq_queue.specs.Row.{row}
 use Rattle.mq_table.specs.Slot.{SlotState, IsSlot, slot_with}
 use Rattle.mq_table.proofs.Logs.{begun, live_is}
 use Rattle.mq_table.proofs.Pasts.{none_live}

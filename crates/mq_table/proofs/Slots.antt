@@ -6,9 +6,10 @@ use Rattle.mq_queue.specs.declared.event.Event.TheVariants as event
 use Rattle.mq_queue.specs.Lawful.{Lawful}
 use Rattle.mq_queue.specs.Log.{ends_with_removed}
 use Rattle.mq_queue.specs.Queue.{Queue, IsSound}
+use Rattle.mq_queue.specs.Row.{made_count, is_live, last_log}
 use Rattle.mq_table.specs.Slot.{SlotState, IsSlot, Waits, slot_with, log_of}
 use Rattle.mq_table.specs.declared.limits.TheConstants.{MAX_SEQ}
-use Rattle.mq_table.specs.SlotList.{made_count, is_live, last_log, offset, IsSlotList}
+use Rattle.mq_table.specs.SlotList.{offset, IsSlotList}
 use Rattle.mq_table.proofs.Logs.{last_log_is, live_is, made_more, ends_as}
 use Rattle.mq_table.proofs.Pasts.{none_live, past_grows, list_of_past, list_of_live}
 

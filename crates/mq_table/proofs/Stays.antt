@@ -11,10 +11,11 @@ use Rattle.mq_queue.specs.declared.event.Event.TheVariants as event
 use Rattle.mq_queue.specs.Answer.{send_refusal, receive_answer, set_refusal}
 use Rattle.mq_queue.specs.Log.{is_made, is_removed, key_told, made_key}
 use Rattle.mq_queue.specs.Room.{quota}
+use Rattle.mq_queue.specs.Row.{made_count, is_live, log_after, last_log}
 use Rattle.mq_queue.specs.Waiting.{waiting}
 use Rattle.mq_table.specs.Calls.{Turn, Receipt, goes_on, unless, received, sends, receives, sets, makes, removes}
 use Rattle.mq_table.specs.Slot.{SlotState}
-use Rattle.mq_table.specs.SlotList.{made_count, is_live, last_log, log_after, IsSlotList}
+use Rattle.mq_table.specs.SlotList.{IsSlotList}
 use Rattle.mq_table.proofs.Logs.{begun, counted, ends_as}
 use Rattle.mq_table.proofs.Pasts.{list_counted}
 

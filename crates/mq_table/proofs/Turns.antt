@@ -8,13 +8,16 @@ use Rattle.mq_queue.specs.declared.error.QueueError.TheVariants.{Memory}
 use Rattle.mq_queue.specs.declared.event.Event.{Event}
 use Rattle.mq_queue.specs.declared.event.Event.TheVariants as event
 use Rattle.mq_queue.specs.Answer.{send_refusal, receive_answer, refusal_or_memory}
+use Rattle.mq_queue.specs.Figures.{figures}
 use Rattle.mq_queue.specs.Queue.{Queue, IsSound}
 use Rattle.mq_queue.specs.Room.{quota}
+use Rattle.mq_queue.specs.Row.{is_live, last_log, slot_figures}
 use Rattle.mq_queue.specs.Waiting.{waiting}
 use Rattle.mq_table.specs.Calls.{goes_on, sends, receives, refusal_of, unless, received}
 use Rattle.mq_table.specs.Slot.{SlotState, IsSlot, Waits, slot_with}
-use Rattle.mq_table.specs.SlotList.{is_live, last_log, IsSlotList}
+use Rattle.mq_table.specs.SlotList.{IsSlotList}
 use Rattle.mq_table.specs.declared.limits.TheConstants.{MAX_SEQ}
+use Rattle.mq_table.proofs.Logs.{live_is}
 use Rattle.mq_table.proofs.Slots.{is_there, its_log, kept, list_of, waits_of}
 
 -- a call is refused for the reason that is named, or else because memory ran out
@@ -73,6 +76,12 @@ module _ {B : Type 0} (bytes : B → List ℕ) (number made : ℕ) (past : List 
 
       pub next_waits : Waits bytes (slot_with number past (Some q'))
       next_waits = waits_of bytes number made past (Some q') next
+
+      -- whose figures are those of its queue
+      pub next_figures : slot_figures (past ++ q'.log) ≡ figures q'.log
+      next_figures =
+          rw (live_is past q'.log sound.lawful sound.live, its_log bytes number made past q' next)
+          refl
 
     module _ (q' : Queue B) (entry : ℕ) (placed : entry ≡ length s.events) where
       pub sent_is : (m : Message B) (moment : ℕ)

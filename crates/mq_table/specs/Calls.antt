@@ -10,9 +10,9 @@ use Rattle.mq_queue.specs.declared.received.Received.{Received}
 use Rattle.mq_queue.specs.declared.event.Event.TheVariants as event
 use Rattle.mq_queue.specs.Answer.{send_refusal, receive_answer, set_refusal}
 use Rattle.mq_queue.specs.Room.{quota}
+use Rattle.mq_queue.specs.Row.{last_log}
 use Rattle.mq_queue.specs.Waiting.{waiting}
 use Rattle.mq_table.specs.Slot.{SlotState}
-use Rattle.mq_table.specs.SlotList.{last_log}
 
 -- what a call answers, with the slot that it leaves; or why the call is refused
 abbrev pub Turn : Type 0 → Type 0 → Type 0

@@ -5,9 +5,10 @@ use Rattle.mq_queue.specs.declared.event.Event.{Event}
 use Rattle.mq_queue.specs.Lawful.{Lawful}
 use Rattle.mq_queue.specs.Log.{ends_with_removed}
 use Rattle.mq_queue.specs.Queue.{Queue, IsSound}
+use Rattle.mq_queue.specs.Row.{made_count}
 use Rattle.mq_queue.specs.Waiting.{headers_of, waiting}
 use Rattle.mq_table.specs.Ids.{id_of}
-use Rattle.mq_table.specs.SlotList.{made_count, joined, live_log}
+use Rattle.mq_table.specs.SlotList.{joined, live_log}
 use Rattle.mq_table.specs.declared.limits.TheConstants.{MAX_SLOTS, MAX_SEQ}
 
 -- a slot: its number, all that happened in it, and what waits in the queue that is in it now, each

@@ -1,25 +1,10 @@
 -- The slot list: all that happened in a slot, in which queues are made and removed one after
 -- another.
-use Rattle.std.specs.Prelude.{◌≡◌, ℕ, ◌+◌, ◌-◌, ◌≤◌, ◌==◌, nat_le, Bool, true, not, ◌&&◌, if◌then◌else◌, List, [], ◌∷◌, ◌++◌, length, take, fold, count_by, All}
+use Rattle.std.specs.Prelude.{◌≡◌, ℕ, ◌+◌, ◌-◌, ◌≤◌, ◌==◌, nat_le, Bool, true, not, ◌&&◌, if◌then◌else◌, List, [], ◌∷◌, ◌++◌, length, take, All}
 use Rattle.mq_queue.specs.declared.event.Event.{Event}
 use Rattle.mq_queue.specs.Lawful.{Lawful}
-use Rattle.mq_queue.specs.Log.{is_empty, is_made, ends_with_removed}
-
--- how many queues were made in the slot
-abbrev pub made_count : List Event → ℕ
-made_count events = count_by is_made events
-
--- whether a queue is in the slot now: one was made, and it was not removed
-abbrev pub is_live : List Event → Bool
-is_live events = not (is_empty events) && not (ends_with_removed events)
-
--- the log after one more event: a making begins a new one
-abbrev pub log_after : List Event → Event → List Event
-log_after log event = if is_made event then event ∷ [] else log ++ event ∷ []
-
--- the log of the queue that was made last
-abbrev pub last_log : List Event → List Event
-last_log events = fold log_after [] events
+use Rattle.mq_queue.specs.Log.{ends_with_removed}
+use Rattle.mq_queue.specs.Row.{made_count, is_live, last_log}
 
 -- the log of the queue that is in the slot now, or no event where none is
 abbrev pub live_log : List Event → List Event

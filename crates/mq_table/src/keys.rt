@@ -1,4 +1,4 @@
-ghost use Rattle.std.specs.Prelude.{◌≡◌, ◌≢◌, ◌==◌, not, ◌++◌, ◌∷◌, [], None, Some, pos, length, slice_get};
+ghost use Rattle.std.specs.Prelude.{◌≡◌, ◌≢◌, ◌<◌, ◌==◌, ℤ, ℕ, not, ◌++◌, ◌∷◌, [], None, Some, pos, length, slice_get};
 ghost use Rattle.std.specs.Prelude.{OnOk, OnErr};
 ghost use Rattle.std.specs.Option.{option_map};
 ghost use Rattle.std.specs.Ordering.{int_eq};
@@ -78,6 +78,15 @@ impl KeyTable {
                 ensures { (result ≡ not (int_eq entry.now key)) × (id.new ≡ id.old) }
             { *entry != key },
         );
+    }
+
+    /// Takes out the entry that was entered last.
+    pub fn drop_last(&mut self)
+        requires { 0 < length self.old }
+        ensures last { (entry : ℤ × ℕ) × (self.old ≡ self.new ++ entry ∷ []) }
+        ensures keys { AreKeys self.new }
+    {
+        let _last = self.ids.pop();
     }
 
     pub fn len(&self) -> usize

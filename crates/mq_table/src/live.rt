@@ -1,17 +1,18 @@
 ghost use Rattle.std.specs.Prelude.{◌≡◌, true, Ok, length, min, take};
-ghost use Rattle.std.specs.Prelude.{OnErr, IfOk, IfErr, IsSomeAnd};
+ghost use Rattle.std.specs.Prelude.{OnOk, OnErr, IfOk, IfErr, IsSomeAnd};
 ghost use Rattle.mq_queue.specs.Answer.{receive_answer, receive_refusal, received_header, send_refusal};
 ghost use Rattle.mq_queue.specs.Figures.{figures};
 ghost use Rattle.mq_queue.specs.Room.{quota};
+ghost use Rattle.mq_queue.specs.Row.{is_live, last_log, slot_figures};
 ghost use Rattle.mq_queue.specs.Waiting.{header_of, waiting};
 ghost use Rattle.mq_select.specs.Waiting.{message_at};
 ghost use Rattle.mq_table.specs.Calls.{sends, receives, sets, refusal_of, receipt_of};
 ghost use Rattle.mq_table.specs.Slot.{Waits};
-ghost use Rattle.mq_table.specs.SlotList.{is_live, last_log, IsSlotList};
+ghost use Rattle.mq_table.specs.SlotList.{IsSlotList};
 
 use crate::{MAX_SEQ, Slot};
 use mq_message::{Body, Message};
-use mq_queue::{Figures, QueueError, Received};
+use mq_queue::{Event, Figures, Notice, QueueError, Received};
 use mq_select::{Selection, Waiting};
 
 impl<B: Body, W: Waiting<B>> Slot<B, W> {
@@ -47,11 +48,13 @@ impl<B: Body, W: Waiting<B>> Slot<B, W> {
     }
 
     /// Sends a message to the queue that is in the slot, and answers the entry of the event in the
-    /// slot list (msgop(2), msgsnd with IPC_NOWAIT). A message that is refused is handed back.
-    pub fn send(
+    /// slot list (msgop(2), msgsnd with IPC_NOWAIT). A message that is refused is handed back. The
+    /// notice takes the event in, with the figures after it.
+    pub fn send<N: Notice>(
         &mut self,
         message: Message<B>,
         moment: u64,
+        notice: &mut N,
     ) -> Result<u64, (QueueError, Message<B>)>
         requires live { is_live self.old.events ≡ true }
         ensures ok { IfOk result (λ entry.
@@ -62,24 +65,30 @@ impl<B: Body, W: Waiting<B>> Slot<B, W> {
         ensures unchanged { OnErr result (self.new ≡ self.old) }
         ensures lawful { IsSlotList MAX_SEQ self.new.events }
         ensures waits { Waits B.bytes self.new }
+        ensures noticed { OnOk result (N.takes notice.old (Event.Sent message.sender moment
+            message.tag message.mtype (length (B.bytes message.body)))
+            (slot_figures self.new.events) notice.new) }
+        ensures unnoticed { OnErr result (notice.new ≡ notice.old) }
     {
         let entry = self.events();
         let Some(queue) = &mut self.live else {
             unreachable!()
         };
-        queue.send(message, moment)?;
+        queue.send(message, moment, notice)?;
         Ok(entry)
     }
 
     /// Receives a message from the queue that is in the slot (msgop(2), msgrcv with IPC_NOWAIT).
-    /// The entry that is answered counts from the beginning of the slot list.
-    pub fn receive(
+    /// The entry that is answered counts from the beginning of the slot list. The notice takes the
+    /// event in, with the figures after it.
+    pub fn receive<N: Notice>(
         &mut self,
         size: u64,
         selection: Selection,
         noerror: bool,
         seat: u16,
         moment: u64,
+        notice: &mut N,
     ) -> Result<Received<B>, QueueError>
         requires live { is_live self.old.events ≡ true }
         ensures ok { IfOk result (λ r.
@@ -94,18 +103,28 @@ impl<B: Body, W: Waiting<B>> Slot<B, W> {
         ensures unchanged { OnErr result (self.new ≡ self.old) }
         ensures lawful { IsSlotList MAX_SEQ self.new.events }
         ensures waits { Waits B.bytes self.new }
+        ensures noticed { IfOk result (λ r. N.takes notice.old
+            (Event.Received seat moment r.place selection size noerror)
+            (slot_figures self.new.events) notice.new) }
+        ensures unnoticed { OnErr result (notice.new ≡ notice.old) }
     {
         let entry = self.events();
         let Some(queue) = &mut self.live else {
             unreachable!()
         };
-        let received = queue.receive(size, selection, noerror, seat, moment)?;
+        let received = queue.receive(size, selection, noerror, seat, moment, notice)?;
         Ok(Received { entry, ..received })
     }
 
     /// Sets the quota of the queue that is in the slot, and answers the entry of the event in the
-    /// slot list (msgctl(2), IPC_SET).
-    pub fn set(&mut self, qbytes: u64, seat: u16, moment: u64) -> Result<u64, QueueError>
+    /// slot list (msgctl(2), IPC_SET). The notice takes the event in, with the figures after it.
+    pub fn set<N: Notice>(
+        &mut self,
+        qbytes: u64,
+        seat: u16,
+        moment: u64,
+        notice: &mut N,
+    ) -> Result<u64, QueueError>
         requires live { is_live self.old.events ≡ true }
         ensures ok { IfOk result (λ entry.
             sets self.old qbytes seat moment ≡ Ok (entry, self.new)) }
@@ -113,12 +132,15 @@ impl<B: Body, W: Waiting<B>> Slot<B, W> {
         ensures unchanged { OnErr result (self.new ≡ self.old) }
         ensures lawful { IsSlotList MAX_SEQ self.new.events }
         ensures waits { Waits B.bytes self.new }
+        ensures noticed { OnOk result (N.takes notice.old (Event.Changed seat moment qbytes)
+            (slot_figures self.new.events) notice.new) }
+        ensures unnoticed { OnErr result (notice.new ≡ notice.old) }
     {
         let entry = self.events();
         let Some(queue) = &mut self.live else {
             unreachable!()
         };
-        queue.set(qbytes, seat, moment)?;
+        queue.set(qbytes, seat, moment, notice)?;
         Ok(entry)
     }
 

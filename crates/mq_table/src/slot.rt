@@ -1,15 +1,16 @@
-ghost use Rattle.std.specs.Prelude.{◌≡◌, ◌<◌, ◌≤◌, ◌+◌, ◌++◌, [], None, Some, true, false, length, slice_get, is_some};
+ghost use Rattle.std.specs.Prelude.{◌≡◌, ◌<◌, ◌≤◌, ◌+◌, ◌-◌, ◌^◌, ◌++◌, [], None, Some, true, false, length, slice_get, is_some};
 ghost use Rattle.std.specs.Prelude.{IsTrue, IfSome};
 ghost use Rattle.mq_queue.specs.Lawful.{Lawful};
 ghost use Rattle.mq_queue.specs.Log.{made_key};
+ghost use Rattle.mq_queue.specs.Row.{made_count, is_live, last_log, live_key, row};
 ghost use Rattle.mq_table.specs.Ids.{slot_of, seq_of};
-ghost use Rattle.mq_table.specs.Shown.{by_standing, live_key, row};
+ghost use Rattle.mq_table.specs.Shown.{by_standing};
 ghost use Rattle.mq_table.specs.Slot.{empty_slot, last_id, log_of, messages_of, Waits};
-ghost use Rattle.mq_table.specs.SlotList.{is_live, is_free, last_log, made_count, offset, standing, IsSlotList};
+ghost use Rattle.mq_table.specs.SlotList.{is_free, offset, standing, IsSlotList};
 
 use crate::{Id, IdRefusal, MAX_SEQ, MAX_SLOTS};
 use mq_message::Body;
-use mq_queue::{BoardRow, Event, Figures, QueueState};
+use mq_queue::{BoardRow, Event, NO_FIGURES, QueueState};
 use mq_select::Waiting;
 use std::alloc::Global;
 use std::marker::Model;
@@ -45,18 +46,6 @@ fn key_of<B: Body, W: Waiting<B>>(queue: &QueueState<B, W>) -> i32
         _ => 0,
     }
 }
-
-/// The figures where no queue is.
-const NO_FIGURES: Figures = Figures {
-    qnum: 0,
-    cbytes: 0,
-    qbytes: 0,
-    stime: 0,
-    rtime: 0,
-    ctime: 0,
-    lspid: 0,
-    lrpid: 0,
-};
 
 impl<B: Body, W: Waiting<B>> Slot<B, W> {
     /// A slot in which no queue was made.
@@ -173,7 +162,8 @@ impl<B: Body, W: Waiting<B>> Slot<B, W> {
 
     /// How many events the slot list has.
     pub fn events(&self) -> u64
-        ensures { result ≡ length self.now.events }
+        ensures value { result ≡ length self.now.events }
+        ensures small { result < 2 ^ 64 - 1 }
     {
         let past = self.past.len() as u64;
         match &self.live {

@@ -1,13 +1,14 @@
 ghost use Rattle.std.specs.Prelude.{◌≡◌, ◌+◌, ◌≤◌, ◌++◌, None, Some, true, false, length};
 ghost use Rattle.std.specs.Prelude.{OnOk, OnErr, IfOk, vec_len, vec_capacity};
 ghost use Rattle.mq_queue.specs.Queue.{IsSound};
+ghost use Rattle.mq_queue.specs.Row.{made_count, is_live, last_log, slot_figures};
 ghost use Rattle.mq_table.specs.Calls.{removes};
 ghost use Rattle.mq_table.specs.Slot.{Waits};
-ghost use Rattle.mq_table.specs.SlotList.{is_live, last_log, made_count, IsSlotList};
+ghost use Rattle.mq_table.specs.SlotList.{IsSlotList};
 
 use crate::{MAX_SEQ, Slot};
 use mq_message::Body;
-use mq_queue::{Event, Log, QueueState};
+use mq_queue::{Event, Log, Notice, QueueState};
 use mq_select::Waiting;
 use std::alloc::{AllocError, Global};
 
@@ -55,8 +56,14 @@ impl<B: Body, W: Waiting<B>> Slot<B, W> {
         put_in(&mut self.live, queue);
     }
 
-    /// Takes the queue out of the slot. Its log is kept among the past events, too.
-    pub(crate) fn take_out(&mut self, seat: u16, moment: u64) -> Result<(Log, W), AllocError>
+    /// Takes the queue out of the slot. Its log is kept among the past events, too. The notice
+    /// takes the event in, and no figures with it.
+    pub(crate) fn take_out<N: Notice>(
+        &mut self,
+        seat: u16,
+        moment: u64,
+        notice: &mut N,
+    ) -> Result<(Log, W), AllocError>
         requires live { is_live self.old.events ≡ true }
         ensures removed { OnOk result (self.new ≡ removes self.old seat moment) }
         ensures log { IfOk result (λ r. r.0 ≡ last_log self.new.events) }
@@ -64,6 +71,9 @@ impl<B: Body, W: Waiting<B>> Slot<B, W> {
         ensures unchanged { OnErr result (self.new ≡ self.old) }
         ensures lawful { IsSlotList MAX_SEQ self.new.events }
         ensures waits { Waits B.bytes self.new }
+        ensures noticed { OnOk result (N.takes notice.old (Event.Removed seat moment)
+            (slot_figures self.new.events) notice.new) }
+        ensures unnoticed { OnErr result (notice.new ≡ notice.old) }
     {
         let Some(queue) = &self.live else {
             unreachable!()
@@ -73,7 +83,7 @@ impl<B: Body, W: Waiting<B>> Slot<B, W> {
         let Some(queue) = self.live.take() else {
             unreachable!()
         };
-        match queue.remove(seat, moment) {
+        match queue.remove(seat, moment, notice) {
             Ok((log, waiting)) => {
                 append(&mut self.past, &log);
                 Ok((log, waiting))

@@ -1,24 +1,26 @@
-ghost use Rattle.std.specs.Prelude.{◌≡◌, ◌≢◌, ◌≤◌, [], None, pos, true, false};
+ghost use Rattle.std.specs.Prelude.{◌≡◌, ◌≢◌, ◌<◌, ◌≤◌, ℕ, ℤ, List, None, pos, true, false, length};
 ghost use Rattle.std.specs.Prelude.{OnOk, OnErr, IfOk};
 ghost use Rattle.mq_table.specs.Calls.{makes, removes};
 ghost use Rattle.mq_table.specs.Keys.{id_of_key, entered, forget};
 ghost use Rattle.mq_table.specs.Slot.{next_id, last_id, Waits};
-ghost use Rattle.mq_table.specs.SlotList.{is_live, last_log, made_count, IsSlotList};
+ghost use Rattle.mq_queue.specs.Row.{made_count, is_live, last_log, slot_figures};
+ghost use Rattle.mq_table.specs.SlotList.{IsSlotList};
 
 use crate::{Id, KeyTable, MAX_SEQ, Slot};
 use mq_message::Body;
-use mq_queue::{Log, QueueState};
+use mq_queue::{Event, Log, Notice, QueueState};
 use mq_select::Waiting;
 use std::alloc::AllocError;
 
 /// Makes a queue in the slot, and enters its key, which is new or 0 (msgget(2), IPC_CREAT). An
-/// `Err` means that memory ran out.
-pub fn make_under<B: Body, W: Waiting<B>>(
+/// `Err` means that memory ran out. The notice takes the event in, with the figures after it.
+pub fn make_under<B: Body, W: Waiting<B>, N: Notice>(
     keys: &mut KeyTable,
     slot: &mut Slot<B, W>,
     key: i32,
     seat: u16,
     moment: u64,
+    notice: &mut N,
 ) -> Result<Id, AllocError>
     requires empty { is_live slot.old.events ≡ false }
     requires unused { made_count slot.old.events ≤ MAX_SEQ }
@@ -29,16 +31,19 @@ pub fn make_under<B: Body, W: Waiting<B>>(
     ensures unchanged { OnErr result ((slot.new ≡ slot.old) × (keys.new ≡ keys.old)) }
     ensures lawful { IsSlotList MAX_SEQ slot.new.events }
     ensures waits { Waits B.bytes slot.new }
+    ensures noticed { OnOk result (N.takes notice.old (Event.Made seat moment key)
+        (slot_figures slot.new.events) notice.new) }
+    ensures unnoticed { OnErr result (notice.new ≡ notice.old) }
 {
     let id = Id::of(slot.number(), slot.made());
-    let queue = QueueState::made(slot.allocator(), key, seat, moment)?;
-    match enter_key(keys, key, id) {
-        Ok(()) => {
+    enter_key(keys, key, id)?;
+    match QueueState::made(slot.allocator(), key, seat, moment, notice) {
+        Ok(queue) => {
             slot.put(queue);
             Ok(id)
         }
         Err(refused) => {
-            end(queue);
+            leave_key(keys, key);
             Err(refused)
         }
     }
@@ -56,21 +61,26 @@ fn enter_key(keys: &mut KeyTable, key: i32, id: Id) -> Result<(), AllocError>
     keys.enter(key, id)
 }
 
-/// Ends a queue in which nothing waits.
-fn end<B: Body, W: Waiting<B>>(queue: QueueState<B, W>)
-    requires { queue.messages ≡ [] }
+/// Takes a key out again that was just entered.
+fn leave_key(keys: &mut KeyTable, key: i32)
+    requires { key ≢ pos 0 → 0 < length keys.old }
+    ensures { (before : List (ℤ × ℕ)) (id : ℕ) →
+        keys.old ≡ entered key id before → keys.new ≡ before }
 {
-    let (_, waiting) = queue.into_parts();
-    waiting.end();
+    if key != 0 {
+        keys.drop_last();
+    }
 }
 
 /// Removes the queue from the slot, and forgets its key (msgctl(2), IPC_RMID). The queue's log and
-/// what waited are handed out. An `Err` means that memory ran out.
-pub fn remove_under<B: Body, W: Waiting<B>>(
+/// what waited are handed out. An `Err` means that memory ran out. The notice takes the event in,
+/// and no figures with it.
+pub fn remove_under<B: Body, W: Waiting<B>, N: Notice>(
     keys: &mut KeyTable,
     slot: &mut Slot<B, W>,
     seat: u16,
     moment: u64,
+    notice: &mut N,
 ) -> Result<(Log, W), AllocError>
     requires live { is_live slot.old.events ≡ true }
     ensures removed { OnOk result (slot.new ≡ removes slot.old seat moment) }
@@ -80,9 +90,12 @@ pub fn remove_under<B: Body, W: Waiting<B>>(
     ensures unchanged { OnErr result ((slot.new ≡ slot.old) × (keys.new ≡ keys.old)) }
     ensures lawful { IsSlotList MAX_SEQ slot.new.events }
     ensures waits { Waits B.bytes slot.new }
+    ensures noticed { OnOk result (N.takes notice.old (Event.Removed seat moment)
+        (slot_figures slot.new.events) notice.new) }
+    ensures unnoticed { OnErr result (notice.new ≡ notice.old) }
 {
     let id = Id::of(slot.number(), slot.made() - 1);
-    let removed = slot.take_out(seat, moment)?;
+    let removed = slot.take_out(seat, moment, notice)?;
     keys.forget(id);
     Ok(removed)
 }

@@ -5,6 +5,8 @@
 #[cfg(test)]
 mod keys;
 #[cfg(test)]
+mod notices;
+#[cfg(test)]
 mod plays;
 #[cfg(test)]
 mod slots;

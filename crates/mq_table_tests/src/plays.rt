@@ -1,6 +1,6 @@
 use crate::slots::{Place, close, make, message, remove};
 use mq_message::{Body, Message, VecBody};
-use mq_queue::QueueError;
+use mq_queue::{NoNotice, QueueError};
 use mq_select::Selection;
 use mq_table::{KeyTable, MAX_SLOTS};
 use std::alloc::{AllocError, Global};
@@ -42,8 +42,12 @@ pub(crate) fn sent(slot: &mut Place, message: Message<VecBody>) -> Answer {
         return Answer::Unasked;
     }
     let foretold = slot.refuses_send(message.mtype, message.body.len());
-    let answer = match slot.send(message, 30) {
-        Err((QueueError::Memory, message)) if slot.is_live() => slot.send(message, 30),
+    let answer = match slot.send(message, 30, &mut NoNotice) {
+        Err((QueueError::Memory, message)) if slot.is_live() => slot.send(
+            message,
+            30,
+            &mut NoNotice,
+        ),
         answer => answer,
     };
     match answer {
@@ -58,9 +62,9 @@ fn received(slot: &mut Place, size: u64) -> Answer {
         return Answer::Unasked;
     }
     let foretold = slot.refuses_receive(size, Selection::Any, false);
-    let answer = match slot.receive(size, Selection::Any, false, 4, 40) {
+    let answer = match slot.receive(size, Selection::Any, false, 4, 40, &mut NoNotice) {
         Err(QueueError::Memory) if slot.is_live() => {
-            slot.receive(size, Selection::Any, false, 4, 40)
+            slot.receive(size, Selection::Any, false, 4, 40, &mut NoNotice)
         }
         answer => answer,
     };
@@ -77,8 +81,8 @@ fn set(slot: &mut Place, qbytes: u64) -> Answer {
     if !slot.is_live() {
         return Answer::Unasked;
     }
-    let answer = match slot.set(qbytes, 5, 50) {
-        Err(QueueError::Memory) if slot.is_live() => slot.set(qbytes, 5, 50),
+    let answer = match slot.set(qbytes, 5, 50, &mut NoNotice) {
+        Err(QueueError::Memory) if slot.is_live() => slot.set(qbytes, 5, 50, &mut NoNotice),
         answer => answer,
     };
     match answer {

@@ -1,9 +1,10 @@
 use crate::plays::{Answer, sent};
 use mq_message::{Message, VecBody};
-use mq_queue::{BoardRow, Event, Figures, Log};
+use mq_queue::{BoardRow, Event, Figures, Log, NoNotice};
 use mq_select::{ListWaiting, discard};
 use mq_table::{Id, IdRefusal, KeyEntry, KeyTable, MAX_SEQ, Slot, make_under, remove_under};
 use std::alloc::{AllocError, Global};
+use std::process::Abort;
 use std::test::Fail;
 
 pub(crate) type Place = Slot<VecBody, ListWaiting<VecBody>>;
@@ -16,7 +17,7 @@ pub(crate) fn make(keys: &mut KeyTable, slot: &mut Place, key: i32, last_seq: u3
             return None;
         }
         let (events, count) = (slot.events(), keys.len());
-        match make_under(keys, slot, key, 1, 10) {
+        match make_under(keys, slot, key, 1, 10, &mut NoNotice) {
             Ok(id) => return Some(id),
             Err(_) if slot.is_live() || slot.events() != events || keys.len() != count => {
                 return None;
@@ -34,7 +35,7 @@ pub(crate) fn remove(keys: &mut KeyTable, slot: &mut Place) -> Option<Log> {
             return None;
         }
         let (events, count) = (slot.events(), keys.len());
-        match remove_under(keys, slot, 2, 20) {
+        match remove_under(keys, slot, 2, 20, &mut NoNotice) {
             Ok((log, waiting)) => {
                 discard(waiting);
                 return Some(log);
@@ -167,73 +168,92 @@ const NOTHING: Figures = Figures {
     lrpid: 0,
 };
 
+const EMPTY: BoardRow = BoardRow {
+    made: 0,
+    live: false,
+    key: 0,
+    figures: NOTHING,
+};
+
+/// One message of five bytes waits.
+const FIGURES: Figures = Figures {
+    qnum: 1,
+    cbytes: 5,
+    qbytes: 16_384,
+    stime: 30,
+    ctime: 10,
+    lspid: 3,
+    ..NOTHING
+};
+
+const LIVE: BoardRow = BoardRow {
+    made: 1,
+    live: true,
+    key: 9,
+    figures: FIGURES,
+};
+
+const REMOVED: Event = Event::Removed {
+    seat: 2,
+    moment: 20,
+};
+
+const MADE: Event = Event::Made {
+    seat: 1,
+    moment: 10,
+    key: 7,
+};
+
+/// The slot shows its first queue.
+fn shows_live(rt: &impl Abort, slot: &Place) {
+    assert!(rt; slot.row() == LIVE);
+    assert!(rt; slot.offset() == 0);
+    if slot.is_live() {
+        assert!(rt; slot.figures() == FIGURES);
+        assert!(rt; slot.key() == 9);
+        assert!(rt; slot.last_id() == Id::of(8, 0));
+    }
+}
+
+/// The slot shows the three events of its first queue, and the making of its second.
+fn shows_events(rt: &impl Abort, slot: &Place) {
+    assert!(rt; slot.offset() == 3);
+    assert!(rt; slot.events() == 4);
+    assert!(rt; slot.event(2) == Some(REMOVED));
+    assert!(rt; slot.event(3) == Some(MADE));
+    assert!(rt; slot.event(4) == None);
+    assert!(rt; slot.event(u64::MAX) == None);
+}
+
+/// The slot is taken apart into those events.
+fn has_parts(rt: &impl Abort, slot: Place) {
+    let (past, live) = slot.into_parts();
+    assert!(rt; past.len() == 3);
+    assert!(rt; past[2] == REMOVED);
+    assert!(rt; live.is_some());
+    if let Some(queue) = live {
+        let (log, waiting) = queue.into_parts();
+        discard(waiting);
+        assert!(rt; log.get(0) == Some(MADE));
+    }
+}
+
 #[test]
 fn a_slot_shows_the_queue_that_is_in_it(rt: HostRuntime) -> Result<(), Fail> {
     let alloc = rt.alloc();
     let five = message(alloc, 1, 5)?;
     let mut keys = KeyTable::new(alloc);
     let mut slot = Place::new(alloc, 8);
-    let empty = BoardRow {
-        made: 0,
-        live: false,
-        key: 0,
-        figures: NOTHING,
-    };
-    assert!(rt; slot.row() == empty);
+    assert!(rt; slot.row() == EMPTY);
     assert!(rt; slot.key() == 0);
     let _ = make(&mut keys, &mut slot, 9, 1);
     assert!(rt; sent(&mut slot, five) == Answer::At(1));
-    let figures = Figures {
-        qnum: 1,
-        cbytes: 5,
-        qbytes: 16_384,
-        stime: 30,
-        ctime: 10,
-        lspid: 3,
-        ..NOTHING
-    };
-    assert!(rt;
-        slot.row()
-            == BoardRow {
-                made: 1,
-                live: true,
-                key: 9,
-                figures
-            }
-    );
-    if slot.is_live() {
-        assert!(rt; slot.figures() == figures);
-        assert!(rt; slot.key() == 9);
-        assert!(rt; slot.last_id() == Id::of(8, 0));
-    }
-    assert!(rt; slot.offset() == 0);
+    shows_live(&rt, &slot);
     assert!(rt; remove(&mut keys, &mut slot).is_some());
-    assert!(rt; slot.row() == BoardRow { made: 1, ..empty });
+    assert!(rt; slot.row() == BoardRow { made: 1, ..EMPTY });
     assert!(rt; slot.offset() == 3);
     let _ = make(&mut keys, &mut slot, 7, 1);
-    assert!(rt; slot.offset() == 3);
-    assert!(rt; slot.events() == 4);
-    let removed = Event::Removed {
-        seat: 2,
-        moment: 20,
-    };
-    let made = Event::Made {
-        seat: 1,
-        moment: 10,
-        key: 7,
-    };
-    assert!(rt; slot.event(2) == Some(removed));
-    assert!(rt; slot.event(3) == Some(made));
-    assert!(rt; slot.event(4) == None);
-    assert!(rt; slot.event(u64::MAX) == None);
-    let (past, live) = slot.into_parts();
-    assert!(rt; past.len() == 3);
-    assert!(rt; past[2] == removed);
-    assert!(rt; live.is_some());
-    if let Some(queue) = live {
-        let (log, waiting) = queue.into_parts();
-        discard(waiting);
-        assert!(rt; log.get(0) == Some(made));
-    }
+    shows_events(&rt, &slot);
+    has_parts(&rt, slot);
     Ok(())
 }

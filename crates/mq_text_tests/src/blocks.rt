@@ -21,7 +21,7 @@ fn taken<L: Ledger>(rt: &impl Abort, arena: &mut ArenaState<L>, order: u8, start
             assert!(rt; block.start() == start);
             block
         }
-        None => panic!(rt; "no block of order {order} at {start}"),
+        None => panic!(rt; "no block"),
     }
 }
 
@@ -30,7 +30,7 @@ fn finds_none<L: Ledger>(rt: &impl Abort, arena: &mut ArenaState<L>, order: u8)
 {
     if let Some(block) = arena.take(order) {
         arena.put(block);
-        panic!(rt; "a block of order {order}");
+        panic!(rt; "a block");
     }
 }
 
@@ -45,13 +45,8 @@ fn shows<L: Ledger>(rt: &impl Abort, block: &Block<L>, bytes: &[u8]) {
     assert!(rt; rest.is_empty());
 }
 
-fn used_again<L: Ledger>(rt: &impl Abort, unopened: Unopened, ledger: Blank)
-    requires name { ledger.name ≡ L.name }
-    requires parts { ledger.parts ≡ L.parts }
-    requires enough { 2 ^ unopened < ledger.parts }
-{
-    let mut arena = unopened.open::<L>(ledger);
-    let mut block = taken(rt, &mut arena, 1, 0);
+fn written<L: Ledger>(rt: &impl Abort, arena: &mut ArenaState<L>) {
+    let mut block = taken(rt, arena, 1, 0);
     block.fill(&[7; 2048]);
     block.part_mut(1)[1023] = 9;
     block.front_mut(0, 5).fill(8);
@@ -59,19 +54,41 @@ fn used_again<L: Ledger>(rt: &impl Abort, unopened: Unopened, ledger: Blank)
     assert!(rt; block.part(0)[5] == 7);
     assert!(rt; block.part(1)[1023] == 9);
     assert!(rt; arena.put(block) == Homecoming::Home);
+}
 
-    let block = taken(rt, &mut arena, 1, 0);
+fn zero_again<L: Ledger>(rt: &impl Abort, arena: &mut ArenaState<L>) {
+    let block = taken(rt, arena, 1, 0);
     shows(rt, &block, &[0; 2048]);
     assert!(rt; block.parts().count() == 2);
     assert!(rt; arena.put(block) == Homecoming::Home);
+}
 
+fn are_zero(rt: &impl Abort, bytes: &[u8]) {
+    for byte in bytes {
+        assert!(rt; *byte == 0);
+    }
+}
+
+/// Of 1,500 bytes that a block is taken with, the last is in its second page.
+fn taken_filled<L: Ledger>(rt: &impl Abort, arena: &mut ArenaState<L>) {
     let Some(block) = arena.take_filled(1, &[5; 1500]) else {
-        panic!(rt; "no block for 1,500 bytes")
+        panic!(rt; "no block")
     };
     shows(rt, &block, &[5; 1500]);
     assert!(rt; block.part(1)[475] == 5);
-    assert!(rt; block.part(1)[476..].iter().all(|byte| *byte == 0));
+    are_zero(rt, &block.part(1)[476..]);
     assert!(rt; arena.put(block) == Homecoming::Home);
+}
+
+fn used_again<L: Ledger>(rt: &impl Abort, unopened: Unopened, ledger: Blank)
+    requires name { ledger.name ≡ L.name }
+    requires parts { ledger.parts ≡ L.parts }
+    requires enough { 2 ^ unopened < ledger.parts }
+{
+    let mut arena = unopened.open::<L>(ledger);
+    written(rt, &mut arena);
+    zero_again(rt, &mut arena);
+    taken_filled(rt, &mut arena);
 }
 
 #[test]
@@ -116,7 +133,7 @@ fn is_cut<L: Ledger>(rt: &impl Abort, block: &Block<L>, i: usize, letters: (u8, 
     for part in block.parts() {
         let want = if k < i { letters.0 } else { letters.1 };
         for byte in part {
-            assert!(rt; *byte == want, "part {k} of {i}");
+            assert!(rt; *byte == want);
         }
         k = k.saturating_add(1);
     }

@@ -18,7 +18,7 @@ fn taken<L: Ledger>(rt: &impl Abort, arena: &mut ArenaState<L>, order: u8) -> Bl
 {
     match arena.take(order) {
         Some(block) => block,
-        None => panic!(rt; "no block of order {order}"),
+        None => panic!(rt; "no block"),
     }
 }
 
@@ -32,7 +32,9 @@ fn home<L: Ledger>(rt: &impl Abort, arena: &mut ArenaState<L>, text: Text<L>) {
 
 fn holds(rt: &impl Abort, part: &[u8], len: usize, letter: u8) {
     assert!(rt; part.len() == len);
-    assert!(rt; part.iter().all(|byte| *byte == letter));
+    for byte in part {
+        assert!(rt; *byte == letter);
+    }
 }
 
 fn shows<L: Ledger>(rt: &impl Abort, text: &Text<L>, bytes: &[u8]) {
@@ -41,9 +43,9 @@ fn shows<L: Ledger>(rt: &impl Abort, text: &Text<L>, bytes: &[u8]) {
     for part in text.parts() {
         assert!(rt; part.len() <= rest.len());
         let (now, later) = rest.split_at(part.len());
-        assert!(rt; part == now, "part {i}");
+        assert!(rt; part == now);
         assert!(rt; i < text.count());
-        assert!(rt; part == text.part(i), "part {i}");
+        assert!(rt; part == text.part(i));
         rest = later;
         i = i.saturating_add(1);
     }
@@ -143,6 +145,42 @@ fn two_threads_write_the_pages_of_the_two_halves(rt: HostRuntime) -> Result<(), 
     Ok(())
 }
 
+fn is_zero<L: Ledger>(rt: &impl Abort, text: &Text<L>) {
+    for part in text.parts() {
+        for byte in part {
+            assert!(rt; *byte == 0);
+        }
+    }
+}
+
+/// A text that is zero at first and is filled with these letters.
+fn filled<L: Ledger>(rt: &impl Abort, arena: &mut ArenaState<L>, letters: &[u8], count: usize)
+    requires some { 0 < length letters.now }
+    requires most { length letters.now ≤ TEXT_LEN }
+{
+    let block = taken(rt, arena, order_for(letters.len()));
+    let mut text = Text::of(block, letters.len());
+    assert!(rt; text.count() == count);
+    is_zero(rt, &text);
+    assert!(rt; text.len() == letters.len() as u64);
+    text.fill(letters);
+    shows(rt, &text, letters);
+    home(rt, arena, text);
+}
+
+/// A text that has these letters from the start.
+fn made<L: Ledger>(rt: &impl Abort, arena: &mut ArenaState<L>, letters: &[u8], order: u8)
+    requires some { 0 < length letters.now }
+    requires most { length letters.now ≤ TEXT_LEN }
+{
+    let Some(text) = Text::of_bytes(arena, letters) else {
+        panic!(rt; "no block")
+    };
+    assert!(rt; text.order() == Some(order));
+    shows(rt, &text, letters);
+    home(rt, arena, text);
+}
+
 fn drafted<L: Ledger>(
     rt: &impl Abort,
     arena: &mut ArenaState<L>,
@@ -153,25 +191,10 @@ fn drafted<L: Ledger>(
     requires some { 0 < len }
     requires most { len ≤ TEXT_LEN }
 {
-    assert!(rt; order_for(len) == order);
-    let block = taken(rt, arena, order_for(len));
-    let mut text = Text::of(block, len);
-    assert!(rt; text.count() == count);
-    for part in text.parts() {
-        assert!(rt; part.iter().all(|byte| *byte == 0));
-    }
-    assert!(rt; text.len() == len as u64);
     let letters = [b'E'; TEXT_LEN];
-    text.fill(&letters[..len]);
-    shows(rt, &text, &letters[..len]);
-    home(rt, arena, text);
-
-    let Some(text) = Text::of_bytes(arena, &letters[..len]) else {
-        panic!(rt; "no block for {len} bytes")
-    };
-    assert!(rt; text.order() == Some(order));
-    shows(rt, &text, &letters[..len]);
-    home(rt, arena, text);
+    assert!(rt; order_for(len) == order);
+    filled(rt, arena, &letters[..len], count);
+    made(rt, arena, &letters[..len], order);
 }
 
 fn each_size<L: Ledger>(rt: &impl Abort, unopened: Unopened, ledger: Blank)

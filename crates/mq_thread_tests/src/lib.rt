@@ -3,9 +3,13 @@
 #![tactic(auto)]
 
 #[cfg(test)]
+mod counts;
+#[cfg(test)]
 mod flags;
 #[cfg(test)]
 mod runs;
+#[cfg(test)]
+mod seats;
 #[cfg(test)]
 mod two;
 #[cfg(test)]

@@ -2,10 +2,16 @@
 use Rattle.std.specs.Prelude.{◌≡◌, ◌≤◌, ℕ, List, Option, Some, None}
 use Rattle.std.specs.Str.Parse.{IsNumeral, digits_value, without_leading_plus}
 use Rattle.mq_one_thread.specs.declared.config.Config.{Config}
+use Rattle.mqsim.specs.declared.command_line.Kind.TheVariants.{Serial}
+use Rattle.mqsim.specs.declared.command_line.Request.{Request}
 
 -- the size of a run that is given none
 abbrev pub defaults : Config
 defaults = record { height = 6; slots = 16; seats = 16; last_seq = 32767 }
+
+-- what no words at all ask for
+abbrev pub bare_request : Request
+bare_request = record { kind = Serial; config = defaults }
 
 -- the number that a text spells, with or without a plus before it
 abbrev pub number_in : List ℕ → ℕ

@@ -1,4 +1,5 @@
-//! `mqsim` reads a script of message queue calls and writes one answer line for each call.
+//! `mqsim` reads a script of message queue calls and writes one answer line for each call,
+//! or runs sections of it on threads and tells at the end what each did.
 
 #![tactic(auto)]
 
@@ -9,14 +10,18 @@ ghost use Rattle.mqsim.specs.Status.{run_status, status};
 
 mod command_line;
 mod serial;
+mod threads;
 
 use clap::Error;
-use command_line::config_of;
+use command_line::{Kind, Request, request_of};
 use mq_cli::RunFault;
 use serial::run;
 use std::env::Env;
 use std::process::ExitCode;
+use std::sync::Wait;
+use std::thread::Threads;
 use std::{env, io};
+use threads::run_in_threads;
 
 /// The status of a fault in the command line, and of no memory to read it.
 const COMMAND_LINE: u8 = 2;
@@ -38,13 +43,22 @@ fn words(rt: &(impl AllocGlobal + Env)) -> io::Result<Vec<String>> {
 }
 
 /// Does what the words say, and gives the exit status.
-fn answered(rt: &(impl AllocGlobal + Input + Print + Eprint), words: &[String]) -> u8 {
-    match config_of(rt.alloc(), words) {
-        Ok(config) => told(
+fn answered(
+    rt: &(impl AllocGlobal + Input + Print + Eprint + Threads + Wait + Sync),
+    words: &[String],
+) -> u8 {
+    let Request { kind, config } = match request_of(rt.alloc(), words) {
+        Ok(request) => request,
+        Err(error) => return shown(rt, &error),
+    };
+    let mut reader = rt.reader();
+    let writer = io::writer(rt);
+    match kind {
+        Kind::Serial => told(rt, run(rt.alloc(), &mut reader, writer, config)),
+        Kind::Threads => told(
             rt,
-            run(rt.alloc(), &mut rt.reader(), io::writer(rt), config),
+            run_in_threads(rt, rt.alloc(), &mut reader, writer, config),
         ),
-        Err(error) => shown(rt, &error),
     }
 }
 
@@ -87,5 +101,6 @@ fn status_of(fault: RunFault) -> u8
         RunFault::Read => 3,
         RunFault::Write => 4,
         RunFault::Memory => 5,
+        RunFault::Thread => 6,
     }
 }

@@ -13,7 +13,7 @@ use std::alloc::Global;
 use std::io::{BufWriter, Read, Write};
 
 /// The number of bytes that are written at a time.
-const OUTPUT_LEN: usize = 65_536;
+pub const OUTPUT_LEN: usize = 65_536;
 
 /// Runs the script of the reader, and writes its answers to the writer, many lines at a time.
 pub fn run<R: Read, W: Write + Drop>(

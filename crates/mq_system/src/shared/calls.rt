@@ -1,6 +1,7 @@
 //! The calls that change a slot, under its lock.
 ghost use Rattle.std.specs.Prelude.{◌≡◌, ◌≢◌, ◌≤◌, pos, true, false, Ok, None, Some, length};
-ghost use Rattle.std.specs.Prelude.{IfOk, IfErr, OnOk, OnErr};
+ghost use Rattle.std.specs.Prelude.{IfOk, IfErr, OnOk, OnErr, MatchResult};
+ghost use Rattle.mq_queue.specs.Answer.{set_refusal};
 ghost use Rattle.mq_table.specs.Calls.{makes};
 ghost use Rattle.mq_table.specs.Ids.{slot_of};
 ghost use Rattle.mq_table.specs.Keys.{id_of_key, entered, forget};
@@ -11,12 +12,13 @@ ghost use Rattle.mq_system.specs.Answer.{refused_or_memory};
 ghost use Rattle.mq_system.specs.Answer.{receive as receive_answer, remove as remove_answer};
 ghost use Rattle.mq_system.specs.Answer.{send as send_answer, set as set_answer};
 ghost use Rattle.mq_system.specs.Pledge.{MeetsPledge, MeetsWhole};
-ghost use Rattle.mq_system.specs.Seat.{IsSame};
+ghost use Rattle.mq_system.specs.Seat.{IsCounted, IsSame};
 
 use crate::names::WaitingOf;
 use crate::shared::{Keys, SharedSlot};
 use crate::{Delivered, Errno, Got, Names, Pledge, Refused, Removal, Seat, SendRefused, TextOf};
-use mq_message::Message;
+use mq_message::{Body, Message};
+use mq_queue::{MSGMNB, NoNotice, QueueError};
 use mq_select::Selection;
 use mq_table::{Id, make_under, remove_under};
 use std::alloc::AllocError;
@@ -44,7 +46,8 @@ impl<P: Pledge, N: Names> SharedSlot<P, N> {
         ensures handed_back { IfErr result (λ r. r.text ≡ text) }
         ensures unchanged { OnErr result (self.new ≡ self.old) }
         ensures number { self.new.number ≡ self.old.number }
-        ensures seat { IsSame seat.old seat.new }
+        ensures counted { MatchResult result (λ _. IsCounted seat.old seat.new self.old.number)
+            (λ _. IsSame seat.old seat.new) }
     {
         if mtype < 1 {
             let refused = Refused {
@@ -57,14 +60,22 @@ impl<P: Pledge, N: Names> SharedSlot<P, N> {
             Ok(()) => (),
             Err(refused) => return Err(SendRefused { refused, text }),
         }
+        let number = id.slot();
+        if !seat.can_count(number) {
+            let refused = self.refused_by(self.slot.refuses_send(mtype, text.len()));
+            return Err(SendRefused { refused, text });
+        }
         let message = Message {
             mtype,
             sender: seat.number,
             tag,
             body: text,
         };
-        match self.slot.send(message, moment) {
-            Ok(entry) => Ok(entry),
+        match self.slot.send(message, moment, &mut NoNotice) {
+            Ok(entry) => {
+                seat.note(&mut self.entries, number);
+                Ok(entry)
+            }
             Err((refusal, message)) => Err(SendRefused {
                 refused: self.refused(Errno::from(refusal)),
                 text: message.into_body(),
@@ -94,14 +105,19 @@ impl<P: Pledge, N: Names> SharedSlot<P, N> {
             (receive_answer self.old id size selection noerror seat.old.number moment)) }
         ensures unchanged { OnErr result (self.new ≡ self.old) }
         ensures number { self.new.number ≡ self.old.number }
-        ensures seat { IsSame seat.old seat.new }
+        ensures counted { MatchResult result (λ _. IsCounted seat.old seat.new self.old.number)
+            (λ _. IsSame seat.old seat.new) }
     {
         self.look(id)?;
-        match self
-            .slot
-            .receive(size, selection, noerror, seat.number, moment)
-        {
-            Ok(received) => Ok(Delivered::of(received)),
+        let number = id.slot();
+        if !seat.can_count(number) {
+            return Err(self.refused_by(self.slot.refuses_receive(size, selection, noerror)));
+        }
+        match self.slot.receive(size, selection, noerror, seat.number, moment, &mut NoNotice) {
+            Ok(received) => {
+                seat.note(&mut self.entries, number);
+                Ok(Delivered::of(received))
+            }
             Err(refusal) => Err(self.refused(Errno::from(refusal))),
         }
     }
@@ -122,11 +138,19 @@ impl<P: Pledge, N: Names> SharedSlot<P, N> {
             (set_answer self.old id qbytes seat.old.number moment)) }
         ensures unchanged { OnErr result (self.new ≡ self.old) }
         ensures number { self.new.number ≡ self.old.number }
-        ensures seat { IsSame seat.old seat.new }
+        ensures counted { MatchResult result (λ _. IsCounted seat.old seat.new self.old.number)
+            (λ _. IsSame seat.old seat.new) }
     {
         self.look(id)?;
-        match self.slot.set(qbytes, seat.number, moment) {
-            Ok(entry) => Ok(entry),
+        let number = id.slot();
+        if !seat.can_count(number) {
+            return Err(self.refused_by(refuses_set(qbytes)));
+        }
+        match self.slot.set(qbytes, seat.number, moment, &mut NoNotice) {
+            Ok(entry) => {
+                seat.note(&mut self.entries, number);
+                Ok(entry)
+            }
             Err(refusal) => Err(self.refused(Errno::from(refusal))),
         }
     }
@@ -149,11 +173,23 @@ impl<P: Pledge, N: Names> SharedSlot<P, N> {
         ensures entered { OnOk result (keys.new ≡ entered key (next_id self.old) keys.old) }
         ensures unchanged { OnErr result ((self.new ≡ self.old) × (keys.new ≡ keys.old)) }
         ensures number { self.new.number ≡ self.old.number }
-        ensures seat { IsSame seat.old seat.new }
+        ensures counted { MatchResult result (λ _. IsCounted seat.old seat.new self.old.number)
+            (λ _. IsSame seat.old seat.new) }
     {
-        self.slot.holds();
+        let number = self.slot.number();
+        if !seat.can_count(number) {
+            return Err(AllocError);
+        }
         let entry = self.slot.events();
-        let id = make_under(&mut keys.table, &mut self.slot, key, seat.number, moment)?;
+        let id = make_under(
+            &mut keys.table,
+            &mut self.slot,
+            key,
+            seat.number,
+            moment,
+            &mut NoNotice,
+        )?;
+        seat.note(&mut self.entries, number);
         Ok(Got {
             id,
             made: Some(entry),
@@ -179,14 +215,36 @@ impl<P: Pledge, N: Names> SharedSlot<P, N> {
             (remove_answer self.old id seat.old.number moment)) }
         ensures unchanged { OnErr result ((self.new ≡ self.old) × (keys.new ≡ keys.old)) }
         ensures number { self.new.number ≡ self.old.number }
-        ensures seat { IsSame seat.old seat.new }
+        ensures counted { MatchResult result (λ _. IsCounted seat.old seat.new self.old.number)
+            (λ _. IsSame seat.old seat.new) }
     {
         self.look(id)?;
+        let number = id.slot();
+        if !seat.can_count(number) {
+            return Err(self.refused(Errno::ENOMEM));
+        }
         let entry = self.slot.events();
-        let Ok((log, waiting)) = remove_under(&mut keys.table, &mut self.slot, seat.number, moment)
-        else {
+        let Ok((log, waiting)) = remove_under(
+            &mut keys.table,
+            &mut self.slot,
+            seat.number,
+            moment,
+            &mut NoNotice,
+        ) else {
             return Err(self.refused(Errno::ENOMEM));
         };
+        seat.note(&mut self.entries, number);
         Ok((Removal { entry, log }, waiting))
+    }
+}
+
+/// Why a quota would be refused, or `None` where at most memory could be wanted.
+fn refuses_set(qbytes: u64) -> Option<QueueError>
+    ensures { result ≡ set_refusal qbytes }
+{
+    if qbytes > MSGMNB {
+        Some(QueueError::OverLimit)
+    } else {
+        None
     }
 }

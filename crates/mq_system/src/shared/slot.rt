@@ -1,24 +1,30 @@
-ghost use Rattle.std.specs.Prelude.{◌≡◌, ◌<◌, ◌==◌, true, All, IfSome, OnOk};
+ghost use Rattle.std.specs.Prelude.{◌≡◌, ◌<◌, ◌==◌, true, length, All, IfSome, OnOk};
+ghost use Rattle.std.specs.Option.{unwrap_or};
+ghost use Rattle.mq_queue.specs.declared.error.QueueError.TheVariants.{Memory};
 ghost use Rattle.mq_table.specs.Ids.{slot_of};
-ghost use Rattle.mq_table.specs.Shown.{row};
+ghost use Rattle.mq_queue.specs.Row.{is_live, row};
 ghost use Rattle.mq_table.specs.Slot.{empty_slot, Waits};
-ghost use Rattle.mq_table.specs.SlotList.{is_free, is_live, IsSlotList};
+ghost use Rattle.mq_table.specs.SlotList.{is_free, IsSlotList};
 ghost use Rattle.mq_table.specs.declared.limits.TheConstants.{MAX_SLOTS};
+ghost use Rattle.mq_one_thread.specs.Look.{errno_of};
 ghost use Rattle.mq_one_thread.specs.Texts.{bytes_of};
 ghost use Rattle.mq_system.specs.Answer.{id_with_key, looks, refused_here, stat as stat_answer};
 ghost use Rattle.mq_system.specs.Pledge.{IsPledged};
 
-use crate::names::SlotOf;
+use crate::names::{Entries, SlotOf};
 use crate::{Errno, Names, Pledge, Refused};
-use mq_queue::{BoardRow, Figures};
+use mq_queue::{BoardRow, Figures, QueueError};
 use mq_table::{Id, MAX_SLOTS, Slot};
 use std::alloc::Global;
 use std::marker::{Model, PhantomData};
+use std::sync::ledger::Share;
 
 /// A slot of a system, under its lock. It is seen as a slot is; the pledge holds of each message
 /// that waits in it.
 pub struct SharedSlot<P: Pledge, N: Names> {
     pub(super) slot: SlotOf<N>,
+    /// As much as its list has entries.
+    pub(super) entries: Share<Entries<N>>,
     pledge: PhantomData<P>,
 }
 
@@ -31,18 +37,22 @@ impl<P: Pledge, N: Names> Model for SharedSlot<P, N> {
 
     ghost view = { λ s. s.slot };
 
-    ghost invariant = { λ s. IsShared P.kept N.slots N.last_seq s.slot };
+    ghost invariant = { λ s. IsShared P.kept N.slots N.last_seq s.slot s.entries.parts
+        s.entries.amount };
 }
 
 impl<P: Pledge, N: Names> SharedSlot<P, N> {
     /// A slot in which no queue was made.
-    pub fn new(alloc: Global, number: u8) -> SharedSlot<P, N>
+    pub fn new(alloc: Global, number: u8, entries: Share<Entries<N>>) -> SharedSlot<P, N>
         requires within { number < N.slots }
         requires few { number < MAX_SLOTS }
+        requires part { entries.parts ≡ 1 }
+        requires none { entries.amount ≡ 0 }
         ensures { result ≡ empty_slot number }
     {
         SharedSlot {
             slot: Slot::new(alloc, number),
+            entries,
             pledge: PhantomData,
         }
     }
@@ -86,6 +96,13 @@ impl<P: Pledge, N: Names> SharedSlot<P, N> {
         }
     }
 
+    /// The same where this refuses a call of the queue, or else memory.
+    pub(super) fn refused_by(&self, refusal: Option<QueueError>) -> Refused
+        ensures { result ≡ refused_here self.now (errno_of (unwrap_or refusal Memory)) }
+    {
+        self.refused(Errno::from(refusal.unwrap_or(QueueError::Memory)))
+    }
+
     /// What is shown of the queue (msgctl(2), IPC_STAT). EINVAL, then EIDRM.
     pub fn stat(&self, id: Id) -> Result<Figures, Refused>
         requires id { slot_of id ≡ self.now.number }
@@ -126,13 +143,19 @@ impl<P: Pledge, N: Names> SharedSlot<P, N> {
         self.slot.is_free(last_seq)
     }
 
-    /// The slot alone, at the end.
-    pub fn into_slot(self) -> SlotOf<N>
-        ensures lawful { IsSlotList N.last_seq result.events }
-        ensures waits { Waits bytes_of result }
+    /// The slot and its part of the entries, at the end.
+    pub fn into_parts(self) -> (SlotOf<N>, Share<Entries<N>>)
+        ensures lawful { IsSlotList N.last_seq result.0.events }
+        ensures waits { Waits bytes_of result.0 }
+        ensures part { result.1.parts ≡ 1 }
+        ensures noted { result.1.amount ≡ length result.0.events }
     {
-        let SharedSlot { slot, pledge: _ } = self;
+        let SharedSlot {
+            slot,
+            entries,
+            pledge: _,
+        } = self;
         slot.holds();
-        slot
+        (slot, entries)
     }
 }

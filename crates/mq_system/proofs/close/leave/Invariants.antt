@@ -1,5 +1,16 @@
-use Rattle.std.proofs.Common.{length}
+use Rattle.std.proofs.Common.{◌≡◌, ◌+◌, length}
+use Rattle.mq_system.specs.Seat.{counted_by}
+use Rattle.mq_system.specs.Sizes.{all_changes}
 use Rattle.mq_system.proofs.close.leave.Given as goal
 
 abbrev pub decreases-loop-seat : goal.decreases-loop-seat
 decreases-loop-seat g l = length l.seats.items
+
+-- what is gathered and what is left are all parts, and with what was counted all that can be
+abbrev pub invariant-loop-seat : goal.invariant-loop-seat
+invariant-loop-seat g l =
+    let slots = g.N.Names.slots in
+    (l.parts.parts + length l.seats.items ≡ l.fn.parts.parts + length l.fn.seats.items)
+    × (l.parts.amount + counted_by l.fn.seats.items + all_changes slots (length l.seats.items)
+    ≡ l.fn.parts.amount + counted_by l.seats.items
+    + all_changes slots (length l.fn.seats.items))

@@ -3,18 +3,21 @@ use Rattle.std.proofs.lemmas.Int.{to_z-of_z}
 use mir.Val.{SFits}
 use Rattle.mq_select.proofs.Places.{picked_waits}
 use Rattle.mq_queue.specs.declared.event.Event.TheVariants.{Received}
-use Rattle.mq_queue.proofs.Kept.{same_figures}
-use Rattle.mq_queue.proofs.Receipts.{taken_answer, taken_figures, taken_is, taken_sound, taken_within}
+use Rattle.mq_queue.proofs.Kept.{figures_kept, same_figures}
+use Rattle.mq_queue.proofs.Receipts.{found_within, taken_answer, taken_figures, taken_is, taken_sound}
 use Rattle.mq_queue.proofs.state.QueueState.receive.Goals as goal
 
 pub take-message-requires : goal.take-message-requires
 take-message-requires g c =
     picked_waits _ (g.W.Waiting.messages c.self.inside.waiting) c.args.selection _ (sym (rw (← c.self.view_is) at c.in_ok-place.ensures.picked))
 
-pub overflow_sub-self-2 : goal.overflow_sub-self-2
-overflow_sub-self-2 g c =
-    let taken = taken_is g.B.Body.bytes _ _ _ _ _ _ _ _ _ c.self.invariant.0 (rw (← c.self.view_is) at c.in_ok-place.ensures.picked) c.take-message.ensures.taken (rw (← c.self.view_is) at c.in_ok-place.ensures.length) (sym c.in_ok-place.ensures.fits) (omega arith) in
-    (taken_within _ _ _ _ _ _ c.self.invariant.1 taken).0
+pub overflow_sub-after : goal.overflow_sub-after
+overflow_sub-after g c =
+    (found_within g.B.Body.bytes _ _ _ _ _ _ _ _ c.self.invariant.0 c.self.invariant.1 (rw (← c.self.view_is) at c.in_ok-place.ensures.picked) (rw (← c.self.view_is) at c.in_ok-place.ensures.length) (sym c.in_ok-place.ensures.fits)).1
+
+pub overflow_sub-after-2 : goal.overflow_sub-after-2
+overflow_sub-after-2 g c =
+    (found_within g.B.Body.bytes _ _ _ _ _ _ _ _ c.self.invariant.0 c.self.invariant.1 (rw (← c.self.view_is) at c.in_ok-place.ensures.picked) (rw (← c.self.view_is) at c.in_ok-place.ensures.length) (sym c.in_ok-place.ensures.fits)).0
 
 pub invariant_of-self-2 : goal.invariant_of-self-2
 invariant_of-self-2 g c =
@@ -33,3 +36,8 @@ returns-clause-accepted g c =
 
 pub returns-clause-sound : goal.returns-clause-sound
 returns-clause-sound g c = (invariant_of-self-2 g c).0
+
+pub returns-clause-noticed : goal.returns-clause-noticed
+returns-clause-noticed g c =
+    let kept = invariant_of-self-2 g c in
+    rw (figures_kept _ _ kept.0.live kept.1) (search (rules, c.in-Ok.ensures.noticed))

@@ -2,7 +2,7 @@ use Rattle.std.proofs.Common.{rules}
 use mir.Val.{SFits}
 use mir.Syntax.{w64}
 use Rattle.std.proofs.lemmas.Int.{to_z-of_z}
-use Rattle.mq_table.proofs.Turns.{not_none, next_lawful, next_waits, refused_receive, received_is}
+use Rattle.mq_table.proofs.Turns.{not_none, next_lawful, next_waits, next_figures, refused_receive, received_is}
 use Rattle.mq_table.proofs.slot.Slot.receive.Goals as goal
 
 pub unreachable-requires : goal.unreachable-requires
@@ -30,7 +30,7 @@ returns-clause-ok g c =
     let h = c.in_ok-received.ensures in
     let fits : SFits w64 c.in_ok-received.received.mtype = search rules in
     let told = received_is _ _ _ _ _ _ c.self.invariant c.self.view_is _ c.in-Some.is
-    c.receive.new.self _ c.events-entry.ensures _
+    c.receive.new.self _ c.events-entry.ensures.value _
     c.args.size c.args.selection c.args.noerror c.args.seat c.args.moment
     h.accepted h.log h.messages in
     simp to_z-of_z (search (rules, told))
@@ -44,3 +44,9 @@ pub returns-clause-waits : goal.returns-clause-waits
 returns-clause-waits g c =
     next_waits _ _ _ _ _ _ c.self.invariant c.self.view_is _ c.in-Some.is
     c.receive.new.self c.receive.ensures.sound
+
+pub returns-clause-noticed : goal.returns-clause-noticed
+returns-clause-noticed g c =
+    rw (next_figures _ _ _ _ _ _ c.self.invariant c.self.view_is _ c.in-Some.is
+    c.receive.new.self c.receive.ensures.sound)
+    (search (rules, c.in_ok-received.ensures.noticed))

@@ -1,5 +1,5 @@
 use Rattle.std.proofs.Common.{rules}
-use Rattle.mq_table.proofs.Turns.{not_none, next_lawful, next_waits, refused_send, sent_is}
+use Rattle.mq_table.proofs.Turns.{not_none, next_lawful, next_waits, next_figures, refused_send, sent_is}
 use Rattle.mq_table.proofs.slot.Slot.send.Goals as goal
 
 pub unreachable-requires : goal.unreachable-requires
@@ -25,7 +25,7 @@ returns-in_err-send-clause-waits g c =
 pub returns-clause-ok : goal.returns-clause-ok
 returns-clause-ok g c =
     let told = sent_is _ _ _ _ _ _ c.self.invariant c.self.view_is _ c.in-Some.is
-    c.send.new.self _ c.events-entry.ensures c.args.message c.args.moment
+    c.send.new.self _ c.events-entry.ensures.value c.args.message c.args.moment
     c.in_ok-send.ensures.accepted c.in_ok-send.ensures.log c.in_ok-send.ensures.messages in
     search (rules, told)
 
@@ -38,3 +38,9 @@ pub returns-clause-waits : goal.returns-clause-waits
 returns-clause-waits g c =
     next_waits _ _ _ _ _ _ c.self.invariant c.self.view_is _ c.in-Some.is
     c.send.new.self c.send.ensures.sound
+
+pub returns-clause-noticed : goal.returns-clause-noticed
+returns-clause-noticed g c =
+    rw (next_figures _ _ _ _ _ _ c.self.invariant c.self.view_is _ c.in-Some.is
+    c.send.new.self c.send.ensures.sound)
+    (search (rules, c.in_ok-send.ensures.noticed))

@@ -1,4 +1,5 @@
-use Rattle.mq_table.proofs.Turns.{not_none, next_lawful, next_waits}
+use Rattle.std.proofs.Common.{rules}
+use Rattle.mq_table.proofs.Turns.{not_none, next_lawful, next_waits, next_figures}
 use Rattle.mq_table.proofs.slot.Slot.set.Goals as goal
 
 pub unreachable-requires : goal.unreachable-requires
@@ -24,3 +25,9 @@ pub returns-clause-waits : goal.returns-clause-waits
 returns-clause-waits g c =
     next_waits _ _ _ _ _ _ c.self.invariant c.self.view_is _ c.in-Some.is
     c.set.new.self c.set.ensures.sound
+
+pub returns-clause-noticed : goal.returns-clause-noticed
+returns-clause-noticed g c =
+    rw (next_figures _ _ _ _ _ _ c.self.invariant c.self.view_is _ c.in-Some.is
+    c.set.new.self c.set.ensures.sound)
+    (search (rules, c.in_ok-set.ensures.noticed))

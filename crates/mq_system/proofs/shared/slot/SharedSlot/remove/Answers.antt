@@ -4,9 +4,9 @@ use Rattle.mq_system.proofs.shared.slot.SharedSlot.remove.Goals as goal
 
 pub invariant_of-self : goal.invariant_of-self
 invariant_of-self g c =
-    shared_same g.P.Pledge.kept g.N.Names.slots g.N.Names.last_seq c.self.inside.slot
-    c.remove_under.new.slot c.self.invariant c.remove_under.ensures.lawful
-    c.in_default.ensures.unchanged.0
+    shared_same g.P.Pledge.kept g.N.Names.slots g.N.Names.last_seq
+    c.self.inside.entries.parts c.self.inside.entries.amount
+    c.self.inside.slot c.remove_under.new.slot c.self.invariant c.in_default.ensures.unchanged.0
 
 pub invariant_of-keys : goal.invariant_of-keys
 invariant_of-keys g c = rw c.in_default.ensures.unchanged.1 c.keys.invariant
@@ -14,7 +14,8 @@ invariant_of-keys g c = rw c.in_default.ensures.unchanged.1 c.keys.invariant
 pub invariant_of-self-2 : goal.invariant_of-self-2
 invariant_of-self-2 g c =
     shared_remove g.P.Pledge.kept g.N.Names.slots g.N.Names.last_seq c.self.inside.slot
-    c.remove_under.new.slot c.self.invariant c.remove_under.ensures.lawful c.seat.inside.number
+    c.remove_under.new.slot c.self.inside.entries.parts c.self.inside.entries.amount
+    c.self.invariant c.remove_under.ensures.lawful c.note.new.entries.parts c.note.new.entries.amount c.note.ensures.part c.note.ensures.entries c.seat.inside.number
     c.args.moment c.in-Ok.ensures.removed
 
 pub invariant_of-keys-2 : goal.invariant_of-keys-2

@@ -18,6 +18,7 @@ invariant_of-self g c =
     } in
     let told = simp to_z-of_z at c.in-Ok-send.ensures.ok in
     shared_send g.P.Pledge.kept g.N.Names.slots g.N.Names.last_seq c.self.inside.slot
-    c.send.new.self c.self.invariant c.send.ensures.lawful message c.args.moment _
+    c.send.new.self c.self.inside.entries.parts c.self.inside.entries.amount
+    c.self.invariant c.send.ensures.lawful c.note.new.entries.parts c.note.new.entries.amount c.note.ensures.part c.note.ensures.entries message c.args.moment _
     (rw (ap (λ s. s.number) c.seat.view_is) c.requires.pledge)
     (rw (← c.self.view_is) at c.in-Ok.ensures.live) told

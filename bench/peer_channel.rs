@@ -1,0 +1,73 @@
+//! Threads of one process send and receive texts of one length through a bounded channel of Rust's
+//! standard library, and the receivers count the bytes that came: `peer_channel SENDERS RECEIVERS
+//! BYTES COUNT`, where each sender sends COUNT texts; or `peer_channel back BYTES COUNT`, in which
+//! two threads pass one text there and back, on two channels. A channel of the standard library has
+//! one receiver: several share it by a mutex. The bound is that of a queue's quota. A program that
+//! bench/threads.sh times the queues against.
+use std::sync::mpsc::{Receiver, SyncSender, sync_channel};
+use std::sync::{Arc, Mutex};
+use std::thread;
+
+const QUOTA: usize = 16_384;
+
+static SOURCE: [u8; 8192] = [b'x'; 8192];
+
+fn bounded(size: usize) -> (SyncSender<Vec<u8>>, Receiver<Vec<u8>>) {
+    sync_channel(if size == 0 { QUOTA } else { QUOTA / size })
+}
+
+fn pass_back(size: usize, count: usize) -> usize {
+    let (there, comes) = bounded(size);
+    let (answer, back) = bounded(size);
+    let other = thread::spawn(move || {
+        for _ in 0..count {
+            comes.recv().unwrap();
+            answer.send(SOURCE[..size].to_vec()).unwrap();
+        }
+    });
+    let mut bytes = 0;
+    for _ in 0..count {
+        there.send(SOURCE[..size].to_vec()).unwrap();
+        bytes += back.recv().unwrap().len();
+    }
+    other.join().unwrap();
+    bytes
+}
+
+fn flow(senders: usize, receivers: usize, size: usize, count: usize) -> usize {
+    let (there, comes) = bounded(size);
+    let comes = Arc::new(Mutex::new(comes));
+    let mut threads = Vec::new();
+    for _ in 0..senders {
+        let there = there.clone();
+        threads.push(thread::spawn(move || {
+            for _ in 0..count {
+                there.send(SOURCE[..size].to_vec()).unwrap();
+            }
+            0
+        }));
+    }
+    for _ in 0..receivers {
+        let comes = Arc::clone(&comes);
+        threads.push(thread::spawn(move || {
+            let mut bytes = 0;
+            for _ in 0..senders * count / receivers {
+                let text = comes.lock().unwrap().recv().unwrap();
+                bytes += text.len();
+            }
+            bytes
+        }));
+    }
+    threads.into_iter().map(|it| it.join().unwrap()).sum()
+}
+
+fn main() {
+    let words: Vec<String> = std::env::args().skip(1).collect();
+    let number = |k: usize| words[k].parse::<usize>().unwrap();
+    let bytes = if words[0] == "back" {
+        pass_back(number(1), number(2))
+    } else {
+        flow(number(0), number(1), number(2), number(3))
+    };
+    println!("{bytes} bytes came");
+}

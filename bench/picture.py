@@ -1,0 +1,40 @@
+"""Pictures of what was measured, drawn by gnuplot as SVG."""
+import subprocess
+
+HEAD = """
+set terminal svg size 760,420 background "white" font "sans-serif,12"
+set grid ytics lc rgb "#dddddd"
+set key left top Left reverse
+set linetype 1 lc rgb "#b04a2f" lw 2
+set linetype 2 lc rgb "#d9a441" lw 2
+set linetype 3 lc rgb "#555555" lw 2
+set linetype 4 lc rgb "#1f5fa8" lw 2
+set linetype 5 lc rgb "#6aa84f" lw 2
+set linetype 6 lc rgb "#9fc5e8" lw 2
+"""
+
+
+def drawn(path, settings, rows, plots):
+    """Draws the columns of `rows` behind the first to the file at `path`: `plots` has the words of
+    each column's plot, and `settings` the lines before them."""
+    table = "\n".join(" ".join(f'"{it}"' if isinstance(it, str) else str(it) for it in row)
+                      for row in rows)
+    script = (f"{HEAD}\nset output '{path}'\n{settings}\n$rows << END\n{table}\nEND\nplot "
+              + ", ".join(f"$rows {words}" for words in plots) + "\n")
+    subprocess.run(["gnuplot"], input=script, text=True, check=True)
+
+
+def lines(path, names, rows, across, up):
+    """A line for each column over the first one, with logarithmic axes."""
+    settings = f"set logscale xy\nset xlabel '{across}'\nset ylabel '{up}'"
+    drawn(path, settings, rows,
+          [f"using 1:{k + 2} with lines lt {k + 1} title '{name}'" for k, name in enumerate(names)])
+
+
+def bars(path, names, rows, up):
+    """A group of bars for each row, whose first column names it; the heights are logarithmic."""
+    settings = (f"set logscale y\nset ylabel '{up}'\nset style data histograms\n"
+                "set style histogram clustered gap 1\nset style fill solid noborder\n"
+                "set xtics rotate by -30 scale 0")
+    drawn(path, settings, rows,
+          [f"using {k + 2}:xtic(1) lt {k + 1} title '{name}'" for k, name in enumerate(names)])

@@ -1,0 +1,135 @@
+//! Threads that send and receive texts through bounded channels of crossbeam_channel, of which as
+//! many bytes may wait as in a queue: what the seats of a system are measured against.
+
+use crate::words::Words;
+use anyhow::{Result, bail};
+use crossbeam_channel::{Receiver, Sender, bounded};
+use mq_jobs::{Job, run_jobs};
+use std::alloc::{AllocError, Global};
+use std::sync::Wait;
+use std::thread::Threads;
+
+const QUOTA: usize = 16_384;
+
+type Letter = Vec<u8>;
+
+/// Does so many rounds, in each of which it sends, receives, and sends, where it has such an end.
+#[derive(Drop)]
+struct Player {
+    alloc: Global,
+    bytes: Letter,
+    rounds: u32,
+    sends: Option<Sender<Letter>>,
+    receives: Option<Receiver<Letter>>,
+    replies: Option<Sender<Letter>>,
+}
+
+impl Job for Player {
+    type Answer = Option<u64>;
+
+    fn run<R: Wait>(self, rt: &R) -> Option<u64> {
+        let mut came = 0u64;
+        for _ in 0..self.rounds {
+            if let Some(there) = &self.sends {
+                send(rt, self.alloc, there, &self.bytes)?;
+            }
+            if let Some(here) = &self.receives {
+                let letter = here.recv(rt).ok()?;
+                came = came.wrapping_add(letter.len() as u64);
+            }
+            if let Some(there) = &self.replies {
+                send(rt, self.alloc, there, &self.bytes)?;
+            }
+        }
+        Some(came)
+    }
+}
+
+// Sends a letter of these bytes.
+fn send<R: Wait>(rt: &R, alloc: Global, there: &Sender<Letter>, bytes: &[u8]) -> Option<()> {
+    let mut letter = Vec::with_capacity(alloc, bytes.len()).ok()?;
+    letter.extend_from_slice(bytes).ok()?;
+    there.send(rt, letter).ok()
+}
+
+/// The sizes of a run.
+#[derive(Clone, Copy)]
+struct Sizes {
+    alloc: Global,
+    bytes: usize,
+    rounds: u32,
+}
+
+impl Sizes {
+    fn channel(&self) -> Result<(Sender<Letter>, Receiver<Letter>), AllocError> {
+        bounded(self.alloc, QUOTA.checked_div(self.bytes).unwrap_or(QUOTA))
+    }
+
+    fn player(
+        &self,
+        rounds: u32,
+        sends: Option<Sender<Letter>>,
+        receives: Option<Receiver<Letter>>,
+        replies: Option<Sender<Letter>>,
+    ) -> Result<Player, AllocError> {
+        Ok(Player {
+            alloc: self.alloc,
+            bytes: vec![in self.alloc; b'x'; self.bytes]?,
+            rounds,
+            sends,
+            receives,
+            replies,
+        })
+    }
+
+    fn two(&self) -> Result<Vec<Player>> {
+        let (there, comes) = self.channel()?;
+        let (answers, back) = self.channel()?;
+        let first = self.player(self.rounds, Some(there), Some(back), None)?;
+        let second = self.player(self.rounds, None, Some(comes), Some(answers))?;
+        Ok(vec![in self.alloc; first, second]?)
+    }
+
+    // So many that send, and so many that receive what these send.
+    fn flow(&self, senders: u32, receivers: u32) -> Result<Vec<Player>> {
+        let Some(share) = senders.saturating_mul(self.rounds).checked_div(receivers) else {
+            bail!("no receiver");
+        };
+        let (there, here) = self.channel()?;
+        let mut players = Vec::new(self.alloc);
+        for _ in 0..senders {
+            players.push(self.player(self.rounds, Some(there.clone()?), None, None)?)?;
+        }
+        for _ in 0..receivers {
+            players.push(self.player(share, None, Some(here.clone()?), None)?)?;
+        }
+        Ok(players)
+    }
+}
+
+/// `channel two BYTES CYCLES`, where two threads pass one text there and back, each on a channel;
+/// `channel flow BYTES COUNT SENDERS RECEIVERS`, as in a system: counts the bytes that came.
+pub(crate) fn run(
+    rt: &(impl Print + Threads + Wait + Sync),
+    alloc: Global,
+    words: &Words,
+) -> Result<()> {
+    let sizes = Sizes {
+        alloc,
+        bytes: words.number(2, 16)? as usize,
+        rounds: words.number(3, 10)?,
+    };
+    let players = match words.word(1) {
+        "flow" => sizes.flow(words.number(4, 1)?, words.number(5, 1)?)?,
+        _ => sizes.two()?,
+    };
+    let mut came = 0u64;
+    for answer in run_jobs(rt, alloc, players)? {
+        let Some(bytes) = answer else {
+            bail!("a channel that is closed, or out of memory");
+        };
+        came = came.wrapping_add(bytes);
+    }
+    println!(rt; "{came} bytes came")?;
+    Ok(())
+}

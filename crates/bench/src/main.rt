@@ -1,0 +1,42 @@
+//! What the scripts of bench/ measure, by the first word: `bench tree`, `cycle`, `system`,
+//! `channel`, `waiting` or `board`, each with words of its own. Without words it does a little of
+//! each.
+#![tactic(auto)]
+
+mod board;
+mod channel;
+mod cycle;
+mod system;
+mod tree;
+mod waiting;
+mod words;
+
+use anyhow::{Result, bail};
+use std::env;
+use words::Words;
+
+fn main(rt: HostRuntime) -> Result<()> {
+    let mut words = Vec::new(rt.alloc());
+    for word in env::args(&rt)?.skip(1) {
+        words.push(word)?;
+    }
+    let words = Words { words };
+    let alloc = rt.alloc();
+    match words.word(0) {
+        "tree" => tree::run(&rt, alloc, &words),
+        "cycle" => cycle::run(&rt, alloc, &words),
+        "system" => system::run(&rt, alloc, &words),
+        "channel" => channel::run(&rt, alloc, &words),
+        "waiting" => waiting::run(&rt, alloc, &words),
+        "board" => board::run(&rt, alloc, &words),
+        "" => {
+            tree::run(&rt, alloc, &words)?;
+            cycle::run(&rt, alloc, &words)?;
+            system::run(&rt, alloc, &words)?;
+            channel::run(&rt, alloc, &words)?;
+            waiting::run(&rt, alloc, &words)?;
+            board::run(&rt, alloc, &words)
+        }
+        other => bail!("nothing to measure: {other}"),
+    }
+}

@@ -1,0 +1,203 @@
+//! Seats that send and receive texts, each on a thread of its own.
+
+use crate::words::Words;
+use anyhow::{Result, bail};
+use mq::{
+    Config, DEFAULTS, Delivered, Errno, GetFlags, Id, MAX_HEIGHT, MSGMAX, Names, Pledge, RecvFlags,
+    Seat, SendFlags, SendRefused, System, Worker, with_workers,
+};
+use std::alloc::{AllocError, Global};
+use std::sync::Wait;
+use std::thread::Threads;
+
+/// Nothing is pledged.
+struct Anything;
+
+impl Pledge for Anything {
+    ghost kept = { λ _ _ _ _. Unit {0} };
+}
+
+/// Does so many rounds, in each of which it sends to the queue of the first key, receives from that
+/// of the second one, and sends to that of the third one, where it has such a key.
+#[derive(Drop)]
+struct Player {
+    bytes: Vec<u8>,
+    rounds: u32,
+    sends: Option<i32>,
+    receives: Option<i32>,
+    replies: Option<i32>,
+}
+
+impl Worker<Anything> for Player {
+    type Answer = Result<u64, Errno>;
+
+    fn work<N: Names, R: Wait>(
+        self,
+        rt: &R,
+        _alloc: Global,
+        system: &System<Anything, N>,
+        seat: &mut Seat<N>,
+    ) -> Result<u64, Errno> {
+        let sends = queue(rt, system, seat, self.sends)?;
+        let receives = queue(rt, system, seat, self.receives)?;
+        let replies = queue(rt, system, seat, self.replies)?;
+        let mut came = 0u64;
+        for _ in 0..self.rounds {
+            if let Some(id) = sends {
+                send(rt, system, seat, id, &self.bytes)?;
+            }
+            if let Some(id) = receives {
+                came = came.wrapping_add(receive(rt, system, seat, id)?);
+            }
+            if let Some(id) = replies {
+                send(rt, system, seat, id, &self.bytes)?;
+            }
+        }
+        Ok(came)
+    }
+}
+
+// The queue of this key, which is made where it is not there yet.
+fn queue<N: Names, R: Wait>(
+    rt: &R,
+    system: &System<Anything, N>,
+    seat: &mut Seat<N>,
+    key: Option<i32>,
+) -> Result<Option<Id>, Errno> {
+    let flags = GetFlags {
+        create: true,
+        exclusive: false,
+    };
+    match key {
+        Some(key) => Ok(Some(system.msgget(rt, seat, key, flags, 0)?.id)),
+        None => Ok(None),
+    }
+}
+
+// Sends a text of these bytes.
+fn send<N: Names, R: Wait>(
+    rt: &R,
+    system: &System<Anything, N>,
+    seat: &mut Seat<N>,
+    id: Id,
+    bytes: &[u8],
+) -> Result<(), Errno> {
+    let text = match system.draft_of(rt, bytes) {
+        Ok(text) => text,
+        Err(refused) => return Err(refused.errno()),
+    };
+    match system.msgsnd(rt, seat, id, 1, 0, text, SendFlags { nowait: false }, 1) {
+        Ok(_) => Ok(()),
+        Err(refusal) => {
+            let SendRefused { refused, text } = refusal;
+            system.spend(rt, text);
+            Err(refused.errno)
+        }
+    }
+}
+
+// Receives the first message; how many bytes it has.
+fn receive<N: Names, R: Wait>(
+    rt: &R,
+    system: &System<Anything, N>,
+    seat: &mut Seat<N>,
+    id: Id,
+) -> Result<u64, Errno> {
+    let flags = RecvFlags {
+        nowait: false,
+        noerror: false,
+        except: false,
+    };
+    let received = match system.msgrcv(rt, seat, id, MSGMAX, 0, flags, 1) {
+        Ok(received) => received,
+        Err(refused) => return Err(refused.errno),
+    };
+    let Delivered {
+        entry: _,
+        mtype: _,
+        sender: _,
+        tag: _,
+        length,
+        text,
+    } = received;
+    system.spend(rt, text);
+    Ok(length)
+}
+
+/// The sizes of a run.
+#[derive(Clone, Copy)]
+struct Sizes {
+    alloc: Global,
+    bytes: usize,
+    rounds: u32,
+}
+
+impl Sizes {
+    fn player(
+        &self,
+        rounds: u32,
+        sends: Option<i32>,
+        receives: Option<i32>,
+        replies: Option<i32>,
+    ) -> Result<Player, AllocError> {
+        Ok(Player {
+            bytes: vec![in self.alloc; b'x'; self.bytes]?,
+            rounds,
+            sends,
+            receives,
+            replies,
+        })
+    }
+
+    // So many that send, and so many that receive what these send.
+    fn flow(&self, senders: u32, receivers: u32) -> Result<Vec<Player>> {
+        let Some(share) = senders.saturating_mul(self.rounds).checked_div(receivers) else {
+            bail!("no receiver");
+        };
+        let mut players = Vec::new(self.alloc);
+        for _ in 0..senders {
+            players.push(self.player(self.rounds, Some(1), None, None)?)?;
+        }
+        for _ in 0..receivers {
+            players.push(self.player(share, None, Some(1), None)?)?;
+        }
+        Ok(players)
+    }
+}
+
+/// `system alone BYTES CYCLES`, where one seat sends and receives by turns; `system two BYTES
+/// CYCLES`, where two pass one text there and back; `system flow BYTES COUNT SENDERS RECEIVERS`,
+/// where each sender sends COUNT texts through one queue and each receiver takes its share of them:
+/// counts the bytes that came.
+pub(crate) fn run(
+    rt: &(impl Print + Threads + Wait + Sync),
+    alloc: Global,
+    words: &Words,
+) -> Result<()> {
+    let rounds = words.number(3, 10)?;
+    let sizes = Sizes {
+        alloc,
+        bytes: words.number(2, 16)? as usize,
+        rounds,
+    };
+    let players = match words.word(1) {
+        "two" => {
+            let first = sizes.player(rounds, Some(1), Some(2), None)?;
+            let second = sizes.player(rounds, None, Some(1), Some(2))?;
+            vec![in alloc; first, second]?
+        }
+        "flow" => sizes.flow(words.number(4, 1)?, words.number(5, 1)?)?,
+        _ => vec![in alloc; sizes.player(rounds, Some(1), Some(1), None)?]?,
+    };
+    let config = Config {
+        height: MAX_HEIGHT,
+        ..DEFAULTS
+    };
+    let ended = with_workers(rt, alloc, config, players)?;
+    let mut came = 0u64;
+    for answer in ended.answer {
+        came = came.wrapping_add(answer?);
+    }
+    println!(rt; "{came} bytes came, {} pages free", ended.free_pages)?;
+    Ok(())
+}

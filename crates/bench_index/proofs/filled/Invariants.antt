@@ -1,5 +1,0 @@
-use Rattle.std.proofs.Common.{All, ◌<◌}
-use Rattle.bench_index.proofs.filled.Given as goal
-
-abbrev pub invariant-loop-i : goal.invariant-loop-i
-invariant-loop-i g l = All (λ m. m.0 < l.i) (g.W.Waiting.messages l.list)

@@ -1,0 +1,89 @@
+ghost use Rattle.std.specs.Prelude.{◌≡◌, ◌↔◌, ◌≤◌, ℕ, List, true, false, length, All, IfOk, IsErrOf};
+ghost use Rattle.mq_one_thread.specs.Limits.{keeps_limits};
+ghost use Rattle.mq_one_thread.specs.declared.config.Config.{Config as Sizes};
+ghost use Rattle.mq_system.specs.Closed.{IsClosed};
+ghost use Rattle.mq_system.specs.Seat.{SeatState, AreNumbered};
+ghost use Rattle.mq_system.specs.Sizes.{AreNames};
+ghost use Rattle.mq.specs.Ended.{IsAfterAll};
+
+use crate::Ended;
+use mq_arena::LEDGER_PARTS;
+use mq_system::{Blanks, Closed, Config, Names, Pledge, Seat, SysError, System};
+use std::alloc::Global;
+use std::marker::Brand;
+use std::sync::Wait;
+
+/// What one thread does at all seats of a system: a simulator, or a scheduler that calls for many.
+/// What it wants of the size is `before`, and what is known of its answer and of the seats at the
+/// end is `after`. A program that promises nothing leaves both out.
+pub trait SystemProgram<P: Pledge>: Drop {
+    type Answer;
+
+    ghost before: { Self → Sizes → Type 0 } = { λ _ _. Unit {0} };
+
+    ghost after: { Self → Sizes → List SeatState → Self.Answer → Type 0 } = { λ _ _ _ _. Unit {0} };
+
+    /// Runs once. No queue is made yet, and no page is lent.
+    fn run<N: Names, R: Wait>(
+        self,
+        rt: &R,
+        alloc: Global,
+        config: Config,
+        system: &System<P, N>,
+        seats: &mut [Seat<N>],
+    ) -> Self::Answer
+        requires before { before self config }
+        requires limits { keeps_limits config ≡ true }
+        requires slots { N.slots ≡ config.slots }
+        requires seats { length seats.old ≡ config.seats }
+        requires numbers { AreNumbered seats.old }
+        ensures after { after self config seats.new result };
+}
+
+/// Makes a system of this size, runs the program on it once, and closes it. Where the answer is
+/// `Err`, the program has not begun. A call that waits for another seat of the same program waits
+/// for good.
+pub fn with_system<P: Pledge, Q: SystemProgram<P>, R: Wait>(
+    rt: &R,
+    alloc: Global,
+    config: Config,
+    program: Q,
+) -> Result<Ended<Q::Answer>, SysError>
+    requires before { Q.before program config }
+    ensures after { IfOk result (IsAfterAll Q.after program config) }
+    ensures slots { IfOk result (λ e. length e.slots.items ≡ config.slots) }
+    ensures closed { IfOk result (λ e. All (IsClosed config.last_seq) e.slots.items) }
+    ensures err { IsErrOf result SysError.Config ↔ (keeps_limits config ≡ false) }
+{
+    run_system::<P, Brand, Q, R>(rt, alloc, config, Blanks::of(config), program)
+}
+
+fn run_system<P: Pledge, N: Names, Q: SystemProgram<P>, R: Wait>(
+    rt: &R,
+    alloc: Global,
+    config: Config,
+    blanks: Blanks,
+    program: Q,
+) -> Result<Ended<Q::Answer>, SysError>
+    requires names { AreNames N.Names blanks config }
+    requires enough { LEDGER_PARTS ≤ blanks.pages.parts }
+    requires before { Q.before program config }
+    ensures after { IfOk result (IsAfterAll Q.after program config) }
+    ensures slots { IfOk result (λ e. length e.slots.items ≡ N.slots) }
+    ensures closed { IfOk result (λ e. All (IsClosed N.last_seq) e.slots.items) }
+    ensures err { IsErrOf result SysError.Config ↔ (keeps_limits config ≡ false) }
+{
+    if !config.is_valid() {
+        return Err(SysError::Config);
+    }
+    let Ok((system, mut seats)) = System::<P, N>::new(alloc, config, blanks) else {
+        return Err(SysError::Memory);
+    };
+    let answer = program.run(rt, alloc, config, &system, &mut seats);
+    let Closed { slots, arena } = system.close(seats);
+    Ok(Ended {
+        answer,
+        slots,
+        free_pages: arena.free_pages(),
+    })
+}

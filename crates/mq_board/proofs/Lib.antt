@@ -1,0 +1,6 @@
+pub mod Fronts
+pub mod Cells
+pub mod Adding
+pub mod Rolling
+pub mod Rows
+pub mod Seats

@@ -1,0 +1,13 @@
+use Rattle.std.proofs.Common.{◌+◌, List, [], ◌∷◌, ◌++◌, ◌∙◌, ap}
+use Rattle.mq_board.specs.Readers.{ReaderState, seat}
+use Rattle.mq_board.proofs.Seats.{seats_more}
+use Rattle.mq_board.proofs.making.seat_all.Goals as goal
+
+pub loop-given-preserved : goal.loop-given-preserved
+loop-given-preserved g c =
+    let board = c.args.first.now.board in
+    let given = c.loop-given.given in
+    c.in_ok-push.ensures.items
+    ∙ (ap (λ (r : ReaderState). c.loop-given.readers.items ++ r ∷ []) c.in_ok-reader.ensures
+    ∙ (ap (λ (rs : List ReaderState). rs ++ seat board (given + 1) ∷ []) c.loop-given.invariant
+    ∙ seats_more board given))

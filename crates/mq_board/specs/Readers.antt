@@ -1,0 +1,25 @@
+-- The readers of a board.
+use Rattle.std.specs.Prelude.{◌≡◌, ℕ, List, [], map}
+use Rattle.std.specs.List.{range_with_len}
+use mathlib.Core.List.{IsPrefix}
+use Rattle.mq_queue.specs.declared.event.Event.{Event}
+
+-- a reader: its board, its place there, and its front, the published events that it knows
+pub record ReaderState : Type 0 where
+  pub board : ℕ
+  pub place : ℕ
+  pub events : List Event
+
+-- the reader with this place, before it has seen anything
+abbrev pub seat : ℕ → ℕ → ReaderState
+seat board place = record { board = board; place = place; events = [] }
+
+-- so many readers, with the places from 1 on
+abbrev pub seats : ℕ → ℕ → List ReaderState
+seats board count = map (seat board) (range_with_len 1 count)
+
+-- the same reader, whose front begins with the front before
+pub record IsLater (old new : ReaderState) : Type 0 where
+  pub board : new.board ≡ old.board
+  pub place : new.place ≡ old.place
+  pub front : IsPrefix old.events new.events

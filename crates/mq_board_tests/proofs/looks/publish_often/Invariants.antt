@@ -1,0 +1,6 @@
+use Rattle.std.proofs.Common.{◌≡◌, []}
+use Rattle.mq_board_tests.proofs.looks.publish_often.Given as goal
+
+-- what was published is the queue's log, and nothing is pending
+abbrev pub invariant-loop : goal.invariant-loop
+invariant-loop g l = (l.writer.events ≡ l.queue.log) × (l.writer.pending ≡ [])

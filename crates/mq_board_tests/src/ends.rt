@@ -1,0 +1,71 @@
+//! Boards that are given up with their readers.
+
+ghost use Rattle.std.specs.Prelude.{◌≡◌, ◌<◌, ◌≤◌, []};
+
+use crate::posts::{close, of_board, open, send};
+use mq_board::{BoardReader, BoardWriter, Copies, Naming, OpenedBoard, board};
+use std::alloc::{AllocError, Global};
+use std::marker::Brand;
+use std::process::Abort;
+use std::sync::Wait;
+use std::test::*;
+
+/// Whether the readers have the places from 1 on, and each sees the message that was sent.
+fn look_all<J: Naming, R: Wait>(
+    rt: &R,
+    alloc: Global,
+    writer: &mut BoardWriter<J, Copies<J>>,
+    readers: &mut Vec<BoardReader<J>>,
+) -> Result<bool, AllocError>
+    requires empty { writer.old.events ≡ [] }
+    requires idle { writer.old.pending ≡ [] }
+{
+    let mut queue = open(rt, alloc, writer)?;
+    let sent = send(rt, alloc, &mut queue, writer);
+    close(queue);
+    sent?;
+    let mut right = true;
+    let mut place = 0u16;
+    for reader in readers.iter_mut() {
+        place = place.wrapping_add(1);
+        if reader.place() != place || reader.figures().figures.qnum != 1 {
+            right = false;
+        }
+    }
+    Ok(right)
+}
+
+/// Whether a board with so many readers shows them what happens, and is given up with all of them.
+fn ended<J: Naming, R: Wait>(
+    rt: &R,
+    alloc: Global,
+    opened: OpenedBoard,
+    count: usize,
+) -> Result<bool, AllocError>
+    requires named { (opened.history.seen.book ≡ J.board 0) × (opened.roll.seen.book ≡ J.roll 0) }
+    requires readers { (0 < count) × (count ≤ 16) }
+{
+    let (mut writer, mut readers) = board::<J, R>(alloc, rt, opened, 0, count)?;
+    let looked = look_all(rt, alloc, &mut writer, &mut readers);
+    let Ok(ours) = of_board(alloc, readers, writer.board()) else {
+        writer.close(rt);
+        return Err(AllocError);
+    };
+    let whole = ours.len() == count;
+    writer.end(rt, ours);
+    Ok(looked? && whole)
+}
+
+fn ends<R: Wait>(rt: &R, alloc: Global, count: usize) -> Result<bool, AllocError>
+    requires { (0 < count) × (count ≤ 16) }
+{
+    ended::<Brand, R>(rt, alloc, OpenedBoard::new(), count)
+}
+
+#[test]
+fn a_board_ends_with_one_two_and_sixteen_readers(rt: HostRuntime) -> Result<(), Fail> {
+    assert!(rt; ends(&rt, rt.alloc(), 1)?);
+    assert!(rt; ends(&rt, rt.alloc(), 2)?);
+    assert!(rt; ends(&rt, rt.alloc(), 16)?);
+    Ok(())
+}

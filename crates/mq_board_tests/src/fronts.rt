@@ -1,0 +1,100 @@
+//! What a reader sees and learns.
+
+ghost use Rattle.std.specs.Prelude.{◌≡◌, [], length};
+
+use crate::posts::{close, learns, open, send};
+use mq_board::{BoardReader, BoardWriter, Copies, Naming, OpenedBoard, board};
+use mq_queue::BoardRow;
+use std::alloc::{AllocError, Global};
+use std::marker::Brand;
+use std::process::Abort;
+use std::sync::Wait;
+use std::test::*;
+
+/// What two readers saw, of a making and a sending.
+#[derive(Drop)]
+struct Seen {
+    before: BoardRow,
+    made: BoardRow,
+    sent: BoardRow,
+    told: BoardRow,
+    /// The first one learned a list that is shorter than its front, and the list of its front.
+    shorter: bool,
+    same: bool,
+    /// The second one, which had not entered, learned that list.
+    longer: bool,
+    learned: BoardRow,
+}
+
+fn follow<J: Naming, R: Wait>(
+    rt: &R,
+    alloc: Global,
+    writer: &mut BoardWriter<J, Copies<J>>,
+    readers: &mut [BoardReader<J>],
+) -> Result<Seen, AllocError>
+    requires empty { writer.old.events ≡ [] }
+    requires idle { writer.old.pending ≡ [] }
+    requires two { length readers.old ≡ 2 }
+{
+    let before = readers[0].figures();
+    let nothing = writer.tell();
+    let mut queue = open(rt, alloc, writer)?;
+    let made = readers[0].figures();
+    let outcome = send(rt, alloc, &mut queue, writer);
+    close(queue);
+    outcome?;
+    Ok(Seen {
+        before,
+        made,
+        sent: readers[0].figures(),
+        told: writer.tell().row(),
+        shorter: learns(&mut readers[0], nothing),
+        same: learns(&mut readers[0], writer.tell()),
+        longer: learns(&mut readers[1], writer.tell()),
+        learned: readers[1].figures(),
+    })
+}
+
+/// What the two saw, and what they answer once the board was given up.
+fn followed<J: Naming, R: Wait>(
+    rt: &R,
+    alloc: Global,
+    opened: OpenedBoard,
+) -> Result<(Seen, BoardRow), AllocError>
+    requires { (opened.history.seen.book ≡ J.board 0) × (opened.roll.seen.book ≡ J.roll 0) }
+{
+    let (mut writer, mut readers) = board::<J, R>(alloc, rt, opened, 0, 2)?;
+    let seen = follow(rt, alloc, &mut writer, readers.as_mut_slice());
+    writer.close(rt);
+    Ok((seen?, readers[0].figures()))
+}
+
+fn run<R: Wait>(rt: &R, alloc: Global) -> Result<(Seen, BoardRow), AllocError> {
+    followed::<Brand, R>(rt, alloc, OpenedBoard::new())
+}
+
+#[test]
+fn a_reader_enters(rt: HostRuntime) -> Result<(), Fail> {
+    let (seen, _left) = run(&rt, rt.alloc())?;
+    assert!(rt; seen.before.made == 0 && !seen.before.live);
+    assert!(rt; seen.made.made == 1 && seen.made.live && seen.made.key == 7);
+    assert!(rt; seen.made.figures.qbytes == 16384 && seen.made.figures.ctime == 10);
+    assert!(rt; seen.sent.figures.qnum == 1 && seen.sent.figures.stime == 20);
+    assert!(rt; seen.sent == seen.told);
+    Ok(())
+}
+
+#[test]
+fn a_list_is_learned_that_is_not_shorter(rt: HostRuntime) -> Result<(), Fail> {
+    let (seen, _left) = run(&rt, rt.alloc())?;
+    assert!(rt; !seen.shorter && seen.same && seen.longer);
+    assert!(rt; seen.learned == seen.told);
+    Ok(())
+}
+
+#[test]
+fn a_reader_of_a_board_given_up_answers_its_front(rt: HostRuntime) -> Result<(), Fail> {
+    let (seen, left) = run(&rt, rt.alloc())?;
+    assert!(rt; left == seen.told);
+    Ok(())
+}

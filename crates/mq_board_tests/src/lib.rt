@@ -1,0 +1,14 @@
+//! Tests of boards: readers beside a writer, fronts that learn, boards that are given up.
+
+#![tactic(auto)]
+
+#[cfg(test)]
+mod ends;
+#[cfg(test)]
+mod fronts;
+#[cfg(test)]
+mod long;
+#[cfg(test)]
+mod looks;
+#[cfg(test)]
+mod posts;

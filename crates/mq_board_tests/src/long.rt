@@ -1,0 +1,94 @@
+//! A long run of events, for which a board takes no memory.
+
+ghost use Rattle.std.specs.Prelude.{◌≡◌, ◌+◌, ◌<◌, ◌^◌, [], length, IfOk};
+
+use crate::posts::publish;
+use mq_board::{BoardWriter, Copies, Naming, OpenedBoard, board};
+use mq_queue::{BoardRow, Event, Figures, MSGMNB};
+use std::alloc::{AllocError, Global};
+use std::marker::Brand;
+use std::process::Abort;
+use std::sync::Wait;
+use std::test::*;
+
+const NONE: Figures = Figures {
+    qnum: 0,
+    cbytes: 0,
+    qbytes: 0,
+    stime: 0,
+    rtime: 0,
+    ctime: 0,
+    lspid: 0,
+    lrpid: 0,
+};
+
+/// Publishes that a queue is made, and then that it is removed.
+fn come_and_go<J: Naming, R: Wait>(
+    rt: &R,
+    writer: &mut BoardWriter<J, Copies<J>>,
+) -> Result<(), AllocError>
+    requires length { length writer.old.events < 2 ^ 62 }
+    requires idle { writer.old.pending ≡ [] }
+    ensures { IfOk result (λ _. (length writer.new.events ≡ length writer.old.events + 2)
+        × (writer.new.pending ≡ [])) }
+{
+    let made = Event::Made {
+        seat: 1,
+        moment: 3,
+        key: 9,
+    };
+    if writer.tell().row().made >= 1 << 20 {
+        return Err(AllocError);
+    }
+    publish(
+        rt,
+        writer,
+        made,
+        Figures {
+            qbytes: MSGMNB,
+            ctime: 3,
+            ..NONE
+        },
+    )?;
+    let removed = Event::Removed { seat: 1, moment: 4 };
+    publish(rt, writer, removed, NONE)
+}
+
+fn run_long<J: Naming, R: Wait>(
+    rt: &R,
+    writer: &mut BoardWriter<J, Copies<J>>,
+) -> Result<(), AllocError>
+    requires empty { writer.old.events ≡ [] }
+    requires idle { writer.old.pending ≡ [] }
+{
+    for _turn in 0..50_000u64 {
+        come_and_go(rt, writer)?;
+    }
+    Ok(())
+}
+
+fn ran<J: Naming, R: Wait>(
+    rt: &R,
+    alloc: Global,
+    opened: OpenedBoard,
+) -> Result<BoardRow, AllocError>
+    requires { (opened.history.seen.book ≡ J.board 0) × (opened.roll.seen.book ≡ J.roll 0) }
+{
+    let (mut writer, mut readers) = board::<J, R>(alloc, rt, opened, 0, 2)?;
+    let ran = run_long(rt, &mut writer);
+    let row = readers[0].figures();
+    writer.close(rt);
+    ran?;
+    Ok(row)
+}
+
+fn run<R: Wait>(rt: &R, alloc: Global) -> Result<BoardRow, AllocError> {
+    ran::<Brand, R>(rt, alloc, OpenedBoard::new())
+}
+
+#[test]
+fn a_hundred_thousand_events_are_shown(rt: HostRuntime) -> Result<(), Fail> {
+    let row = run(&rt, rt.alloc())?;
+    assert!(rt; row.made == 50_000 && !row.live && row.key == 0);
+    Ok(())
+}

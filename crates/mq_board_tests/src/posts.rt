@@ -1,0 +1,101 @@
+//! A queue whose events are published on a board.
+
+ghost use Rattle.std.specs.Prelude.{◌≡◌, ◌++◌, ◌∷◌, [], IfOk};
+ghost use Rattle.std.specs.List.{All};
+ghost use Rattle.mq_board.specs.Writers.{IsReady, posting};
+
+use mq_board::{BoardReader, BoardWriter, Copies, Naming, Told};
+use mq_message::{Message, VecBody};
+use mq_queue::{Event, Figures, Notice, QueueState};
+use mq_select::{ListWaiting, discard};
+use std::alloc::{AllocError, Global};
+use std::sync::Wait;
+
+pub(crate) type Queue = QueueState<VecBody, ListWaiting<VecBody>>;
+
+/// Publishes an event. `Err` means that memory was wanted twice.
+pub(crate) fn publish<J: Naming, R: Wait>(
+    rt: &R,
+    writer: &mut BoardWriter<J, Copies<J>>,
+    event: Event,
+    after: Figures,
+) -> Result<(), AllocError>
+    requires ready { IsReady writer.old.events (posting event after ∷ []) }
+    requires idle { writer.old.pending ≡ [] }
+    ensures { IfOk result (λ _. (writer.new.events ≡ writer.old.events ++ event ∷ [])
+        × (writer.new.pending ≡ [])) }
+{
+    if writer.prepare(event, after).is_err() {
+        writer.prepare(event, after)?;
+    }
+    writer.publish(rt);
+    Ok(())
+}
+
+/// A new queue, whose making is published: the writer is its notice.
+pub(crate) fn open<J: Naming, R: Wait>(
+    rt: &R,
+    alloc: Global,
+    writer: &mut BoardWriter<J, Copies<J>>,
+) -> Result<Queue, AllocError>
+    requires empty { writer.old.events ≡ [] }
+    requires idle { writer.old.pending ≡ [] }
+    ensures { IfOk result (λ queue. (writer.new.events ≡ queue.log) × (writer.new.pending ≡ [])) }
+{
+    let queue = Queue::made(alloc, 7, 1, 10, writer)?;
+    writer.publish(rt);
+    Ok(queue)
+}
+
+/// Sends an empty body with the writer as the queue's notice, and publishes the event.
+pub(crate) fn send<J: Naming, R: Wait>(
+    rt: &R,
+    alloc: Global,
+    queue: &mut Queue,
+    writer: &mut BoardWriter<J, Copies<J>>,
+) -> Result<(), AllocError>
+    requires same { writer.old.events ≡ queue.old.log }
+    requires idle { writer.old.pending ≡ [] }
+    ensures { IfOk result (λ _. (writer.new.events ≡ queue.new.log) × (writer.new.pending ≡ [])) }
+{
+    let message = Message {
+        mtype: 1,
+        sender: 1,
+        tag: 5,
+        body: VecBody::from_slice(alloc, &[])?,
+    };
+    let Ok(_place) = queue.send(message, 20, writer) else {
+        return Err(AllocError);
+    };
+    let _small = queue.log_len();
+    writer.publish(rt);
+    Ok(())
+}
+
+/// Ends the queue with all that waits in it.
+pub(crate) fn close(queue: Queue) {
+    let (_log, waiting) = queue.into_parts();
+    discard(waiting);
+}
+
+/// The readers that are of this board.
+pub(crate) fn of_board<J: Naming>(
+    alloc: Global,
+    readers: Vec<BoardReader<J>>,
+    board: u8,
+) -> Result<Vec<BoardReader<J>>, AllocError>
+    ensures { IfOk result (λ ours. All (λ r. r.board ≡ board) ours.items) }
+{
+    let mut ours = Vec::with_capacity(alloc, readers.len())?;
+    for reader in readers {
+        if reader.board() == board {
+            ours.push(reader)?;
+        }
+    }
+    Ok(ours)
+}
+
+/// Whether the reader learns a list, which has to be told by its board.
+pub(crate) fn learns<J: Naming>(reader: &mut BoardReader<J>, told: Told<J>) -> bool {
+    reader.board() == told.board() && reader.learn(told)
+}

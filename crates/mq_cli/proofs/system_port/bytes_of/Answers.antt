@@ -1,0 +1,11 @@
+use Rattle.std.proofs.Common.{◌≡◌, ◌+◌, ◌-◌, ◌%◌, arith, rules}
+use Rattle.mq_cli.specs.declared.system_port.TheConstants.{LETTERS}
+use Rattle.mq_cli.proofs.LettersLemmas.{text_is}
+use Rattle.mq_cli.proofs.system_port.bytes_of.Goals as goal
+
+pub returns : goal.returns
+returns c =
+    let same : c.from.result ≡ c.args.seat = search (rules, c.from.ensures) in
+    let start = (c.args.tag % 26 + c.args.seat) % 26 in
+    let count : start + c.args.count - start ≡ c.args.count = omega arith in
+    rw (same, count) (text_is c.args.letters.now LETTERS c.args.seat c.args.tag c.args.count c.requires.letters (omega (arith, c.requires.few)))

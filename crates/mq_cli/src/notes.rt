@@ -1,0 +1,89 @@
+ghost use Rattle.std.specs.Prelude.{◌≡◌, ◌<◌, ◌&&◌, true, IfErr, OnOk, Some};
+ghost use Rattle.std.specs.HashMap.{Updates, get, spare};
+ghost use Rattle.mq_one_thread.specs.declared.errno.Errno.TheVariants.{ENOMEM};
+ghost use Rattle.mq_cli.specs.Plans.{rises};
+
+use crate::Taken;
+use mq_one_thread::Errno;
+use mq_table::Id;
+use std::alloc::Global;
+use std::collections::HashMap;
+
+/// The messages of one sender and one type in one queue.
+#[derive(Clone, Copy, PartialEq, Eq, Hash)]
+pub(crate) struct Stream {
+    pub id: u32,
+    pub sender: u16,
+    pub mtype: i64,
+}
+
+impl Stream {
+    pub(crate) fn of(id: Id, taken: Taken) -> Stream
+        ensures id { result.id ≡ id }
+        ensures sender { result.sender ≡ taken.sender }
+        ensures mtype { result.mtype ≡ taken.mtype }
+    {
+        Stream {
+            id: id.number(),
+            sender: taken.sender,
+            mtype: taken.mtype,
+        }
+    }
+}
+
+/// A worker's own notes of what it received.
+#[derive(Drop)]
+pub(crate) struct Notes {
+    /// The tag that came last of each stream.
+    last: HashMap<Stream, u64>,
+    ordered: bool,
+}
+
+impl Notes {
+    pub(crate) fn new(alloc: Global) -> Notes
+        ensures { result.ordered ≡ true }
+    {
+        Notes {
+            last: HashMap::new(alloc),
+            ordered: true,
+        }
+    }
+
+    /// Whether the tags of each stream always rose.
+    pub(crate) fn ordered(&self) -> bool
+        ensures { result ≡ self.now.ordered }
+    {
+        self.ordered
+    }
+
+    /// Makes room for one more note. ENOMEM alone.
+    pub(crate) fn reserve(&mut self) -> Result<(), Errno>
+        ensures room { OnOk result (0 < spare self.new.last) }
+        ensures ordered { self.new.ordered ≡ self.old.ordered }
+        ensures refused { IfErr result (λ errno. errno ≡ ENOMEM) }
+    {
+        match self.last.reserve(1) {
+            Ok(()) => Ok(()),
+            Err(_) => Err(Errno::ENOMEM),
+        }
+    }
+
+    /// Notes the tag of a message for which there is room. They are in order as long as each tag
+    /// is above that of the message before in its stream.
+    pub(crate) fn note(&mut self, stream: Stream, tag: u64)
+        requires { 0 < spare self.old.last }
+        ensures ordered { self.new.ordered ≡ (self.old.ordered
+            && rises (get ⟦<Stream as PartialEq>⟧.eq self.old.last stream) tag) }
+        ensures last { Updates ⟦<Stream as PartialEq>⟧.eq self.old.last self.new.last stream
+            (Some tag) }
+    {
+        let Ok(before) = self.last.insert(stream, tag) else {
+            unreachable!()
+        };
+        if let Some(last) = before {
+            if last >= tag {
+                self.ordered = false;
+            }
+        }
+    }
+}

@@ -1,0 +1,137 @@
+ghost use Rattle.std.specs.Prelude.{◌≡◌, ◌+◌, ◌<◌, ◌≤◌, ◌^◌, true, OnOk, OnErr};
+ghost use Rattle.mq_cli.specs.Plans.{IsCountable, IsDone, HasGrown, puts_of, takes_of, removes_of};
+
+use crate::notes::{Notes, Stream};
+use crate::{Outcome, Port, Step};
+use mq_one_thread::Errno;
+use mq_table::Id;
+use std::alloc::Global;
+use std::sync::Wait;
+
+/// Runs a plan, in the order of its steps, until its end or its first refusal. The tags of what it
+/// sends run from 1. Where its own notes find no memory it ends with ENOMEM.
+pub fn work<Q: Port, R: Wait>(rt: &R, alloc: Global, port: &mut Q, plan: &[Step]) -> Outcome
+    requires { IsCountable plan.now }
+    ensures done { IsDone plan.now result }
+    ensures grown { HasGrown plan.now result (Q.calls port.old) (Q.calls port.new) }
+{
+    let mut progress = Progress {
+        sent: 0,
+        received: 0,
+        notes: Notes::new(alloc),
+    };
+    for step in plan {
+        if let Err(errno) = progress.step(rt, port, *step) {
+            return progress.outcome(Some(errno));
+        }
+    }
+    progress.outcome(None)
+}
+
+/// How far a worker is.
+#[derive(Drop)]
+struct Progress {
+    sent: u64,
+    received: u64,
+    notes: Notes,
+}
+
+impl Progress {
+    fn outcome(&self, end: Option<Errno>) -> Outcome
+        ensures sent { result.sent ≡ self.now.sent }
+        ensures received { result.received ≡ self.now.received }
+        ensures ordered { result.ordered ≡ self.now.notes.ordered }
+        ensures end { result.end ≡ end }
+    {
+        Outcome {
+            sent: self.sent,
+            received: self.received,
+            ordered: self.notes.ordered(),
+            end,
+        }
+    }
+
+    /// Makes the calls of one step. Each message that was sent or received is counted.
+    fn step<Q: Port, R: Wait>(&mut self, rt: &R, port: &mut Q, step: Step) -> Result<(), Errno>
+        requires sent { self.old.sent + puts_of step < 2 ^ 64 }
+        requires received { self.old.received + takes_of step < 2 ^ 64 }
+        ensures sent { self.new.sent ≤ self.old.sent + puts_of step }
+        ensures received { self.new.received ≤ self.old.received + takes_of step }
+        ensures all { OnOk result ((self.new.sent ≡ self.old.sent + puts_of step)
+            × (self.new.received ≡ self.old.received + takes_of step)) }
+        ensures done { OnOk result (Q.calls port.new + (self.old.sent + self.old.received)
+            ≡ Q.calls port.old + (self.new.sent + self.new.received) + removes_of step) }
+        ensures refused { OnErr result (Q.calls port.new + (self.old.sent + self.old.received)
+            ≡ Q.calls port.old + (self.new.sent + self.new.received)) }
+    {
+        match step {
+            Step::Put {
+                id,
+                mtype,
+                count,
+                length,
+                moment,
+            } => self.put_all(rt, port, id, mtype, count, length, moment),
+            Step::Take {
+                id,
+                msgtyp,
+                count,
+                moment,
+            } => self.take_all(rt, port, id, msgtyp, count, moment),
+            Step::Remove { id, moment } => match port.remove(rt, id, moment) {
+                Ok(_) => Ok(()),
+                Err(errno) => Err(errno),
+            },
+        }
+    }
+
+    /// Sends so many messages, each with the next tag.
+    fn put_all<Q: Port, R: Wait>(
+        &mut self,
+        rt: &R,
+        port: &mut Q,
+        id: Id,
+        mtype: i64,
+        count: u32,
+        length: u64,
+        moment: u64,
+    ) -> Result<(), Errno>
+        requires { self.old.sent + count < 2 ^ 64 }
+        ensures sent { self.new.sent ≤ self.old.sent + count }
+        ensures all { OnOk result (self.new.sent ≡ self.old.sent + count) }
+        ensures received { self.new.received ≡ self.old.received }
+        ensures calls { Q.calls port.new + self.old.sent ≡ Q.calls port.old + self.new.sent }
+    {
+        for _ in 0..count {
+            port.put(rt, id, mtype, self.sent + 1, length, moment)?;
+            self.sent += 1;
+        }
+        Ok(())
+    }
+
+    /// Receives so many messages, for each of which a note can be made before it comes.
+    fn take_all<Q: Port, R: Wait>(
+        &mut self,
+        rt: &R,
+        port: &mut Q,
+        id: Id,
+        msgtyp: i64,
+        count: u32,
+        moment: u64,
+    ) -> Result<(), Errno>
+        requires { self.old.received + count < 2 ^ 64 }
+        ensures received { self.new.received ≤ self.old.received + count }
+        ensures all { OnOk result (self.new.received ≡ self.old.received + count) }
+        ensures sent { self.new.sent ≡ self.old.sent }
+        ensures calls { Q.calls port.new + self.old.received
+            ≡ Q.calls port.old + self.new.received }
+    {
+        for _ in 0..count {
+            self.notes.reserve()?;
+            let taken = port.take(rt, id, msgtyp, moment)?;
+            self.notes.note(Stream::of(id, taken), taken.tag);
+            self.received += 1;
+        }
+        Ok(())
+    }
+}

@@ -1,0 +1,150 @@
+ghost use Rattle.std.specs.Prelude.{◌≡◌, ◌+◌, ◌≤◌, IfOk, length, map};
+ghost use Rattle.std.specs.List.{range_with_len, sum};
+ghost use Rattle.mq_queue.specs.declared.limits.TheConstants.{MSGMAX};
+ghost use Rattle.mq_cli.specs.Drafts.{letter};
+ghost use Rattle.mq_cli.specs.Letters.{AreLetters, letters_from};
+ghost use Rattle.mq_cli.specs.declared.system_port.TheConstants.{LETTERS};
+
+use crate::{Port, Taken};
+use mq_one_thread::{Delivered, DraftError, Errno, Removal, SendRefused};
+use mq_queue::MSGMAX;
+use mq_system::{Names, Pledge, RecvFlags, Seat, SendFlags, System};
+use mq_table::Id;
+use std::alloc::{AllocError, Global};
+use std::sync::Wait;
+
+/// What the workers of a threads script pledge of their texts: byte i is the letter at
+/// `seat + tag + i`, `a` to `z` over and over.
+pub struct Letters;
+
+impl Pledge for Letters {
+    ghost kept = { AreLetters };
+}
+
+/// The number of letters from which each text is cut: the longest one may begin with any.
+pub(crate) const LETTERS: u64 = MSGMAX + 26;
+
+/// The calls of a worker at its seat, each of which waits where it has to.
+#[derive(Drop)]
+pub struct SystemPort<'a, N: Names> {
+    system: &'a System<Letters, N>,
+    seat: &'a mut Seat<N>,
+    letters: &'a [u8],
+    ghost letters_are: { letters.now ≡ map letter (range_with_len 0 LETTERS) },
+}
+
+impl<'a, N: Names> SystemPort<'a, N> {
+    pub fn new(
+        system: &'a System<Letters, N>,
+        seat: &'a mut Seat<N>,
+        letters: &'a [u8],
+    ) -> SystemPort<'a, N>
+        requires { letters.now ≡ map letter (range_with_len 0 LETTERS) }
+    {
+        SystemPort {
+            system,
+            seat,
+            letters,
+        }
+    }
+}
+
+/// A port for each of the seats, in their order.
+pub fn ports_of<'a, N: Names>(
+    alloc: Global,
+    system: &'a System<Letters, N>,
+    seats: &'a mut [Seat<N>],
+    letters: &'a [u8],
+) -> Result<Vec<SystemPort<'a, N>>, AllocError>
+    requires { letters.now ≡ map letter (range_with_len 0 LETTERS) }
+    ensures { IfOk result (λ ports. length ports.items ≡ length seats.old) }
+{
+    let mut ports = Vec::with_capacity(alloc, seats.len())?;
+    for seat in seats.iter_mut() {
+        ports.push_reserved(SystemPort::new(system, seat, letters));
+    }
+    Ok(ports)
+}
+
+/// The bytes of the text with this tag that the seat sends.
+fn bytes_of(letters: &[u8], seat: u16, tag: u64, count: u64) -> &[u8]
+    requires letters { letters.now ≡ map letter (range_with_len 0 LETTERS) }
+    requires few { count ≤ MSGMAX }
+    ensures { result.now ≡ letters_from (seat + tag) (length result.now) }
+{
+    let start = ((tag % 26 + u64::from(seat)) % 26) as usize;
+    &letters[start..start + count as usize]
+}
+
+impl<'a, N: Names> Port for SystemPort<'a, N> {
+    ghost calls = { λ p. sum p.seat.now.by_slot };
+
+    fn put<R: Wait>(
+        &mut self,
+        rt: &R,
+        id: Id,
+        mtype: i64,
+        tag: u64,
+        length: u64,
+        moment: u64,
+    ) -> Result<u64, Errno> {
+        if length > MSGMAX {
+            return Err(DraftError::TooLong.errno());
+        }
+        let bytes = bytes_of(self.letters, self.seat.number(), tag, length);
+        let text = match self.system.draft_of(rt, bytes) {
+            Ok(text) => text,
+            Err(refusal) => return Err(refusal.errno()),
+        };
+        let flags = SendFlags { nowait: false };
+        match self
+            .system
+            .msgsnd(rt, self.seat, id, mtype, tag, text, flags, moment)
+        {
+            Ok(entry) => Ok(entry),
+            Err(refusal) => {
+                let SendRefused { refused, text } = refusal;
+                self.system.spend(rt, text);
+                Err(refused.errno)
+            }
+        }
+    }
+
+    fn take<R: Wait>(&mut self, rt: &R, id: Id, msgtyp: i64, moment: u64) -> Result<Taken, Errno> {
+        let flags = RecvFlags {
+            nowait: false,
+            noerror: false,
+            except: false,
+        };
+        let received = self
+            .system
+            .msgrcv(rt, self.seat, id, MSGMAX, msgtyp, flags, moment);
+        match received {
+            Ok(delivered) => {
+                let Delivered {
+                    entry: _,
+                    mtype,
+                    sender,
+                    tag,
+                    length,
+                    text,
+                } = delivered;
+                self.system.spend(rt, text);
+                Ok(Taken {
+                    sender,
+                    tag,
+                    mtype,
+                    length,
+                })
+            }
+            Err(refused) => Err(refused.errno),
+        }
+    }
+
+    fn remove<R: Wait>(&mut self, rt: &R, id: Id, moment: u64) -> Result<u64, Errno> {
+        match self.system.rmid(rt, self.seat, id, moment) {
+            Ok(Removal { entry, log: _ }) => Ok(entry),
+            Err(refused) => Err(refused.errno),
+        }
+    }
+}

@@ -1,0 +1,77 @@
+ghost use Rattle.std.specs.Prelude.{◌≡◌, length, map, All, IfErr, IfOk};
+ghost use Rattle.std.specs.List.{AllZip};
+ghost use Rattle.mq_cli.specs.Plans.{IsCountable, IsDone};
+ghost use Rattle.mq_cli.specs.Threads.{IsMakingFault};
+
+use crate::{Outcome, Port, RunFault, Step, work};
+use mq_jobs::{Job, JobsError, run_jobs};
+use std::alloc::{AllocError, Global};
+use std::sync::Wait;
+use std::thread::Threads;
+
+/// Runs each plan on a thread of its own, through the port of its place, and answers the outcomes
+/// in the order of the plans. No plan begins before there is a thread for each; where the answer is
+/// `Err`, none has begun. `Memory`, then `Thread`.
+pub fn run_workers<Q: Port + Send, R: Threads + Wait + Sync>(
+    rt: &R,
+    alloc: Global,
+    plans: &[Vec<Step>],
+    ports: &mut [Q],
+) -> Result<Vec<Outcome>, RunFault>
+    requires ports { length plans.now ≡ length ports.old }
+    requires plans { All (λ plan. IsCountable plan.items) plans.now }
+    ensures done { IfOk result (λ all.
+        AllZip (λ plan outcome. IsDone plan.items outcome) plans.now all.items) }
+    ensures fault { IfErr result IsMakingFault }
+{
+    let Ok(jobs) = at_ports(alloc, plans, ports) else {
+        return Err(RunFault::Memory);
+    };
+    match run_jobs(rt, alloc, jobs) {
+        Ok(outcomes) => Ok(outcomes),
+        Err(JobsError::Memory) => Err(RunFault::Memory),
+        Err(JobsError::Thread) => Err(RunFault::Thread),
+    }
+}
+
+/// A plan, and the port through which its calls are made.
+#[derive(Drop)]
+struct AtPort<'a, Q> {
+    alloc: Global,
+    plan: &'a [Step],
+    port: &'a mut Q,
+}
+
+impl<'a, Q: Port> Job for AtPort<'a, Q> {
+    type Answer = Outcome;
+
+    ghost before = { λ job. IsCountable job.plan.now };
+
+    ghost after = { λ job outcome. IsDone job.plan.now outcome };
+
+    fn run<R: Wait>(self, rt: &R) -> Outcome {
+        let AtPort { alloc, plan, port } = self;
+        work(rt, alloc, port, plan)
+    }
+}
+
+/// Each plan with the port of its place.
+fn at_ports<'a, Q: Port>(
+    alloc: Global,
+    plans: &'a [Vec<Step>],
+    ports: &'a mut [Q],
+) -> Result<Vec<AtPort<'a, Q>>, AllocError>
+    requires { length plans.now ≡ length ports.old }
+    ensures { IfOk result (λ jobs.
+        map (λ job. job.plan.now) jobs.items ≡ map (λ plan. plan.items) plans.now) }
+{
+    let mut jobs = Vec::with_capacity(alloc, plans.len())?;
+    for (place, port) in ports.iter_mut().enumerate() {
+        jobs.push_reserved(AtPort {
+            alloc,
+            plan: plans[place].as_slice(),
+            port,
+        });
+    }
+    Ok(jobs)
+}

@@ -1,0 +1,51 @@
+//! Worked scripts, each with all that it writes.
+
+use mq_cli::RunFault;
+
+/// Each worker takes what it has sent, and waits for no other.
+pub const OWN: &str = "\
+get 0 c
+worker
+put 0 1 5 1000
+take 0 1 5
+worker
+put 0 2 5 1000
+take 0 2 5
+";
+
+pub const OWN_TOLD: &str = "\
+id 0
+worker 2 sent 5 received 5 order yes end done
+worker 3 sent 5 received 5 order yes end done
+slot 0 events 21 sent 10 received 10 left 0
+pages 64 free 64
+";
+
+/// Two workers send to two others, each pair by a type of its own.
+pub const TWO_PAIRS: &str = "\
+get 9 c
+worker
+put 0 1 100 1000
+worker
+put 0 2 100 1000
+worker
+take 0 1 100
+worker
+take 0 2 100
+";
+
+pub const TWO_PAIRS_TOLD: &str = "\
+id 0
+worker 2 sent 100 received 0 order yes end done
+worker 3 sent 100 received 0 order yes end done
+worker 4 sent 0 received 100 order yes end done
+worker 5 sent 0 received 100 order yes end done
+slot 0 events 401 sent 200 received 200 left 0
+pages 64 free 64
+";
+
+/// Whether a run, a thread or a worker of it lacked memory.
+pub fn lacks_memory(ended: Result<(), RunFault>, written: &[u8]) -> bool {
+    matches!(ended, Err(RunFault::Memory | RunFault::Thread))
+        || written.windows(6).any(|part| part == b"ENOMEM".as_slice())
+}

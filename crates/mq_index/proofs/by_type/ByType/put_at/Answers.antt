@@ -1,0 +1,78 @@
+use Rattle.std.proofs.Common.{arith, ◌∙◌, ◌<◌, ℕ, nat_eq, sym}
+use Rattle.std.specs.Ordering.{int_eq}
+use Rattle.std.proofs.lemmas.Int.{to_z-of_z}
+use Rattle.std.proofs.lemmas.List.Elements.{All-filter, All-same, recursion_from_All}
+use Rattle.std.proofs.lemmas.Option.{none-some}
+use Rattle.indexmap.specs.IndexMap.{get}
+use Rattle.mq_message.specs.declared.message.Message.{Message}
+use Rattle.mq_index.specs.Fronts.{first_of}
+use Rattle.mq_index.specs.Index.{merged, of_type, queue_of}
+use Rattle.mq_index.proofs.Changes.{front_below, put_last, settled}
+use Rattle.mq_index.proofs.by_type.ByType.put_at.Goals as goal
+
+pub enter-requires-clause-above : goal.enter-requires-clause-above
+enter-requires-clause-above g c t n h =
+    let above = rw (← c.self.view_is) at c.requires.above in
+    let all = merged c.self.inside.queues.entries in
+    let below = front_below (λ m. m.mtype) all c.args.place t n (recursion_from_All (λ (m : ℕ × Message g.row.B.Denot). m.0 < c.args.place) all above) (sym (c.self.invariant.0.fronted t) ∙ h) in
+    omega (arith, below)
+
+pub enter-requires-clause-room : goal.enter-requires-clause-room
+enter-requires-clause-room g c =
+    let was = rw (← c.self.view_is) at c.requires.prepared in
+    (c.self.invariant.1 c.args.mtype was).front
+
+pub unreachable-requires : goal.unreachable-requires
+unreachable-requires g c =
+    let was = rw (← c.self.view_is) at c.requires.prepared in
+    let ok = c.in-Err.ensures.succeeds (c.self.invariant.1 c.args.mtype was).place in
+    cc (ok)
+
+pub put-requires-clause-there : goal.put-requires-clause-there
+put-requires-clause-there g c =
+    let was = rw (← c.self.view_is) at c.requires.prepared in
+    simp (to_z-of_z, c.ranges.mtype) (c.self.invariant.1 c.args.mtype was).queue
+
+pub put-requires-clause-room : goal.put-requires-clause-room
+put-requires-clause-room g c =
+    let was = rw (← c.self.view_is) at c.requires.prepared in
+    (c.self.invariant.1 c.args.mtype was).node
+
+pub put-requires-clause-few : goal.put-requires-clause-few
+put-requires-clause-few g c =
+    let was = rw (← c.self.view_is) at c.requires.prepared in
+    simp (to_z-of_z, c.ranges.mtype) (c.self.invariant.1 c.args.mtype was).few
+
+pub put-requires-clause-above : goal.put-requires-clause-above
+put-requires-clause-above g c =
+    let above = rw (← c.self.view_is) at c.requires.above in
+    let all = merged c.self.inside.queues.entries in
+    let P : ℕ × Message g.row.B.Denot → Type 0 = λ m. m.0 < c.args.place in
+    simp (to_z-of_z, c.ranges.mtype)
+    (All-same P (queue_of c.self.inside.queues.entries c.args.mtype) (of_type (λ m. m.mtype) all c.args.mtype) (c.self.invariant.0.parted c.args.mtype) (All-filter (λ (m : ℕ × Message g.row.B.Denot). int_eq m.1.mtype c.args.mtype) P all above))
+
+pub invariant_of-self : goal.invariant_of-self
+invariant_of-self g c =
+    let was = rw (← c.self.view_is) at c.requires.prepared in
+    let above = rw (← c.self.view_is) at c.requires.above in
+    let all = merged c.self.inside.queues.entries in
+    let index = rw was at c.self.invariant.0 in
+    let at = simp (to_z-of_z, c.ranges.mtype) at c.put.ensures.at in
+    let front = simp (to_z-of_z, c.ranges.mtype) at c.enter.ensures in
+    let type = simp (to_z-of_z, c.ranges.mtype) at c.in-Ok.ensures.updates.0 in
+    let new = put_last (λ m. m.mtype) all c.self.inside.queues.entries c.put.new.queues.entries (first_of c.self.inside.fronts) (first_of c.enter.new.self) (get nat_eq c.self.inside.types) (get nat_eq c.insert.new.self) c.args.mtype c.args.place c.args.message index c.requires.of_type (recursion_from_All (λ (m : ℕ × Message g.row.B.Denot). m.0 < c.args.place) all above) c.put.ensures.ordered at front type in
+    let whole = settled _ _ _ _ _ _ new in
+    (whole.1, λ x e. absurd (none-some x e))
+
+pub returns-clause-added : goal.returns-clause-added
+returns-clause-added g c =
+    let was = rw (← c.self.view_is) at c.requires.prepared in
+    let above = rw (← c.self.view_is) at c.requires.above in
+    let all = merged c.self.inside.queues.entries in
+    let index = rw was at c.self.invariant.0 in
+    let at = simp (to_z-of_z, c.ranges.mtype) at c.put.ensures.at in
+    let front = simp (to_z-of_z, c.ranges.mtype) at c.enter.ensures in
+    let type = simp (to_z-of_z, c.ranges.mtype) at c.in-Ok.ensures.updates.0 in
+    let new = put_last (λ m. m.mtype) all c.self.inside.queues.entries c.put.new.queues.entries (first_of c.self.inside.fronts) (first_of c.enter.new.self) (get nat_eq c.self.inside.types) (get nat_eq c.insert.new.self) c.args.mtype c.args.place c.args.message index c.requires.of_type (recursion_from_All (λ (m : ℕ × Message g.row.B.Denot). m.0 < c.args.place) all above) c.put.ensures.ordered at front type in
+    let whole = settled _ _ _ _ _ _ new in
+    rw (← c.self.view_is) whole.0

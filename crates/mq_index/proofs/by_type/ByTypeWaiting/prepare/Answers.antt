@@ -1,0 +1,66 @@
+use Rattle.std.proofs.Common.{◌≡◌, ◌∙◌, ℕ, ℤ, List, Some, ap, cond, nat_eq, refl, arith}
+use Rattle.std.specs.Ordering.{int_eq}
+use Rattle.std.specs.Map.{lookup}
+use Rattle.std.proofs.lemmas.Int.{to_z-of_z}
+use Rattle.std.proofs.lemmas.Option.{same_Some}
+use Rattle.indexmap.specs.IndexMap.{get}
+use Rattle.mq_index.specs.Fronts.{first_of}
+use Rattle.mq_index.specs.Index.{merged, queue_at, queue_of}
+use Rattle.mq_index.proofs.Changes.{prepared, same_index, settled}
+use Rattle.mq_index.proofs.Merging.{int_eq-here}
+use Rattle.mq_index.proofs.by_type.ByTypeWaiting.prepare.Goals as goal
+
+-- the queue that was made
+at_type : {X : Type 0} (t : ℤ) (queues made : List (ℤ × List (ℕ × X))) → ((s : ℤ) → queue_at made s ≡ cond (int_eq t s) (Some (queue_of queues s)) (queue_at queues s)) → queue_at made t ≡ Some (queue_of queues t)
+at_type t queues made at = rw (int_eq-here t) at (at t)
+
+pub invariant_of-self : goal.invariant_of-self
+invariant_of-self g c = (
+  same_index (λ m. m.mtype) (merged c.self.inside.queues.entries) c.self.inside.queues.entries (first_of c.self.inside.fronts) (first_of c.reserve.new.self) (get nat_eq c.self.inside.types) (get nat_eq c.self.inside.types) c.self.inside.prepared c.self.invariant.0 c.reserve.ensures.unchanged (λ n. refl),
+  λ x e. let r = c.self.invariant.1 x e in let more = c.reserve.ensures.room in
+      record { queue = r.queue; few = r.few; front = omega (arith, r.front, more); place = r.place; node = r.node },
+)
+
+pub invariant_of-self-in_err-reserve-2 : goal.invariant_of-self-in_err-reserve-2
+invariant_of-self-in_err-reserve-2 g c = (
+  same_index (λ m. m.mtype) (merged c.self.inside.queues.entries) c.self.inside.queues.entries (first_of c.self.inside.fronts) (first_of c.reserve.new.self) (get nat_eq c.self.inside.types) (get nat_eq c.reserve-2.new.self) c.self.inside.prepared c.self.invariant.0 c.reserve.ensures.unchanged (λ n. ap (lookup (nat_eq n)) c.reserve-2.ensures.entries),
+  λ x e. let r = c.self.invariant.1 x e in let more = c.reserve.ensures.room in let most = c.reserve-2.ensures.room.0 in
+      record { queue = r.queue; few = r.few; front = omega (arith, r.front, more); place = omega (arith, r.place, most); node = r.node },
+)
+
+pub invariant_of-self-in_err-make : goal.invariant_of-self-in_err-make
+invariant_of-self-in_err-make g c = (
+  same_index (λ m. m.mtype) (merged c.self.inside.queues.entries) c.self.inside.queues.entries (first_of c.self.inside.fronts) (first_of c.reserve.new.self) (get nat_eq c.self.inside.types) (get nat_eq c.reserve-2.new.self) c.self.inside.prepared c.self.invariant.0 c.reserve.ensures.unchanged (λ n. ap (lookup (nat_eq n)) c.reserve-2.ensures.entries),
+  λ x e. let r = c.self.invariant.1 x e in let more = c.reserve.ensures.room in let most = c.reserve-2.ensures.room.0 in
+      record { queue = r.queue; few = r.few; front = omega (arith, r.front, more); place = omega (arith, r.place, most); node = c.in_err-make.ensures.unchanged ∙ r.node },
+)
+
+pub invariant_of-self-2 : goal.invariant_of-self-2
+invariant_of-self-2 g c =
+    let room = simp (to_z-of_z, c.ranges.mtype) at c.has_room.ensures in
+    let made = simp (to_z-of_z, c.ranges.mtype) at c.in_ok-make-2.ensures.ok in
+    let there = simp (to_z-of_z, c.ranges.mtype) at c.forget_older.ensures.there in
+    let kept = simp (to_z-of_z, c.ranges.mtype) at c.forget_older.ensures.kept in
+    let new = prepared (λ m. m.mtype) (merged c.self.inside.queues.entries) c.self.inside.queues.entries c.make-2.new.queues.entries c.forget_older.new.queues.entries (first_of c.self.inside.fronts) (first_of c.reserve.new.self) (get nat_eq c.self.inside.types) (get nat_eq c.reserve-2.new.self) c.self.inside.prepared c.args.mtype c.self.invariant.0 c.forget_older.ensures.ordered made c.forget_older.ensures.same kept c.reserve.ensures.unchanged (λ n. ap (lookup (nat_eq n)) c.reserve-2.ensures.entries) in
+    let whole = settled _ _ _ _ _ _ new in
+    let is = at_type c.args.mtype c.self.inside.queues.entries c.make-2.new.queues.entries made in
+    simp (to_z-of_z, c.ranges.mtype) (
+      whole.1,
+      λ x e. let same : c.args.mtype ≡ x = same_Some _ _ e in
+          rw (← same)
+          (record {
+            queue = rw (there, is) refl;
+            few = rw (c.forget_older.ensures.same c.args.mtype, is) (room (rw (c.if-not-has_room.false) refl));
+            front = c.in_ok-reserve.ensures.ok;
+            place = c.in_ok-reserve-2.ensures.ok;
+            node = c.in_ok-make.ensures.ok;
+          }),
+    )
+
+pub returns-clause-unchanged : goal.returns-clause-unchanged
+returns-clause-unchanged g c =
+    let made = simp (to_z-of_z, c.ranges.mtype) at c.in_ok-make-2.ensures.ok in
+    let kept = simp (to_z-of_z, c.ranges.mtype) at c.forget_older.ensures.kept in
+    let new = prepared (λ m. m.mtype) (merged c.self.inside.queues.entries) c.self.inside.queues.entries c.make-2.new.queues.entries c.forget_older.new.queues.entries (first_of c.self.inside.fronts) (first_of c.reserve.new.self) (get nat_eq c.self.inside.types) (get nat_eq c.reserve-2.new.self) c.self.inside.prepared c.args.mtype c.self.invariant.0 c.forget_older.ensures.ordered made c.forget_older.ensures.same kept c.reserve.ensures.unchanged (λ n. ap (lookup (nat_eq n)) c.reserve-2.ensures.entries) in
+    let whole = settled _ _ _ _ _ _ new in
+    rw (← c.self.view_is) whole.0

@@ -1,0 +1,117 @@
+//! How messages go over from a list to the list by type, and back.
+
+ghost use Rattle.std.specs.Prelude.{◌≡◌, ◌+◌, ◌<◌, ◌≤◌, ◌++◌, [], AllPairs, IfErr, IfOk, OnOk};
+ghost use Rattle.std.specs.Prelude.{Some, length, slice_get};
+ghost use Rattle.std.specs.Option.{option_map};
+ghost use Rattle.std.specs.VecDeque.{deque_len, deque_capacity};
+
+use crate::ByType;
+use mq_message::Body;
+use mq_select::{ListWaiting, Placed, Waiting};
+use std::alloc::{AllocError, Global};
+use std::collections::VecDeque;
+
+/// The type of the first message.
+fn first_type<B>(messages: &VecDeque<Placed<B>>) -> Option<i64>
+    ensures { result ≡ option_map (λ m. m.1.mtype) (slice_get messages.now.items 0) }
+{
+    Some(messages.front()?.1.mtype)
+}
+
+/// Moves messages, first to last, to the end of a list by type, and makes room there for one more
+/// of this type. `Err` means out of memory: then some have moved.
+fn go_over<B: Body>(
+    messages: &mut VecDeque<Placed<B>>,
+    index: &mut ByType<B>,
+    mtype: i64,
+) -> Result<(), AllocError>
+    requires rising { AllPairs (λ a b. a.0 < b.0) (index.old.messages ++ messages.old.items) }
+    ensures kept { index.new.messages ++ messages.new.items
+        ≡ index.old.messages ++ messages.old.items }
+    ensures ok { OnOk result ((messages.new.items ≡ []) × (index.new.prepared ≡ Some mtype)) }
+    ensures capacity { deque_capacity messages.new ≡ deque_capacity messages.old }
+{
+    while let Some(next) = first_type(messages) {
+        index.prepare(next)?;
+        let (place, message) = messages.pop_front().unwrap();
+        index.put_prepared(place, message);
+    }
+    index.prepare(mtype)
+}
+
+/// Moves the messages of a list by type to the end of others, where there is room for them.
+fn go_back<B>(index: &mut ByType<B>, messages: &mut VecDeque<Placed<B>>)
+    requires room { deque_len messages.old + length index.old.messages
+        ≤ deque_capacity messages.old }
+    ensures none { index.new.messages ≡ [] }
+    ensures moved { messages.new.items ≡ messages.old.items ++ index.old.messages }
+    ensures capacity { deque_capacity messages.new ≡ deque_capacity messages.old }
+{
+    while let Some(first) = index.pop_first() {
+        messages.push_back_reserved(first);
+    }
+}
+
+/// Moves the messages of a list by type to where they came from: before those that were left.
+fn come_back<B>(index: &mut ByType<B>, messages: &mut VecDeque<Placed<B>>)
+    requires room { deque_len messages.old + length index.old.messages
+        ≤ deque_capacity messages.old }
+    ensures none { index.new.messages ≡ [] }
+    ensures moved { messages.new.items ≡ index.old.messages ++ messages.old.items }
+    ensures capacity { deque_capacity messages.new ≡ deque_capacity messages.old }
+{
+    let left = messages.len();
+    go_back(index, messages);
+    messages.rotate_left(left);
+}
+
+/// A list by type of the messages of a list, with room for one more of this type. `Err` means out
+/// of memory: then the list is as it was.
+pub(crate) fn by_type<B: Body>(
+    list: ListWaiting<B>,
+    alloc: Global,
+    mtype: i64,
+) -> Result<ByType<B>, ListWaiting<B>>
+    ensures messages { IfOk result (λ index. index.messages ≡ list.messages) }
+    ensures prepared { IfOk result (λ index. index.prepared ≡ Some mtype) }
+    ensures handed_back { IfErr result (λ same. same ≡ list) }
+{
+    let (messages, prepared) = list.into_parts();
+    let mut messages = messages;
+    let mut index = ByType::fresh(alloc);
+    match go_over(&mut messages, &mut index, mtype) {
+        Ok(()) => {
+            messages.destroy_empty();
+            Ok(index)
+        }
+        Err(_) => {
+            come_back(&mut index, &mut messages);
+            index.end();
+            Err(ListWaiting::from_parts(messages, prepared))
+        }
+    }
+}
+
+/// A list of the messages of a list by type, with room for so many and one more of this type.
+/// `Err` means out of memory: then the list by type is as it was.
+pub(crate) fn listed<B: Body>(
+    index: ByType<B>,
+    alloc: Global,
+    most: usize,
+    mtype: i64,
+) -> Result<ListWaiting<B>, ByType<B>>
+    requires few { length index.messages < most }
+    ensures messages { IfOk result (λ list. list.messages ≡ index.messages) }
+    ensures prepared { IfOk result (λ list. list.prepared ≡ Some mtype) }
+    ensures handed_back { IfErr result (λ same. same ≡ index) }
+{
+    let Ok(messages) = VecDeque::with_capacity(alloc, most) else {
+        return Err(index);
+    };
+    let (mut messages, mut index) = (messages, index);
+    // The length is what says that the places rise.
+    let _len = index.len();
+    go_back(&mut index, &mut messages);
+    index.end();
+    Ok(ListWaiting::from_parts(messages, Some(mtype)))
+}

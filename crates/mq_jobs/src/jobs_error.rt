@@ -1,0 +1,10 @@
+use thiserror::Error;
+
+/// Why no job has begun.
+#[derive(Clone, Copy, Debug, PartialEq, Eq, Error)]
+pub enum JobsError {
+    #[error("out of memory")]
+    Memory,
+    #[error("a thread cannot be made")]
+    Thread,
+}

@@ -1,0 +1,116 @@
+//! A list of all calls that change something, each made once more where there was no memory. It is
+//! run with each allocation refused in turn, and must answer as if none had been.
+ghost use Rattle.std.specs.Prelude.{◌≡◌, ◌<◌};
+
+use crate::calls::{
+    CREATE, PARTS, Wanted, config, ended, get, made, receive, remove, send, set, spent,
+};
+use mq_one_thread::{Delivered, Got, OneThread, SendRefused};
+use mq_table::Id;
+use std::alloc::Global;
+use std::marker::Brand;
+use std::process::Abort;
+use std::sync::ledger::{Blank, Ledger};
+
+/// The messages, eight of each of five types.
+const MESSAGES: u64 = 40;
+
+/// The type of the message at this place of those that are sent: the types come in turn.
+fn type_of(place: u64) -> i64 {
+    (place % 5) as i64 + 1
+}
+
+/// The type that is received at this place: all of the first type come first.
+fn wanted_at(place: u64) -> i64 {
+    (place / 8) as i64 + 1
+}
+
+fn makes<L: Ledger>(rt: &impl Abort, system: &mut OneThread<L>, key: i32, id: u32, entry: u64) {
+    let got = Got {
+        id: Id::from_number(id),
+        made: Some(entry),
+    };
+    assert!(rt;
+        get(system, key, CREATE, 1) == Ok(got),
+        "no memory for queue {id}"
+    );
+}
+
+fn sends<L: Ledger>(rt: &impl Abort, system: &mut OneThread<L>, place: u64) {
+    let Ok(text) = system.draft(0) else {
+        panic!(rt; "an empty text wants no page");
+    };
+    match send(system, 0, type_of(place), text, place) {
+        Ok(entry) => assert!(rt; entry == place.saturating_add(1), "{place}"),
+        Err(SendRefused { refused, text }) => {
+            spent(rt, system, text);
+            panic!(rt; "{place} is not sent: {refused}");
+        }
+    }
+}
+
+fn receives<L: Ledger>(rt: &impl Abort, system: &mut OneThread<L>, place: u64) {
+    let msgtyp = wanted_at(place);
+    let wanted = Wanted {
+        size: 0,
+        msgtyp,
+        except: false,
+        noerror: false,
+    };
+    match receive(system, 0, wanted, place) {
+        Ok(
+            Delivered {
+                entry,
+                mtype,
+                sender,
+                tag,
+                length,
+                text,
+            },
+        ) => {
+            spent(rt, system, text);
+            assert!(rt; entry == place.saturating_add(MESSAGES + 1), "{place}");
+            assert!(rt;
+                mtype == msgtyp && sender == 1 && tag == 7 && length == 0,
+                "{place}"
+            );
+        }
+        Err(refused) => panic!(rt; "{place} is not received: {refused}"),
+    }
+}
+
+fn changes<L: Ledger>(rt: &impl Abort, system: &mut OneThread<L>) {
+    assert!(rt; set(system, 0, 100, 90) == Ok(81));
+    match system.stat(Id::from_number(0)) {
+        Ok(figures) => assert!(rt; figures.qnum == 0 && figures.qbytes == 100),
+        Err(errno) => panic!(rt; "{errno}"),
+    }
+    match remove(system, 0, 91) {
+        Ok(removal) => assert!(rt; removal.entry == 82 && removal.log.len() == 83),
+        Err(refused) => panic!(rt; "not removed: {refused}"),
+    }
+}
+
+fn listed<L: Ledger, R: Abort>(rt: &R, alloc: Global, ledger: Blank)
+    requires name { ledger.name ≡ L.name }
+    requires parts { ledger.parts ≡ L.parts }
+    requires enough { 1024 < ledger.parts }
+{
+    let mut system = made::<L>(rt, alloc, config(2, 2, 1), ledger);
+    makes(rt, &mut system, 9, 0, 0);
+    makes(rt, &mut system, 0, 1, 0);
+    for place in 0..MESSAGES {
+        sends(rt, &mut system, place);
+    }
+    for place in 0..MESSAGES {
+        receives(rt, &mut system, place);
+    }
+    changes(rt, &mut system);
+    makes(rt, &mut system, 9, 64, 83);
+    ended(rt, system);
+}
+
+#[test]
+fn a_list_of_calls_answers_as_if_memory_had_never_run_out(rt: HostRuntime) {
+    listed::<Brand, HostRuntime>(&rt, rt.alloc(), Blank::new(PARTS));
+}

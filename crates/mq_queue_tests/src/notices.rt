@@ -1,0 +1,145 @@
+//! A notice takes in each event with the figures after it, or the call is refused and leaves all.
+
+use crate::calls::{Queue, close, message};
+use mq_message::{Message, VecBody};
+use mq_queue::{Event, Figures, NO_FIGURES, Notice, QueueError};
+use mq_select::{Selection, discard};
+use std::alloc::{AllocError, Global};
+use std::process::Abort;
+use std::test::Fail;
+
+/// An event, with the figures after it.
+#[derive(Clone, Copy, Debug, PartialEq, Eq)]
+struct Taken {
+    event: Event,
+    after: Figures,
+}
+
+/// A notice that keeps what it took in last, or takes nothing in.
+#[derive(Clone, Copy)]
+struct Last {
+    taken: Option<Taken>,
+    refuses: bool,
+}
+
+impl Notice for Last {
+    ghost use Rattle.std.specs.Prelude.{◌≡◌, Some};
+
+    ghost takes = { λ old event after new.
+        new ≡ record old { taken = Some (record { event = event; after = after }) } };
+
+    fn prepare(&mut self, event: Event, after: Figures) -> Result<(), AllocError> {
+        if self.refuses {
+            return Err(AllocError);
+        }
+        self.taken = Some(Taken { event, after });
+        Ok(())
+    }
+}
+
+const TAKES: Last = Last {
+    taken: None,
+    refuses: false,
+};
+
+const REFUSES: Last = Last {
+    taken: None,
+    refuses: true,
+};
+
+/// Whether the notice took in the queue's last event, with the queue's figures.
+fn is_told(queue: &Queue, notice: &Last) -> bool {
+    match (notice.taken, queue.event(queue.log_len().saturating_sub(1))) {
+        (Some(taken), Some(event)) => taken.event == event && taken.after == queue.figures(),
+        _ => false,
+    }
+}
+
+/// Whether a new queue's notice took in its making, and then takes in each change.
+fn tells_each(
+    queue: &mut Queue,
+    text: Message<VecBody>,
+    notice: &mut Last,
+) -> Result<bool, QueueError> {
+    let made = is_told(queue, notice);
+    queue
+        .send(text, 60, notice)
+        .map_err(|(refusal, _)| refusal)?;
+    let sent = is_told(queue, notice);
+    queue.receive(1, Selection::Any, true, 4, 70, notice)?;
+    let received = is_told(queue, notice);
+    queue.set(100, 5, 80, notice)?;
+    Ok(made && sent && received && is_told(queue, notice))
+}
+
+#[test]
+fn each_event_is_noticed_with_the_figures_after_it(rt: HostRuntime) -> Result<(), Fail> {
+    let text = message(rt.alloc(), 5, 3)?;
+    let mut notice = TAKES;
+    let mut queue = Queue::made(rt.alloc(), 7, 2, 50, &mut notice)?;
+    let told = tells_each(&mut queue, text, &mut notice);
+    match queue.remove(2, 90, &mut notice) {
+        Ok((_log, waiting)) => discard(waiting),
+        Err(queue) => {
+            close(queue);
+            panic!(rt; "out of memory");
+        }
+    }
+    assert!(rt; told?);
+    let event = Event::Removed {
+        seat: 2,
+        moment: 90,
+    };
+    let after = NO_FIGURES;
+    assert!(rt; notice.taken == Some(Taken { event, after }));
+    Ok(())
+}
+
+/// What a queue answers whose notice refuses a send, a receipt and a new quota.
+fn refusals(queue: &mut Queue, text: Message<VecBody>) -> [Option<QueueError>; 3] {
+    let mut notice = REFUSES;
+    [
+        queue.send(text, 70, &mut notice).err().map(|r| r.0),
+        queue
+            .receive(9, Selection::Any, false, 4, 70, &mut notice)
+            .err(),
+        queue.set(100, 5, 70, &mut notice).err(),
+    ]
+}
+
+fn is_made(alloc: Global, notice: &mut Last) -> bool {
+    match Queue::made(alloc, 7, 2, 50, notice) {
+        Ok(queue) => {
+            close(queue);
+            true
+        }
+        Err(_) => false,
+    }
+}
+
+/// Where the notice refuses, the call answers that there is no memory, and nothing has changed.
+#[test]
+fn a_notice_that_refuses_leaves_the_queue(rt: HostRuntime) -> Result<(), Fail> {
+    let first = message(rt.alloc(), 5, 3)?;
+    let second = message(rt.alloc(), 5, 4)?;
+    let mut takes = TAKES;
+    let mut refuses = REFUSES;
+    let mut queue = Queue::made(rt.alloc(), 7, 2, 50, &mut takes)?;
+    let sent = queue.send(first, 60, &mut takes).is_ok();
+    let before = (queue.figures(), queue.log_len());
+    let refused = refusals(&mut queue, second);
+    let queue = match queue.remove(2, 80, &mut refuses) {
+        Err(queue) => queue,
+        Ok((_log, waiting)) => {
+            discard(waiting);
+            panic!(rt; "removed");
+        }
+    };
+    let after = (queue.figures(), queue.log_len());
+    close(queue);
+    assert!(rt; !is_made(rt.alloc(), &mut refuses));
+    assert!(rt; sent, "out of memory");
+    assert!(rt; refused == [Some(QueueError::Memory); 3]);
+    assert!(rt; before == after && after.1 == 2);
+    Ok(())
+}

@@ -1,0 +1,163 @@
+//! A list of all calls that change something, each made once more where there was no memory. It is
+//! run with each allocation refused in turn, and must answer as if none had been.
+ghost use Rattle.std.specs.Prelude.{◌≡◌};
+
+use crate::calls::{CREATE, TAG, Wanted, get, holds, receive, remove, seat, send, set};
+use crate::day::{Anything, Day, config, left_by};
+use mq_system::{Config, Delivered, Got, Names, Seat, SendRefused, System};
+use mq_table::Id;
+use std::alloc::Global;
+use std::process::Abort;
+use std::sync::Wait;
+use std::thread::Threads;
+
+/// The messages, eight of each of five types.
+const MESSAGES: u64 = 40;
+
+/// The type of the message at this place of those that are sent: the types come in turn.
+fn type_of(place: u64) -> i64 {
+    (place % 5) as i64 + 1
+}
+
+/// The type that is received at this place: all of the first type come first.
+fn wanted_at(place: u64) -> i64 {
+    (place / 8) as i64 + 1
+}
+
+fn makes<N: Names, R: Abort + Wait>(
+    rt: &R,
+    system: &System<Anything, N>,
+    seats: &mut [Seat<N>],
+    key: i32,
+    id: u32,
+    entry: u64,
+) {
+    match get(rt, system, seats, key, CREATE, 1) {
+        Ok(Got { id: number, made }) => {
+            holds(
+                rt,
+                number.number() == id && made == Some(entry),
+                "a queue is made",
+            );
+        }
+        Err(errno) => panic!(rt; "queue {id} is not made: {errno}"),
+    }
+}
+
+fn sends<N: Names, R: Abort + Wait>(
+    rt: &R,
+    system: &System<Anything, N>,
+    seats: &mut [Seat<N>],
+    place: u64,
+) {
+    let Ok(text) = system.draft(rt, 0) else {
+        panic!(rt; "an empty text wants no page");
+    };
+    match send(rt, system, seats, 0, type_of(place), text, place) {
+        Ok(entry) => holds(rt, entry == place.saturating_add(1), "sent at its entry"),
+        Err(SendRefused { refused, text }) => {
+            system.spend(rt, text);
+            panic!(rt; "{place} is not sent: {refused}");
+        }
+    }
+}
+
+fn receives<N: Names, R: Abort + Wait>(
+    rt: &R,
+    system: &System<Anything, N>,
+    seats: &mut [Seat<N>],
+    place: u64,
+) {
+    let msgtyp = wanted_at(place);
+    let wanted = Wanted {
+        size: 0,
+        msgtyp,
+        except: false,
+        noerror: false,
+    };
+    match receive(rt, system, seats, 0, wanted, place) {
+        Ok(
+            Delivered {
+                entry,
+                mtype,
+                sender,
+                tag,
+                length,
+                text,
+            },
+        ) => {
+            system.spend(rt, text);
+            holds(
+                rt,
+                entry == place.saturating_add(MESSAGES + 1),
+                "received at its entry",
+            );
+            holds(rt, mtype == msgtyp && sender == 1, "of the type, by seat 1");
+            holds(rt, tag == TAG && length == 0, "with its tag, and empty");
+        }
+        Err(refused) => panic!(rt; "{place} is not received: {refused}"),
+    }
+}
+
+fn changes<N: Names, R: Abort + Wait>(rt: &R, system: &System<Anything, N>, seats: &mut [Seat<N>]) {
+    match set(rt, system, seats, 0, 100, 90) {
+        Ok(entry) => holds(rt, entry == 81, "the quota is set by entry 81"),
+        Err(refused) => panic!(rt; "not set: {refused}"),
+    }
+    let first = seat(rt, seats, 0);
+    match system.stat(rt, first, Id::from_number(0)) {
+        Ok(figures) => holds(
+            rt,
+            figures.qnum == 0 && figures.qbytes == 100,
+            "the figures",
+        ),
+        Err(errno) => panic!(rt; "not shown: {errno}"),
+    }
+    match remove(rt, system, seats, 0, 91) {
+        Ok(removal) => {
+            holds(
+                rt,
+                removal.entry == 82 && removal.log.len() == 83,
+                "its own log",
+            );
+        }
+        Err(refused) => panic!(rt; "not removed: {refused}"),
+    }
+}
+
+#[derive(Drop)]
+struct Listed;
+
+impl Day<Anything> for Listed {
+    fn spend<N: Names, R: Abort + Threads + Wait>(
+        &self,
+        rt: &R,
+        _alloc: Global,
+        _config: Config,
+        system: &System<Anything, N>,
+        seats: &mut [Seat<N>],
+    ) {
+        makes(rt, system, seats, 9, 0, 0);
+        makes(rt, system, seats, 0, 1, 0);
+        for place in 0..MESSAGES {
+            sends(rt, system, seats, place);
+        }
+        for place in 0..MESSAGES {
+            receives(rt, system, seats, place);
+        }
+        changes(rt, system, seats);
+        makes(rt, system, seats, 9, 64, 83);
+    }
+}
+
+#[test]
+fn a_list_of_calls_answers_as_if_memory_had_never_run_out(rt: HostRuntime) {
+    let left = left_by(&rt, rt.alloc(), config(2, 2, 1), &Listed);
+    holds(&rt, left.free_pages == 4, "all pages are free");
+    let mut entries = 0usize;
+    for slot in left.slots {
+        entries = entries.saturating_add(slot.past.len().saturating_add(slot.last.len()));
+        holds(&rt, slot.left == 0, "nothing waits");
+    }
+    holds(&rt, entries == 85, "all that was not refused");
+}

@@ -1,0 +1,14 @@
+//! Tests of workers that run plans, over ports that are told what to answer, and of jobs.
+
+#![tactic(auto)]
+
+#[cfg(test)]
+mod jobs;
+#[cfg(test)]
+mod meeting;
+#[cfg(test)]
+mod order;
+#[cfg(test)]
+mod plans;
+#[cfg(test)]
+mod refusals;

@@ -1,0 +1,148 @@
+ghost use Rattle.std.specs.Prelude.{◌≡◌, ◌+◌, length, All, IfOk};
+ghost use Rattle.mq_cli.specs.Plans.{IsCountable};
+
+use crate::plans::one_take;
+use mq_cli::{Outcome, Port, RunFault, Step, Taken, run_workers};
+use mq_one_thread::Errno;
+use mq_table::Id;
+use std::alloc::{AllocError, Global};
+use std::sync::Wait;
+use std::sync::atomic::{AtomicBool, Ordering};
+use std::thread::Threads;
+
+/// Turns that a worker makes until the other has come.
+const TURNS: u32 = 100_000_000;
+
+/// Says that it has come, and waits in turns until the other has.
+#[derive(Drop)]
+struct Meeting<'a> {
+    mine: &'a AtomicBool,
+    other: &'a AtomicBool,
+    calls: u64,
+}
+
+impl<'a> Port for Meeting<'a> {
+    ghost calls = { λ port. port.calls };
+
+    fn put<R: Wait>(
+        &mut self,
+        _rt: &R,
+        _id: Id,
+        _mtype: i64,
+        _tag: u64,
+        _length: u64,
+        _moment: u64,
+    ) -> Result<u64, Errno> {
+        Err(Errno::EPERM)
+    }
+
+    fn take<R: Wait>(
+        &mut self,
+        _rt: &R,
+        _id: Id,
+        msgtyp: i64,
+        _moment: u64,
+    ) -> Result<Taken, Errno> {
+        if self.calls > 0 || !meets(self.mine, self.other) {
+            return Err(Errno::EAGAIN);
+        }
+        self.calls += 1;
+        Ok(Taken {
+            sender: 2,
+            tag: 1,
+            mtype: msgtyp,
+            length: 0,
+        })
+    }
+
+    fn remove<R: Wait>(&mut self, _rt: &R, _id: Id, _moment: u64) -> Result<u64, Errno> {
+        Err(Errno::EPERM)
+    }
+}
+
+/// Whether the other comes while this one is there.
+fn meets(mine: &AtomicBool, other: &AtomicBool) -> bool {
+    mine.store(true, Ordering::SeqCst);
+    for _ in 0..TURNS {
+        if other.load(Ordering::SeqCst) {
+            return true;
+        }
+    }
+    false
+}
+
+/// The ports of two that meet.
+fn both<'a>(
+    alloc: Global,
+    first: &'a AtomicBool,
+    second: &'a AtomicBool,
+) -> Result<Vec<Meeting<'a>>, AllocError>
+    ensures { IfOk result (λ ports. length ports.items ≡ 2) }
+{
+    let mut ports = Vec::with_capacity(alloc, 2)?;
+    ports.push_reserved(Meeting {
+        mine: first,
+        other: second,
+        calls: 0,
+    });
+    ports.push_reserved(Meeting {
+        mine: second,
+        other: first,
+        calls: 0,
+    });
+    Ok(ports)
+}
+
+/// Two plans, each of which receives one message.
+fn two_takes(alloc: Global) -> Result<Vec<Vec<Step>>, AllocError>
+    ensures len { IfOk result (λ plans. length plans.items ≡ 2) }
+    ensures each { IfOk result (λ plans. All (λ plan. IsCountable plan.items) plans.items) }
+{
+    let mut plans = Vec::with_capacity(alloc, 2)?;
+    plans.push_reserved(one_take(alloc)?);
+    plans.push_reserved(one_take(alloc)?);
+    Ok(plans)
+}
+
+/// Two workers, each of which receives one message at the meeting.
+fn meet<R: Threads + Wait + Sync>(rt: &R, alloc: Global) -> Result<Vec<Outcome>, RunFault> {
+    let first = AtomicBool::new(false);
+    let second = AtomicBool::new(false);
+    let (Ok(plans), Ok(mut ports)) = (two_takes(alloc), both(alloc, &first, &second)) else {
+        return Err(RunFault::Memory);
+    };
+    run_workers(rt, alloc, &plans, ports.as_mut_slice())
+}
+
+/// Whether a worker had no memory for its notes, and so never came to the meeting.
+fn one_found_no_memory(outcomes: &[Outcome]) -> bool {
+    for outcome in outcomes {
+        if outcome.end == Some(Errno::ENOMEM) {
+            return true;
+        }
+    }
+    false
+}
+
+#[test]
+fn two_workers_are_there_at_the_same_time(rt: HostRuntime) {
+    for _ in 0..2 {
+        match meet(&rt, rt.alloc()) {
+            Ok(outcomes) if one_found_no_memory(&outcomes) => (),
+            Ok(outcomes) => {
+                assert!(rt; outcomes.len() == 2, "two outcomes");
+                for outcome in &outcomes {
+                    let alone = outcome.end == Some(Errno::EAGAIN);
+                    assert!(rt; !alone, "one ran after the other");
+                    assert!(rt; outcome.end == None && outcome.received == 1, "received");
+                }
+                return;
+            }
+            Err(fault) => {
+                let wanting = fault == RunFault::Memory || fault == RunFault::Thread;
+                assert!(rt; wanting, "neither memory nor a thread was wanted");
+            }
+        }
+    }
+    panic!(rt; "no memory twice");
+}

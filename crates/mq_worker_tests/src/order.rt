@@ -1,0 +1,110 @@
+ghost use Rattle.std.specs.Prelude.{◌≡◌, ◌+◌};
+
+use crate::plans::take;
+use mq_cli::{Port, Taken, work};
+use mq_one_thread::Errno;
+use mq_table::Id;
+use std::alloc::Global;
+use std::sync::Wait;
+
+/// Hands out what it was told to, one after the other.
+#[derive(Drop)]
+struct Told<'a> {
+    taken: &'a [Taken],
+    calls: u64,
+}
+
+impl<'a> Port for Told<'a> {
+    ghost calls = { λ port. port.calls };
+
+    fn put<R: Wait>(
+        &mut self,
+        _rt: &R,
+        _id: Id,
+        _mtype: i64,
+        _tag: u64,
+        _length: u64,
+        _moment: u64,
+    ) -> Result<u64, Errno> {
+        Err(Errno::EPERM)
+    }
+
+    fn take<R: Wait>(
+        &mut self,
+        _rt: &R,
+        _id: Id,
+        _msgtyp: i64,
+        _moment: u64,
+    ) -> Result<Taken, Errno> {
+        if self.calls >= self.taken.len() as u64 {
+            return Err(Errno::ENOMSG);
+        }
+        let taken = self.taken[self.calls as usize];
+        self.calls += 1;
+        Ok(taken)
+    }
+
+    fn remove<R: Wait>(&mut self, _rt: &R, _id: Id, _moment: u64) -> Result<u64, Errno> {
+        Err(Errno::EPERM)
+    }
+}
+
+fn from(sender: u16, tag: u64, mtype: i64) -> Taken {
+    Taken {
+        sender,
+        tag,
+        mtype,
+        length: 0,
+    }
+}
+
+/// Whether the tags of three messages rose, and none where the worker found no memory.
+fn ordered<R: Wait>(rt: &R, alloc: Global, taken: &[Taken; 3]) -> Option<bool> {
+    for _ in 0..2 {
+        let mut port = Told { taken, calls: 0 };
+        let outcome = work(rt, alloc, &mut port, &[take(3)]);
+        match outcome.end {
+            None if outcome.received == 3 => return Some(outcome.ordered),
+            _ => (),
+        }
+    }
+    None
+}
+
+#[test]
+fn a_tag_that_falls_in_its_stream_is_told(rt: HostRuntime) {
+    let falls = [from(2, 2, 5), from(2, 1, 5), from(2, 3, 5)];
+    assert!(rt;
+        ordered(&rt, rt.alloc(), &falls) == Some(false),
+        "a fall, or no memory"
+    );
+    let falls_last = [from(2, 4, 5), from(3, 1, 5), from(2, 3, 5)];
+    assert!(rt;
+        ordered(&rt, rt.alloc(), &falls_last) == Some(false),
+        "a fall, or no memory"
+    );
+    let stays = [from(2, 1, 5), from(3, 1, 5), from(2, 1, 5)];
+    assert!(rt;
+        ordered(&rt, rt.alloc(), &stays) == Some(false),
+        "one tag twice, or no memory"
+    );
+}
+
+#[test]
+fn tags_that_rise_in_each_stream_are_in_order(rt: HostRuntime) {
+    let rises = [from(2, 1, 5), from(2, 2, 5), from(2, 9, 5)];
+    assert!(rt;
+        ordered(&rt, rt.alloc(), &rises) == Some(true),
+        "a rise, or no memory"
+    );
+    let senders = [from(2, 7, 5), from(3, 1, 5), from(4, 1, 5)];
+    assert!(rt;
+        ordered(&rt, rt.alloc(), &senders) == Some(true),
+        "three senders, or no memory"
+    );
+    let types = [from(2, 7, 5), from(2, 6, 4), from(2, 5, 3)];
+    assert!(rt;
+        ordered(&rt, rt.alloc(), &types) == Some(true),
+        "three types, or no memory"
+    );
+}
