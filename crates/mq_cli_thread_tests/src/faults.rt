@@ -69,10 +69,10 @@ fn a_flush_that_fails_is_a_failed_write(rt: HostRuntime) -> Result<(), Fail> {
         };
         let ended = run_threads(&rt, rt.alloc(), &mut OWN.as_bytes(), &mut writer, DEFAULTS);
         assert!(rt; !lacks_memory(ended, &writer.taken), "out of memory");
-        assert!(rt; ended == end, "at {fails_at_flush}");
+        assert!(rt; ended == end, "at {fails_at_flush}, or out of memory");
         assert!(rt;
             writer.taken.as_slice() == told.as_bytes(),
-            "at {fails_at_flush}"
+            "at {fails_at_flush}, or out of memory"
         );
     }
     Ok(())
