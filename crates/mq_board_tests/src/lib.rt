@@ -12,3 +12,5 @@ mod long;
 mod looks;
 #[cfg(test)]
 mod posts;
+#[cfg(test)]
+mod seats;

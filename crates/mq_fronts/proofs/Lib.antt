@@ -1,0 +1,3 @@
+pub mod Gathered
+pub mod Names
+pub mod Seen
