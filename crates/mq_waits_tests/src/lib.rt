@@ -5,6 +5,8 @@
 #[cfg(test)]
 mod calls;
 #[cfg(test)]
+mod churn;
+#[cfg(test)]
 mod pages;
 #[cfg(test)]
 mod waits;

@@ -1,6 +1,7 @@
 use crate::calls::{Nothing, queue, receive, send};
-use mq::{Config, Errno, Names, Seat, System, Worker, WorkersError, with_workers};
+use mq::{Config, Errno, Id, Names, Seat, System, Worker, WorkersError, with_workers};
 use std::alloc::{AllocError, Global};
+use std::hint::spin_loop;
 use std::sync::Wait;
 use std::sync::atomic::{AtomicU32, Ordering};
 
@@ -12,17 +13,17 @@ const FOUR: Config = Config {
     last_seq: 0,
 };
 
-const TEXTS: u32 = 200;
-
-/// Sends texts of a page to itself and receives them, and counts the pages that all hold at once.
+/// Sends texts of a page to itself until no page is left, and receives them once all have come so
+/// far.
 #[derive(Drop)]
-struct Holder<'a> {
+struct Keeper<'a> {
     key: i32,
-    held: &'a AtomicU32,
+    /// How many keepers found no page.
+    done: &'a AtomicU32,
 }
 
-impl<'a> Worker<Nothing> for Holder<'a> {
-    /// The most pages that were held at once, as far as this worker saw.
+impl<'a> Worker<Nothing> for Keeper<'a> {
+    /// How many pages it kept.
     type Answer = Result<u32, Errno>;
 
     fn work<N: Names, R: Wait>(
@@ -32,39 +33,64 @@ impl<'a> Worker<Nothing> for Holder<'a> {
         system: &System<Nothing, N>,
         seat: &mut Seat<N>,
     ) -> Result<u32, Errno> {
-        let id = queue(rt, system, seat, self.key)?;
-        let mut most = 0;
-        for _ in 0..TEXTS {
-            send(rt, system, seat, id, 1, 1024)?;
-            most = most.max(self.held.fetch_add(1, Ordering::SeqCst).saturating_add(1));
-            self.held.fetch_sub(1, Ordering::SeqCst);
+        let kept = keep(rt, system, seat, self.key);
+        self.done.fetch_add(1, Ordering::SeqCst);
+        for _ in rt.forever() {
+            if self.done.load(Ordering::SeqCst) == 4 {
+                break;
+            }
+            spin_loop();
+        }
+        let (id, pages) = kept?;
+        for _ in 0..pages {
             receive(rt, system, seat, id, 1024, 0)?;
         }
-        Ok(most)
+        Ok(pages)
     }
 }
 
-fn holders(alloc: Global, held: &AtomicU32) -> Result<Vec<Holder<'_>>, AllocError> {
+/// Fills the queue with texts of a page until there is none. Memory is refused once at most, so
+/// that ENOMEM is told of pages.
+fn keep<N: Names, R: Wait>(
+    rt: &R,
+    system: &System<Nothing, N>,
+    seat: &mut Seat<N>,
+    key: i32,
+) -> Result<(Id, u32), Errno> {
+    let id = queue(rt, system, seat, key)?;
+    for pages in 0..5u32 {
+        match send(rt, system, seat, id, 1, 1024) {
+            Ok(()) => (),
+            Err(Errno::ENOMEM) => return Ok((id, pages)),
+            Err(errno) => return Err(errno),
+        }
+    }
+    Err(Errno::E2BIG)
+}
+
+fn keepers(alloc: Global, done: &AtomicU32) -> Result<Vec<Keeper<'_>>, AllocError> {
     let mut workers = Vec::new(alloc);
     for key in 1..5 {
-        workers.push(Holder { key, held })?;
+        workers.push(Keeper { key, done })?;
     }
     Ok(workers)
 }
 
 #[test]
-fn four_threads_with_four_pages_never_want_a_fifth(rt: HostRuntime) {
-    let held = AtomicU32::new(0);
+fn four_threads_that_keep_all_pages_have_four(rt: HostRuntime) {
     for _ in 0..2 {
-        let Ok(workers) = holders(rt.alloc(), &held) else {
+        let done = AtomicU32::new(0);
+        let Ok(workers) = keepers(rt.alloc(), &done) else {
             continue;
         };
         match with_workers(&rt, rt.alloc(), FOUR, workers) {
             Ok(ended) => {
-                assert_eq!(rt; ended.free_pages, 4);
-                for most in ended.answer.iter() {
-                    assert!(rt; matches!(most, Ok(1..=4)));
+                let mut all = 0u32;
+                for kept in ended.answer.iter() {
+                    all = all.wrapping_add(kept.unwrap_or(100));
                 }
+                assert_eq!(rt; all, 4, "or out of memory");
+                assert_eq!(rt; ended.free_pages, 4);
                 return;
             }
             Err(WorkersError::Memory | WorkersError::Thread) => (),

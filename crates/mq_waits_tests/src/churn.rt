@@ -1,0 +1,214 @@
+//! A slot whose queues come and go under those that use them.
+
+use crate::calls::{Nothing, queue, receive, remove, send};
+use mq::{
+    ClosedSlot, Config, Ended, Errno, Event, Id, Names, Seat, SendFlags, System, Worker,
+    WorkersError, with_workers,
+};
+use std::alloc::{AllocError, Global};
+use std::hint::spin_loop;
+use std::sync::Wait;
+use std::sync::atomic::{AtomicU32, Ordering};
+use std::thread::Threads;
+
+/// One slot for ten queues.
+const ONE: Config = Config {
+    height: 2,
+    slots: 1,
+    seats: 4,
+    last_seq: 9,
+};
+
+/// How often a sender tries an id, and how often the maker looks for a message.
+const TRIES: u32 = 100_000_000;
+
+const LOOKS: u32 = 1000;
+
+/// What a worker does.
+#[derive(Clone, Copy, Drop)]
+enum Part<'a> {
+    /// Makes and removes ten queues, each once it has seen a message in it, or has often looked.
+    Makes,
+    /// Sends empty texts to each of the ten until it is removed.
+    Sends,
+    /// Waits for a message of type 5 in the first queue, and says before that it is there.
+    Waits(&'a AtomicU32),
+    /// Once that is said, removes the queue, makes another in its slot and sends type 5 to it.
+    MakesAgain(&'a AtomicU32),
+}
+
+/// How many messages a worker sent, and the sum of their entries.
+type Done = Result<(u64, u64), Errno>;
+
+fn makes<N: Names, R: Wait>(rt: &R, system: &System<Nothing, N>, seat: &mut Seat<N>) -> Done {
+    for _queue in 0..10u8 {
+        let id = queue(rt, system, seat, 1)?;
+        for _look in 0..LOOKS {
+            if matches!(system.stat(rt, seat, id), Ok(shown) if shown.qnum > 0) {
+                break;
+            }
+            spin_loop();
+        }
+        remove(rt, system, seat, id)?;
+    }
+    Ok((0, 0))
+}
+
+/// Sends one empty text, and does not wait.
+fn send_one<N: Names, R: Wait>(
+    rt: &R,
+    system: &System<Nothing, N>,
+    seat: &mut Seat<N>,
+    id: Id,
+) -> Result<u64, Errno> {
+    let text = match system.draft(rt, 0) {
+        Ok(text) => text,
+        Err(error) => return Err(error.errno()),
+    };
+    match system.msgsnd(rt, seat, id, 1, 0, text, SendFlags { nowait: true }, 2) {
+        Ok(entry) => Ok(entry),
+        Err(refusal) => {
+            let (refused, text) = refusal.into_text();
+            system.spend(rt, text);
+            Err(refused.errno)
+        }
+    }
+}
+
+fn sends<N: Names, R: Wait>(rt: &R, system: &System<Nothing, N>, seat: &mut Seat<N>) -> Done {
+    let mut sent = 0u64;
+    let mut entries = 0u64;
+    for seq in 0..10u32 {
+        for _try in 0..TRIES {
+            match send_one(rt, system, seat, Id::of(0, seq)) {
+                Ok(entry) => {
+                    sent = sent.wrapping_add(1);
+                    entries = entries.wrapping_add(entry);
+                }
+                Err(Errno::EIDRM) => break,
+                Err(Errno::EINVAL | Errno::EAGAIN | Errno::ENOMEM) => spin_loop(),
+                Err(errno) => return Err(errno),
+            }
+        }
+    }
+    Ok((sent, entries))
+}
+
+fn waits<N: Names, R: Wait>(
+    rt: &R,
+    system: &System<Nothing, N>,
+    seat: &mut Seat<N>,
+    ready: &AtomicU32,
+) -> Done {
+    let first = queue(rt, system, seat, 1);
+    ready.store(1, Ordering::SeqCst);
+    let (_, length) = receive(rt, system, seat, first?, 10, 5)?;
+    Ok((1, length))
+}
+
+fn makes_again<N: Names, R: Wait>(
+    rt: &R,
+    system: &System<Nothing, N>,
+    seat: &mut Seat<N>,
+    ready: &AtomicU32,
+) -> Done {
+    for _ in rt.forever() {
+        if ready.load(Ordering::SeqCst) == 1 {
+            break;
+        }
+        spin_loop();
+    }
+    let first = queue(rt, system, seat, 1)?;
+    remove(rt, system, seat, first)?;
+    let second = queue(rt, system, seat, 1)?;
+    send(rt, system, seat, second, 5, 3)?;
+    Ok((u64::from(second.seq()), 3))
+}
+
+impl<'a> Worker<Nothing> for Part<'a> {
+    type Answer = Done;
+
+    fn work<N: Names, R: Wait>(
+        self,
+        rt: &R,
+        _alloc: Global,
+        system: &System<Nothing, N>,
+        seat: &mut Seat<N>,
+    ) -> Done {
+        match self {
+            Part::Makes => makes(rt, system, seat),
+            Part::Sends => sends(rt, system, seat),
+            Part::Waits(ready) => waits(rt, system, seat, ready),
+            Part::MakesAgain(ready) => makes_again(rt, system, seat, ready),
+        }
+    }
+}
+
+/// Plays the parts, once more where no thread had begun for lack of memory.
+fn played<R: Threads + Wait + Sync>(
+    rt: &R,
+    alloc: Global,
+    parts: &[Part<'_>],
+) -> Result<Ended<Vec<Done>>, WorkersError> {
+    for _ in 0..2 {
+        let Ok(copied) = parts.to_vec(alloc) else {
+            continue;
+        };
+        match with_workers(rt, alloc, ONE, copied) {
+            Err(WorkersError::Memory | WorkersError::Thread) => (),
+            ended => return ended,
+        }
+    }
+    Err(WorkersError::Memory)
+}
+
+/// How many messages the seat sent by the slot list, and the sum of their entries.
+fn sent_by(slot: &ClosedSlot, by: u16) -> (u64, u64) {
+    let mut sent = 0u64;
+    let mut entries = 0u64;
+    let mut entry = 0u64;
+    for event in slot.past.iter() {
+        if matches!(event, Event::Sent { seat, .. } if *seat == by) {
+            sent = sent.wrapping_add(1);
+            entries = entries.wrapping_add(entry);
+        }
+        entry = entry.wrapping_add(1);
+    }
+    (sent, entries)
+}
+
+#[test]
+fn ten_queues_come_and_go_under_three_senders(rt: HostRuntime) {
+    let parts = [Part::Makes, Part::Sends, Part::Sends, Part::Sends];
+    let Ok(ended) = played(&rt, rt.alloc(), &parts) else {
+        panic!(rt; "out of memory");
+    };
+    let Some(slot) = ended.slots.first() else {
+        panic!(rt; "no slot");
+    };
+    let mut all = 20u64;
+    let mut seat = 1u16;
+    for done in ended.answer.iter() {
+        let told = sent_by(slot, seat);
+        assert!(rt; *done == Ok(told), "seat {seat}, or out of memory");
+        all = all.wrapping_add(told.0);
+        seat = seat.wrapping_add(1);
+    }
+    assert_eq!(rt; slot.past.len() as u64, all);
+    assert!(rt; slot.last.is_empty() && slot.left == 0 && ended.free_pages == 4);
+}
+
+#[test]
+fn who_waits_in_a_removed_queue_does_not_get_the_next_ones_message(rt: HostRuntime) {
+    let ready = AtomicU32::new(0);
+    let parts = [Part::Waits(&ready), Part::MakesAgain(&ready)];
+    let Ok(ended) = played(&rt, rt.alloc(), &parts) else {
+        panic!(rt; "out of memory");
+    };
+    let answers = [Err(Errno::EIDRM), Ok((1, 3))];
+    assert!(rt; ended.answer.as_slice() == answers.as_slice(), "or out of memory");
+    let Some(slot) = ended.slots.first() else {
+        panic!(rt; "no slot");
+    };
+    assert!(rt; slot.left == 1 && slot.past.len() == 2 && ended.free_pages == 4);
+}
