@@ -82,7 +82,7 @@ impl Sizes {
         })
     }
 
-    fn two(&self) -> Result<Vec<Player>> {
+    fn two(&self) -> Result<Vec<Player>, AllocError> {
         let (there, comes) = self.channel()?;
         let (answers, back) = self.channel()?;
         let first = self.player(self.rounds, Some(there), Some(back), None)?;
@@ -90,11 +90,8 @@ impl Sizes {
         Ok(vec![in self.alloc; first, second]?)
     }
 
-    // So many that send, and so many that receive what these send.
-    fn flow(&self, senders: u32, receivers: u32) -> Result<Vec<Player>> {
-        let Some(share) = senders.saturating_mul(self.rounds).checked_div(receivers) else {
-            bail!("no receiver");
-        };
+    // So many that send, and so many that receive their share of what these send.
+    fn flow(&self, senders: u32, receivers: u32, share: u32) -> Result<Vec<Player>, AllocError> {
         let (there, here) = self.channel()?;
         let mut players = Vec::new(self.alloc);
         for _ in 0..senders {
@@ -120,7 +117,13 @@ pub(crate) fn run(
         rounds: words.number(3, 10)?,
     };
     let players = match words.word(1) {
-        "flow" => sizes.flow(words.number(4, 1)?, words.number(5, 1)?)?,
+        "flow" => {
+            let (senders, receivers) = (words.number(4, 1)?, words.number(5, 1)?);
+            let Some(share) = senders.saturating_mul(sizes.rounds).checked_div(receivers) else {
+                bail!("no receiver");
+            };
+            sizes.flow(senders, receivers, share)?
+        }
         _ => sizes.two()?,
     };
     let mut came = 0u64;

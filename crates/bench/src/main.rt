@@ -17,7 +17,9 @@ use words::Words;
 
 fn main(rt: HostRuntime) -> Result<()> {
     let mut words = Vec::new(rt.alloc());
-    for word in env::args(&rt)?.skip(1) {
+    let mut args = env::args(&rt)?;
+    let _program = args.next();
+    for word in args {
         words.push(word)?;
     }
     let words = Words { words };

@@ -149,11 +149,8 @@ impl Sizes {
         })
     }
 
-    // So many that send, and so many that receive what these send.
-    fn flow(&self, senders: u32, receivers: u32) -> Result<Vec<Player>> {
-        let Some(share) = senders.saturating_mul(self.rounds).checked_div(receivers) else {
-            bail!("no receiver");
-        };
+    // So many that send, and so many that receive their share of what these send.
+    fn flow(&self, senders: u32, receivers: u32, share: u32) -> Result<Vec<Player>, AllocError> {
         let mut players = Vec::new(self.alloc);
         for _ in 0..senders {
             players.push(self.player(self.rounds, Some(1), None, None)?)?;
@@ -186,7 +183,13 @@ pub(crate) fn run(
             let second = sizes.player(rounds, None, Some(1), Some(2))?;
             vec![in alloc; first, second]?
         }
-        "flow" => sizes.flow(words.number(4, 1)?, words.number(5, 1)?)?,
+        "flow" => {
+            let (senders, receivers) = (words.number(4, 1)?, words.number(5, 1)?);
+            let Some(share) = senders.saturating_mul(rounds).checked_div(receivers) else {
+                bail!("no receiver");
+            };
+            sizes.flow(senders, receivers, share)?
+        }
         _ => vec![in alloc; sizes.player(rounds, Some(1), Some(1), None)?]?,
     };
     let config = Config {

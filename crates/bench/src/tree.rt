@@ -10,8 +10,10 @@ fn half_full(tree: &mut OrderTree) {
     for _ in 0..tree.pages() {
         tree.lend(0);
     }
-    for page in (0..tree.pages()).filter(|page| page % 2 == 0) {
-        tree.give(page, 0);
+    for page in 0..tree.pages() {
+        if page % 2 == 0 {
+            tree.give(page, 0);
+        }
     }
 }
 

@@ -20,7 +20,7 @@ struct Plan {
 }
 
 /// Which of the messages are received.
-#[derive(Clone, Copy, PartialEq, Eq)]
+#[derive(Clone, Copy)]
 enum Picks {
     Any,
     Exact,
@@ -34,7 +34,7 @@ fn type_of(place: u64, types: u32) -> i64 {
     if types == 0 {
         return 1;
     }
-    (place % u64::from(types)) as i64 + 1
+    (place % u64::from(types) + 1) as i64
 }
 
 /// Puts an empty message at the end.
@@ -117,7 +117,7 @@ fn measured<W: Waiting<VecBody>>(alloc: Global, plan: Plan) -> Result<u64, Alloc
 }
 
 /// What the messages wait in.
-#[derive(Clone, Copy, PartialEq, Eq)]
+#[derive(Clone, Copy)]
 enum Body {
     List,
     Typed,

@@ -4,7 +4,7 @@ use mq_select::{Selection, Waiting, discard};
 use std::alloc::{AllocError, Global};
 
 /// What is done to a queue.
-#[derive(Clone, Copy, Debug, PartialEq, Eq)]
+#[derive(Clone, Copy)]
 pub(crate) enum Step {
     /// A message of this type is sent.
     Send(i64),

@@ -36,7 +36,7 @@ pub(crate) const NEW: GetFlags = GetFlags {
 };
 
 /// What a receiver asks for.
-#[derive(Clone, Copy, Debug)]
+#[derive(Clone, Copy)]
 pub(crate) struct Wanted {
     pub(crate) size: u64,
     pub(crate) msgtyp: i64,

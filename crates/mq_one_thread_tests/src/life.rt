@@ -81,12 +81,16 @@ fn row<L: Ledger>(rt: &impl Abort, system: &OneThread<L>, slot: u8) -> BoardRow 
     system.row(slot)
 }
 
-/// Nothing can be received, and what is sent with type 0 is handed back.
-fn refused<L: Ledger>(rt: &impl Abort, system: &mut OneThread<L>) -> Text<L> {
+fn is_empty<L: Ledger>(rt: &impl Abort, system: &mut OneThread<L>) {
     match receive(system, 0, first(9), 5) {
         Ok(_delivered) => panic!(rt; "a message waits"),
         Err(Refused { errno, entry }) => assert!(rt; (errno, entry) == (Errno::ENOMSG, Some(1))),
     }
+}
+
+/// Nothing can be received, and what is sent with type 0 is handed back.
+fn refused<L: Ledger>(rt: &impl Abort, system: &mut OneThread<L>) -> Text<L> {
+    is_empty(rt, system);
     let text = written(rt, system, b"hi");
     match send(system, 0, 0, text, 5) {
         Ok(_) => panic!(rt; "type 0 was sent"),

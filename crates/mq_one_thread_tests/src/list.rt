@@ -17,12 +17,12 @@ const MESSAGES: u64 = 40;
 
 /// The type of the message at this place of those that are sent: the types come in turn.
 fn type_of(place: u64) -> i64 {
-    (place % 5) as i64 + 1
+    (place % 5 + 1) as i64
 }
 
 /// The type that is received at this place: all of the first type come first.
 fn wanted_at(place: u64) -> i64 {
-    (place / 8) as i64 + 1
+    (place / 8 + 1) as i64
 }
 
 fn makes<L: Ledger>(rt: &impl Abort, system: &mut OneThread<L>, key: i32, id: u32, entry: u64) {

@@ -12,7 +12,7 @@ use std::process::Abort;
 use std::sync::ledger::{Blank, Ledger};
 
 /// A call, at the moment that its number in the table says.
-#[derive(Clone, Copy, Debug)]
+#[derive(Clone, Copy)]
 pub(crate) enum Step {
     /// A key and flags.
     Get(i32, GetFlags),
@@ -27,7 +27,7 @@ pub(crate) enum Step {
     Free,
 }
 
-#[derive(Clone, Copy, Debug, PartialEq, Eq)]
+#[derive(Clone, Copy, PartialEq, Eq)]
 pub(crate) enum Answer {
     /// The id, and the entry of its making.
     Id(u32, Option<u64>),
@@ -148,7 +148,7 @@ fn play<L: Ledger, R: Abort>(
     for (step, wanted) in table {
         assert!(rt;
             called(&mut system, *step, moment) == *wanted,
-            "{moment}: {step:?}"
+            "at call {moment}"
         );
         moment = moment.saturating_add(1);
     }

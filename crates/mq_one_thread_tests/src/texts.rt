@@ -122,9 +122,25 @@ fn text_of<L: Ledger>(rt: &impl Abort, delivered: Delivered<Text<L>>, length: u6
         length: whole,
         text,
     } = delivered;
-    assert!(rt; (entry, mtype, sender, tag) == (2, 3, 1, 7));
+    assert!(rt; entry == 2 && mtype == 3 && sender == 1 && tag == 7);
     assert!(rt; whole == length);
     text
+}
+
+/// In a queue waits `hello` in the second page, with type 3.
+fn hello_sent<L: Ledger>(rt: &impl Abort, system: &mut OneThread<L>) {
+    assert!(rt; get(system, 9, CREATE, 4).is_ok());
+    let before = written(rt, system, b"before");
+    let text = written(rt, system, b"hello");
+    spent(rt, system, before);
+    taken(rt, system, 0, 3, text);
+}
+
+fn is_too_long<L: Ledger>(rt: &impl Abort, system: &mut OneThread<L>, size: u64) {
+    match receive(system, 0, first(size), 6) {
+        Ok(_delivered) => panic!(rt; "a text that is too long was handed out"),
+        Err(Refused { errno, entry }) => assert!(rt; (errno, entry) == (Errno::E2BIG, Some(2))),
+    }
 }
 
 fn hello_cut<L: Ledger, R: Abort>(rt: &R, alloc: Global, ledger: Blank)
@@ -133,15 +149,8 @@ fn hello_cut<L: Ledger, R: Abort>(rt: &R, alloc: Global, ledger: Blank)
     requires enough { 1024 < ledger.parts }
 {
     let mut system = made::<L>(rt, alloc, config(1, 1, 9), ledger);
-    assert!(rt; get(&mut system, 9, CREATE, 4).is_ok());
-    let before = written(rt, &mut system, b"before");
-    let text = written(rt, &mut system, b"hello");
-    spent(rt, &mut system, before);
-    taken(rt, &mut system, 0, 3, text);
-    match receive(&mut system, 0, first(4), 6) {
-        Ok(_delivered) => panic!(rt; "a text that is too long was handed out"),
-        Err(Refused { errno, entry }) => assert!(rt; (errno, entry) == (Errno::E2BIG, Some(2))),
-    }
+    hello_sent(rt, &mut system);
+    is_too_long(rt, &mut system, 4);
     let cut = Wanted {
         noerror: true,
         ..first(2)

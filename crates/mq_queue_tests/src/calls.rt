@@ -7,7 +7,7 @@ use std::test::Fail;
 
 pub(crate) type Queue = QueueState<VecBody, ListWaiting<VecBody>>;
 
-#[derive(Clone, Copy, Debug, PartialEq, Eq)]
+#[derive(Clone, Copy)]
 pub(crate) enum Step {
     /// A type and a length.
     Send(i64, usize),
@@ -17,7 +17,7 @@ pub(crate) enum Step {
     Set(u64),
 }
 
-#[derive(Clone, Copy, Debug, PartialEq, Eq)]
+#[derive(Clone, Copy, PartialEq, Eq)]
 pub(crate) enum Answer {
     At(u64),
     /// The places of the receipt and of the sending, the whole length, and the length that is left.
@@ -32,12 +32,11 @@ pub(crate) fn message(
     mtype: i64,
     length: usize,
 ) -> Result<Message<VecBody>, AllocError> {
-    let bytes = vec![in alloc; b'a'; length]?;
     Ok(Message {
         mtype,
         sender: 3,
         tag: 70,
-        body: VecBody::from_slice(alloc, &bytes)?,
+        body: VecBody::from_vec(vec![in alloc; b'a'; length]?),
     })
 }
 
@@ -105,13 +104,14 @@ pub(crate) fn check(
     queue: &mut Queue,
     steps: &[(Step, Answer)],
 ) -> Result<(), AllocError> {
-    for (step, wanted) in steps {
-        let answer = match *step {
+    for i in 0..steps.len() {
+        let (step, wanted) = steps[i];
+        let answer = match step {
             Step::Send(mtype, length) => send(queue, message(alloc, mtype, length)?, 60),
             Step::Receive(size, selection, noerror) => receive(queue, size, selection, noerror, 80),
             Step::Set(qbytes) => set(queue, qbytes, 90),
         };
-        assert!(rt; answer == *wanted, "at {step:?}");
+        assert!(rt; answer == wanted, "at call {i}");
     }
     Ok(())
 }
@@ -204,15 +204,16 @@ fn a_type_below_one_is_refused_before_the_length(rt: HostRuntime) -> Result<(), 
 
 #[test]
 fn the_lowest_type_comes_first_in_the_order_of_sending(rt: HostRuntime) -> Result<(), Fail> {
-    let lowest = |size: u64| Step::Receive(size, Selection::UpTo(2), false);
+    let lowest = Step::Receive(4, Selection::UpTo(2), false);
+    let shorter = Step::Receive(3, Selection::UpTo(2), false);
     let steps = [
         (Step::Send(3, 1), Answer::At(1)),
         (Step::Send(1, 2), Answer::At(2)),
         (Step::Send(2, 3), Answer::At(3)),
         (Step::Send(1, 4), Answer::At(4)),
-        (lowest(4), Answer::Got(5, 2, 2, 2)),
-        (lowest(3), Answer::Refused(QueueError::TooBig)),
-        (lowest(4), Answer::Got(6, 4, 4, 4)),
+        (lowest, Answer::Got(5, 2, 2, 2)),
+        (shorter, Answer::Refused(QueueError::TooBig)),
+        (lowest, Answer::Got(6, 4, 4, 4)),
         (
             Step::Receive(4, Selection::Exact(1), false),
             Answer::Refused(QueueError::NoMessage),
@@ -288,7 +289,7 @@ fn a_text_that_is_too_long_is_handed_back(rt: HostRuntime) -> Result<(), Fail> {
     let back = handed_back(&mut queue, long);
     close(queue);
     let back = back.ok_or("it was taken")?;
-    assert!(rt; (back.mtype, back.sender, back.tag) == (5, 3, 70));
+    assert!(rt; back.mtype == 5 && back.sender == 3 && back.tag == 70);
     assert!(rt; back.body.bytes().len() == 8193);
     Ok(())
 }
@@ -308,7 +309,7 @@ fn a_received_text_is_the_front_of_what_was_sent(rt: HostRuntime) -> Result<(), 
     assert!(rt; sent == Answer::At(1));
     let got = got?;
     assert!(rt; got.body.bytes() == b"he".as_slice());
-    assert!(rt; (got.mtype, got.sender, got.tag, got.length) == (5, 3, 70, 5));
+    assert!(rt; got.mtype == 5 && got.sender == 3 && got.tag == 70 && got.length == 5);
     Ok(())
 }
 

@@ -53,7 +53,11 @@ fn handed_out<W: Waiting<VecBody>>(
 ) -> Result<Vec<Option<u64>>, AllocError> {
     let mut tags = Vec::new(alloc);
     for selection in selections {
-        tags.push(receive(list, *selection).map(|m| m.tag))?;
+        let tag = match receive(list, *selection) {
+            Some(message) => Some(message.tag),
+            None => None,
+        };
+        tags.push(tag)?;
     }
     Ok(tags)
 }
@@ -88,53 +92,50 @@ fn popped<W: Waiting<VecBody>>(alloc: Global, list: &mut W) -> Result<Vec<u64>, 
 
 #[test]
 fn a_selection_hands_out_the_message_that_the_manual_names(rt: HostRuntime) -> Result<(), Fail> {
-    let any = Selection::Any;
-    let exact = |mtype: i64| Selection::Exact(mtype);
-    let except = |mtype: i64| Selection::Except(mtype);
-    let up_to = |bound: u64| Selection::UpTo(bound);
-    let widest = up_to(1 << 63);
+    use Selection::{Any, Except, Exact, UpTo};
+
     let cases: [(&[i64], &[Selection], &[Option<u64>]); 9] = [
         (
             &[],
-            &[any, up_to(u64::MAX), exact(0), except(0)],
+            &[Any, UpTo(u64::MAX), Exact(0), Except(0)],
             &[None, None, None, None],
         ),
-        (&[2, 1], &[any, any, any], &[Some(0), Some(1), None]),
+        (&[2, 1], &[Any, Any, Any], &[Some(0), Some(1), None]),
         (
             &[3, 1, 2, 1],
-            &[up_to(2), up_to(2), up_to(2), up_to(2)],
+            &[UpTo(2), UpTo(2), UpTo(2), UpTo(2)],
             &[Some(1), Some(3), Some(2), None],
         ),
         (
             &[7, 5, 7, 4],
-            &[except(7), except(7), except(7), any],
+            &[Except(7), Except(7), Except(7), Any],
             &[Some(1), Some(3), None, Some(0)],
         ),
         // A bound below every type; the lowest type twice, with others between.
         (
             &[5, 6],
-            &[up_to(4), up_to(0), up_to(5)],
+            &[UpTo(4), UpTo(0), UpTo(5)],
             &[None, None, Some(0)],
         ),
         (
             &[9, 4, 6, 4, 4],
-            &[up_to(9), up_to(9), up_to(9), up_to(9)],
+            &[UpTo(9), UpTo(9), UpTo(9), UpTo(9)],
             &[Some(1), Some(3), Some(4), Some(2)],
         ),
         // A type that is not there, and one that alone is there.
         (
             &[3, 3],
-            &[except(4), except(3), exact(4)],
+            &[Except(4), Except(3), Exact(4)],
             &[Some(0), None, None],
         ),
         (
             &[i64::MAX, 8],
-            &[widest, widest, widest],
+            &[UpTo(1 << 63), UpTo(1 << 63), UpTo(1 << 63)],
             &[Some(1), Some(0), None],
         ),
         (
             &[i64::MAX, -1, i64::MIN],
-            &[up_to(0), exact(i64::MIN), except(i64::MAX)],
+            &[UpTo(0), Exact(i64::MIN), Except(i64::MAX)],
             &[Some(2), None, Some(1)],
         ),
     ];
@@ -177,14 +178,16 @@ fn a_msgtyp_is_read_as_the_manual_says(rt: HostRuntime) {
 fn a_message_comes_back_whole(rt: HostRuntime) -> Result<(), Fail> {
     let mut list = ListWaiting::<VecBody>::fresh(rt.alloc());
     let put = put(rt.alloc(), &mut list, 3, 5, b"first");
-    let lengths = [Selection::Any, Selection::Except(5)].map(|s| length_ahead(&list, s));
+    let length = length_ahead(&list, Selection::Any);
+    let other = length_ahead(&list, Selection::Except(5));
     let message = receive(&mut list, Selection::Any);
     let more = list.find(Selection::Any);
     discard(list);
     put?;
     let message = message.ok_or("nothing waits")?;
-    assert!(rt; lengths == [Some(5), None]);
-    assert!(rt; (message.mtype, message.sender, message.tag) == (5, 1, 3));
+    assert!(rt; length == Some(5));
+    assert!(rt; other == None);
+    assert!(rt; message.mtype == 5 && message.sender == 1 && message.tag == 3);
     assert!(rt; message.body.bytes() == b"first".as_slice());
     assert!(rt; more == None);
     Ok(())

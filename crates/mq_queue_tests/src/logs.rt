@@ -94,6 +94,14 @@ fn removed(queue: Queue, moment: u64) -> Log {
     }
 }
 
+fn changed(moment: u64) -> Event {
+    Event::Changed {
+        seat: 5,
+        moment,
+        qbytes: 100,
+    }
+}
+
 #[test]
 fn the_log_of_a_removed_queue_tells_all(rt: HostRuntime) -> Result<(), Fail> {
     let mut queue = Queue::made(rt.alloc(), 7, 2, 50, &mut NoNotice)?;
@@ -102,11 +110,6 @@ fn the_log_of_a_removed_queue_tells_all(rt: HostRuntime) -> Result<(), Fail> {
     let beyond = (queue.event(5), queue.event(u64::MAX));
     let log = removed(queue, 90);
     assert!(rt; visited? == VISITED);
-    let changed = |moment: u64| Event::Changed {
-        seat: 5,
-        moment,
-        qbytes: 100,
-    };
     let events = [
         Event::Made {
             seat: 2,
@@ -147,10 +150,11 @@ fn the_log_of_a_removed_queue_tells_all(rt: HostRuntime) -> Result<(), Fail> {
 fn fill(alloc: Global, queue: &mut Queue, count: u64) -> Result<u64, Fail> {
     let mut last = 0;
     for i in 0..count {
-        let text = message(alloc, 1 + (i % 7) as i64, 0)?;
-        last = queue
-            .send(text, i, &mut NoNotice)
-            .map_err(|(refusal, _)| refusal)?;
+        let text = message(alloc, (1 + i % 7) as i64, 0)?;
+        match queue.send(text, i, &mut NoNotice) {
+            Ok(place) => last = place,
+            Err((refusal, _)) => return Err(refusal.into()),
+        }
     }
     Ok(last)
 }

@@ -9,7 +9,7 @@ use std::process::Abort;
 use std::test::Fail;
 
 /// An event, with the figures after it.
-#[derive(Clone, Copy, Debug, PartialEq, Eq)]
+#[derive(Clone, Copy, PartialEq, Eq)]
 struct Taken {
     event: Event,
     after: Figures,
@@ -62,9 +62,9 @@ fn tells_each(
     notice: &mut Last,
 ) -> Result<bool, QueueError> {
     let made = is_told(queue, notice);
-    queue
-        .send(text, 60, notice)
-        .map_err(|(refusal, _)| refusal)?;
+    if let Err((refusal, _)) = queue.send(text, 60, notice) {
+        return Err(refusal);
+    }
     let sent = is_told(queue, notice);
     queue.receive(1, Selection::Any, true, 4, 70, notice)?;
     let received = is_told(queue, notice);
@@ -95,11 +95,18 @@ fn each_event_is_noticed_with_the_figures_after_it(rt: HostRuntime) -> Result<()
     Ok(())
 }
 
+fn refusal_of(queue: &mut Queue, text: Message<VecBody>, notice: &mut Last) -> Option<QueueError> {
+    match queue.send(text, 70, notice) {
+        Ok(_) => None,
+        Err((refusal, _)) => Some(refusal),
+    }
+}
+
 /// What a queue answers whose notice refuses a send, a receipt and a new quota.
 fn refusals(queue: &mut Queue, text: Message<VecBody>) -> [Option<QueueError>; 3] {
     let mut notice = REFUSES;
     [
-        queue.send(text, 70, &mut notice).err().map(|r| r.0),
+        refusal_of(queue, text, &mut notice),
         queue
             .receive(9, Selection::Any, false, 4, 70, &mut notice)
             .err(),

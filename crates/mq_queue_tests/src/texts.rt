@@ -187,9 +187,9 @@ fn part_copied<L: Ledger>(rt: &impl Abort, copy: &mut Text<L>, text: &Text<L>, i
 fn copied<L: Ledger>(rt: &impl Abort, arena: &mut ArenaState<L>, text: Text<L>) -> Text<L> {
     let mut copy = drafted(rt, arena);
     assert!(rt; text.len() == LEN as u64);
-    part_copied(rt, &mut copy, &text, 0);
-    part_copied(rt, &mut copy, &text, 1);
-    part_copied(rt, &mut copy, &text, 2);
+    for i in 0..text.count() {
+        part_copied(rt, &mut copy, &text, i);
+    }
     spent(rt, arena, text);
     copy
 }

@@ -49,8 +49,13 @@ fn an_id_is_told_by_slot_and_seq_up_to_the_bounds(rt: HostRuntime) -> Result<(),
 #[test]
 fn each_key_has_its_own_id(rt: HostRuntime) -> Result<(), Fail> {
     let keys = filled(rt.alloc());
-    for (key, slot) in [(-1, 10), (i32::MIN, 11), (1, 12), (i32::MAX, 13)] {
-        assert!(rt; keys.look(key).map(|id| id.slot()) == Some(slot));
+    for (key, id) in [
+        (-1, Id::of(10, 0)),
+        (i32::MIN, Id::of(11, 3)),
+        (1, Id::of(12, 0)),
+        (i32::MAX, Id::of(13, 0)),
+    ] {
+        assert!(rt; keys.look(key) == Some(id));
     }
     for absent in [0, 2, -2, i32::MAX - 1, i32::MIN + 2] {
         assert!(rt; keys.look(absent) == None);

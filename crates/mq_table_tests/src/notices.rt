@@ -66,8 +66,7 @@ fn is_told(slot: &Place, notice: &Last) -> bool {
     notice.event.is_some() && notice.event == last && notice.after == slot.row().figures
 }
 
-/// Whether the notice takes in a send, a receipt and a new quota.
-fn tells_each(
+fn tells_send(
     slot: &mut Place,
     text: Message<VecBody>,
     notice: &mut Last,
@@ -75,18 +74,38 @@ fn tells_each(
     if !slot.is_live() {
         return Ok(false);
     }
-    slot.send(text, 30, notice).map_err(|(refusal, _)| refusal)?;
-    let sent = is_told(slot, notice);
+    match slot.send(text, 30, notice) {
+        Ok(_) => Ok(is_told(slot, notice)),
+        Err((refusal, _)) => Err(refusal),
+    }
+}
+
+fn tells_receipt(slot: &mut Place, notice: &mut Last) -> Result<bool, QueueError> {
     if !slot.is_live() {
         return Ok(false);
     }
     slot.receive(1, Selection::Any, true, 4, 40, notice)?;
-    let received = is_told(slot, notice);
+    Ok(is_told(slot, notice))
+}
+
+fn tells_quota(slot: &mut Place, notice: &mut Last) -> Result<bool, QueueError> {
     if !slot.is_live() {
         return Ok(false);
     }
     slot.set(100, 5, 50, notice)?;
-    Ok(sent && received && is_told(slot, notice))
+    Ok(is_told(slot, notice))
+}
+
+/// Whether the notice takes in a send, a receipt and a new quota.
+fn tells_each(
+    slot: &mut Place,
+    text: Message<VecBody>,
+    notice: &mut Last,
+) -> Result<bool, QueueError> {
+    let sent = tells_send(slot, text, notice)?;
+    let received = tells_receipt(slot, notice)?;
+    let changed = tells_quota(slot, notice)?;
+    Ok(sent && received && changed)
 }
 
 /// Whether the notice takes in all that happens to two queues of the slot, one after the other.

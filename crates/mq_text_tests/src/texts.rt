@@ -22,7 +22,7 @@ fn taken<L: Ledger>(rt: &impl Abort, arena: &mut ArenaState<L>, order: u8) -> Bl
     }
 }
 
-fn home<L: Ledger>(rt: &impl Abort, arena: &mut ArenaState<L>, text: Text<L>) {
+pub(crate) fn home<L: Ledger>(rt: &impl Abort, arena: &mut ArenaState<L>, text: Text<L>) {
     match text.into_block() {
         Some(block) => assert!(rt; arena.put(block) == Homecoming::Home),
         None => panic!(rt; "no block"),
@@ -30,7 +30,7 @@ fn home<L: Ledger>(rt: &impl Abort, arena: &mut ArenaState<L>, text: Text<L>) {
     assert!(rt; arena.lent_pages() == 0);
 }
 
-fn holds(rt: &impl Abort, part: &[u8], len: usize, letter: u8) {
+pub(crate) fn holds(rt: &impl Abort, part: &[u8], len: usize, letter: u8) {
     assert!(rt; part.len() == len);
     for byte in part {
         assert!(rt; *byte == letter);

@@ -2,7 +2,8 @@
 ghost use Rattle.std.specs.Prelude.{◌≡◌, ◌*◌, ◌^◌, ◌<◌, ◌≤◌, length};
 ghost use Rattle.mq_arena.specs.Bytes.{AreWhole};
 
-use mq_arena::{ArenaState, Homecoming, LEDGER_PARTS, PAGE_LEN, Page, Unopened, fill};
+use crate::texts::{holds, home};
+use mq_arena::{ArenaState, LEDGER_PARTS, PAGE_LEN, Page, Unopened, fill};
 use mq_message::{TEXT_LEN, Text, order_for};
 use std::fs;
 use std::fs::Files;
@@ -43,13 +44,6 @@ fn drafted<L: Ledger>(rt: &impl Abort, arena: &mut ArenaState<L>, len: usize) ->
     }
 }
 
-fn home<L: Ledger>(rt: &impl Abort, arena: &mut ArenaState<L>, text: Text<L>) {
-    match text.into_block() {
-        Some(block) => assert!(rt; arena.put(block) == Homecoming::Home),
-        None => panic!(rt; "no block"),
-    }
-}
-
 // Fills the first page, once the other half is being written too.
 fn written(rt: &impl Abort, own: &AtomicBool, other: &AtomicBool, pages: &mut [Page], letter: u8)
     requires whole { AreWhole pages.old }
@@ -58,10 +52,6 @@ fn written(rt: &impl Abort, own: &AtomicBool, other: &AtomicBool, pages: &mut [P
 {
     meets(rt, own, other);
     fill(pages, &[letter; PAGE_LEN]);
-}
-
-fn holds(rt: &impl Abort, part: &[u8], letter: u8) {
-    assert!(rt; part.iter().all(|byte| *byte == letter));
 }
 
 fn halves_meet<L: Ledger, R: Abort + Threads + Sync>(rt: &R, unopened: Unopened, ledger: Blank)
@@ -79,8 +69,8 @@ fn halves_meet<L: Ledger, R: Abort + Threads + Sync>(rt: &R, unopened: Unopened,
         |pages: &mut [Page]| written(rt, &front, &back, pages, b'A'),
         |pages: &mut [Page]| written(rt, &back, &front, pages, b'B'),
     );
-    holds(rt, text.part(0), b'A');
-    holds(rt, text.part(1), b'B');
+    holds(rt, text.part(0), PAGE_LEN, b'A');
+    holds(rt, text.part(1), PAGE_LEN, b'B');
     home(rt, &mut arena, text);
 }
 
@@ -101,7 +91,7 @@ fn thread_count<R: Files + Alloc>(rt: &R) -> Option<u32> {
 // Raises the flag once there are more threads than that.
 fn looks_for_more<R: Files + Alloc>(rt: &R, most: u32, seen: &AtomicBool) {
     for _ in 0..TURNS {
-        if thread_count(rt).is_some_and(|count| count > most) {
+        if thread_count(rt).unwrap_or(0) > most {
             seen.store(true, Ordering::SeqCst);
             return;
         }

@@ -69,8 +69,19 @@ impl Plain {
             return true;
         }
         let n = choice - self.height as u32 - 1;
-        let count = self.orders.iter().filter(|o| o.is_some()).count() as u32;
+        let count = self.lent_count();
         if n < 3 { n < count } else { count > 3 }
+    }
+
+    // How many blocks are lent.
+    fn lent_count(&self) -> u32 {
+        let mut count = 0u32;
+        for order in &self.orders {
+            if order.is_some() {
+                count = count.saturating_add(1);
+            }
+        }
+        count
     }
 
     // The start of the n-th block that is lent, or of the last one for n from 3 on.
@@ -90,9 +101,13 @@ impl Plain {
     }
 
     fn largest(&self) -> Option<u8> {
-        (0..4u8)
-            .rev()
-            .find(|&order| self.first_fit(order).is_some())
+        let mut largest = None;
+        for order in 0..4u8 {
+            if self.first_fit(order).is_some() {
+                largest = Some(order);
+            }
+        }
+        largest
     }
 
     fn free_pages(&self) -> u32 {
