@@ -1,4 +1,5 @@
-use Rattle.std.proofs.Common.{rules, ◌≡◌}
+use Rattle.std.proofs.Common.{rules, ◌≡◌, arith}
+use Rattle.std.proofs.lemmas.Grind.{common_steps}
 use mir.Val.{SFits}
 use mir.Syntax.{w32}
 use Rattle.std.proofs.lemmas.Int.{to_z-of_z}
@@ -29,3 +30,12 @@ invariant_of-self g c =
           c.index_mut.ensures.value c.make_under.ensures.lawful c.make_under.ensures.waits _
           w.in-Err.ensures.unchanged.1 w.in-Err.ensures.unchanged.0
     ]
+
+pub returns-clause-ok : goal.returns-clause-ok
+returns-clause-ok g c = grind (arith, common_steps)
+
+pub returns-clause-refused : goal.returns-clause-refused
+returns-clause-refused g c = grind (arith, common_steps)
+
+pub returns-clause-unchanged : goal.returns-clause-unchanged
+returns-clause-unchanged g c = grind (arith, common_steps)

@@ -1,4 +1,5 @@
-use Rattle.std.proofs.Common.{refl, rules}
+use Rattle.std.proofs.Common.{refl, rules, arith}
+use Rattle.std.proofs.lemmas.Grind.{common_steps}
 use mir.Val.{SFits}
 use mir.Syntax.{w64}
 use Rattle.std.proofs.lemmas.Int.{to_z-of_z}
@@ -30,3 +31,12 @@ invariant_of-self-in-Err-send g c =
     let within = rw (← c.self.view_is) at c.in-Ok.ensures.within in
     kept_same _ _ _ _ _ c.self.invariant _ within _ c.send.new.self _ c.index_mut.ensures.value
     c.send.ensures.lawful c.send.ensures.waits _ refl c.in-Err-send.ensures.unchanged
+
+pub returns-in-Ok-send-clause-ok : goal.returns-in-Ok-send-clause-ok
+returns-in-Ok-send-clause-ok g c = grind (arith, common_steps)
+
+pub returns-in-Err-send-clause-refused : goal.returns-in-Err-send-clause-refused
+returns-in-Err-send-clause-refused g c = grind (arith, common_steps)
+
+pub returns-in-Err-send-clause-unchanged : goal.returns-in-Err-send-clause-unchanged
+returns-in-Err-send-clause-unchanged g c = grind (arith, common_steps)

@@ -1,4 +1,5 @@
 use Rattle.std.proofs.Common.{◌≡◌, ◌++◌, ◌∷◌, [], sym, arith, rules, w64}
+use Rattle.std.proofs.lemmas.Grind.{common_steps}
 use Rattle.std.proofs.lemmas.Int.{to_z-of_z}
 use mir.Val.{SFits}
 use Rattle.mq_select.proofs.Places.{picked_waits}
@@ -41,3 +42,6 @@ pub returns-clause-noticed : goal.returns-clause-noticed
 returns-clause-noticed g c =
     let kept = invariant_of-self-2 g c in
     rw (figures_kept _ _ kept.0.live kept.1) (search (rules, c.in-Ok.ensures.noticed))
+
+pub returns-clause-length : goal.returns-clause-length
+returns-clause-length g c = grind (arith, common_steps)
