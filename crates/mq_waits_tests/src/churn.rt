@@ -206,7 +206,10 @@ fn who_waits_in_a_removed_queue_does_not_get_the_next_ones_message(rt: HostRunti
         panic!(rt; "out of memory");
     };
     let answers = [Err(Errno::EIDRM), Ok((1, 3))];
-    assert!(rt; ended.answer.as_slice() == answers.as_slice(), "or out of memory");
+    assert!(rt;
+        ended.answer.as_slice() == answers.as_slice(),
+        "or out of memory"
+    );
     let Some(slot) = ended.slots.first() else {
         panic!(rt; "no slot");
     };
