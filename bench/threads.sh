@@ -140,7 +140,7 @@ def main():
         missed += row(f"back {length}", found, [BACK] * len(PEERS))
         table.append((f"there and back, {length} bytes", found))
     if PICTURE:
-        names = OURS + ["Linux", "a mutex and a ring", "a channel of Rust", "crossbeam_channel"]
+        names = OURS + ["Linux", "a mutex and a ring", "a channel of Rust", "a channel of crossbeam"]
         picture.bars(PICTURE, names, [(head, *(max(1, found[it]) for it in OURS + PEERS))
                                       for head, found in table], "ns a text")
     sys.exit(f"{missed} missed" if missed else 0)
