@@ -20,7 +20,6 @@ pub struct Fronts<J: Naming> {
 }
 
 impl<J: Naming> Model for Fronts<J> {
-    ghost use Rattle.mq_board.specs.Readers.{seat, seats};
     ghost use Rattle.mq_fronts.specs.Fronts.{AreReaders, FrontsState, fronts_of};
 
     ghost Value = { FrontsState };
@@ -31,7 +30,7 @@ impl<J: Naming> Model for Fronts<J> {
 }
 
 impl<J: Naming> Fronts<J> {
-    /// With these readers. An `Err` of `gather` apart, this is how fronts are made.
+    /// Of a reader of each board, in the order of the boards.
     pub fn new(place: u16, readers: Vec<BoardReader<J>>) -> Fronts<J>
         requires { AreReaders place readers.items }
         ensures { result ≡ record { place = place; fronts = fronts_of readers.items } }
