@@ -1,11 +1,11 @@
 -- A seat's readers, taken from those of each board.
-use Rattle.std.proofs.Common.{◌≡◌, ℕ, zero, suc, ◌+◌, ◌-◌, ◌<◌, ◌≤◌, List, [], ◌∷◌, ◌++◌, length, map, replicate, slice_index_or, refl, ap, sym, ◌∙◌, arith}
+use Rattle.std.proofs.Common.{◌≡◌, ℕ, suc, ◌+◌, ◌-◌, ◌<◌, ◌≤◌, List, [], ◌∷◌, ◌++◌, length, replicate, slice_index_or, refl, ap, sym, ◌∙◌, arith}
 use Rattle.std.proofs.lemmas.List.{append_cancel_right, length-append}
 use Rattle.std.specs.Global.{Vec}
 use Rattle.mq_queue.specs.declared.event.Event.{Event}
 use Rattle.mq_board.specs.Readers.{ReaderState, seat, seats}
 use Rattle.mq_board.proofs.Seats.{seats_more}
-use Rattle.mq_fronts.specs.Fronts.{AreReaders, fronts_of}
+use Rattle.mq_fronts.specs.Fronts.{fronts_of}
 
 -- from so many boards the reader with this place was taken
 pub record AreTaken (place boards : ℕ) (rows : List (Vec ReaderState)) (readers : List ReaderState)

@@ -1,5 +1,5 @@
 -- One reader of a seat has looked or learned.
-use Rattle.std.proofs.Common.{◌≡◌, ℕ, ◌<◌, ◌≤◌, List, [], length, map, slice_index_or, slice_set, MatchBool, Bool, true, false, refl, ap, sym, ◌∙◌, subst, arith}
+use Rattle.std.proofs.Common.{◌≡◌, ℕ, ◌<◌, ◌≤◌, List, [], length, slice_index_or, slice_set, MatchBool, Bool, true, false, refl, ap, sym, ◌∙◌, subst}
 use Rattle.std.proofs.lemmas.List.{get_or-map, get_or-set_same, length-map, map-set, set-get_or}
 use mathlib.Core.List.{IsPrefix}
 use Rattle.mq_queue.specs.declared.event.Event.{Event}

@@ -1,7 +1,6 @@
 use Rattle.std.proofs.Common.{◌≡◌, [], ap, ◌∙◌, length, replicate, List, arith}
 use Rattle.mq_queue.specs.declared.event.Event.{Event}
 use Rattle.mq_board.specs.Readers.{ReaderState}
-use Rattle.mq_fronts.specs.Fronts.{FrontsState}
 use Rattle.mq_fronts.proofs.Gathered.{none_seen}
 use Rattle.mq_fronts.proofs.fronts.Fronts.gather.Goals as goal
 

@@ -1,4 +1,4 @@
-use Rattle.std.proofs.Common.{◌≡◌, ◌≤◌, length, vec_capacity}
+use Rattle.std.proofs.Common.{◌≤◌, length, vec_capacity}
 use Rattle.mq_fronts.proofs.Gathered.{AreTaken}
 use Rattle.mq_fronts.proofs.fronts.Fronts.gather.Given as goal
 

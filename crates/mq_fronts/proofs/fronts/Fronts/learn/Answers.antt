@@ -1,5 +1,4 @@
-use Rattle.std.proofs.Common.{◌≡◌, ℕ, ◌<◌, ◌≤◌, List, length, slice_set, MatchBool, subst}
-use Rattle.mq_board.specs.Readers.{ReaderState}
+use Rattle.std.proofs.Common.{◌≡◌, ◌<◌, ◌≤◌, length, slice_set, MatchBool, subst}
 use Rattle.mq_fronts.specs.Fronts.{FrontsState, Sees, front_at}
 use Rattle.mq_fronts.proofs.Seen.{inside, sees, state, told}
 use Rattle.mq_fronts.proofs.fronts.Fronts.learn.Goals as goal

@@ -1,4 +1,4 @@
-use Rattle.std.proofs.Common.{List, slice_set, subst}
+use Rattle.std.proofs.Common.{slice_set, subst}
 use Rattle.mq_fronts.specs.Fronts.{FrontsState, Sees}
 use Rattle.mq_fronts.proofs.Seen.{front_set, inside, sees, state}
 use Rattle.mq_fronts.proofs.fronts.Fronts.row.Goals as goal
