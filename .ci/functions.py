@@ -112,11 +112,27 @@ def is_recursive(crate, place):
     return any(place.name in it.name.split("+") for it in beside.glob("+*"))
 
 
+def place_of_other(crate, file, function, proofs):
+    """The folder of a function's proof, where it is none of these, and is of no trait's method and
+    no recursive function."""
+    place = None if function.of_trait else proof_of(crate, file, function)
+    return None if not place or place in proofs or is_recursive(crate, place) else place
+
+
 def other_proofs(crate, proofs):
-    """The folders of the functions' proofs but these, and but those of traits' methods and of
-    recursive functions."""
+    """The folders of the other functions' proofs."""
     for file in sorted(crate.glob("src/**/*.rt")):
         for function in functions_in(file.read_text()):
-            place = None if function.of_trait else proof_of(crate, file, function)
-            if place and place not in proofs and not is_recursive(crate, place):
+            place = place_of_other(crate, file, function, proofs)
+            if place:
                 yield place
+
+
+def without_other_bodies(crate, file, source, proofs):
+    """The text of a file, where the other functions have no body of their own."""
+    text, last = "", 0
+    for it in functions_in(source):
+        if it.start >= last and place_of_other(crate, file, it, proofs):
+            text += source[last : it.body] + "{ unreachable!() }"
+            last = it.end
+    return text + source[last:]

@@ -6,9 +6,10 @@ from contextlib import contextmanager
 from pathlib import Path
 from threading import Condition
 
-from functions import is_recursive, other_proofs
+from functions import is_recursive, other_proofs, without_other_bodies
 
-SECONDS = 3600
+# A check that gives way to others may wait long for a processor.
+SECONDS = 7200
 PARTS = ("src", "specs", "proofs")
 # A declaration that is refused: beside it a check does not go on to offer answers for the goals that
 # fell, which takes a third of its time.
@@ -16,7 +17,8 @@ REFUSED = "left-out : left-out\n"
 
 
 class Room:
-    """A copy of a crate, with what its checks keep, which begins with what is kept at that place."""
+    """A copy of a crate, in which only the functions of the edits that it is given have a body and
+    a proof, with what its checks keep, which begins with what is kept at that place."""
 
     def __init__(self, crates, name, folder, lane, kept):
         self.crates, self.name, self.folder, self.lane = crates, name, Path(folder), lane
@@ -41,7 +43,11 @@ class Room:
                 there = answers.read_text() if answers.exists() else ""
                 if not there.endswith(REFUSED):
                     answers.write_text(f"{there}\n{REFUSED}")
-        for place in other_proofs(self.crate, [it.proof for it in edits]):
+        proofs = [it.proof for it in edits]
+        for path in sorted(self.folder.glob("src/**/*.rt")):
+            file = self.crate / path.relative_to(self.folder)
+            path.write_text(without_other_bodies(self.crate, file, path.read_text(), proofs))
+        for place in other_proofs(self.crate, proofs):
             proof = self.folder / "proofs" / place
             proof.mkdir(parents=True, exist_ok=True)
             for name in ("Answers.antt", "Invariants.antt"):

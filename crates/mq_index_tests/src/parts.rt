@@ -5,6 +5,7 @@ ghost use Rattle.mq_index.specs.Fronts.{first_of};
 use mq_index::{Fronts, Queue, Room};
 use mq_message::{Message, VecBody};
 use std::alloc::{AllocError, Global};
+use std::process::Abort;
 use std::test::Fail;
 
 /// How many types there are in a test.
@@ -45,6 +46,15 @@ fn least(places: &[Option<u64>; TYPES], other: usize) -> Option<u64> {
     least
 }
 
+/// Checks what the fronts tell of each type, and of all.
+fn told(rt: &impl Abort, fronts: &Fronts, places: &[Option<u64>; TYPES]) {
+    assert!(rt; fronts.least() == least(places, TYPES));
+    for mtype in 0..TYPES {
+        assert!(rt; fronts.place_of(mtype as i64) == places[mtype]);
+        assert!(rt; fronts.least_beside(mtype as i64) == least(places, mtype));
+    }
+}
+
 #[test]
 fn the_least_places_are_those_of_a_search(rt: HostRuntime) -> Result<(), Fail> {
     let mut fronts = Fronts::new(rt.alloc());
@@ -55,32 +65,31 @@ fn the_least_places_are_those_of_a_search(rt: HostRuntime) -> Result<(), Fail> {
         let mtype = (seed >> 33) as usize % TYPES;
         let leaves = seed >> 40 & 1 == 0;
         step(&mut fronts, mtype as i64, place, leaves)?;
-        places[mtype] = if places[mtype].is_some() && leaves {
-            None
-        } else {
-            Some(place)
-        };
-        assert!(rt; fronts.place_of(mtype as i64) == places[mtype]);
-        assert!(rt; fronts.least() == least(&places, TYPES));
-        for other in 0..TYPES {
-            assert!(rt; fronts.least_beside(other as i64) == least(&places, other));
-        }
+        let left = places[mtype].is_some() && leaves;
+        places[mtype] = if left { None } else { Some(place) };
+        told(&rt, &fronts, &places);
     }
     Ok(())
+}
+
+/// The least place, those beside the types 1 and -1, and the place of the type -1.
+fn few_told(fronts: &Fronts) -> [Option<u64>; 4] {
+    [
+        fronts.least(),
+        fronts.least_beside(1),
+        fronts.least_beside(-1),
+        fronts.place_of(-1),
+    ]
 }
 
 #[test]
 fn of_no_type_there_is_no_least_place(rt: HostRuntime) -> Result<(), Fail> {
     let mut fronts = Fronts::new(rt.alloc());
-    assert!(rt; fronts.least() == None);
-    assert!(rt; fronts.least_beside(1) == None);
+    assert!(rt; few_told(&fronts) == [None; 4]);
     fronts.take_out(1);
     fronts.reserve()?;
     fronts.add(-1, 0);
-    assert!(rt; fronts.least() == Some(0));
-    assert!(rt; fronts.least_beside(1) == Some(0));
-    assert!(rt; fronts.least_beside(-1) == None);
-    assert!(rt; fronts.place_of(-1) == Some(0));
+    assert!(rt; few_told(&fronts) == [Some(0), Some(0), None, Some(0)]);
     Ok(())
 }
 

@@ -1,0 +1,5 @@
+pub mod KeysLemmas
+pub mod LaterLemmas
+pub mod PledgeLemmas
+pub mod SeatLemmas
+pub mod SharedLemmas

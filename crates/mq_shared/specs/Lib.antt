@@ -1,0 +1,5 @@
+pub mod Answer
+pub mod Pledge
+pub mod Seat
+pub mod Shared
+pub mod Sizes

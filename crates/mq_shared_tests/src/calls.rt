@@ -1,0 +1,214 @@
+//! The calls of a slot under its lock. Seat 1 makes, sends, sets and removes, and seat 2 receives.
+ghost use Rattle.std.specs.Prelude.{◌≡◌, ◌≤◌};
+ghost use Rattle.mq_shared.specs.Seat.{front_of};
+
+use crate::parts::{Anything, emptied, has, holds};
+use mq_one_thread::{Delivered, Errno, Refused, Removal};
+use mq_select::Selection;
+use mq_shared::{Keys, Names, Seat, SharedSlot, TextOf};
+use mq_table::{Id, IdRefusal, MAX_SEQ};
+use std::process::Abort;
+use std::sync::Wait;
+
+/// The seat learns all that happened in the slot, as it does once it has the slot's lock.
+fn entered<N: Names>(rt: &impl Abort, slot: &SharedSlot<Anything, N>, seat: &mut Seat<N>)
+    requires number { slot.now.number ≡ 0 }
+    ensures known { front_of seat.new slot.now.number ≡ slot.now.events }
+{
+    slot.holds();
+    if !slot.enter(seat, 0) {
+        panic!(rt; "a slot of another number");
+    }
+}
+
+/// No queue was made yet, whoever asks.
+pub(crate) fn nothing_shown<N: Names>(
+    rt: &impl Abort,
+    slot: &SharedSlot<Anything, N>,
+    seat: &mut Seat<N>,
+)
+    requires number { slot.now.number ≡ 0 }
+{
+    slot.holds();
+    holds(
+        rt,
+        seat.stat(Id::of(0, 0)) == Err(IdRefusal::Never),
+        "no queue was made",
+    );
+    holds(rt, seat.row(0).made == 0, "its row");
+}
+
+/// A queue is made in a new slot, under key 5.
+pub(crate) fn made<N: Names, R: Abort + Wait>(
+    rt: &R,
+    slot: &mut SharedSlot<Anything, N>,
+    keys: &mut Keys<N>,
+    seat: &mut Seat<N>,
+    last_seq: u32,
+)
+    requires last_seq { last_seq ≡ N.last_seq }
+    requires bounded { N.last_seq ≤ MAX_SEQ }
+    requires number { slot.old.number ≡ 0 }
+    ensures number { slot.new.number ≡ 0 }
+{
+    entered(rt, slot, seat);
+    keys.holds();
+    holds(rt, slot.is_number(0) && !slot.is_number(1), "its number");
+    holds(rt, slot.with_key(5).is_none(), "no queue has the key");
+    if !slot.is_free(last_seq) || keys.look(5).is_some() {
+        panic!(rt; "a new slot is not free");
+    }
+    match slot.make(rt, keys, seat, 5, 4) {
+        Ok(got) => holds(
+            rt,
+            got.id.number() == 0 && got.made == Some(0),
+            "id 0, made by entry 0",
+        ),
+        Err(_) => panic!(rt; "out of memory"),
+    }
+    holds(rt, !slot.is_free(last_seq), "a queue is there");
+    holds(
+        rt,
+        slot.with_key(5).is_some() && keys.look(5).is_some(),
+        "it has its key",
+    );
+    holds(
+        rt,
+        slot.with_key(6).is_none() && keys.look(6).is_none(),
+        "and no other",
+    );
+}
+
+/// A text is sent, and the seat knows of it.
+pub(crate) fn sent<N: Names, R: Abort + Wait>(
+    rt: &R,
+    slot: &mut SharedSlot<Anything, N>,
+    seat: &mut Seat<N>,
+    text: TextOf<N>,
+)
+    requires number { slot.old.number ≡ 0 }
+    ensures number { slot.new.number ≡ 0 }
+{
+    entered(rt, slot, seat);
+    match slot.send(rt, seat, Id::of(0, 0), 1, 7, text, 5) {
+        Ok(entry) => holds(rt, entry == 1, "it is sent by entry 1"),
+        Err(_refused) => panic!(rt; "out of memory"),
+    }
+    slot.holds();
+    match seat.stat(Id::of(0, 0)) {
+        Ok(figures) => holds(rt, figures.qnum == 1 && figures.cbytes == 2, "it waits"),
+        Err(_) => panic!(rt; "the queue is there"),
+    }
+}
+
+/// What the other seat is shown before it enters is no more than what it knows then.
+pub(crate) fn shown<N: Names>(rt: &impl Abort, slot: &SharedSlot<Anything, N>, seat: &mut Seat<N>)
+    requires number { slot.now.number ≡ 0 }
+{
+    slot.holds();
+    let before = seat.row(0);
+    entered(rt, slot, seat);
+    let after = seat.row(0);
+    holds(
+        rt,
+        before.made <= 1 && before.figures.qnum <= 1,
+        "no more than there is",
+    );
+    holds(
+        rt,
+        after.live && after.made == 1 && after.key == 5,
+        "the queue's row",
+    );
+    holds(
+        rt,
+        seat.stat(Id::of(0, 0)) == Ok(after.figures) && after.figures.qnum == 1,
+        "what waits",
+    );
+}
+
+pub(crate) fn received<N: Names, R: Abort + Wait>(
+    rt: &R,
+    slot: &mut SharedSlot<Anything, N>,
+    seat: &mut Seat<N>,
+) -> TextOf<N>
+    requires number { slot.old.number ≡ 0 }
+    ensures number { slot.new.number ≡ 0 }
+{
+    entered(rt, slot, seat);
+    match slot.receive(rt, seat, Id::of(0, 0), 2, Selection::Any, false, 6) {
+        Ok(
+            Delivered {
+                entry,
+                mtype: _,
+                sender,
+                tag,
+                length: _,
+                text,
+            },
+        ) => {
+            holds(
+                rt,
+                entry == 2 && sender == 1 && tag == 7,
+                "what seat 1 sent",
+            );
+            holds(rt, has::<N>(&text, b"hi"), "its text");
+            text
+        }
+        Err(_) => panic!(rt; "out of memory"),
+    }
+}
+
+/// A quota over the limit is refused, and one of nothing is set.
+pub(crate) fn changed<N: Names, R: Abort + Wait>(
+    rt: &R,
+    slot: &mut SharedSlot<Anything, N>,
+    seat: &mut Seat<N>,
+)
+    requires number { slot.old.number ≡ 0 }
+    ensures number { slot.new.number ≡ 0 }
+{
+    entered(rt, slot, seat);
+    match slot.set(rt, seat, Id::of(0, 0), 16_385, 7) {
+        Ok(_) => panic!(rt; "a quota over the limit was set"),
+        Err(Refused { errno, entry }) => holds(
+            rt,
+            errno == Errno::EPERM && entry == Some(3),
+            "EPERM over the limit",
+        ),
+    }
+    entered(rt, slot, seat);
+    match slot.set(rt, seat, Id::of(0, 0), 0, 7) {
+        Ok(entry) => holds(rt, entry == 3, "it is set by entry 3"),
+        Err(_) => panic!(rt; "out of memory"),
+    }
+}
+
+/// The queue is removed with nothing in it.
+pub(crate) fn removed<N: Names, R: Abort + Wait>(
+    rt: &R,
+    slot: &mut SharedSlot<Anything, N>,
+    keys: &mut Keys<N>,
+    seat: &mut Seat<N>,
+)
+    requires number { slot.old.number ≡ 0 }
+    ensures number { slot.new.number ≡ 0 }
+{
+    entered(rt, slot, seat);
+    match slot.remove(rt, keys, seat, Id::of(0, 0), 8) {
+        Ok((Removal { entry, log }, waiting)) => {
+            holds(rt, entry == 4 && log.len() == 5, "it is removed by entry 4");
+            emptied(rt, waiting);
+        }
+        Err(_) => panic!(rt; "out of memory"),
+    }
+    holds(rt, keys.look(5).is_none(), "its key is forgotten");
+    keys.forget_key(5);
+    match slot.look(Id::of(0, 0)) {
+        Ok(()) => panic!(rt; "a removed queue is there"),
+        Err(refused) => holds(
+            rt,
+            refused.errno == Errno::EIDRM,
+            "EIDRM of a removed queue",
+        ),
+    }
+}

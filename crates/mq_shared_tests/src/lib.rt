@@ -1,0 +1,10 @@
+//! Tests of a slot, the keys and the seats as they are under their locks.
+
+#![tactic(auto)]
+
+#[cfg(test)]
+mod calls;
+#[cfg(test)]
+mod parts;
+#[cfg(test)]
+mod shared;

@@ -1,0 +1,141 @@
+//! What a slot and its seats are made of, and what becomes of it at the end.
+ghost use Rattle.std.specs.Prelude.{◌≡◌, ◌+◌, ◌-◌, ◌<◌, ◌≤◌, length, OnOk};
+ghost use Rattle.mq_board.specs.Readers.{seats};
+ghost use Rattle.mq_fronts.specs.Fronts.{AreRows};
+
+use mq_arena::{ArenaState, Homecoming};
+use mq_board::{BoardReader, Copies};
+use mq_fronts::Fronts;
+use mq_message::Text;
+use mq_select::Waiting;
+use mq_shared::{Names, Pages, Pledge, PublishedOf, Seat, Tally, TextOf, WaitingOf};
+use mq_table::{Id, IdRefusal, Slot};
+use std::alloc::{AllocError, Global};
+use std::process::Abort;
+
+/// Nothing is pledged of what is sent.
+pub(crate) struct Anything;
+
+impl Pledge for Anything {
+    ghost kept = { λ seat tag mtype bytes. Unit {0} };
+}
+
+/// Checks what must be so.
+pub(crate) fn holds(rt: &impl Abort, is: bool, what: &str) {
+    if !is {
+        panic!(rt; "{what}");
+    }
+}
+
+/// Whether a text has these bytes, at most a page of them.
+pub(crate) fn has<N: Names>(text: &TextOf<N>, bytes: &[u8]) -> bool {
+    match text.count() {
+        0 => bytes.is_empty(),
+        1 => text.part(0) == bytes,
+        _ => false,
+    }
+}
+
+/// A text of an arena.
+pub(crate) fn drafted<N: Names>(rt: &impl Abort, arena: &mut ArenaState<Pages<N>>) -> TextOf<N> {
+    match arena.take_filled(0, b"hi") {
+        Some(block) => Text::of(block, 2),
+        None => panic!(rt; "no page"),
+    }
+}
+
+/// The text comes home.
+pub(crate) fn spent<N: Names>(rt: &impl Abort, arena: &mut ArenaState<Pages<N>>, text: TextOf<N>) {
+    match text.into_block() {
+        Some(block) => holds(
+            rt,
+            arena.put(block) == Homecoming::Home,
+            "the text comes home",
+        ),
+        None => panic!(rt; "the text has no block"),
+    }
+}
+
+/// Nothing waits.
+pub(crate) fn emptied<N: Names>(rt: &impl Abort, waiting: WaitingOf<N>) {
+    let mut waiting = waiting;
+    match waiting.pop_any() {
+        None => waiting.end(),
+        Some(_message) => panic!(rt; "a message waits in a queue that was emptied"),
+    }
+}
+
+/// A seat of one slot, with the last of its readers.
+fn seat<N: Names>(
+    alloc: Global,
+    tally: &mut Tally<N>,
+    rows: &mut [Vec<BoardReader<N>>],
+    number: u16,
+) -> Result<Seat<N>, AllocError>
+    requires number { (1 ≤ number) × (number ≤ N.seats) }
+    requires slots { N.slots ≡ 1 }
+    requires rows { AreRows number rows.old }
+    requires one { length rows.old ≡ 1 }
+    requires parts { 0 < tally.old.unused.parts }
+    ensures rows { OnOk result (AreRows (number - 1) rows.new) }
+    ensures one { length rows.new ≡ 1 }
+    ensures parts { OnOk result (tally.new.unused.parts + 1 ≡ tally.old.unused.parts) }
+{
+    let fronts = Fronts::gather(alloc, number, rows)?;
+    Seat::new(alloc, fronts, 1, tally.seat_part(1))
+}
+
+/// The first seat and the second.
+pub(crate) fn seated<N: Names>(
+    rt: &impl Abort,
+    alloc: Global,
+    tally: &mut Tally<N>,
+    readers: Vec<BoardReader<N>>,
+) -> (Seat<N>, Seat<N>)
+    requires slots { N.slots ≡ 1 }
+    requires seats { N.seats ≡ 2 }
+    requires readers { readers.items ≡ seats 0 2 }
+    requires parts { 2 ≤ tally.old.unused.parts }
+{
+    let Ok(mut rows) = Vec::with_capacity(alloc, 1) else {
+        panic!(rt; "out of memory")
+    };
+    rows.push_reserved(readers);
+    let Ok(second) = seat(alloc, tally, rows.as_mut_slice(), 2) else {
+        panic!(rt; "out of memory")
+    };
+    let Ok(first) = seat(alloc, tally, rows.as_mut_slice(), 1) else {
+        panic!(rt; "out of memory")
+    };
+    (first, second)
+}
+
+/// The seat learns what was published of the slot, which is known of no other way.
+pub(crate) fn told<N: Names>(rt: &impl Abort, slot: &PublishedOf<N, Copies<N>>, seat: &mut Seat<N>)
+    requires slots { N.slots ≡ 1 }
+{
+    let told = slot.tell();
+    holds(rt, told.board() == 0 && seat.learn(0, told), "all is known");
+    holds(
+        rt,
+        seat.stat(Id::of(0, 0)) == Err(IdRefusal::Removed),
+        "the queue was removed",
+    );
+}
+
+/// The seat's only reader comes home.
+pub(crate) fn come_home<N: Names>(
+    rt: &impl Abort,
+    slot: &mut PublishedOf<N, Copies<N>>,
+    fronts: Fronts<N>,
+) {
+    let mut fronts = fronts;
+    let Some(reader) = fronts.hand_out() else {
+        panic!(rt; "a seat has no reader")
+    };
+    if reader.board() != slot.slot().number() {
+        panic!(rt; "a reader of another board");
+    }
+    slot.take_back(reader);
+    holds(rt, fronts.hand_out().is_none(), "one reader for one slot");
+}
