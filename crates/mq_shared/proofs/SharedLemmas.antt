@@ -37,7 +37,7 @@ pub record Steps (seat : ℕ) (s t : SlotState PlainText) : Type 0 where
 
 -- a change adds one event, which its seat made
 module _ (s t : SlotState PlainText) where
-  next_is : (seat : ℕ) (e : Event) (messages : List (ℕ × Message PlainText)) → seat_of e ≡ seat
+  pub next_is : (seat : ℕ) (e : Event) (messages : List (ℕ × Message PlainText)) → seat_of e ≡ seat
       → goes_on s e messages ≡ t → Steps seat s t
   next_is seat e messages own is = record {
     number = ap (λ (x : SlotState PlainText). x.number) (sym is);

@@ -1,5 +1,9 @@
 pub mod Answer
+pub mod Making
 pub mod Pledge
+pub mod Refusals
 pub mod Seat
+pub mod Seen
 pub mod Shared
+pub mod Shown
 pub mod Sizes

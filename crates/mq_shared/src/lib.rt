@@ -14,16 +14,23 @@
 
 mod blanks;
 mod calls;
+mod control;
+mod flags;
 mod keys;
+mod making;
+mod messages;
 mod names;
+mod place;
 mod pledge;
 mod seat;
 mod slot;
 mod tally;
 
 pub use blanks::Blanks;
+pub use flags::{RecvFlags, SendFlags};
 pub use keys::Keys;
 pub use names::{Entries, Names, Pages, PublishedOf, SlotOf, TextOf, WaitingOf};
+pub use place::Place;
 pub use pledge::Pledge;
 pub use seat::Seat;
 pub use slot::SharedSlot;

@@ -1,0 +1,116 @@
+//! The calls that wait for a message or for room.
+ghost use Rattle.std.specs.Prelude.{◌≡◌, ◌<◌, pos, int_lt, false, length, IfOk, IfErr, MatchResult};
+ghost use Rattle.mq_queue.specs.declared.event.Event.TheVariants.{Sent};
+ghost use Rattle.mq_select.specs.Selection.{selection_of};
+ghost use Rattle.mq_table.specs.Ids.{seq_of, slot_of};
+ghost use Rattle.mq_shared.specs.Pledge.{MeetsPledge, MeetsWhole};
+ghost use Rattle.mq_shared.specs.Refusals.{Refuses, MayReceive, MaySend};
+ghost use Rattle.mq_shared.specs.Seat.{IsCounted, IsLater, IsSame};
+ghost use Rattle.mq_shared.specs.Seen.{IsDecided, IsDone, IsReceipt, receive_verdict, send_verdict};
+
+use crate::place::wait_for;
+use crate::{Names, Place, Pledge, RecvFlags, Seat, SendFlags, TextOf};
+use mq_board::Copies;
+use mq_one_thread::{Delivered, Errno, Refused, SendRefused};
+use mq_select::Selection;
+use mq_table::Id;
+use std::sync::{MutexGuard, Wait};
+
+impl<P: Pledge, N: Names> Place<P, N, Copies<N>> {
+    /// Sends a text of a type above 0 (msgop(2), msgsnd), and answers the entry. Where the queue is
+    /// full it waits for room, unless the flags say not to. EINVAL, EIDRM, EAGAIN, then ENOMEM; the
+    /// text is then handed back.
+    pub fn send<R: Wait>(
+        &self,
+        rt: &R,
+        seat: &mut Seat<N>,
+        id: Id,
+        mtype: i64,
+        tag: u64,
+        text: TextOf<N>,
+        flags: SendFlags,
+        moment: u64,
+    ) -> Result<u64, SendRefused<TextOf<N>>>
+        requires within { slot_of id < N.slots }
+        requires positive { int_lt mtype (pos 1) ≡ false }
+        requires pledge { P.kept seat.old.number tag mtype text.bytes }
+        ensures refused { IfErr result (λ r. Refuses false (MaySend flags.nowait) r.refused) }
+        ensures handed_back { IfErr result (λ r. r.text ≡ text) }
+        ensures counted { MatchResult result (λ _. IsCounted seat.old seat.new (slot_of id))
+            (λ _. IsSame seat.old seat.new) }
+        ensures later { IsLater seat.old seat.new }
+        ensures done { IfOk result (λ entry. IsDone seat.old seat.new (slot_of id)
+            (send_verdict (seq_of id) mtype (length text.bytes)) entry
+            (Sent seat.old.number moment tag mtype (length text.bytes))) }
+        ensures decided { IfErr result (λ r. IsDecided seat.old seat.new (slot_of id)
+            (send_verdict (seq_of id) mtype (length text.bytes)) r.refused) }
+    {
+        let mut text = text;
+        for _ in rt.forever() {
+            let mut held = self.enter(rt, seat, id.slot());
+            match held.send(rt, seat, id, mtype, tag, text, moment) {
+                Ok(entry) => {
+                    MutexGuard::unlock(held);
+                    self.arrived.notify_all();
+                    return Ok(entry);
+                }
+                Err(refusal) => {
+                    if refusal.refused.errno != Errno::EAGAIN || flags.nowait {
+                        MutexGuard::unlock(held);
+                        return Err(refusal);
+                    }
+                    let (_, again) = refusal.into_text();
+                    text = again;
+                    wait_for(rt, &self.room, held);
+                }
+            }
+        }
+        unreachable!()
+    }
+
+    /// Receives the first message that the selection names (msgop(2), msgrcv). Where there is none
+    /// it waits for one, unless the flags say not to. EINVAL, EIDRM, ENOMSG, E2BIG, then ENOMEM.
+    pub fn receive<R: Wait>(
+        &self,
+        rt: &R,
+        seat: &mut Seat<N>,
+        id: Id,
+        size: u64,
+        msgtyp: i64,
+        flags: RecvFlags,
+        moment: u64,
+    ) -> Result<Delivered<TextOf<N>>, Refused>
+        requires within { slot_of id < N.slots }
+        ensures pledge { IfOk result (MeetsPledge P.kept size) }
+        ensures whole { IfOk result (λ d. flags.noerror ≡ false → MeetsWhole P.kept d) }
+        ensures refused { IfErr result
+            (Refuses false (MayReceive flags.nowait flags.noerror)) }
+        ensures counted { MatchResult result (λ _. IsCounted seat.old seat.new (slot_of id))
+            (λ _. IsSame seat.old seat.new) }
+        ensures later { IsLater seat.old seat.new }
+        ensures done { IfOk result (IsReceipt seat.old seat.new (slot_of id) (seq_of id) size
+            (selection_of msgtyp flags.except) flags.noerror moment) }
+        ensures decided { IfErr result (IsDecided seat.old seat.new (slot_of id)
+            (receive_verdict (seq_of id) size (selection_of msgtyp flags.except) flags.noerror)) }
+    {
+        let selection = Selection::read(msgtyp, flags.except);
+        for _ in rt.forever() {
+            let mut held = self.enter(rt, seat, id.slot());
+            match held.receive(rt, seat, id, size, selection, flags.noerror, moment) {
+                Ok(delivered) => {
+                    MutexGuard::unlock(held);
+                    self.room.notify_all();
+                    return Ok(delivered);
+                }
+                Err(refused) => {
+                    if refused.errno != Errno::ENOMSG || flags.nowait {
+                        MutexGuard::unlock(held);
+                        return Err(refused);
+                    }
+                    wait_for(rt, &self.arrived, held);
+                }
+            }
+        }
+        unreachable!()
+    }
+}
