@@ -4,7 +4,7 @@ use Rattle.std.specs.Prelude.{IfSome}
 use Rattle.std.specs.Ordering.{int_eq}
 use Rattle.std.proofs.lemmas.List.Elements.{All-filter, All-push, All-tail}
 use Rattle.mq_message.specs.Text.{PlainText}
-use Rattle.mq_table.specs.Ids.{id_of, slot_of}
+use Rattle.mq_table.specs.Ids.{id_of, seq_of, slot_of}
 use Rattle.mq_table.specs.Keys.{entered, id_of_key}
 use Rattle.mq_table.specs.Slot.{SlotState, last_id, next_id}
 use Rattle.mq_queue.specs.Row.{made_count}
@@ -15,11 +15,19 @@ use Rattle.mq_shared.specs.Shared.{AreWithin}
 slot_of_id : (slot seq : ℕ) → slot < MAX_SLOTS → slot_of (id_of slot seq) ≡ slot
 slot_of_id slot seq low = omega arith
 
+-- and so is its seq
+pub seq_of_id : (slot seq : ℕ) → slot < MAX_SLOTS → seq_of (id_of slot seq) ≡ seq
+seq_of_id slot seq low = omega (arith, low)
+
 pub slot_of_last : (s : SlotState PlainText) → s.number < MAX_SLOTS → slot_of (last_id s) ≡ s.number
 slot_of_last s low = slot_of_id s.number (made_count s.events - 1) low
 
 pub slot_of_next : (s : SlotState PlainText) → s.number < MAX_SLOTS → slot_of (next_id s) ≡ s.number
 slot_of_next s low = slot_of_id s.number (made_count s.events) low
+
+pub seq_of_last : (s : SlotState PlainText) → s.number < MAX_SLOTS
+    → seq_of (last_id s) ≡ made_count s.events - 1
+seq_of_last s low = seq_of_id s.number (made_count s.events - 1) low
 
 -- an id that is found is in the table
 pub found_within : (slots : ℕ) (keys : List (ℤ × ℕ)) (key : ℤ) → AreWithin slots keys

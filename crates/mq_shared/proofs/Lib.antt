@@ -1,3 +1,4 @@
+pub mod EndLemmas
 pub mod KeysLemmas
 pub mod LaterLemmas
 pub mod PledgeLemmas

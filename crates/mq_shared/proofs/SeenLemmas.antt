@@ -15,7 +15,7 @@ use Rattle.mq_queue.specs.declared.error.QueueError.{QueueError}
 use Rattle.mq_queue.specs.declared.event.Event.{Event}
 use Rattle.mq_queue.specs.declared.event.Event.TheVariants as event
 use Rattle.mq_table.specs.Calls.{Receipt, Turn, goes_on, makes, received, receives, removes, sends, sets, unless}
-use Rattle.mq_table.specs.Ids.{id_of, seq_of}
+use Rattle.mq_table.specs.Ids.{seq_of}
 use Rattle.mq_table.specs.Shown.{by_standing}
 use Rattle.mq_table.specs.Slot.{SlotState, next_id}
 use Rattle.mq_table.specs.SlotList.{Standing, Never, Live, Removed, is_free, standing}
@@ -33,7 +33,7 @@ use Rattle.mq_shared.specs.Answer as answer
 use Rattle.mq_shared.specs.Making.{IsMade, make_verdict}
 use Rattle.mq_shared.specs.Seat.{IsLater, IsSame, SeatState, front_of}
 use Rattle.mq_shared.specs.Seen.{IsDecided, IsDone, IsReceipt, IsRefused, Verdict, in_queue, receive_verdict, remove_verdict, send_verdict, set_verdict}
-use Rattle.mq_shared.proofs.KeysLemmas.{slot_of_next}
+use Rattle.mq_shared.proofs.KeysLemmas.{seq_of_id, slot_of_next}
 use Rattle.mq_shared.proofs.LaterLemmas.{front_set, later_set, later_trans, same_trans}
 use Rattle.mq_shared.proofs.RefusalLemmas.{if_false}
 use Rattle.mq_shared.proofs.SharedLemmas.{Steps, next_is}
@@ -390,9 +390,6 @@ module _ (old now new : SeatState) (slot : ℕ) (s : SlotState PlainText) (h : E
                 slot_is = slot_of_next s few ∙ h.number;
                 seq_is =
                     rw (front, take-append_seam s.events (e ∷ []))
-                    (seq_is s.number (made_count s.events) few);
+                    (seq_of_id s.number (made_count s.events) few);
               }),
         )
-      where
-        seq_is : (slot seq : ℕ) → slot < MAX_SLOTS → seq_of (id_of slot seq) ≡ seq
-        seq_is slot seq low = omega (arith, low)

@@ -1,22 +1,38 @@
 -- What msgget finds and makes in a slot, as a seat's front shows it (msgget(2)).
-use Rattle.std.specs.Prelude.{◌≡◌, ℕ, ℤ, ◌-◌, ◌&&◌, if◌then◌else◌, false, List, take, Option, None, Some}
-use Rattle.std.specs.Ordering.{int_eq}
-use Rattle.mq_queue.specs.Row.{is_live, live_key, made_count}
+use Rattle.std.specs.Prelude.{◌≡◌, ◌≢◌, ℕ, ℤ, if◌then◌else◌, false, List, slice_get, take, None, Some}
+use Rattle.mq_queue.specs.Row.{live_key, made_count}
 use Rattle.mq_queue.specs.declared.event.Event.{Event}
 use Rattle.mq_queue.specs.declared.event.Event.TheVariants.{Made}
-use Rattle.mq_table.specs.Ids.{id_of, seq_of, slot_of}
-use Rattle.mq_table.specs.SlotList.{is_free}
+use Rattle.mq_table.specs.Ids.{seq_of, slot_of}
+use Rattle.mq_table.specs.SlotList.{Live, is_free, standing}
 use Rattle.mq_one_thread.specs.declared.errno.Errno.{Errno}
 use Rattle.mq_one_thread.specs.declared.errno.Errno.TheVariants.{ENOMEM, ENOSPC}
 use Rattle.mq_one_thread.specs.declared.results.Got.{Got}
 use Rattle.mq_shared.specs.Seat.{SeatState, front_of}
 use Rattle.mq_shared.specs.Seen.{IsDone, Verdict}
 
--- the id of the queue that is in the slot after these events, where one is and has this key
-abbrev pub keyed_id : ℕ → List Event → ℤ → Option ℕ
-keyed_id slot events key =
-    if is_live events && int_eq (live_key events) key
-    then Some (id_of slot (made_count events - 1)) else None
+-- the queue with this seq is in the slot, and has this key
+pub record IsKeyed (seq : ℕ) (key : ℤ) (events : List Event) : Type 0 where
+  pub live : standing events seq ≡ Live
+  pub named : live_key events ≡ key
+
+-- the events hold the making of the queue with this seq, which told this key
+pub record HoldsMade (seq : ℕ) (key : ℤ) (events : List Event) : Type 0 where
+  pub entry : ℕ
+  pub seat : ℕ
+  pub moment : ℕ
+  pub there : slice_get events entry ≡ Some (Made seat moment key)
+  pub before : made_count (take entry events) ≡ seq
+
+-- the queue with this id is in this slot and has this key, and the events hold its making
+pub record IsThere (slot : ℕ) (key : ℤ) (events : List Event) (id : ℕ) : Type 0 where
+  pub slot_is : slot_of id ≡ slot
+  pub keyed : IsKeyed (seq_of id) key events
+  pub made : HoldsMade (seq_of id) key events
+
+-- no queue with this key is in the slot
+abbrev pub Lacks : ℤ → List Event → Type 0
+Lacks key events = live_key events ≢ key
 
 -- no queue is made in a slot that is not free
 abbrev pub make_verdict : ℕ → Verdict

@@ -1,9 +1,9 @@
 //! What `msgget` does in a slot that is locked for it.
-ghost use Rattle.std.specs.Prelude.{◌≡◌, ◌≢◌, ◌<◌, ◌≤◌, pos, None, IfOk, IfErr, IfSome, OnErr, MatchOption, MatchResult};
+ghost use Rattle.std.specs.Prelude.{◌≡◌, ◌≢◌, ◌<◌, ◌≤◌, pos, None, IfOk, IfErr, IfNone, IfSome, OnErr, MatchOption, MatchResult};
 ghost use Rattle.mq_table.specs.Ids.{slot_of};
 ghost use Rattle.mq_table.specs.Keys.{id_of_key};
 ghost use Rattle.mq_table.specs.declared.limits.TheConstants.{MAX_SEQ};
-ghost use Rattle.mq_shared.specs.Making.{IsMade, IsNotMade, keyed_id};
+ghost use Rattle.mq_shared.specs.Making.{IsMade, IsNotMade, IsThere, Lacks};
 ghost use Rattle.mq_shared.specs.Seat.{IsCounted, IsLater, IsSame, front_of};
 
 use crate::{Keys, Names, Place, Pledge, Seat};
@@ -13,15 +13,17 @@ use mq_table::Id;
 use std::sync::{MutexGuard, Wait};
 
 impl<P: Pledge, N: Names> Place<P, N, Copies<N>> {
-    /// The id of the queue in the slot, where it is there and has this key.
+    /// The id of the queue in the slot, where it is there and has this key, which is not 0.
     pub fn with_key<R: Wait>(&self, rt: &R, seat: &mut Seat<N>, number: u8, key: i32) -> Option<Id>
         requires within { number < N.slots }
+        requires some { key ≢ pos 0 }
         ensures same { IsSame seat.old seat.new }
         ensures later { IsLater seat.old seat.new }
-        ensures value { result ≡ keyed_id number (front_of seat.new number) key }
-        ensures slot { IfSome result (λ id. slot_of id ≡ number) }
+        ensures found { IfSome result (IsThere number key (front_of seat.new number)) }
+        ensures lacking { IfNone result (Lacks key (front_of seat.new number)) }
     {
         let held = self.enter(rt, seat, number);
+        held.holds();
         let found = held.with_key(key);
         MutexGuard::unlock(held);
         found

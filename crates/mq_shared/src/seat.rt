@@ -111,6 +111,8 @@ impl<N: Names> Seat<N> {
         requires slot { slot < N.slots }
         ensures same { IsSame self.old self.new }
         ensures later { IsLater self.old self.new }
+        ensures others { self.new.fronts
+            ≡ slice_set self.old.fronts slot (front_of self.new slot) }
         ensures row { result ≡ row (front_of self.new slot) }
     {
         self.fronts.row(slot as usize)
