@@ -7,4 +7,6 @@ mod calls;
 #[cfg(test)]
 mod parts;
 #[cfg(test)]
+mod place;
+#[cfg(test)]
 mod shared;

@@ -4,7 +4,8 @@ ghost use Rattle.mq_shared.specs.Sizes.{AreNames};
 
 use crate::calls::{changed, made, nothing_shown, received, removed, sent, shown};
 use crate::parts::{Anything, come_home, drafted, holds, seated, spent, told};
-use mq_arena::{LEDGER_PARTS, Unopened};
+use crate::place::place_day;
+use mq_arena::{ArenaState, LEDGER_PARTS, Unopened};
 use mq_board::Copies;
 use mq_fronts::next_board;
 use mq_one_thread::{Config, SysError};
@@ -14,6 +15,13 @@ use std::alloc::Global;
 use std::marker::Brand;
 use std::process::Abort;
 use std::sync::Wait;
+
+/// What the parts are tried by: the calls of the slot itself, or those of its place.
+#[derive(Clone, Copy, PartialEq, Eq)]
+pub(crate) enum Day {
+    Slot,
+    Place,
+}
 
 /// All is over: the queue is removed, both readers come home, and what the slot's entries and the
 /// seats' counts are of is whole.
@@ -62,7 +70,34 @@ fn counted<N: Names>(rt: &impl Abort, first: &Seat<N>, second: &Seat<N>)
     );
 }
 
-fn apart<N: Names, R: Abort + Wait>(rt: &R, alloc: Global, config: Config, blanks: Blanks)
+/// All calls of a slot under its lock.
+fn slot_day<N: Names, R: Abort + Wait>(
+    rt: &R,
+    slot: SharedSlot<Anything, N>,
+    keys: &mut Keys<N>,
+    arena: &mut ArenaState<Pages<N>>,
+    first: &mut Seat<N>,
+    second: &mut Seat<N>,
+    last_seq: u32,
+) -> SharedSlot<Anything, N>
+    requires last_seq { last_seq ≡ N.last_seq }
+    requires bounded { N.last_seq ≤ MAX_SEQ }
+    requires number { slot.number ≡ 0 }
+{
+    let mut slot = slot;
+    nothing_shown(rt, &slot, second);
+    made(rt, &mut slot, keys, first, last_seq);
+    let text = drafted(rt, arena);
+    sent(rt, &mut slot, first, text);
+    shown(rt, &slot, second);
+    let text = received(rt, &mut slot, second);
+    spent(rt, arena, text);
+    changed(rt, &mut slot, first);
+    removed(rt, &mut slot, keys, first);
+    slot
+}
+
+fn apart<N: Names, R: Abort + Wait>(rt: &R, alloc: Global, config: Config, blanks: Blanks, day: Day)
     requires names { AreNames N.Names.own N.Naming blanks config }
     requires enough { LEDGER_PARTS ≤ blanks.pages.parts }
 {
@@ -82,26 +117,44 @@ fn apart<N: Names, R: Abort + Wait>(rt: &R, alloc: Global, config: Config, blank
     };
     let mut tally = Tally::<N>::new(entries);
     let slot = PublishedOf::<N, Copies<N>>::new(Slot::new(alloc, 0), writer);
-    let mut slot = SharedSlot::<Anything, N>::new(slot, tally.slot_part());
+    let slot = SharedSlot::<Anything, N>::new(slot, tally.slot_part());
     let (mut first, mut second) = seated(rt, alloc, &mut tally, readers);
     let mut arena = unopened.open::<Pages<N>>(pages);
     let mut keys = Keys::<N>::new(alloc);
-    nothing_shown(rt, &slot, &mut second);
-    made(rt, &mut slot, &mut keys, &mut first, config.last_seq);
-    let text = drafted(rt, &mut arena);
-    sent(rt, &mut slot, &mut first, text);
-    shown(rt, &slot, &mut second);
-    let text = received(rt, &mut slot, &mut second);
-    spent(rt, &mut arena, text);
-    changed(rt, &mut slot, &mut first);
-    removed(rt, &mut slot, &mut keys, &mut first);
+    let last_seq = config.last_seq;
+    let slot = match day {
+        Day::Slot => slot_day(
+            rt,
+            slot,
+            &mut keys,
+            &mut arena,
+            &mut first,
+            &mut second,
+            last_seq,
+        ),
+        Day::Place => place_day(
+            rt,
+            slot,
+            &mut keys,
+            &mut arena,
+            &mut first,
+            &mut second,
+            last_seq,
+        ),
+    };
     counted(rt, &first, &second);
     taken_apart(rt, slot, first, second, tally);
 }
 
-fn apart_once<R: Abort + Wait>(rt: &R, alloc: Global, config: Config) -> Result<(), SysError> {
+/// Opens a system's parts, tries them and takes them apart.
+pub(crate) fn apart_once<R: Abort + Wait>(
+    rt: &R,
+    alloc: Global,
+    config: Config,
+    day: Day,
+) -> Result<(), SysError> {
     let blanks = Blanks::of(alloc, config)?;
-    apart::<Brand, R>(rt, alloc, config, blanks);
+    apart::<Brand, R>(rt, alloc, config, blanks, day);
     Ok(())
 }
 
@@ -113,7 +166,7 @@ fn a_slot_and_two_seats_answer_by_themselves(rt: HostRuntime) {
         seats: 2,
         last_seq: 9,
     };
-    match apart_once(&rt, rt.alloc(), config) {
+    match apart_once(&rt, rt.alloc(), config, Day::Slot) {
         Ok(()) => (),
         Err(_) => panic!(rt; "out of memory"),
     }
