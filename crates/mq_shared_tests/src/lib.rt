@@ -1,4 +1,5 @@
-//! Tests of a slot, the keys and the seats as they are under their locks.
+//! Tests of a slot, the keys and the seats as they are under their locks, and of a slot in its
+//! place, whose calls take the lock.
 
 #![tactic(auto)]
 

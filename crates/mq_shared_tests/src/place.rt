@@ -25,6 +25,11 @@ const CUT: RecvFlags = RecvFlags {
     except: false,
 };
 
+/// Whether a call was refused for this, after so many entries.
+fn is(refused: Refused, errno: Errno, entries: u64) -> bool {
+    refused.errno == errno && refused.entry == Some(entries)
+}
+
 /// A queue is made under key 5, and no second one beside it.
 fn made<N: Names, R: Abort + Wait>(
     rt: &R,
@@ -88,11 +93,6 @@ fn changed<N: Names, R: Abort + Wait>(rt: &R, place: &Place<Anything, N>, seat: 
         Ok(entry) => holds(rt, entry == 1, "it is set by entry 1"),
         Err(_) => panic!(rt; "out of memory"),
     }
-}
-
-/// Whether a call was refused for this, after so many entries.
-fn is(refused: Refused, errno: Errno, entries: u64) -> bool {
-    refused.errno == errno && refused.entry == Some(entries)
 }
 
 /// A text is sent where there is room, by a sender that would wait.
