@@ -1,5 +1,6 @@
 """Where planted mistakes are tried: copies of crates, and how many checks go side by side."""
 import os
+import re
 import shutil
 import subprocess
 from contextlib import contextmanager
@@ -7,6 +8,7 @@ from pathlib import Path
 from threading import Condition
 
 from functions import is_recursive, other_proofs, without_other_bodies
+from goals import Recorded, alone
 
 # A check that gives way to others may wait long for a processor.
 SECONDS = 7200
@@ -14,6 +16,8 @@ PARTS = ("src", "specs", "proofs")
 # A declaration that is refused: beside it a check does not go on to offer answers for the goals that
 # fell, which takes a third of its time.
 REFUSED = "left-out : left-out\n"
+# Which goals tactics are tried on.
+TACTIC = re.compile(r"#(!?)\[tactic\([^\]]*\]")
 
 
 class Room:
@@ -27,22 +31,53 @@ class Room:
         if kept.is_dir():
             shutil.copytree(kept, self.kept)
 
-    def check(self, edits, are_made=True):
-        """What a check says of the edits' functions, where the copy has just these edits, or none."""
+    def check(self, edits, known=Recorded(), are_made=True):
+        """What a check says of the edits' functions, where the copy has just these edits, or none.
+        Of a function of which it is known by which goal the mistake falls, that goal alone is
+        tried."""
+        self.lay_out(edits, are_made)
+        for edit in edits:
+            if not is_recursive(self.crate, edit.proof):
+                self.answer(edit, known.goal(edit), known.beside(edit))
+        return self.checked(edits)
+
+    def control(self, edits):
+        """What a check says of the edits' functions as they stand."""
+        self.lay_out(edits)
+        return self.checked(edits)
+
+    def list_goals(self, edits):
+        """What a check says of the edits' functions as they stand, where no goal has an answer and
+        no tactic is tried."""
+        self.lay_out(edits)
+        for path in self.folder.glob("src/**/*.rt"):
+            path.write_text(TACTIC.sub(r"#\1[tactic(none)]", path.read_text()))
+        for edit in edits:
+            if not is_recursive(self.crate, edit.proof):
+                (self.folder / "proofs" / edit.proof / "Answers.antt").unlink(missing_ok=True)
+                self.answer(edit, None, ())
+        return self.checked(edits)
+
+    def answer(self, edit, goal, beside):
+        """Writes the answers of an edit's function, to all of its goals or to this one."""
+        answers = self.folder / "proofs" / edit.proof / "Answers.antt"
+        answers.parent.mkdir(parents=True, exist_ok=True)
+        text = answers.read_text() if answers.exists() else ""
+        if goal:
+            module = ".".join(["Rattle", self.name, "proofs", *edit.proof.parts])
+            text = alone(text, module, goal, beside)
+        answers.write_text(f"{text}\n{REFUSED}")
+
+    def lay_out(self, edits, are_made=False):
+        """Copies the crate, with these edits or as it stands, where only the edits' functions have a
+        body and a proof."""
         for part in PARTS:
             shutil.rmtree(self.folder / part, ignore_errors=True)
             if (self.crate / part).is_dir():
                 shutil.copytree(self.crate / part, self.folder / part)
-        for edit in edits:
+        for edit in edits if are_made else ():
             path = self.folder / edit.file
-            if are_made:
-                path.write_text(edit.applied(path.read_text()))
-            answers = self.folder / "proofs" / edit.proof / "Answers.antt"
-            if are_made and not is_recursive(self.crate, edit.proof):
-                answers.parent.mkdir(parents=True, exist_ok=True)
-                there = answers.read_text() if answers.exists() else ""
-                if not there.endswith(REFUSED):
-                    answers.write_text(f"{there}\n{REFUSED}")
+            path.write_text(edit.applied(path.read_text()))
         proofs = [it.proof for it in edits]
         for path in sorted(self.folder.glob("src/**/*.rt")):
             file = self.crate / path.relative_to(self.folder)
@@ -53,6 +88,9 @@ class Room:
             for name in ("Answers.antt", "Invariants.antt"):
                 (proof / name).unlink(missing_ok=True)
             (proof / "Proof.antt").write_text("-- not looked at\n")
+
+    def checked(self, edits):
+        """What a check of the edits' functions says, as the copy stands."""
         functions = [it.head["function"] for it in edits]
         words = ["timeout", str(SECONDS), *self.crates.command(self.name, functions, self.kept)]
         with self.lane.turn(self.crates.level(self.name)):

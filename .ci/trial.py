@@ -30,6 +30,14 @@ pub fn after_next(n: u8) -> u8
     next(n) + 1
 }
 
+pub fn in_two(m: u8) -> u8
+    requires { m < 8 }
+    ensures first { m < result }
+    ensures second { result ≡ m + 2 }
+{
+    m + 2
+}
+
 pub fn total(bytes: &[u8]) -> usize
     requires { length bytes.now ≤ 65536 }
     ensures { result ≤ 255 * length bytes.now }
@@ -46,6 +54,12 @@ use Rattle.trial.proofs.total.Given as goal
 
 abbrev pub invariant-loop-byte : goal.invariant-loop-byte
 invariant-loop-byte l = l.sum ≤ 255 * l.byte-index
+""",
+    "crates/trial/planted/goals.txt": """mistake its_recorded_goal_falls: returns-clause-second
+mistake another_goal_than_the_recorded_falls: returns-clause-first
+mistake its_recorded_goal_is_gone: returns-clause-third
+mistake a_right_body_whose_other_goals_are_left_out: returns-clause-second
+function in_two: returns-clause-first returns-clause-second
 """,
 }
 
@@ -67,6 +81,14 @@ MISTAKES = {
         "it does not change the body of total",
         "total",
         [("    n + 1", "    n + 2")],
+    ),
+    "its_recorded_goal_falls": (None, "in_two", [("    m + 2", "    m + 1")]),
+    "another_goal_than_the_recorded_falls": (None, "in_two", [("    m + 2", "    1 + m")]),
+    "its_recorded_goal_is_gone": (None, "in_two", [("    m + 2", "    m")]),
+    "a_right_body_whose_other_goals_are_left_out": (
+        "no goal of it is named as not proved",
+        "in_two",
+        [("    m + 2", "    2 + m")],
     ),
     "another_value_of_a_constant_is_refused": (None, "the_most", [("MOST: u8 = 9", "MOST: u8 = 8")]),
     "a_value_that_no_clause_says": (

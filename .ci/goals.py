@@ -1,0 +1,65 @@
+"""Goals of the functions in which mistakes are planted: which fell, and proof files that try one.
+
+A crate's file planted/goals.txt says what was seen when it was written by `.ci/planted --record`: a
+line `mistake NAME: GOAL` which goal fell, and a line `function FOLDER: GOAL ..` which goals the
+function had, whose proof is in that folder. It says no more than what to try first. A goal that it
+does not name is tried too, and where the named one does not fall, all are.
+"""
+import re
+
+# The signature of a declaration in a proof file.
+SIGNATURE = re.compile(r"(?m)^(?:abbrev )?(?:pub )?(\S+) : (.*)")
+
+
+class Recorded:
+    """What a crate's planted/goals.txt says."""
+
+    def __init__(self, mistakes=(), functions=()):
+        self.mistakes, self.functions = dict(mistakes), dict(functions)
+
+    def goal(self, edit):
+        """The goal that fell by an edit, where that is known."""
+        return None if edit.of_constants else self.mistakes.get(edit.name)
+
+    def beside(self, edit):
+        """The goals of the edit's function."""
+        return self.functions.get(str(edit.proof), ())
+
+    def write(self, path):
+        lines = [f"mistake {name}: {goal}" for name, goal in sorted(self.mistakes.items())]
+        lines += [f"function {place}: {' '.join(it)}" for place, it in sorted(self.functions.items())]
+        path.write_text("\n".join(lines) + "\n")
+
+
+def recorded(path):
+    """What this file says, or nothing where there is none."""
+    found = {"mistake": {}, "function": {}}
+    for line in path.read_text().splitlines() if path.is_file() else ():
+        head, _, said = line.partition(": ")
+        kind, _, name = head.partition(" ")
+        found[kind][name] = said if kind == "mistake" else said.split()
+    return Recorded(found["mistake"], found["function"])
+
+
+def cites(text, name):
+    return re.search(rf"(?<![\w.-]){re.escape(name)}(?![\w-])", text)
+
+
+def alone(answers, module, goal, beside):
+    """A proof file in which this goal has the answer that it has in these, with what that cites, or
+    the tactics' where it has none there. Each other goal is left out: it is declared and not
+    defined, which is refused at once."""
+    starts = [*SIGNATURE.finditer(answers)]
+    ends = [*(it.start() for it in starts[1:]), len(answers)]
+    blocks = [(it[1], it[2] == f"goal.{it[1]}", answers[it.start() : end]) for it, end in zip(starts, ends)]
+    head = answers[: starts[0].start()] if starts else answers
+    if not re.search(r"(?m)^use .* as goal$", head):
+        head += f"use {module}.Goals as goal\n"
+    kept, added = [], [it for it in blocks if not it[1] or it[0] == goal]
+    while added:
+        kept += added
+        added = [it for it in blocks if it not in kept and any(cites(text, it[0]) for *_, text in added)]
+    names = {goal, *(it[0] for it in kept)}
+    left_out = sorted({*beside, *(it[0] for it in blocks)} - names)
+    texts = [text for *_, text in blocks if any(text is it[2] for it in kept)]
+    return "\n".join([head, *texts, *(f"pub {name} : goal.{name}\n" for name in left_out)])
