@@ -9,14 +9,21 @@ QUOTED = re.compile(r"//[^\n]*|b?\"(?:\\.|[^\"\\])*\"|b?'(?:\\.[^']*|[^'\\])'", 
 CLAUSE = re.compile(r"\b(?:requires|ensures)\*?(?:\s+\w+)?\s*\Z|\bghost\s+\w+\s*:\s*\Z")
 IMPL = re.compile(r"(?m)^ *impl\b(?P<head>[^{]*)\{")
 TRAIT = re.compile(r"(?m)^ *(?:pub(?:\(\w+\))? )?trait\b")
+# The head of an impl of a type: its parameters, the type, and the type's arguments.
+SPECIAL = re.compile(
+    r"\s*(?:<(?P<of>.*?)>(?=\s*\w+\s*(?:<|$)))?\s*(?P<type>\w+)\s*(?:<(?P<with>.*)>)?\s*", re.S
+)
+# What stands for a body that was taken away.
+TAKEN = "{ unreachable!() }"
 FUNCTION = re.compile(r"\bfn\s+(?P<name>\w+)")
 
 
 class Function:
-    """A function: its type, if it is a method, its name, and its text from `fn` on."""
+    """A function: its type, if it is a method, its name, and its text from `fn` on. A method of
+    an impl of some arguments alone has the type with these, as a check prints it."""
 
-    def __init__(self, owner, of_trait, name, start, body, end):
-        self.owner, self.of_trait, self.name = owner, of_trait, name
+    def __init__(self, owner, of_trait, special, name, start, body, end):
+        self.owner, self.of_trait, self.special, self.name = owner, of_trait, special, name
         self.start, self.body, self.end = start, body, end
 
     def text(self, source):
@@ -69,21 +76,37 @@ def owner_of(head):
     return found[0] if found else ""
 
 
+def special_of(head):
+    """The type with its arguments, each word behind a `+`, where an impl is of some alone."""
+    found = SPECIAL.fullmatch(head)
+    if not found or not found["with"]:
+        return ""
+    given = [it.split(":")[0].split()[-1].lstrip("'") for it in (found["of"] or "").split(",") if it.strip()]
+    words = re.findall(r"\w+", found["with"])
+    return "" if words == given else "+".join([found["type"], *words])
+
+
 def functions_in(source):
     """The functions of a file that have a body."""
     text = masked(source)
     blocks = [
-        (it.start(), closing(text, it.end() - 1), owner_of(it["head"]), " for " in it["head"])
+        (
+            it.start(),
+            closing(text, it.end() - 1),
+            owner_of(it["head"]),
+            " for " in it["head"],
+            "" if " for " in it["head"] else special_of(it["head"]),
+        )
         for it in IMPL.finditer(text)
     ]
     for it in TRAIT.finditer(text):
-        blocks.append((it.start(), closing(text, text.index("{", it.end())), "", True))
+        blocks.append((it.start(), closing(text, text.index("{", it.end())), "", True, ""))
     for it in FUNCTION.finditer(text):
         body = body_of(text, it.end())
         if body is not None:
             around = (block[2:] for block in blocks if block[0] < it.start() < block[1])
-            owner, of_trait = next(around, ("", False))
-            yield Function(owner, of_trait, it["name"], it.start(), body, closing(text, body))
+            owner, of_trait, special = next(around, ("", False, ""))
+            yield Function(owner, of_trait, special, it["name"], it.start(), body, closing(text, body))
 
 
 def module_of(path):
@@ -93,11 +116,14 @@ def module_of(path):
 
 
 def proof_of(crate, file, function, owner=None):
-    """The folder below proofs/ of a function in this file: under its module, or its type's. A
-    method of a trait has its trait's name behind its type's, which is then the given owner."""
+    """The folder below proofs/ of a function in this file: under its module, or its type's, or,
+    where its impl is of some arguments alone, under the impl's. A method of a trait has its trait's
+    name behind its type's, which is then the given owner."""
     source = crate / "src"
     if not function.owner:
         return module_of((crate / file).relative_to(source)) / function.name
+    if function.special:
+        return module_of((crate / file).relative_to(source)) / function.special / function.name
     declared = re.compile(rf"(?m)^ *(?:pub(?:\(\w+\))? )?(?:struct|enum) {function.owner}\b")
     files = [it for it in sorted(source.glob("**/*.rt")) if declared.search(it.read_text())]
     if len(files) != 1:
@@ -133,6 +159,6 @@ def without_other_bodies(crate, file, source, proofs):
     text, last = "", 0
     for it in functions_in(source):
         if it.start >= last and place_of_other(crate, file, it, proofs):
-            text += source[last : it.body] + "{ unreachable!() }"
+            text += source[last : it.body] + TAKEN
             last = it.end
     return text + source[last:]

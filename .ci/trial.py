@@ -38,6 +38,19 @@ pub fn in_two(m: u8) -> u8
     m + 2
 }
 
+pub struct Pair<A, B> {
+    pub first: A,
+    pub second: B,
+}
+
+impl<A> Pair<A, u8> {
+    pub fn last(&self) -> u8
+        ensures { result ≡ self.now.second }
+    {
+        self.second
+    }
+}
+
 pub fn total(bytes: &[u8]) -> usize
     requires { length bytes.now ≤ 65536 }
     ensures { result ≤ 255 * length bytes.now }
@@ -89,6 +102,16 @@ MISTAKES = {
         "no goal of it is named as not proved",
         "in_two",
         [("    m + 2", "    2 + m")],
+    ),
+    "a_mistake_of_a_type_of_some_arguments_is_refused": (
+        None,
+        "Pair+A+u8::last",
+        [("        self.second", "        self.second / 2")],
+    ),
+    "a_right_body_of_a_type_of_some_arguments": (
+        "no goal of it is named as not proved",
+        "Pair+A+u8::last",
+        [("        self.second", "        let last = self.second; last")],
     ),
     "another_value_of_a_constant_is_refused": (None, "the_most", [("MOST: u8 = 9", "MOST: u8 = 8")]),
     "a_value_that_no_clause_says": (
