@@ -11,7 +11,7 @@ use std::sync::atomic::{AtomicBool, Ordering};
 use std::thread::Threads;
 
 /// Turns that a worker makes until the other has come.
-const TURNS: u32 = 4_000_000_000;
+const TURNS: u32 = 2_000_000_000;
 
 /// Says that it has come, and waits in turns until the other has.
 #[derive(Drop)]
