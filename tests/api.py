@@ -37,8 +37,12 @@ GROUPS = {
     "Without `with_queues`": ["Ledger", "Blank", "Closed", "ArenaState"],
 }
 
-# What only `mq_system` and its tests call, with parts of a ledger that no program holds.
-LEFT_OUT = {("Seat", "new"), ("Seat", "into_part")}
+# What only `mq_system` and tests call, with parts of a ledger and boards that no program holds.
+LEFT_OUT = {("Seat", it) for it in ("new", "into_parts", "holds", "learn", "row", "stat")}
+# The type of the boards' copies, which nobody names.
+COPIES = re.compile(r", (?:W = )?Copies<N>(?=>)")
+# A line, or lines, that hand on names of another crate.
+HANDED = re.compile(r"pub use ([\w:]+)::(?:(\w+)|\{([^}]*)\});")
 
 HEAD = """\
 # The public calls
@@ -49,8 +53,8 @@ stand in the source. The refusals of a call are told in the order in which they 
 `Memory` or `ENOMEM` also where an allocation failed.
 """
 
-# Types of the language and of std that a signature may name.
-KNOWN = set("""Self Type Option Result Vec String Global AllocError Drop Copy Clone Debug PartialEq
+# What a signature may name of the language, of std, and of boards, of which programs name nothing.
+KNOWN = set("""Naming OpenedBoard Self Type Option Result Vec String Global AllocError Drop Copy Clone Debug PartialEq
 Eq Hash Error Display Send FnMut Fn FnOnce Threads Wait Sync Iterator Item Unit Formatter Sizes State Answer
 SeatState Model""".split())
 
@@ -172,12 +176,20 @@ def parts(lines):
     return found
 
 
+def below(name, crate):
+    """The crate of which this one hands on a name."""
+    for path, one, several in HANDED.findall((TOP / "crates" / crate / "src" / "lib.rt").read_text()):
+        if name in re.findall(r"\w+", one or several) and (TOP / "crates" / path).is_dir():
+            return path
+    sys.exit(f"api: nothing is found of {crate}::{name}")
+
+
 def read(name, crate):
-    """What the sources of a crate say of a name."""
+    """What the sources of a crate, or of one that it hands on, say of a name."""
     item = None
     files = [it for it in sorted((TOP / "crates" / crate / "src").rglob("*.rt"))
              if not re.search(r"tests?\.rt$|/tests/", str(it))]
-    texts = {it: it.read_text().splitlines() for it in files}
+    texts = {it: COPIES.sub("", it.read_text()).splitlines() for it in files}
     for path, lines in texts.items():
         for at, line in enumerate(lines):
             if re.match(rf"pub (struct|enum|trait|fn|const|type) {name}\b", line):
@@ -193,7 +205,7 @@ def read(name, crate):
                 elif kind in ("struct", "enum"):
                     item.parts = parts(block(lines, at))
     if item is None:
-        sys.exit(f"api: nothing is found of {crate}::{name}")
+        return read(name, below(name, crate))
     own_first = sorted(texts, key=lambda it: str(it.relative_to(TOP)) != item.path)
     for lines in (texts[it] for it in own_first):
         for at, line in enumerate(lines):
@@ -211,7 +223,7 @@ def handed_on():
     """Each name that `mq` hands on, with its crate."""
     text = (TOP / "crates" / "mq" / "src" / "lib.rt").read_text()
     names = {}
-    for path, one, several in re.findall(r"pub use ([\w:]+)::(?:(\w+)|\{([^}]*)\});", text):
+    for path, one, several in HANDED.findall(text):
         crate = path.split("::")[0]
         own = crate == "crate" or not (crate == "std" or (TOP / "crates" / crate).is_dir())
         for name in (one or several).replace("\n", " ").split(","):

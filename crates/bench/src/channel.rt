@@ -25,9 +25,11 @@ struct Player {
 }
 
 impl Job for Player {
+    type Shared = ();
+
     type Answer = Option<u64>;
 
-    fn run<R: Wait>(self, rt: &R) -> Option<u64> {
+    fn run<R: Wait>(self, rt: &R, _shared: &()) -> Option<u64> {
         let mut came = 0u64;
         for _ in 0..self.rounds {
             if let Some(there) = &self.sends {
@@ -127,7 +129,7 @@ pub(crate) fn run(
         _ => sizes.two()?,
     };
     let mut came = 0u64;
-    for answer in run_jobs(rt, alloc, players)? {
+    for answer in run_jobs(rt, alloc, &(), players)? {
         let Some(bytes) = answer else {
             bail!("a channel that is closed, or out of memory");
         };

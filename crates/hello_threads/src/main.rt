@@ -34,9 +34,9 @@ impl Worker<Signed> for Receiver {
         system: &System<Signed, N>,
         seat: &mut Seat<N>,
     ) -> Result<Delivered<Vec<u8>>, Errno> {
-        let mut caller = Caller::new(rt, alloc, system, seat);
-        let id = caller.queue(1234)?;
-        caller.receive(id, 100, 0)
+        let mut caller = Caller::new(rt, alloc, seat);
+        let id = caller.queue(system, 1234)?;
+        caller.receive(system, id, 100, 0)
     }
 }
 
@@ -53,21 +53,21 @@ impl Worker<Signed> for Sender {
         system: &System<Signed, N>,
         seat: &mut Seat<N>,
     ) -> Result<u64, Errno> {
-        let mut caller = Caller::new(rt, alloc, system, seat);
+        let mut caller = Caller::new(rt, alloc, seat);
         // The receiver waits for a text: what finds no memory is done once more.
-        let id = match caller.queue(1234) {
+        let id = match caller.queue(system, 1234) {
             Ok(id) => id,
-            Err(_) => caller.queue(1234)?,
+            Err(_) => caller.queue(system, 1234)?,
         };
         let mut text = *b"0 says hello";
         text[0] = b'0' + (caller.number() % 10) as u8;
-        if let Ok(entry) = caller.send(id, 7, 0, &text) {
+        if let Ok(entry) = caller.send(system, id, 7, 0, &text) {
             return Ok(entry);
         }
-        let sent = caller.send(id, 7, 0, &text);
+        let sent = caller.send(system, id, 7, 0, &text);
         if sent.is_err() {
             // Then the queue goes, and whoever waits in it is answered EIDRM.
-            caller.remove(id)?;
+            caller.remove(system, id)?;
         }
         sent
     }

@@ -1,8 +1,8 @@
 -- What a receiver of bytes knows of them.
 use Rattle.std.specs.Prelude.{◌⊎◌, ℕ, List, None}
 use Rattle.mq_one_thread.specs.declared.results.Delivered.{Delivered}
-use Rattle.mq_system.specs.Pledge.{Pledged, MeetsPledge}
-use Rattle.mq_system.specs.Seat.{SeatState, IsCounted, IsSame}
+use Rattle.mq_shared.specs.Pledge.{Pledged, MeetsPledge}
+use Rattle.mq_shared.specs.Seat.{SeatState, IsCounted, IsSame}
 use Rattle.mq_table.specs.Ids.{slot_of}
 use Rattle.mq.specs.Bytes.{with_text}
 

@@ -1,7 +1,7 @@
 -- What is known of the answers of workers.
 use Rattle.std.specs.Prelude.{List}
 use Rattle.std.specs.List.{AllZip}
-use Rattle.mq_system.specs.Seat.{SeatState}
+use Rattle.mq_shared.specs.Seat.{SeatState}
 
 -- what is known after a worker's work holds of its answer, and of some seat
 abbrev pub IsAfter : {W A : Type 0} → (W → SeatState → A → Type 0) → W → A → Type 0

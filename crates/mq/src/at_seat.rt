@@ -2,31 +2,36 @@ ghost use Rattle.std.specs.Prelude.{◌≡◌, ◌≤◌, length, map, IfOk};
 ghost use Rattle.mq.specs.Workers.{IsAfter};
 
 use crate::Worker;
+use mq_board::Copies;
 use mq_jobs::Job;
 use mq_system::{Names, Pledge, Seat, System};
 use std::alloc::{AllocError, Global};
+use std::marker::PhantomData;
 use std::sync::Wait;
 
 /// A worker at its seat.
 #[derive(Drop)]
 pub(crate) struct AtSeat<'a, P: Pledge, N: Names, W> {
     alloc: Global,
-    system: &'a System<P, N>,
     seat: &'a mut Seat<N>,
     worker: W,
+    pledge: PhantomData<P>,
 }
 
-impl<'a, P: Pledge, N: Names, W: Worker<P>> Job for AtSeat<'a, P, N, W> {
+impl<'a, P: Pledge + Send + Sync, N: Names + Send + Sync, W: Worker<P>> Job
+    for AtSeat<'a, P, N, W> {
+    type Shared = System<P, N, Copies<N>>;
+
     type Answer = W::Answer;
 
     ghost after = { λ job answer. IsAfter W.after job.worker answer };
 
-    fn run<R: Wait>(self, rt: &R) -> W::Answer {
+    fn run<R: Wait>(self, rt: &R, system: &System<P, N, Copies<N>>) -> W::Answer {
         let AtSeat {
             alloc,
-            system,
             seat,
             worker,
+            pledge: _,
         } = self;
         worker.work(rt, alloc, system, seat)
     }
@@ -36,7 +41,6 @@ impl<'a, P: Pledge, N: Names, W: Worker<P>> Job for AtSeat<'a, P, N, W> {
 #[tactic(auto, using(crate::proofs::WorkerLemmas::one_seated))]
 pub(crate) fn at_seats<'a, P: Pledge, N: Names, W: Worker<P>>(
     alloc: Global,
-    system: &'a System<P, N>,
     seats: &'a mut [Seat<N>],
     workers: Vec<W>,
 ) -> Result<Vec<AtSeat<'a, P, N, W>>, AllocError>
@@ -52,9 +56,9 @@ pub(crate) fn at_seats<'a, P: Pledge, N: Names, W: Worker<P>>(
         };
         jobs.push_reserved(AtSeat {
             alloc,
-            system,
             seat,
             worker,
+            pledge: PhantomData,
         });
     }
     Ok(jobs)

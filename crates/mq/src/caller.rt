@@ -1,9 +1,9 @@
 ghost use Rattle.std.specs.Prelude.{◌≡◌, ◌<◌, ◌≤◌, true, false, length, slice_index, IfOk, IfErr, OnOk, MatchResult};
 ghost use Rattle.mq_table.specs.Ids.{slot_of};
 ghost use Rattle.mq_system.specs.Get.{MayRefuse};
-ghost use Rattle.mq_system.specs.Refusals.{MayReceive, MayRemove, MaySend, never_sent, out_of_slots};
-ghost use Rattle.mq_system.specs.Shown.{IsRemoval};
-ghost use Rattle.mq_system.specs.Seat.{IsCounted, IsSame};
+ghost use Rattle.mq_shared.specs.Refusals.{MayReceive, MayRemove, MaySend, never_sent, out_of_slots};
+ghost use Rattle.mq_shared.specs.Shown.{IsRemoval};
+ghost use Rattle.mq_shared.specs.Seat.{IsCounted, IsSame};
 ghost use Rattle.mq.specs.Caller.{MayCount, MeetsCut};
 
 use crate::bytes::copy_out;
@@ -13,32 +13,26 @@ use mq_table::Id;
 use std::alloc::Global;
 use std::sync::Wait;
 
-/// A seat with all that its calls want: the calls of the manual, with bytes in place of texts. A
-/// text is spent before a call ends, in whatever way it ends.
+/// A seat with what its calls want besides the system, which each of them is told: the calls of the
+/// manual, with bytes in place of texts. A text is spent before a call ends, in whatever way it
+/// ends.
 #[derive(Drop)]
-pub struct Caller<'a, P: Pledge, N: Names, R: Wait> {
+pub struct Caller<'a, N: Names, R: Wait> {
     rt: &'a R,
     alloc: Global,
-    system: &'a System<P, N>,
     seat: &'a mut Seat<N>,
     /// The time that its calls tell the queues.
     pub moment: u64,
 }
 
-impl<'a, P: Pledge, N: Names, R: Wait> Caller<'a, P, N, R> {
+impl<'a, N: Names, R: Wait> Caller<'a, N, R> {
     /// The caller at this seat, with moment 0.
-    pub fn new(
-        rt: &'a R,
-        alloc: Global,
-        system: &'a System<P, N>,
-        seat: &'a mut Seat<N>,
-    ) -> Caller<'a, P, N, R>
+    pub fn new(rt: &'a R, alloc: Global, seat: &'a mut Seat<N>) -> Caller<'a, N, R>
         ensures seat { result.seat ≡ seat.entry }
     {
         Caller {
             rt,
             alloc,
-            system,
             seat,
             moment: 0,
         }
@@ -61,7 +55,7 @@ impl<'a, P: Pledge, N: Names, R: Wait> Caller<'a, P, N, R> {
     }
 
     /// The queue with this key, which is made where it is not there (msgget(2) with IPC_CREAT).
-    pub fn queue(&mut self, key: i32) -> Result<Id, Errno>
+    pub fn queue<P: Pledge>(&mut self, system: &System<P, N>, key: i32) -> Result<Id, Errno>
         ensures within { IfOk result (λ id. out_of_slots N.slots id ≡ false) }
         ensures refused { IfErr result
             (MayRefuse key (record { create = true; exclusive = false })) }
@@ -72,14 +66,12 @@ impl<'a, P: Pledge, N: Names, R: Wait> Caller<'a, P, N, R> {
             create: true,
             exclusive: false,
         };
-        let got = self
-            .system
-            .msgget(self.rt, self.seat, key, flags, self.moment)?;
+        let got = system.msgget(self.rt, self.seat, key, flags, self.moment)?;
         Ok(got.id)
     }
 
     /// Removes the queue (msgctl(2), IPC_RMID). Who waits in it answers EIDRM.
-    pub fn remove(&mut self, id: Id) -> Result<Removal, Errno>
+    pub fn remove<P: Pledge>(&mut self, system: &System<P, N>, id: Id) -> Result<Removal, Errno>
         ensures ok { OnOk result (out_of_slots N.slots id ≡ false) }
         ensures log { IfOk result (IsRemoval N.last_seq) }
         ensures refused { IfErr result MayRemove }
@@ -87,14 +79,21 @@ impl<'a, P: Pledge, N: Names, R: Wait> Caller<'a, P, N, R> {
             (λ _. IsCounted self.old.seat.now self.new.seat.now (slot_of id))
             (λ _. IsSame self.old.seat.now self.new.seat.now) }
     {
-        match self.system.rmid(self.rt, self.seat, id, self.moment) {
+        match system.rmid(self.rt, self.seat, id, self.moment) {
             Ok(removal) => Ok(removal),
             Err(refused) => Err(refused.errno),
         }
     }
 
     /// Sends these bytes, and waits where the queue is full.
-    pub fn send(&mut self, id: Id, mtype: i64, tag: u64, bytes: &[u8]) -> Result<u64, Errno>
+    pub fn send<P: Pledge>(
+        &mut self,
+        system: &System<P, N>,
+        id: Id,
+        mtype: i64,
+        tag: u64,
+        bytes: &[u8],
+    ) -> Result<u64, Errno>
         requires pledge { P.kept self.old.seat.now.number tag mtype bytes.now }
         ensures ok { OnOk result (never_sent N.slots id mtype ≡ false) }
         ensures refused { IfErr result (MaySend false) }
@@ -102,12 +101,13 @@ impl<'a, P: Pledge, N: Names, R: Wait> Caller<'a, P, N, R> {
             (λ _. IsCounted self.old.seat.now self.new.seat.now (slot_of id))
             (λ _. IsSame self.old.seat.now self.new.seat.now) }
     {
-        self.send_with(id, mtype, tag, bytes, SendFlags { nowait: false })
+        self.send_with(system, id, mtype, tag, bytes, SendFlags { nowait: false })
     }
 
     /// Sends these bytes with these flags.
-    pub fn send_with(
+    pub fn send_with<P: Pledge>(
         &mut self,
+        system: &System<P, N>,
         id: Id,
         mtype: i64,
         tag: u64,
@@ -121,16 +121,16 @@ impl<'a, P: Pledge, N: Names, R: Wait> Caller<'a, P, N, R> {
             (λ _. IsCounted self.old.seat.now self.new.seat.now (slot_of id))
             (λ _. IsSame self.old.seat.now self.new.seat.now) }
     {
-        let text = match self.system.draft_of(self.rt, bytes) {
+        let text = match system.draft_of(self.rt, bytes) {
             Ok(text) => text,
             Err(error) => return Err(error.errno()),
         };
-        let sent = self.system.msgsnd(self.rt, self.seat, id, mtype, tag, text, flags, self.moment);
+        let sent = system.msgsnd(self.rt, self.seat, id, mtype, tag, text, flags, self.moment);
         match sent {
             Ok(entry) => Ok(entry),
             Err(refusal) => {
                 let SendRefused { refused, text } = refusal;
-                self.system.spend(self.rt, text);
+                system.spend(self.rt, text);
                 Err(refused.errno)
             }
         }
@@ -138,7 +138,13 @@ impl<'a, P: Pledge, N: Names, R: Wait> Caller<'a, P, N, R> {
 
     /// Receives the bytes of the first message that the selection names, and waits where there is
     /// none. A text of more bytes than `size` stays, and E2BIG is answered.
-    pub fn receive(&mut self, id: Id, size: u64, msgtyp: i64) -> Result<Delivered<Vec<u8>>, Errno>
+    pub fn receive<P: Pledge>(
+        &mut self,
+        system: &System<P, N>,
+        id: Id,
+        size: u64,
+        msgtyp: i64,
+    ) -> Result<Delivered<Vec<u8>>, Errno>
         ensures ok { OnOk result (out_of_slots N.slots id ≡ false) }
         ensures fits { IfOk result (λ d. length d.text.items ≤ size) }
         ensures pledge { IfOk result (λ d. P.kept d.sender d.tag d.mtype d.text.items) }
@@ -152,12 +158,13 @@ impl<'a, P: Pledge, N: Names, R: Wait> Caller<'a, P, N, R> {
             noerror: false,
             except: false,
         };
-        self.receive_with(id, size, msgtyp, flags)
+        self.receive_with(system, id, size, msgtyp, flags)
     }
 
     /// Receives the bytes of the first message that the selection names, with these flags.
-    pub fn receive_with(
+    pub fn receive_with<P: Pledge>(
         &mut self,
+        system: &System<P, N>,
         id: Id,
         size: u64,
         msgtyp: i64,
@@ -176,10 +183,15 @@ impl<'a, P: Pledge, N: Names, R: Wait> Caller<'a, P, N, R> {
         let Ok(mut bytes) = Vec::with_capacity(self.alloc, size as usize) else {
             return Err(Errno::ENOMEM);
         };
-        let received = match self
-            .system
-            .msgrcv(self.rt, self.seat, id, size, msgtyp, flags, self.moment)
-        {
+        let received = match system.msgrcv(
+            self.rt,
+            self.seat,
+            id,
+            size,
+            msgtyp,
+            flags,
+            self.moment,
+        ) {
             Ok(received) => received,
             Err(refused) => return Err(refused.errno),
         };
@@ -192,7 +204,7 @@ impl<'a, P: Pledge, N: Names, R: Wait> Caller<'a, P, N, R> {
             text,
         } = received;
         copy_out(&text, &mut bytes);
-        self.system.spend(self.rt, text);
+        system.spend(self.rt, text);
         Ok(Delivered {
             entry,
             mtype,

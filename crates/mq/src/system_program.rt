@@ -2,12 +2,14 @@ ghost use Rattle.std.specs.Prelude.{◌≡◌, ◌↔◌, ◌≤◌, ℕ, List, 
 ghost use Rattle.mq_one_thread.specs.Limits.{keeps_limits};
 ghost use Rattle.mq_one_thread.specs.declared.config.Config.{Config as Sizes};
 ghost use Rattle.mq_system.specs.Closed.{IsClosed};
-ghost use Rattle.mq_system.specs.Seat.{SeatState, AreNumbered};
-ghost use Rattle.mq_system.specs.Sizes.{AreNames};
+ghost use Rattle.mq_shared.specs.Seat.{SeatState, AreNumbered};
+ghost use Rattle.mq_shared.specs.Sizes.{AreNames};
+ghost use Rattle.mq_system.specs.Started.{AreFresh};
 ghost use Rattle.mq.specs.Ended.{IsAfterAll};
 
 use crate::Ended;
 use mq_arena::LEDGER_PARTS;
+use mq_board::Copies;
 use mq_system::{Blanks, Closed, Config, Names, Pledge, Seat, SysError, System};
 use std::alloc::Global;
 use std::marker::Brand;
@@ -37,6 +39,7 @@ pub trait SystemProgram<P: Pledge>: Drop {
         requires slots { N.slots ≡ config.slots }
         requires seats { length seats.old ≡ config.seats }
         requires numbers { AreNumbered seats.old }
+        requires fresh { AreFresh N.slots seats.old }
         ensures after { after self config seats.new result };
 }
 
@@ -55,7 +58,11 @@ pub fn with_system<P: Pledge, Q: SystemProgram<P>, R: Wait>(
     ensures closed { IfOk result (λ e. All (IsClosed config.last_seq) e.slots.items) }
     ensures err { IsErrOf result SysError.Config ↔ (keeps_limits config ≡ false) }
 {
-    run_system::<P, Brand, Q, R>(rt, alloc, config, Blanks::of(config), program)
+    let blanks = match Blanks::of(alloc, config) {
+        Ok(blanks) => blanks,
+        Err(error) => return Err(error),
+    };
+    run_system::<P, Brand, Q, R>(rt, alloc, config, blanks, program)
 }
 
 fn run_system<P: Pledge, N: Names, Q: SystemProgram<P>, R: Wait>(
@@ -65,7 +72,7 @@ fn run_system<P: Pledge, N: Names, Q: SystemProgram<P>, R: Wait>(
     blanks: Blanks,
     program: Q,
 ) -> Result<Ended<Q::Answer>, SysError>
-    requires names { AreNames N.Names blanks config }
+    requires names { AreNames N.Names.own N.Naming blanks config }
     requires enough { LEDGER_PARTS ≤ blanks.pages.parts }
     requires before { Q.before program config }
     ensures after { IfOk result (IsAfterAll Q.after program config) }
@@ -73,14 +80,12 @@ fn run_system<P: Pledge, N: Names, Q: SystemProgram<P>, R: Wait>(
     ensures closed { IfOk result (λ e. All (IsClosed N.last_seq) e.slots.items) }
     ensures err { IsErrOf result SysError.Config ↔ (keeps_limits config ≡ false) }
 {
-    if !config.is_valid() {
-        return Err(SysError::Config);
-    }
-    let Ok((system, mut seats)) = System::<P, N>::new(alloc, config, blanks) else {
-        return Err(SysError::Memory);
+    let (system, mut seats) = match System::<P, N, Copies<N>>::new(alloc, rt, config, blanks) {
+        Ok(made) => made,
+        Err(error) => return Err(error),
     };
     let answer = program.run(rt, alloc, config, &system, &mut seats);
-    let Closed { slots, arena } = system.close(seats);
+    let Closed { slots, arena } = system.close(rt, seats);
     Ok(Ended {
         answer,
         slots,

@@ -2,13 +2,14 @@ ghost use Rattle.std.specs.Prelude.{◌≡◌, ◌↔◌, ◌≤◌, ◌<◌, �
 ghost use Rattle.std.specs.Prelude.{IsErrOf, vec_len};
 ghost use Rattle.mq_one_thread.specs.Limits.{keeps_limits};
 ghost use Rattle.mq_system.specs.Closed.{IsClosed};
-ghost use Rattle.mq_system.specs.Sizes.{AreNames};
+ghost use Rattle.mq_shared.specs.Sizes.{AreNames};
 ghost use Rattle.mq.specs.Workers.{AreAfter};
 ghost use Rattle.mq.specs.declared.workers_error.WorkersError.TheVariants.{Memory, Thread};
 
 use crate::at_seat::at_seats;
 use crate::{Ended, Worker, WorkersError};
 use mq_arena::LEDGER_PARTS;
+use mq_board::Copies;
 use mq_jobs::{JobsError, run_jobs};
 use mq_system::{Blanks, Closed, Config, Names, Pledge, Seat, System};
 use std::alloc::Global;
@@ -32,7 +33,16 @@ pub fn with_workers<P: Pledge + Send + Sync, W: Worker<P> + Send, R: Threads + W
     ensures seats { IsErrOf result WorkersError.TooManyWorkers
         ↔ ((keeps_limits config ≡ true) × (config.seats < length workers.items)) }
 {
-    run_workers::<P, Brand, W, R>(rt, alloc, config, Blanks::of(config), workers)
+    if !config.is_valid() {
+        return Err(WorkersError::Config);
+    }
+    if workers.len() > config.seats as usize {
+        return Err(WorkersError::TooManyWorkers);
+    }
+    let Ok(blanks) = Blanks::of(alloc, config) else {
+        return Err(WorkersError::Memory);
+    };
+    run_workers::<P, Brand, W, R>(rt, alloc, config, blanks, workers)
 }
 
 fn run_workers<
@@ -47,26 +57,19 @@ fn run_workers<
     blanks: Blanks,
     workers: Vec<W>,
 ) -> Result<Ended<Vec<W::Answer>>, WorkersError>
-    requires names { AreNames N.Names blanks config }
+    requires names { AreNames N.Names.own N.Naming blanks config }
     requires enough { LEDGER_PARTS ≤ blanks.pages.parts }
+    requires seats { length workers.items ≤ config.seats }
     ensures after { IfOk result (λ e. AreAfter W.after workers.items e.answer.items) }
     ensures slots { IfOk result (λ e. length e.slots.items ≡ N.slots) }
     ensures closed { IfOk result (λ e. All (IsClosed N.last_seq) e.slots.items) }
-    ensures config { IsErrOf result WorkersError.Config ↔ (keeps_limits config ≡ false) }
-    ensures seats { IsErrOf result WorkersError.TooManyWorkers
-        ↔ ((keeps_limits config ≡ true) × (config.seats < length workers.items)) }
+    ensures err { IfErr result (λ e. (e ≡ Memory) ⊎ (e ≡ Thread)) }
 {
-    if !config.is_valid() {
-        return Err(WorkersError::Config);
-    }
-    if workers.len() > config.seats as usize {
-        return Err(WorkersError::TooManyWorkers);
-    }
-    let Ok((system, mut seats)) = System::<P, N>::new(alloc, config, blanks) else {
+    let Ok((system, mut seats)) = System::<P, N, Copies<N>>::new(alloc, rt, config, blanks) else {
         return Err(WorkersError::Memory);
     };
     let ran = run_at(rt, alloc, &system, &mut seats, workers);
-    let Closed { slots, arena } = system.close(seats);
+    let Closed { slots, arena } = system.close(rt, seats);
     Ok(Ended {
         answer: ran?,
         slots,
@@ -92,10 +95,10 @@ fn run_at<
     ensures after { IfOk result (λ all. AreAfter W.after workers.items all.items) }
     ensures err { IfErr result (λ e. (e ≡ Memory) ⊎ (e ≡ Thread)) }
 {
-    let Ok(jobs) = at_seats(alloc, system, seats, workers) else {
+    let Ok(jobs) = at_seats(alloc, seats, workers) else {
         return Err(WorkersError::Memory);
     };
-    match run_jobs(rt, alloc, jobs) {
+    match run_jobs(rt, alloc, system, jobs) {
         Ok(answers) => Ok(answers),
         Err(JobsError::Memory) => Err(WorkersError::Memory),
         Err(JobsError::Thread) => Err(WorkersError::Thread),

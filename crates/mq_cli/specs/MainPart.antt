@@ -8,7 +8,7 @@ use Rattle.mq_one_thread.specs.declared.errno.Errno.{Errno}
 use Rattle.mq_one_thread.specs.declared.errno.Errno.TheVariants.{ENOMEM}
 use Rattle.mq_one_thread.specs.declared.results.Refused.{Refused}
 use Rattle.mq_system.specs.Get.{MayGet, MayRefuse}
-use Rattle.mq_system.specs.Refusals.{Refuses, MaySet, out_of_slots}
+use Rattle.mq_shared.specs.Refusals.{Refuses, MaySet, out_of_slots}
 use Rattle.mq_cli.specs.declared.fault.RunFault.{RunFault}
 use Rattle.mq_cli.specs.declared.fault.RunFault.TheVariants.{Write, Memory}
 use Rattle.mq_cli.specs.declared.threads_script.MainCall.{MainCall}

@@ -10,7 +10,13 @@ use std::sync::Wait;
 
 /// Runs a plan, in the order of its steps, until its end or its first refusal. The tags of what it
 /// sends run from 1. Where its own notes find no memory it ends with ENOMEM.
-pub fn work<Q: Port, R: Wait>(rt: &R, alloc: Global, port: &mut Q, plan: &[Step]) -> Outcome
+pub fn work<Q: Port, R: Wait>(
+    rt: &R,
+    alloc: Global,
+    shared: &Q::Shared,
+    port: &mut Q,
+    plan: &[Step],
+) -> Outcome
     requires { IsCountable plan.now }
     ensures done { IsDone plan.now result }
     ensures grown { HasGrown plan.now result (Q.calls port.old) (Q.calls port.new) }
@@ -21,7 +27,7 @@ pub fn work<Q: Port, R: Wait>(rt: &R, alloc: Global, port: &mut Q, plan: &[Step]
         notes: Notes::new(alloc),
     };
     for step in plan {
-        if let Err(errno) = progress.step(rt, port, *step) {
+        if let Err(errno) = progress.step(rt, shared, port, *step) {
             return progress.outcome(Some(errno));
         }
     }
@@ -52,7 +58,13 @@ impl Progress {
     }
 
     /// Makes the calls of one step. Each message that was sent or received is counted.
-    fn step<Q: Port, R: Wait>(&mut self, rt: &R, port: &mut Q, step: Step) -> Result<(), Errno>
+    fn step<Q: Port, R: Wait>(
+        &mut self,
+        rt: &R,
+        shared: &Q::Shared,
+        port: &mut Q,
+        step: Step,
+    ) -> Result<(), Errno>
         requires sent { self.old.sent + puts_of step < 2 ^ 64 }
         requires received { self.old.received + takes_of step < 2 ^ 64 }
         ensures sent { self.new.sent ≤ self.old.sent + puts_of step }
@@ -71,14 +83,14 @@ impl Progress {
                 count,
                 length,
                 moment,
-            } => self.put_all(rt, port, id, mtype, count, length, moment),
+            } => self.put_all(rt, shared, port, id, mtype, count, length, moment),
             Step::Take {
                 id,
                 msgtyp,
                 count,
                 moment,
-            } => self.take_all(rt, port, id, msgtyp, count, moment),
-            Step::Remove { id, moment } => match port.remove(rt, id, moment) {
+            } => self.take_all(rt, shared, port, id, msgtyp, count, moment),
+            Step::Remove { id, moment } => match port.remove(rt, shared, id, moment) {
                 Ok(_) => Ok(()),
                 Err(errno) => Err(errno),
             },
@@ -89,6 +101,7 @@ impl Progress {
     fn put_all<Q: Port, R: Wait>(
         &mut self,
         rt: &R,
+        shared: &Q::Shared,
         port: &mut Q,
         id: Id,
         mtype: i64,
@@ -103,7 +116,7 @@ impl Progress {
         ensures calls { Q.calls port.new + self.old.sent ≡ Q.calls port.old + self.new.sent }
     {
         for _ in 0..count {
-            port.put(rt, id, mtype, self.sent + 1, length, moment)?;
+            port.put(rt, shared, id, mtype, self.sent + 1, length, moment)?;
             self.sent += 1;
         }
         Ok(())
@@ -113,6 +126,7 @@ impl Progress {
     fn take_all<Q: Port, R: Wait>(
         &mut self,
         rt: &R,
+        shared: &Q::Shared,
         port: &mut Q,
         id: Id,
         msgtyp: i64,
@@ -128,7 +142,7 @@ impl Progress {
     {
         for _ in 0..count {
             self.notes.reserve()?;
-            let taken = port.take(rt, id, msgtyp, moment)?;
+            let taken = port.take(rt, shared, id, msgtyp, moment)?;
             self.notes.note(Stream::of(id, taken), taken.tag);
             self.received += 1;
         }

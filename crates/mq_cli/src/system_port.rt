@@ -6,6 +6,7 @@ ghost use Rattle.mq_cli.specs.Letters.{AreLetters, letters_from};
 ghost use Rattle.mq_cli.specs.declared.system_port.TheConstants.{LETTERS};
 
 use crate::{Port, Taken};
+use mq_board::Copies;
 use mq_one_thread::{Delivered, DraftError, Errno, Removal, SendRefused};
 use mq_queue::MSGMAX;
 use mq_system::{Names, Pledge, RecvFlags, Seat, SendFlags, System};
@@ -27,32 +28,22 @@ pub(crate) const LETTERS: u64 = MSGMAX + 26;
 /// The calls of a worker at its seat, each of which waits where it has to.
 #[derive(Drop)]
 pub struct SystemPort<'a, N: Names> {
-    system: &'a System<Letters, N>,
     seat: &'a mut Seat<N>,
     letters: &'a [u8],
     ghost letters_are: { letters.now ≡ map letter (range_with_len 0 LETTERS) },
 }
 
 impl<'a, N: Names> SystemPort<'a, N> {
-    pub fn new(
-        system: &'a System<Letters, N>,
-        seat: &'a mut Seat<N>,
-        letters: &'a [u8],
-    ) -> SystemPort<'a, N>
+    pub fn new(seat: &'a mut Seat<N>, letters: &'a [u8]) -> SystemPort<'a, N>
         requires { letters.now ≡ map letter (range_with_len 0 LETTERS) }
     {
-        SystemPort {
-            system,
-            seat,
-            letters,
-        }
+        SystemPort { seat, letters }
     }
 }
 
 /// A port for each of the seats, in their order.
 pub fn ports_of<'a, N: Names>(
     alloc: Global,
-    system: &'a System<Letters, N>,
     seats: &'a mut [Seat<N>],
     letters: &'a [u8],
 ) -> Result<Vec<SystemPort<'a, N>>, AllocError>
@@ -61,7 +52,7 @@ pub fn ports_of<'a, N: Names>(
 {
     let mut ports = Vec::with_capacity(alloc, seats.len())?;
     for seat in seats.iter_mut() {
-        ports.push_reserved(SystemPort::new(system, seat, letters));
+        ports.push_reserved(SystemPort::new(seat, letters));
     }
     Ok(ports)
 }
@@ -77,11 +68,14 @@ fn bytes_of(letters: &[u8], seat: u16, tag: u64, count: u64) -> &[u8]
 }
 
 impl<'a, N: Names> Port for SystemPort<'a, N> {
+    type Shared = System<Letters, N, Copies<N>>;
+
     ghost calls = { λ p. sum p.seat.now.by_slot };
 
     fn put<R: Wait>(
         &mut self,
         rt: &R,
+        system: &System<Letters, N, Copies<N>>,
         id: Id,
         mtype: i64,
         tag: u64,
@@ -92,34 +86,35 @@ impl<'a, N: Names> Port for SystemPort<'a, N> {
             return Err(DraftError::TooLong.errno());
         }
         let bytes = bytes_of(self.letters, self.seat.number(), tag, length);
-        let text = match self.system.draft_of(rt, bytes) {
+        let text = match system.draft_of(rt, bytes) {
             Ok(text) => text,
             Err(refusal) => return Err(refusal.errno()),
         };
         let flags = SendFlags { nowait: false };
-        match self
-            .system
-            .msgsnd(rt, self.seat, id, mtype, tag, text, flags, moment)
-        {
+        match system.msgsnd(rt, self.seat, id, mtype, tag, text, flags, moment) {
             Ok(entry) => Ok(entry),
             Err(refusal) => {
                 let SendRefused { refused, text } = refusal;
-                self.system.spend(rt, text);
+                system.spend(rt, text);
                 Err(refused.errno)
             }
         }
     }
 
-    fn take<R: Wait>(&mut self, rt: &R, id: Id, msgtyp: i64, moment: u64) -> Result<Taken, Errno> {
+    fn take<R: Wait>(
+        &mut self,
+        rt: &R,
+        system: &System<Letters, N, Copies<N>>,
+        id: Id,
+        msgtyp: i64,
+        moment: u64,
+    ) -> Result<Taken, Errno> {
         let flags = RecvFlags {
             nowait: false,
             noerror: false,
             except: false,
         };
-        let received = self
-            .system
-            .msgrcv(rt, self.seat, id, MSGMAX, msgtyp, flags, moment);
-        match received {
+        match system.msgrcv(rt, self.seat, id, MSGMAX, msgtyp, flags, moment) {
             Ok(delivered) => {
                 let Delivered {
                     entry: _,
@@ -129,7 +124,7 @@ impl<'a, N: Names> Port for SystemPort<'a, N> {
                     length,
                     text,
                 } = delivered;
-                self.system.spend(rt, text);
+                system.spend(rt, text);
                 Ok(Taken {
                     sender,
                     tag,
@@ -141,8 +136,14 @@ impl<'a, N: Names> Port for SystemPort<'a, N> {
         }
     }
 
-    fn remove<R: Wait>(&mut self, rt: &R, id: Id, moment: u64) -> Result<u64, Errno> {
-        match self.system.rmid(rt, self.seat, id, moment) {
+    fn remove<R: Wait>(
+        &mut self,
+        rt: &R,
+        system: &System<Letters, N, Copies<N>>,
+        id: Id,
+        moment: u64,
+    ) -> Result<u64, Errno> {
+        match system.rmid(rt, self.seat, id, moment) {
             Ok(Removal { entry, log: _ }) => Ok(entry),
             Err(refused) => Err(refused.errno),
         }

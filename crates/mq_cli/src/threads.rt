@@ -3,7 +3,7 @@ ghost use Rattle.std.specs.Prelude.{IsErrOf, length, vec_len};
 ghost use Rattle.std.specs.List.{AllZip};
 ghost use Rattle.std.specs.Io.KnownBytes.{IsAtEnd, Keeps};
 ghost use Rattle.mq_one_thread.specs.Limits.{keeps_limits};
-ghost use Rattle.mq_system.specs.Sizes.{AreNames};
+ghost use Rattle.mq_shared.specs.Sizes.{AreNames};
 ghost use Rattle.mq_cli.specs.Plans.{IsCountable, IsDone};
 ghost use Rattle.mq_cli.specs.Serial.{ReadsMoreThan, ReadsUpTo};
 ghost use Rattle.mq_cli.specs.Threads.{Flushes, IsMakingFault, RanParts, RanThreads, Tells};
@@ -22,6 +22,7 @@ use crate::system_port::{LETTERS, Letters, ports_of};
 use crate::threads_script::{ThreadsScript, read_threads_script};
 use crate::{Outcome, RunFault, SCRIPT_LIMIT, Step, run_workers};
 use mq_arena::LEDGER_PARTS;
+use mq_board::Copies;
 use mq_one_thread::{Closed, ClosedSlot, Config};
 use mq_system::{Blanks, Names, Seat, System};
 use std::alloc::Global;
@@ -80,7 +81,10 @@ pub fn run_threads<T: Threads + Wait + Sync, R: Read, W: Write>(
 {
     let script = read_script(alloc, reader)?;
     let wanted = read_threads_script(alloc, &script)?;
-    run_wanted::<Brand, T, W>(rt, alloc, config, Blanks::of(config), &wanted, writer)
+    let Ok(blanks) = Blanks::of(alloc, config) else {
+        return Err(RunFault::Memory);
+    };
+    run_wanted::<Brand, T, W>(rt, alloc, config, blanks, &wanted, writer)
 }
 
 /// Runs a script that has been read, and flushes the writer. However the run ends, all texts have
@@ -93,7 +97,7 @@ fn run_wanted<N: Names + Send + Sync, T: Threads + Wait + Sync, W: Write>(
     wanted: &ThreadsScript,
     writer: &mut W,
 ) -> Result<(), RunFault>
-    requires names { AreNames N.Names blanks config }
+    requires names { AreNames N.Names.own N.Naming blanks config }
     requires enough { LEDGER_PARTS ≤ blanks.pages.parts }
     requires limits { keeps_limits config ≡ true }
     requires seats { config.seats ≡ 16 }
@@ -102,11 +106,12 @@ fn run_wanted<N: Names + Send + Sync, T: Threads + Wait + Sync, W: Write>(
     ensures { RanThreads config (wanted_seen wanted.now)
         (W.contents writer.old) (W.contents writer.new) result }
 {
-    let Ok((system, mut seats)) = System::<Letters, N>::new(alloc, config, blanks) else {
+    let Ok((system, mut seats)) = System::<Letters, N, Copies<N>>::new(alloc, rt, config, blanks)
+    else {
         return Err(RunFault::Memory);
     };
     let ran = run_parts(rt, alloc, &system, &mut seats, wanted, writer);
-    let Closed { slots, arena } = system.close(seats);
+    let Closed { slots, arena } = system.close(rt, seats);
     let (pages, free) = (arena.pages(), arena.free_pages());
     let told = tell(alloc, ran, &slots, pages, free, writer);
     flush(writer, told)
@@ -155,10 +160,10 @@ fn run_sections<N: Names + Send + Sync, T: Threads + Wait + Sync>(
     let Ok(letters) = letters(alloc, LETTERS) else {
         return Err(RunFault::Memory);
     };
-    let Ok(mut ports) = ports_of(alloc, system, seats, &letters) else {
+    let Ok(mut ports) = ports_of(alloc, seats, &letters) else {
         return Err(RunFault::Memory);
     };
-    run_workers(rt, alloc, sections, ports.as_mut_slice())
+    run_workers(rt, alloc, system, sections, ports.as_mut_slice())
 }
 
 /// Writes what is told at the end, where the workers were run.

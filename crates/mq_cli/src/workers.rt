@@ -15,9 +15,12 @@ use std::thread::Threads;
 pub fn run_workers<Q: Port + Send, R: Threads + Wait + Sync>(
     rt: &R,
     alloc: Global,
+    shared: &Q::Shared,
     plans: &[Vec<Step>],
     ports: &mut [Q],
 ) -> Result<Vec<Outcome>, RunFault>
+where
+    Q::Shared: Sync,
     requires ports { length plans.now ≡ length ports.old }
     requires plans { All (λ plan. IsCountable plan.items) plans.now }
     ensures done { IfOk result (λ all.
@@ -27,7 +30,7 @@ pub fn run_workers<Q: Port + Send, R: Threads + Wait + Sync>(
     let Ok(jobs) = at_ports(alloc, plans, ports) else {
         return Err(RunFault::Memory);
     };
-    match run_jobs(rt, alloc, jobs) {
+    match run_jobs(rt, alloc, shared, jobs) {
         Ok(outcomes) => Ok(outcomes),
         Err(JobsError::Memory) => Err(RunFault::Memory),
         Err(JobsError::Thread) => Err(RunFault::Thread),
@@ -43,15 +46,17 @@ struct AtPort<'a, Q> {
 }
 
 impl<'a, Q: Port> Job for AtPort<'a, Q> {
+    type Shared = Q::Shared;
+
     type Answer = Outcome;
 
     ghost before = { λ job. IsCountable job.plan.now };
 
     ghost after = { λ job outcome. IsDone job.plan.now outcome };
 
-    fn run<R: Wait>(self, rt: &R) -> Outcome {
+    fn run<R: Wait>(self, rt: &R, shared: &Q::Shared) -> Outcome {
         let AtPort { alloc, plan, port } = self;
-        work(rt, alloc, port, plan)
+        work(rt, alloc, shared, port, plan)
     }
 }
 

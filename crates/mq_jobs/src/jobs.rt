@@ -16,8 +16,11 @@ use std::thread::{Promise, PromisedHandle, Scope, Threads};
 pub fn run_jobs<J: Job + Send, R: Threads + Wait + Sync>(
     rt: &R,
     alloc: Global,
+    shared: &J::Shared,
     jobs: Vec<J>,
 ) -> Result<Vec<J::Answer>, JobsError>
+where
+    J::Shared: Sync,
     requires before { All J.before jobs.items }
     ensures after { IfOk result (λ all. AreAfter J.after jobs.items all.items) }
     ensures thread { IsErrOf result JobsError.Thread → 0 < length jobs.items }
@@ -26,7 +29,7 @@ pub fn run_jobs<J: Job + Send, R: Threads + Wait + Sync>(
         return Err(JobsError::Memory);
     };
     let gate = Gate::new();
-    match run_in_scope(rt, &gate, jobs, answers) {
+    match run_in_scope(rt, &gate, shared, jobs, answers) {
         Some(answers) => Ok(answers),
         None => Err(JobsError::Thread),
     }
@@ -36,9 +39,12 @@ pub fn run_jobs<J: Job + Send, R: Threads + Wait + Sync>(
 fn run_in_scope<'x, J: Job + Send + 'x, R: Threads + Wait + Sync + 'x>(
     rt: &'x R,
     gate: &'x Gate,
+    shared: &'x J::Shared,
     jobs: Vec<J>,
     answers: Vec<J::Answer>,
 ) -> Option<Vec<J::Answer>>
+where
+    J::Shared: Sync,
     requires before { All J.before jobs.items }
     requires none { length answers.items ≡ 0 }
     requires room { length jobs.items ≤ vec_capacity answers }
@@ -54,7 +60,7 @@ fn run_in_scope<'x, J: Job + Send + 'x, R: Threads + Wait + Sync + 'x>(
             requires room { length jobs.items ≤ vec_capacity answers }
             ensures after { IfSome result (λ all. AreAfter J.after jobs.items all.items) }
             ensures some { length jobs.items ≡ 0 → IsSome result }
-        { start_rest(rt, scope, gate, jobs, answers) },
+        { start_rest(rt, scope, gate, shared, jobs, answers) },
     )
 }
 
@@ -65,9 +71,12 @@ fn start_rest<'s, E, J: Job + Send + 's, R: Threads + Wait + Sync + 's>(
     rt: &'s R,
     scope: &Scope<'s, E>,
     gate: &'s Gate,
+    shared: &'s J::Shared,
     mut jobs: Vec<J>,
     answers: Vec<J::Answer>,
 ) -> Option<Vec<J::Answer>>
+where
+    J::Shared: Sync,
     requires before { All J.before jobs.items }
     requires none { length answers.items ≡ 0 }
     requires room { length jobs.items ≤ vec_capacity answers }
@@ -80,11 +89,11 @@ fn start_rest<'s, E, J: Job + Send + 's, R: Threads + Wait + Sync + 's>(
         gate.open(rt);
         return Some(answers);
     };
-    let Some(thread) = start(rt, scope, gate, job) else {
+    let Some(thread) = start(rt, scope, gate, shared, job) else {
         gate.shut(rt);
         return None;
     };
-    let mut answers = start_rest(rt, scope, gate, jobs, answers)?;
+    let mut answers = start_rest(rt, scope, gate, shared, jobs, answers)?;
     let answer = thread.join(rt)?;
     answers.push_reserved(answer);
     Some(answers)
@@ -95,8 +104,11 @@ fn start<'s, E, J: Job + Send + 's, R: Threads + Wait + Sync + 's>(
     rt: &'s R,
     scope: &Scope<'s, E>,
     gate: &'s Gate,
+    shared: &'s J::Shared,
     job: J,
 ) -> Option<PromisedHandle<Option<J::Answer>, After<J>>>
+where
+    J::Shared: Sync,
     requires { J.before job }
     ensures { IfSome result (λ thread. thread.promise.job.value ≡ job) }
 {
@@ -108,7 +120,7 @@ fn start<'s, E, J: Job + Send + 's, R: Threads + Wait + Sync + 's>(
         move || -> Option<J::Answer>
             requires { J.before job }
             ensures { IfSome result (J.after job) }
-        { behind(rt, gate, job) },
+        { behind(rt, gate, shared, job) },
     );
     match started {
         Ok(thread) => Some(thread),
@@ -117,12 +129,12 @@ fn start<'s, E, J: Job + Send + 's, R: Threads + Wait + Sync + 's>(
 }
 
 /// Runs a job once the gate is opened.
-fn behind<J: Job, R: Wait>(rt: &R, gate: &Gate, job: J) -> Option<J::Answer>
+fn behind<J: Job, R: Wait>(rt: &R, gate: &Gate, shared: &J::Shared, job: J) -> Option<J::Answer>
     requires { J.before job }
     ensures { IfSome result (J.after job) }
 {
     if gate.lets_through(rt) {
-        Some(job.run(rt))
+        Some(job.run(rt, shared))
     } else {
         None
     }

@@ -1,6 +1,8 @@
+pub mod CountLemmas
 pub mod EndLemmas
 pub mod KeysLemmas
 pub mod LaterLemmas
+pub mod NameLemmas
 pub mod PledgeLemmas
 pub mod RefusalLemmas
 pub mod SeatLemmas

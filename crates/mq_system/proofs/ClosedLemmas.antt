@@ -16,38 +16,8 @@ use Rattle.mq_one_thread.specs.Closed.{Ending, ending_of, ends}
 use Rattle.mq_one_thread.specs.Texts.{bytes_of}
 use Rattle.mq_one_thread.specs.declared.close.ClosedSlot.{ClosedSlot}
 use Rattle.mq_one_thread.proofs.CloseLemmas.{all_counted, all_whole}
+use Rattle.mq_shared.proofs.EndLemmas.{ends_with}
 use Rattle.mq_system.specs.Closed.{IsClosed, IsOpen}
-
--- events that end with a log
-record EndsWith (events : List Event) : Type 0 where
-  past : List Event
-  log : List Event
-  whole : events ≡ past ++ log
-  lawful : Lawful log
-
-front_more : (log rest : List Event) → is_empty log ≡ false → is_empty (log ++ rest) ≡ false
-front_more [] rest h = absurd (true≢false h)
-front_more (e ∷ es) rest h = refl
-
--- logs one after another end with the last one
-last_of : (logs : List (List Event)) → All Lawful logs → is_empty (joined logs) ≡ false
-    → EndsWith (joined logs)
-last_of [] all some = absurd (true≢false some)
-last_of (log ∷ []) all some = record {
-  past = [];
-  log = log;
-  whole = append-nil log;
-  lawful = all 0 log (omega arith);
-}
-last_of (log ∷ next ∷ logs) all some =
-    let others = All-tail Lawful log (next ∷ logs) all in
-    let first : Lawful next = others 0 next (omega arith) in
-    let rest = last_of (next ∷ logs) others (front_more next (joined logs) first.begun) in record {
-      past = log ++ rest.past;
-      log = rest.log;
-      whole = ap (λ l. log ++ l) rest.whole ∙ sym (append_assoc log rest.past rest.log);
-      lawful = rest.lawful;
-    }
 
 not_false : (b : Bool) → not b ≡ true → b ≡ false
 not_false true h = absurd (true≢false (sym h))
@@ -58,10 +28,9 @@ open_log : (last_seq : ℕ) (events : List Event) → IsSlotList last_seq events
     → is_live events ≡ true → IsOpen (last_log events)
 open_log last_seq events h live =
     let parts = and_parts (not (is_empty events)) (not (ends_with_removed events)) live in
-    let some = not_false (is_empty events) parts.0 in
     let there = not_false (ends_with_removed events) parts.1 in
-    let last = last_of h.logs h.lawful (rw h.whole at some) in
-    let whole : events ≡ last.past ++ last.log = h.whole ∙ last.whole in
+    let last = ends_with last_seq events h live in
+    let whole : events ≡ last.past ++ last.log = last.whole in
     let is : last_log events ≡ last.log =
     ap last_log whole ∙ last_log_is last.past last.log last.lawful in
     rw is

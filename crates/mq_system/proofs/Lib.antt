@@ -1,7 +1,7 @@
 pub mod ClosedLemmas
-pub mod KeysLemmas
-pub mod PledgeLemmas
-pub mod RefusalLemmas
-pub mod RowLemmas
-pub mod SharedLemmas
+pub mod GetLemmas
+pub mod HomeLemmas
+pub mod ReportLemmas
+pub mod StartLemmas
+pub mod SumLemmas
 pub mod TallyLemmas

@@ -1,12 +1,16 @@
--- What msgget may answer, whatever stands under its locks (msgget(2)).
-use Rattle.std.specs.Prelude.{◌≡◌, ℕ, ℤ, pos, ◌&&◌, ◌||◌, Bool, true, false, None, Some, Option, MatchOption}
+-- What msgget may answer, and what a seat's fronts show of it (msgget(2)).
+use Rattle.std.specs.Prelude.{◌≡◌, ◌≢◌, ℕ, ℤ, pos, ◌<◌, ◌&&◌, ◌||◌, Bool, true, false, List, length, None, Some, Option, IsSome, MatchOption}
 use Rattle.std.specs.Ordering.{int_eq}
+use mathlib.Core.List.{IsPrefix}
+use Rattle.mq_queue.specs.declared.event.Event.{Event}
+use Rattle.mq_table.specs.Ids.{seq_of, slot_of}
+use Rattle.mq_table.specs.SlotList.{is_free}
 use Rattle.mq_one_thread.specs.declared.errno.Errno.{Errno}
 use Rattle.mq_one_thread.specs.declared.errno.Errno.TheVariants.{ENOMEM, EEXIST, ENOENT, ENOSPC}
 use Rattle.mq_one_thread.specs.declared.results.GetFlags.{GetFlags}
 use Rattle.mq_one_thread.specs.declared.results.Got.{Got}
-use Rattle.mq_table.specs.Ids.{slot_of}
-use Rattle.mq_system.specs.Seat.{SeatState, IsCounted, IsSame}
+use Rattle.mq_shared.specs.Making.{HoldsMade, IsKeyed, IsMade, Lacks}
+use Rattle.mq_shared.specs.Seat.{SeatState, IsCounted, IsSame, front_of}
 
 -- key 0 is IPC_PRIVATE (msgget(2))
 abbrev pub is_private : ℤ → Bool
@@ -38,3 +42,59 @@ MayRefuse key flags ENOENT = (is_private key ≡ false) × (flags.create ≡ fal
 MayRefuse key flags ENOSPC = may_make key flags ≡ true
 MayRefuse key flags ENOMEM = may_make key flags ≡ true
 MayRefuse key flags _ = ⊥
+
+-- at some moment of the call this was so: the slot's events then began with the front before, and
+-- the front afterwards begins with them
+pub record Was (fact : List Event → Type 0) (old new : List Event) : Type 0 where
+  pub then : List Event
+  pub since : IsPrefix old then
+  pub until : IsPrefix then new
+  pub so : fact then
+
+-- the same of a slot, and of each slot with a number below this
+abbrev pub WasAt : (List Event → Type 0) → SeatState → SeatState → ℕ → Type 0
+WasAt fact old new slot = Was fact (front_of old slot) (front_of new slot)
+
+abbrev pub WasBelow : (List Event → Type 0) → SeatState → SeatState → ℕ → Type 0
+WasBelow fact old new count = (slot : ℕ) → slot < count → WasAt fact old new slot
+
+-- no queue could be made in the slot
+abbrev pub IsTaken : ℕ → List Event → Type 0
+IsTaken last_seq events = is_free last_seq events ≡ false
+
+-- a queue was found: it was there with its key, and the front holds its making
+pub record IsFound (key : ℤ) (old new : SeatState) (id : ℕ) : Type 0 where
+  pub was : WasAt (IsKeyed (seq_of id) key) old new (slot_of id)
+  pub made : HoldsMade (seq_of id) key (front_of new (slot_of id))
+
+-- a queue was made, in the first slot that was free
+pub record IsNew (slots last_seq : ℕ) (key : ℤ) (moment : ℕ) (old new : SeatState) (got : Got)
+    : Type 0 where
+  pub within : slot_of got.id < slots
+  pub made : IsMade old new (slot_of got.id) last_seq key moment got
+  pub lower : WasBelow (IsTaken last_seq) old new (slot_of got.id)
+
+-- no slot had a queue with this key, where it is not 0
+abbrev pub WasLacked : ℕ → ℤ → SeatState → SeatState → Type 0
+WasLacked slots key old new = key ≢ pos 0 → WasBelow (Lacks key) old new slots
+
+-- what is answered: a queue that was found, or one that was made where none was found
+abbrev pub IsGot : ℕ → ℕ → ℤ → ℕ → SeatState → SeatState → Got → Type 0
+IsGot slots last_seq key moment old new got =
+    MatchOption got.made ((slot_of got.id < slots) × IsFound key old new got.id)
+    (λ _. IsNew slots last_seq key moment old new got × WasLacked slots key old new)
+
+-- a queue with this key was found
+pub record IsAnyFound (slots : ℕ) (key : ℤ) (old new : SeatState) : Type 0 where
+  pub id : ℕ
+  pub within : slot_of id < slots
+  pub found : IsFound key old new id
+
+-- why none is answered: a queue was found, none was, or no slot was free
+abbrev pub IsNotGot : ℕ → ℕ → ℤ → SeatState → SeatState → Errno → Type 0
+IsNotGot slots last_seq key old new EEXIST = IsAnyFound slots key old new
+IsNotGot slots last_seq key old new ENOENT = WasLacked slots key old new
+IsNotGot slots last_seq key old new ENOSPC =
+    WasBelow (IsTaken last_seq) old new slots × WasLacked slots key old new
+IsNotGot slots last_seq key old new ENOMEM = Unit {0}
+IsNotGot slots last_seq key old new _ = ⊥

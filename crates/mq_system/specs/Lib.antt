@@ -1,9 +1,5 @@
-pub mod Answer
 pub mod Closed
 pub mod Get
-pub mod Pledge
-pub mod Refusals
-pub mod Seat
-pub mod Shared
 pub mod Shown
 pub mod Sizes
+pub mod Started

@@ -1,31 +1,21 @@
--- What is shown of a slot: it is that of some slot list, of some moment.
-use Rattle.std.specs.Prelude.{◌≡◌, ℕ, ◌+◌, true, List, length}
-use Rattle.mq_queue.specs.Figures.{figures}
-use Rattle.mq_queue.specs.Log.{ends_with_removed}
-use Rattle.mq_queue.specs.Row.{is_live, last_log, row}
+-- What is shown of a queue, as a seat's front has it (msgctl(2), IPC_STAT).
+use Rattle.std.specs.Prelude.{ℕ, if◌then◌else◌, List, Result, Ok, Err}
 use Rattle.mq_queue.specs.declared.event.Event.{Event}
-use Rattle.mq_queue.specs.declared.figures.BoardRow.{BoardRow}
 use Rattle.mq_queue.specs.declared.figures.Figures.{Figures}
-use Rattle.mq_table.specs.SlotList.{IsSlotList}
-use Rattle.mq_one_thread.specs.declared.results.Removal.{Removal}
+use Rattle.mq_table.specs.Ids.{seq_of}
+use Rattle.mq_table.specs.declared.refusal.IdRefusal.{IdRefusal}
+use Rattle.mq_fronts.specs.Fronts.{stat_answer}
+use Rattle.mq_one_thread.specs.Look.{errno_of_id}
+use Rattle.mq_one_thread.specs.declared.errno.Errno.{Errno}
+use Rattle.mq_one_thread.specs.declared.errno.Errno.TheVariants.{EINVAL}
+use Rattle.mq_shared.specs.Refusals.{out_of_slots}
 
--- the figures of a queue that is there
-pub record IsShown (last_seq : ℕ) (f : Figures) : Type 0 where
-  pub events : List Event
-  pub lawful : IsSlotList last_seq events
-  pub live : is_live events ≡ true
-  pub shown : f ≡ figures (last_log events)
+-- the figures, or the manual's name of the refusal
+abbrev pub named : Result Figures IdRefusal → Result Figures Errno
+named (Ok figures) = Ok figures
+named (Err refusal) = Err (errno_of_id refusal)
 
--- the row of a slot
-pub record IsRow (last_seq : ℕ) (r : BoardRow) : Type 0 where
-  pub events : List Event
-  pub lawful : IsSlotList last_seq events
-  pub shown : r ≡ row events
-
--- the entry of a removal, and the log that it ends
-pub record IsRemoval (last_seq : ℕ) (r : Removal) : Type 0 where
-  pub events : List Event
-  pub lawful : IsSlotList last_seq events
-  pub entry : length events ≡ r.entry + 1
-  pub log : r.log ≡ last_log events
-  pub removed : ends_with_removed events ≡ true
+-- IPC_STAT after these events of the id's slot, where there are so many slots
+abbrev pub stat_of : ℕ → List Event → ℕ → Result Figures Errno
+stat_of slots events id =
+    if out_of_slots slots id then Err EINVAL else named (stat_answer events (seq_of id))

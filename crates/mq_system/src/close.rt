@@ -1,21 +1,48 @@
-ghost use Rattle.std.specs.Prelude.{◌≡◌, ◌+◌, length, vec_len, All};
-ghost use Rattle.mq_system.specs.Closed.{IsClosed, entries_in};
-ghost use Rattle.mq_system.specs.Seat.{counted_by};
-ghost use Rattle.mq_system.specs.Sizes.{all_changes};
+ghost use Rattle.std.specs.Prelude.{◌≡◌, ◌≢◌, ◌+◌, ◌≤◌, All, length, map, vec_capacity, vec_len};
+ghost use Rattle.std.specs.List.{AllPairs};
+ghost use Rattle.mq_shared.specs.Seat.{counted_by};
+ghost use Rattle.mq_shared.specs.Sizes.{all_changes};
+ghost use Rattle.mq_system.specs.Closed.{AreCounted, AreDistinct, AreSeen, AreWithout, IsClosed};
+ghost use Rattle.mq_system.specs.Closed.{IsRecorded, entries_in, known_by};
 
-use crate::names::Entries;
 use crate::{Closed, Names, Pages, Pledge, Seat, System};
+use mq_board::Copies;
+use mq_fronts::Fronts;
 use mq_one_thread::end_slot;
+use mq_shared::{Entries, PublishedOf};
+use std::hint::spin_loop;
+use std::marker::Model;
+use std::sync::Wait;
 use std::sync::ledger::{Share, Total};
 
-impl<P: Pledge, N: Names> System<P, N> {
+/// Where a system gathers what its seats leave, with room for the fronts of all of them.
+#[derive(Drop)]
+pub(crate) struct Rest<N: Names> {
+    pub(crate) parts: Share<Entries<N>>,
+    pub(crate) fronts: Vec<Fronts<N>>,
+}
+
+impl<N: Names> Model for Rest<N> {
+    ghost use Rattle.std.specs.Prelude.{◌≡◌, ◌≤◌, ℕ, length, vec_capacity};
+
+    ghost Value = { ℕ };
+
+    ghost view = { λ r. r.parts.parts };
+
+    ghost invariant = { λ r. (length r.fronts.items ≡ 0) × (N.seats ≤ vec_capacity r.fronts) };
+}
+
+impl<P: Pledge, N: Names> System<P, N, Copies<N>> {
     /// Ends the system, once all seats are back. It takes no memory. The texts that waited go home;
     /// one that is still outside is put into the arena by its block.
-    pub fn close(self, seats: Vec<Seat<N>>) -> Closed<Pages<N>>
+    pub fn close<R: Wait>(self, rt: &R, seats: Vec<Seat<N>>) -> Closed<Pages<N>>
         requires seats { vec_len seats ≡ N.seats }
         ensures slots { length result.slots.items ≡ N.slots }
         ensures closed { All (IsClosed N.last_seq) result.slots.items }
         ensures total { entries_in result.slots.items ≡ counted_by seats.items }
+        ensures fronts { AreSeen seats.items result.slots.items }
+        ensures numbers { AreDistinct seats.items }
+        ensures counts { AreCounted seats.items result.slots.items }
         ensures height { result.arena.height ≡ N.height }
     {
         let System {
@@ -27,14 +54,19 @@ impl<P: Pledge, N: Names> System<P, N> {
             last_seq: _,
             mut closed,
         } = self;
-        let mut rest = rest.into_inner();
-        let mut parts = rest.empty();
-        leave(seats, &mut parts);
+        let Rest {
+            parts: mut unused,
+            mut fronts,
+        } = rest.into_inner();
+        let mut parts = unused.empty();
+        gather(seats, &mut parts, &mut fronts);
         let mut arena = arena.into_state();
         while let Some(place) = places.pop() {
             let (slot, part) = place.into_slot().into_parts();
+            let mut slot = with_number(rt, slot, places.len());
+            come_home(&mut slot, &mut fronts);
             parts.merge(part);
-            closed.push_reserved(end_slot(&mut arena, slot));
+            closed.push_reserved(end_slot(&mut arena, slot.close(rt)));
         }
         places.destroy_empty();
         settle(&total, &mut parts);
@@ -46,17 +78,58 @@ impl<P: Pledge, N: Names> System<P, N> {
     }
 }
 
-/// Takes the seats back, and gathers what is left of their parts.
-pub(crate) fn leave<N: Names>(seats: Vec<Seat<N>>, parts: &mut Share<Entries<N>>)
+/// Takes the seats apart: gathers what is left of their parts, and their fronts in their order.
+fn gather<N: Names>(seats: Vec<Seat<N>>, parts: &mut Share<Entries<N>>, fronts: &mut Vec<Fronts<N>>)
+    requires none { length fronts.old.items ≡ 0 }
+    requires room { length seats.items ≤ vec_capacity fronts.old }
     ensures parts { parts.new.parts ≡ parts.old.parts + vec_len seats }
     ensures amount { parts.new.amount + counted_by seats.items
         ≡ parts.old.amount + all_changes N.slots (vec_len seats) }
+    ensures fronts { fronts.new.items ≡ map known_by seats.items }
+    ensures recorded { All (IsRecorded N.slots) seats.items }
 {
     let mut seats = seats;
     while let Some(seat) = seats.pop() {
-        parts.merge(seat.into_part());
+        seat.holds();
+        let (left, known) = seat.into_parts();
+        parts.merge(left);
+        fronts.push_reserved(known);
     }
     seats.destroy_empty();
+    fronts.reverse();
+}
+
+/// The slot, which has this number: no run meets one of another.
+fn with_number<N: Names, R: Wait>(
+    rt: &R,
+    slot: PublishedOf<N, Copies<N>>,
+    number: usize,
+) -> PublishedOf<N, Copies<N>>
+    ensures same { result ≡ slot }
+    ensures number { result.slot.number ≡ number }
+{
+    for _ in rt.forever() {
+        if slot.slot().number() as usize == number {
+            return slot;
+        }
+        spin_loop();
+    }
+    unreachable!()
+}
+
+/// The readers of this slot's board, the last in each seat's fronts, come home.
+fn come_home<N: Names>(slot: &mut PublishedOf<N, Copies<N>>, fronts: &mut Vec<Fronts<N>>)
+    requires number { All (λ f. length f.fronts ≡ slot.old.slot.number + 1) fronts.old.items }
+    ensures same { slot.new.slot ≡ slot.old.slot }
+    ensures left { AreWithout slot.old.slot.events fronts.old.items fronts.new.items }
+    ensures places { AllPairs (λ f g. f.place ≢ g.place) fronts.old.items }
+{
+    for seat in 0..fronts.len() {
+        let Some(reader) = fronts[seat].hand_out() else {
+            unreachable!()
+        };
+        slot.take_back(reader);
+    }
 }
 
 /// Tells what all parts have, once they are together.

@@ -2,15 +2,16 @@ ghost use Rattle.std.specs.Prelude.{◌≡◌, ◌≢◌, ◌⊎◌, ◌<◌, No
 ghost use Rattle.mq_table.specs.Ids.{slot_of};
 ghost use Rattle.mq_table.specs.Keys.{id_of_key};
 ghost use Rattle.mq_one_thread.specs.declared.errno.Errno.TheVariants.{ENOMEM, ENOSPC};
-ghost use Rattle.mq_system.specs.Get.{CountsGet, MayGet, MayRefuse};
-ghost use Rattle.mq_system.specs.Seat.{IsCounted, IsSame};
+ghost use Rattle.mq_shared.specs.Making.{Lacks};
+ghost use Rattle.mq_shared.specs.Seat.{IsCounted, IsLater, IsSame};
+ghost use Rattle.mq_system.specs.Get.{CountsGet, IsFound, IsGot, IsNew, IsNotGot, IsTaken, MayGet, MayRefuse, WasBelow};
 
-use crate::shared::Keys;
-use crate::{Errno, GetFlags, Got, Names, Pledge, Seat, System};
+use crate::{Errno, GetFlags, Got, Keys, Names, Pledge, Seat, System};
+use mq_board::Copies;
 use mq_table::Id;
-use std::sync::Wait;
+use std::sync::{MutexGuard, Wait};
 
-impl<P: Pledge, N: Names> System<P, N> {
+impl<P: Pledge, N: Names> System<P, N, Copies<N>> {
     /// The id of the queue with this key, or of a new queue (msgget(2)). Key 0 is IPC_PRIVATE.
     /// EEXIST, ENOENT, ENOSPC, then ENOMEM.
     pub fn msgget<R: Wait>(
@@ -26,37 +27,105 @@ impl<P: Pledge, N: Names> System<P, N> {
         ensures refused { IfErr result (MayRefuse key flags) }
         ensures counted { MatchResult result (CountsGet seat.old seat.new)
             (λ _. IsSame seat.old seat.new) }
+        ensures later { IsLater seat.old seat.new }
+        ensures got { IfOk result (IsGot N.slots N.last_seq key moment seat.old seat.new) }
+        ensures not_got { IfErr result (IsNotGot N.slots N.last_seq key seat.old seat.new) }
     {
         let mut keys = self.keys.lock(rt);
+        let answer = self.get(rt, &mut *keys, seat, key, flags, moment);
+        MutexGuard::unlock(keys);
+        answer
+    }
+
+    /// The same, under the keys' lock.
+    fn get<R: Wait>(
+        &self,
+        rt: &R,
+        keys: &mut Keys<N>,
+        seat: &mut Seat<N>,
+        key: i32,
+        flags: GetFlags,
+        moment: u64,
+    ) -> Result<Got, Errno>
+        ensures ok { IfOk result (λ got. MayGet key flags got.made) }
+        ensures within { IfOk result (λ got. slot_of got.id < N.slots) }
+        ensures refused { IfErr result (MayRefuse key flags) }
+        ensures counted { MatchResult result (CountsGet seat.old seat.new)
+            (λ _. IsSame seat.old seat.new) }
+        ensures later { IsLater seat.old seat.new }
+        ensures got { IfOk result (IsGot N.slots N.last_seq key moment seat.old seat.new) }
+        ensures not_got { IfErr result (IsNotGot N.slots N.last_seq key seat.old seat.new) }
+    {
         if key == 0 {
-            return self.make(rt, &mut *keys, seat, key, moment);
+            return self.make(rt, keys, seat, key, moment);
         }
-        match self.find(rt, &mut *keys, key) {
-            Some(_) if flags.create && flags.exclusive => Err(Errno::EEXIST),
-            Some(id) => Ok(Got { id, made: None }),
-            None if flags.create => self.make(rt, &mut *keys, seat, key, moment),
-            None => Err(Errno::ENOENT),
+        if let Some(id) = self.find(rt, keys, seat, key) {
+            if flags.create && flags.exclusive {
+                return Err(Errno::EEXIST);
+            }
+            return Ok(Got { id, made: None });
+        }
+        if !flags.create {
+            return Err(Errno::ENOENT);
+        }
+        self.make(rt, keys, seat, key, moment)
+    }
+
+    /// The id of the queue with this key, which is not 0, as the table and then its slot have it. A
+    /// pair without its queue would be forgotten, and a queue without its pair found in its slot: no
+    /// run meets either.
+    #[tactic(auto, using(mq_shared::proofs::LaterLemmas::same_self, mq_shared::proofs::LaterLemmas::later_self, mq_shared::proofs::LaterLemmas::same_trans, mq_shared::proofs::LaterLemmas::later_trans))]
+    fn find<R: Wait>(&self, rt: &R, keys: &mut Keys<N>, seat: &mut Seat<N>, key: i32) -> Option<Id>
+        requires some { key ≢ pos 0 }
+        ensures within { IfSome result (λ id. slot_of id < N.slots) }
+        ensures found { IfSome result (IsFound key seat.old seat.new) }
+        ensures absent { IfNone result (id_of_key keys.new key ≡ None) }
+        ensures lacked { IfNone result (WasBelow (Lacks key) seat.old seat.new N.slots) }
+        ensures same { IsSame seat.old seat.new }
+        ensures later { IsLater seat.old seat.new }
+    {
+        if let Some(id) = self.look(rt, keys, seat, key) {
+            return Some(id);
+        }
+        match self.search(rt, seat, key) {
+            Some(id) => Some(id),
+            None => None,
         }
     }
 
-    /// The id of the queue with this key, as the table and then its slot have it. A pair without
-    /// its queue would be forgotten, and a queue without its pair found in its slot: no run meets
-    /// either.
-    fn find<R: Wait>(&self, rt: &R, keys: &mut Keys<N>, key: i32) -> Option<Id>
+    /// The id of the queue with this key, as the table has it.
+    #[tactic(auto, using(mq_shared::proofs::LaterLemmas::same_self, mq_shared::proofs::LaterLemmas::later_self, mq_shared::proofs::LaterLemmas::same_trans, mq_shared::proofs::LaterLemmas::later_trans))]
+    fn look<R: Wait>(&self, rt: &R, keys: &mut Keys<N>, seat: &mut Seat<N>, key: i32) -> Option<Id>
+        requires some { key ≢ pos 0 }
         ensures within { IfSome result (λ id. slot_of id < N.slots) }
+        ensures found { IfSome result (IsFound key seat.old seat.new) }
         ensures absent { IfNone result (id_of_key keys.new key ≡ None) }
+        ensures same { IsSame seat.old seat.new }
+        ensures later { IsLater seat.old seat.new }
     {
-        if let Some(id) = keys.look(key) {
-            let number = id.slot();
-            if self.places[number as usize].lock(rt, number).with_key(key) == Some(id) {
-                return Some(id);
-            }
-            keys.forget_key(key);
+        let Some(id) = keys.look(key) else {
+            return None;
+        };
+        let number = id.slot();
+        if let Some(found) = self.places[number as usize].with_key(rt, seat, number, key) {
+            return Some(found);
         }
+        keys.forget_key(key);
+        None
+    }
+
+    /// The id of the queue with this key, as the first slot that has one has it.
+    fn search<R: Wait>(&self, rt: &R, seat: &mut Seat<N>, key: i32) -> Option<Id>
+        requires some { key ≢ pos 0 }
+        ensures within { IfSome result (λ id. slot_of id < N.slots) }
+        ensures found { IfSome result (IsFound key seat.old seat.new) }
+        ensures lacked { IfNone result (WasBelow (Lacks key) seat.old seat.new N.slots) }
+        ensures same { IsSame seat.old seat.new }
+        ensures later { IsLater seat.old seat.new }
+    {
         for number in 0..self.slots() {
-            let there = self.places[number as usize].lock(rt, number).with_key(key);
-            if there.is_some() {
-                return there;
+            if let Some(found) = self.places[number as usize].with_key(rt, seat, number, key) {
+                return Some(found);
             }
         }
         None
@@ -77,14 +146,17 @@ impl<P: Pledge, N: Names> System<P, N> {
         ensures refused { IfErr result (λ errno. (errno ≡ ENOSPC) ⊎ (errno ≡ ENOMEM)) }
         ensures counted { MatchResult result (λ got. IsCounted seat.old seat.new (slot_of got.id))
             (λ _. IsSame seat.old seat.new) }
+        ensures later { IsLater seat.old seat.new }
+        ensures new { IfOk result (IsNew N.slots N.last_seq key moment seat.old seat.new) }
+        ensures full { IfErr result (λ errno. errno ≡ ENOSPC
+            → WasBelow (IsTaken N.last_seq) seat.old seat.new N.slots) }
     {
         for number in 0..self.slots() {
-            let mut held = self.places[number as usize].lock(rt, number);
-            if held.is_free(self.last_seq) {
-                return match held.make(keys, seat, key, moment) {
-                    Ok(got) => Ok(got),
-                    Err(_) => Err(Errno::ENOMEM),
-                };
+            let place = &self.places[number as usize];
+            match place.make(rt, keys, seat, number, key, self.last_seq, moment) {
+                Ok(got) => return Ok(got),
+                Err(Errno::ENOSPC) => (),
+                Err(_) => return Err(Errno::ENOMEM),
             }
         }
         Err(Errno::ENOSPC)

@@ -24,29 +24,18 @@
 
 #![tactic(auto)]
 
-mod blanks;
 mod close;
 mod control;
-mod flags;
 mod get;
 mod messages;
-mod names;
 mod parts;
-mod place;
-mod pledge;
-mod seat;
-pub mod shared;
 mod system;
-mod tally;
 
-pub use blanks::Blanks;
-pub use flags::{RecvFlags, SendFlags};
 pub use mq_one_thread::{
     Closed, ClosedSlot, Config, DEFAULTS, Delivered, DraftError, Errno, GetFlags, Got, MAX_HEIGHT,
     MAX_SEATS, MAX_SEQ, MAX_SLOTS, OneThread, Refused, Removal, SendRefused, SysError,
 };
-pub use names::{Names, Pages, TextOf};
-pub use pledge::Pledge;
-pub use seat::Seat;
+pub use mq_shared::{
+    Blanks, Keys, Names, Pages, Place, Pledge, RecvFlags, Seat, SendFlags, TextOf, WaitingOf,
+};
 pub use system::System;
-use tally::Tally;

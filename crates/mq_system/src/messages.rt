@@ -1,24 +1,27 @@
-ghost use Rattle.std.specs.Prelude.{◌≡◌, false, IfOk, IfErr, OnOk, MatchResult};
-ghost use Rattle.mq_table.specs.Ids.{slot_of};
+ghost use Rattle.std.specs.Prelude.{◌≡◌, false, length, IfOk, IfErr, OnOk, MatchResult};
+ghost use Rattle.mq_queue.specs.declared.event.Event.TheVariants.{Sent};
+ghost use Rattle.mq_select.specs.Selection.{selection_of};
+ghost use Rattle.mq_table.specs.Ids.{seq_of, slot_of};
 ghost use Rattle.mq_one_thread.specs.Look.{refused_early};
 ghost use Rattle.mq_one_thread.specs.declared.errno.Errno.TheVariants.{EINVAL};
-ghost use Rattle.mq_system.specs.Pledge.{MeetsPledge, MeetsWhole};
-ghost use Rattle.mq_system.specs.Refusals.{Refuses, MayReceive, MaySend, never_sent, out_of_slots};
-ghost use Rattle.mq_system.specs.Seat.{IsCounted, IsSame};
+ghost use Rattle.mq_shared.specs.Pledge.{MeetsPledge, MeetsWhole};
+ghost use Rattle.mq_shared.specs.Refusals.{Refuses, MayReceive, MaySend, never_sent, out_of_slots};
+ghost use Rattle.mq_shared.specs.Seat.{IsCounted, IsLater, IsSame};
+ghost use Rattle.mq_shared.specs.Seen.{IsDecided, IsDone, IsReceipt, receive_verdict, send_verdict};
 
-use crate::place::wait_for;
 use crate::{
     Delivered, Errno, Names, Pledge, RecvFlags, Refused, Seat, SendFlags, SendRefused, System,
     TextOf,
 };
-use mq_select::Selection;
+use mq_board::Copies;
 use mq_table::Id;
 use std::sync::Wait;
 
-impl<P: Pledge, N: Names> System<P, N> {
+impl<P: Pledge, N: Names> System<P, N, Copies<N>> {
     /// Sends a text (msgop(2), msgsnd), and answers the entry. Where the queue is full it waits for
     /// room, unless the flags say not to. EINVAL for the type, EINVAL for the id, EIDRM, EAGAIN,
     /// then ENOMEM; the text is then handed back.
+    #[tactic(auto, using(mq_shared::proofs::LaterLemmas::same_self, mq_shared::proofs::LaterLemmas::later_self))]
     pub fn msgsnd<R: Wait>(
         &self,
         rt: &R,
@@ -37,37 +40,24 @@ impl<P: Pledge, N: Names> System<P, N> {
         ensures handed_back { IfErr result (λ r. r.text ≡ text) }
         ensures counted { MatchResult result (λ _. IsCounted seat.old seat.new (slot_of id))
             (λ _. IsSame seat.old seat.new) }
+        ensures later { IsLater seat.old seat.new }
+        ensures done { IfOk result (λ entry. IsDone seat.old seat.new (slot_of id)
+            (send_verdict (seq_of id) mtype (length text.bytes)) entry
+            (Sent seat.old.number moment tag mtype (length text.bytes))) }
+        ensures decided { IfErr result (λ r. IsDecided seat.old seat.new (slot_of id)
+            (send_verdict (seq_of id) mtype (length text.bytes)) r.refused) }
     {
-        let number = id.slot();
-        if mtype < 1 || number as usize >= self.places.len() {
+        let number = id.slot() as usize;
+        if mtype < 1 || number >= self.places.len() {
             let refused = too_early();
             return Err(SendRefused { refused, text });
         }
-        let place = &self.places[number as usize];
-        let mut text = text;
-        for _ in rt.forever() {
-            let mut held = place.lock(rt, number);
-            match held.send(seat, id, mtype, tag, text, moment) {
-                Ok(entry) => {
-                    drop(held);
-                    place.arrived.notify_all();
-                    return Ok(entry);
-                }
-                Err(refusal) => {
-                    if refusal.refused.errno != Errno::EAGAIN || flags.nowait {
-                        return Err(refusal);
-                    }
-                    let (_, again) = refusal.into_text();
-                    text = again;
-                    wait_for(rt, &place.room, held);
-                }
-            }
-        }
-        unreachable!()
+        self.places[number].send(rt, seat, id, mtype, tag, text, flags, moment)
     }
 
     /// Receives the first message that the selection names (msgop(2), msgrcv). Where there is none
     /// it waits for one, unless the flags say not to. EINVAL, EIDRM, ENOMSG, E2BIG, then ENOMEM.
+    #[tactic(auto, using(mq_shared::proofs::LaterLemmas::same_self, mq_shared::proofs::LaterLemmas::later_self))]
     pub fn msgrcv<R: Wait>(
         &self,
         rt: &R,
@@ -85,30 +75,17 @@ impl<P: Pledge, N: Names> System<P, N> {
             (Refuses (out_of_slots N.slots id) (MayReceive flags.nowait flags.noerror)) }
         ensures counted { MatchResult result (λ _. IsCounted seat.old seat.new (slot_of id))
             (λ _. IsSame seat.old seat.new) }
+        ensures later { IsLater seat.old seat.new }
+        ensures done { IfOk result (IsReceipt seat.old seat.new (slot_of id) (seq_of id) size
+            (selection_of msgtyp flags.except) flags.noerror moment) }
+        ensures decided { IfErr result (IsDecided seat.old seat.new (slot_of id)
+            (receive_verdict (seq_of id) size (selection_of msgtyp flags.except) flags.noerror)) }
     {
-        let number = id.slot();
-        if number as usize >= self.places.len() {
+        let number = id.slot() as usize;
+        if number >= self.places.len() {
             return Err(too_early());
         }
-        let place = &self.places[number as usize];
-        let selection = Selection::read(msgtyp, flags.except);
-        for _ in rt.forever() {
-            let mut held = place.lock(rt, number);
-            match held.receive(seat, id, size, selection, flags.noerror, moment) {
-                Ok(delivered) => {
-                    drop(held);
-                    place.room.notify_all();
-                    return Ok(delivered);
-                }
-                Err(refused) => {
-                    if refused.errno != Errno::ENOMSG || flags.nowait {
-                        return Err(refused);
-                    }
-                    wait_for(rt, &place.arrived, held);
-                }
-            }
-        }
-        unreachable!()
+        self.places[number].receive(rt, seat, id, size, msgtyp, flags, moment)
     }
 }
 

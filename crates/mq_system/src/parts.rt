@@ -1,62 +1,157 @@
 //! The parts of a system that were not used yet.
-ghost use Rattle.std.specs.Prelude.{◌≡◌, ◌+◌, ◌≤◌, IfOk, OnOk, length, vec_len, vec_capacity};
-ghost use Rattle.mq_system.specs.Seat.{AreFresh, AreNumbered};
-ghost use Rattle.mq_system.specs.Sizes.{all_changes};
+ghost use Rattle.std.specs.Prelude.{◌≡◌, ◌+◌, ◌-◌, ◌<◌, ◌≤◌, IfOk, OnOk, length, vec_len, vec_capacity};
+ghost use Rattle.mq_fronts.specs.Fronts.{AreRows};
+ghost use Rattle.mq_fronts.specs.Named.{AreNamed};
+ghost use Rattle.mq_shared.specs.Seat.{fresh_seat};
+ghost use Rattle.mq_shared.specs.Sizes.{all_changes};
+ghost use Rattle.mq_system.specs.Started.{AreEmpty, AreFresh};
 
-use crate::close::leave;
-use crate::place::Place;
-use crate::shared::SharedSlot;
-use crate::tally::Tally;
-use crate::{Names, Pledge, Seat};
-use mq_table::MAX_SLOTS;
+use crate::{MAX_SLOTS, Names, Pages, Place, Pledge, Seat};
+use mq_arena::ArenaState;
+use mq_board::{BoardReader, Copies, OpenedBoard};
+use mq_fronts::{Fronts, PublishedSlot, next_board};
+use mq_one_thread::end_slot;
+use mq_shared::{PublishedOf, SharedSlot, Tally};
+use mq_table::Slot;
 use std::alloc::{AllocError, Global};
+use std::sync::Wait;
 
-/// The places of slots in which no queue was made, as many as there is room for.
-pub(crate) fn fill_places<P: Pledge, N: Names>(
+/// The slots of a system, before they are shared.
+pub(crate) type SlotsOf<N> = Vec<PublishedOf<N, Copies<N>>>;
+
+/// The readers of each board.
+pub(crate) type ReadersOf<N> = Vec<Vec<BoardReader<N>>>;
+
+/// The slots, in which no queue was made, with their boards, and the readers of each board. An `Err`
+/// means that memory ran out, and then those that were made are given up.
+pub(crate) fn make_slots<N: Names, R: Wait>(
     alloc: Global,
+    rt: &R,
+    arena: &mut ArenaState<Pages<N>>,
+    boards: Vec<OpenedBoard>,
+    count: u8,
+    seats: u16,
+) -> Result<(SlotsOf<N>, ReadersOf<N>), AllocError>
+    requires count { count ≡ vec_len boards }
+    requires few { count ≤ MAX_SLOTS }
+    requires named { AreNamed N.Naming.board N.Naming.roll 0 boards.items }
+    requires seats { (0 < seats) × (seats ≤ 16) }
+    ensures slots { IfOk result (λ made. AreEmpty made.0.items) }
+    ensures count { IfOk result (λ made. vec_len made.0 ≡ count) }
+    ensures rows { IfOk result (λ made. AreRows seats made.1.items) }
+    ensures readers { IfOk result (λ made. vec_len made.1 ≡ count) }
+    ensures arena { OnOk result (arena.new ≡ arena.old) }
+{
+    let mut boards = boards;
+    let mut rows = Vec::with_capacity(alloc, count as usize)?;
+    let Ok(mut slots) = Vec::with_capacity(alloc, count as usize) else {
+        return Err(AllocError);
+    };
+    for number in 0..count {
+        let Ok((writer, readers)) = next_board::<N, R>(alloc, rt, &mut boards, number, seats) else {
+            give_up(rt, arena, slots);
+            return Err(AllocError);
+        };
+        slots.push_reserved(PublishedSlot::new(Slot::new(alloc, number), writer));
+        rows.push_reserved(readers);
+    }
+    Ok((slots, rows))
+}
+
+/// Gives up slots and their boards.
+pub(crate) fn give_up<N: Names, R: Wait>(
+    rt: &R,
+    arena: &mut ArenaState<Pages<N>>,
+    slots: SlotsOf<N>,
+) {
+    let mut slots = slots;
+    while let Some(slot) = slots.pop() {
+        end_slot(arena, slot.close(rt));
+    }
+    slots.destroy_empty();
+}
+
+/// The places of these slots.
+pub(crate) fn fill_places<P: Pledge, N: Names>(
+    slots: SlotsOf<N>,
     places: &mut Vec<Place<P, N>>,
     tally: &mut Tally<N>,
-    count: u8,
 )
-    requires count { count ≡ N.slots }
-    requires few { count ≤ MAX_SLOTS }
-    requires empty { vec_len places.old ≡ 0 }
-    requires room { count ≤ vec_capacity places.old }
+    requires slots { AreEmpty slots.items }
+    requires within { vec_len slots ≡ N.slots }
+    requires none { vec_len places.old ≡ 0 }
+    requires room { vec_len slots ≤ vec_capacity places.old }
     requires parts { tally.old.unused.parts ≡ N.slots }
-    ensures count { vec_len places.new ≡ count }
+    ensures count { vec_len places.new ≡ N.slots }
     ensures total { tally.new.book.total ≡ tally.old.book.total }
 {
-    for number in 0..count {
-        let slot = SharedSlot::new(alloc, number, tally.slot_part());
-        places.push_reserved(Place::new(slot));
+    let mut slots = slots;
+    while let Some(slot) = slots.pop() {
+        places.push_reserved(Place::new(SharedSlot::new(slot, tally.slot_part())));
     }
+    slots.destroy_empty();
+    places.reverse();
 }
 
 /// The seats, numbered from 1, which have done nothing. An `Err` means that memory ran out.
 pub(crate) fn make_seats<N: Names>(
     alloc: Global,
+    rows: &mut [Vec<BoardReader<N>>],
     tally: &mut Tally<N>,
     count: u16,
-    slots: u8,
 ) -> Result<Vec<Seat<N>>, AllocError>
     requires count { count ≡ N.seats }
-    requires slots { slots ≡ N.slots }
+    requires slots { length rows.old ≡ N.slots }
+    requires few { length rows.old ≤ MAX_SLOTS }
+    requires rows { AreRows count rows.old }
     requires parts { tally.old.unused.parts ≡ N.slots + N.seats }
     requires total { tally.old.book.total ≡ 0 }
     ensures count { IfOk result (λ seats. vec_len seats ≡ N.seats) }
-    ensures numbers { IfOk result (λ seats. AreNumbered seats.items) }
     ensures fresh { IfOk result (λ seats. AreFresh N.slots seats.items) }
     ensures parts { OnOk result (tally.new.unused.parts ≡ N.slots) }
     ensures total { OnOk result (tally.new.book.total ≡ all_changes N.slots N.seats) }
 {
     let mut seats = Vec::with_capacity(alloc, count as usize)?;
     for before in 0..count {
-        let Ok(seat) = Seat::new(alloc, before + 1, slots, tally.seat_part(slots)) else {
-            let mut parts = tally.unused.empty();
-            leave(seats, &mut parts);
+        let Ok(seat) = next_seat(alloc, rows, tally, count - before) else {
+            leave(seats);
             return Err(AllocError);
         };
         seats.push_reserved(seat);
     }
+    seats.reverse();
     Ok(seats)
+}
+
+/// Gives up seats that have done nothing.
+pub(crate) fn leave<N: Names>(seats: Vec<Seat<N>>) {
+    let mut seats = seats;
+    while let Some(seat) = seats.pop() {
+        let (_part, _fronts) = seat.into_parts();
+    }
+    seats.destroy_empty();
+}
+
+/// The seat with this number, which takes the last reader of each board.
+fn next_seat<N: Names>(
+    alloc: Global,
+    rows: &mut [Vec<BoardReader<N>>],
+    tally: &mut Tally<N>,
+    number: u16,
+) -> Result<Seat<N>, AllocError>
+    requires number { (1 ≤ number) × (number ≤ N.seats) }
+    requires slots { length rows.old ≡ N.slots }
+    requires few { length rows.old ≤ MAX_SLOTS }
+    requires rows { AreRows number rows.old }
+    requires some { 0 < tally.old.unused.parts }
+    ensures fresh { IfOk result (λ seat. seat ≡ fresh_seat N.slots number) }
+    ensures rows { OnOk result (AreRows (number - 1) rows.new) }
+    ensures count { length rows.new ≡ length rows.old }
+    ensures parts { OnOk result (tally.new.unused.parts + 1 ≡ tally.old.unused.parts) }
+    ensures total { OnOk result
+        (tally.new.book.total ≡ tally.old.book.total + all_changes N.slots 1) }
+{
+    let fronts = Fronts::gather(alloc, number, rows)?;
+    let slots = rows.len() as u8;
+    Seat::new(alloc, fronts, slots, tally.seat_part(slots))
 }

@@ -1,40 +1,41 @@
 ghost use Rattle.std.specs.Prelude.{◌≡◌, ◌↔◌, ◌<◌, ◌≤◌, ℕ, true, false, length, nat_lt, replicate};
 ghost use Rattle.std.specs.Prelude.{vec_len, IfOk, IsErrOf};
 ghost use Rattle.mq_one_thread.specs.Limits.{keeps_limits};
-ghost use Rattle.mq_system.specs.Seat.{AreFresh, AreNumbered};
-ghost use Rattle.mq_system.specs.Sizes.{AreNames};
+ghost use Rattle.mq_shared.specs.Sizes.{AreNames};
+ghost use Rattle.mq_system.specs.Started.{AreFresh};
 
-use crate::names::Entries;
-use crate::parts::{fill_places, make_seats};
-use crate::place::Place;
-use crate::shared::Keys;
-use crate::tally::Tally;
-use crate::{Blanks, Config, DraftError, Names, Pages, Pledge, Seat, SysError, TextOf};
+use crate::close::Rest;
+use crate::parts::{fill_places, give_up, leave, make_seats, make_slots};
+use crate::{
+    Blanks, Config, DraftError, Keys, Names, Pages, Place, Pledge, Seat, SysError, TextOf,
+};
 use mq_arena::{Arena, Homecoming, LEDGER_PARTS, Unopened};
+use mq_board::Copies;
 use mq_message::{Text, order_for};
 use mq_one_thread::ClosedSlot;
 use mq_queue::MSGMAX;
+use mq_shared::{Entries, Tally};
 use mq_table::MAX_SLOTS;
 use std::alloc::Global;
 use std::marker::Model;
-use std::sync::ledger::{Share, Total};
+use std::sync::ledger::Total;
 use std::sync::{Mutex, Wait};
 
 /// The queues of several threads, by the calls of the manual. `close` ends it.
-pub struct System<P: Pledge, N: Names> {
-    pub(crate) places: Vec<Place<P, N>>,
+pub struct System<P: Pledge, N: Names, W = Copies<N>> {
+    pub(crate) places: Vec<Place<P, N, W>>,
     pub(crate) keys: Mutex<Keys<N>>,
     /// What the parts of all slots and seats have together.
     pub(crate) total: Total<Entries<N>>,
-    /// Where `close` gathers them. Nobody locks it: a share is not shared among threads.
-    pub(crate) rest: Mutex<Share<Entries<N>>>,
+    /// Where `close` gathers them. Nobody locks it: no share is shared among threads.
+    pub(crate) rest: Mutex<Rest<N>>,
     pub(crate) arena: Arena<Pages<N>>,
     pub(crate) last_seq: u32,
     /// Room for what `close` answers.
     pub(crate) closed: Vec<ClosedSlot>,
 }
 
-impl<P: Pledge, N: Names> Model for System<P, N> {
+impl<P: Pledge, N: Names, W> Model for System<P, N, W> {
     ghost use Rattle.std.specs.Prelude.{ℕ, vec_len, vec_capacity};
     ghost use Rattle.mq_system.specs.Sizes.{IsWhole};
 
@@ -46,18 +47,19 @@ impl<P: Pledge, N: Names> Model for System<P, N> {
         s.closed.items (vec_capacity s.closed) s.total.parts s.total.amount };
 }
 
-impl<P: Pledge, N: Names> System<P, N> {
+impl<P: Pledge, N: Names> System<P, N, Copies<N>> {
     /// A system in which no queue is made and nothing is lent, and its seats in the order of their
-    /// numbers. `Blanks::of` has the ledgers that it wants.
-    pub fn new(
+    /// numbers. `Blanks::of` has the ledgers and boards that it wants. `Config` where a number is
+    /// out of its limits, then `Memory`.
+    pub fn new<R: Wait>(
         alloc: Global,
+        rt: &R,
         config: Config,
         blanks: Blanks,
-    ) -> Result<(System<P, N>, Vec<Seat<N>>), SysError>
-        requires names { AreNames N.Names blanks config }
+    ) -> Result<(System<P, N, Copies<N>>, Vec<Seat<N>>), SysError>
+        requires names { AreNames N.Names.own N.Naming blanks config }
         requires enough { LEDGER_PARTS ≤ blanks.pages.parts }
         ensures seats { IfOk result (λ r. vec_len r.1 ≡ N.seats) }
-        ensures numbers { IfOk result (λ r. AreNumbered r.1.items) }
         ensures fresh { IfOk result (λ r. AreFresh N.slots r.1.items) }
         ensures err { IsErrOf result SysError.Config ↔ (keeps_limits config ≡ false) }
     {
@@ -70,29 +72,51 @@ impl<P: Pledge, N: Names> System<P, N> {
         let Ok(closed) = Vec::with_capacity(alloc, config.slots as usize) else {
             return Err(SysError::Memory);
         };
-        let Ok(mut places) = Vec::with_capacity(alloc, config.slots as usize) else {
+        let Ok(fronts) = Vec::with_capacity(alloc, config.seats as usize) else {
             return Err(SysError::Memory);
         };
-        let Blanks { pages, entries } = blanks;
+        let Blanks {
+            pages,
+            entries,
+            boards,
+        } = blanks;
+        let mut arena = arena.open::<Pages<N>>(pages);
+        let Ok((slots, mut rows)) = make_slots::<N, R>(
+            alloc,
+            rt,
+            &mut arena,
+            boards,
+            config.slots,
+            config.seats,
+        ) else {
+            return Err(SysError::Memory);
+        };
         let mut tally = Tally::new(entries);
-        let Ok(seats) = make_seats(alloc, &mut tally, config.seats, config.slots) else {
-            places.destroy_empty();
+        let Ok(seats) = make_seats(alloc, rows.as_mut_slice(), &mut tally, config.seats) else {
+            give_up(rt, &mut arena, slots);
             return Err(SysError::Memory);
         };
-        fill_places(alloc, &mut places, &mut tally, config.slots);
-        let (total, rest) = tally.close();
+        let Ok(mut places) = Vec::with_capacity(alloc, config.slots as usize) else {
+            give_up(rt, &mut arena, slots);
+            leave(seats);
+            return Err(SysError::Memory);
+        };
+        fill_places(slots, &mut places, &mut tally);
+        let (total, parts) = tally.close();
         let system = System {
             places,
             keys: Mutex::new(Keys::new(alloc)),
             total,
-            rest: Mutex::new(rest),
-            arena: Arena::new(arena.open::<Pages<N>>(pages)),
+            rest: Mutex::new(Rest { parts, fronts }),
+            arena: Arena::new(arena),
             last_seq: config.last_seq,
             closed,
         };
         Ok((system, seats))
     }
+}
 
+impl<P: Pledge, N: Names, W> System<P, N, W> {
     /// How many slots there are.
     pub fn slots(&self) -> u8
         ensures count { result ≡ N.slots }

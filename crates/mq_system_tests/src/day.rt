@@ -1,8 +1,9 @@
 //! The day of a system: it is made, a test calls it by its seats, and it is closed.
 ghost use Rattle.std.specs.Prelude.{◌≡◌, ◌≤◌};
-ghost use Rattle.mq_system.specs.Sizes.{AreNames};
+ghost use Rattle.mq_shared.specs.Sizes.{AreNames};
 
 use mq_arena::LEDGER_PARTS;
+use mq_board::Copies;
 use mq_system::{Blanks, Closed, ClosedSlot, Config, Names, Pledge, Seat, SysError, System};
 use std::alloc::Global;
 use std::marker::Brand;
@@ -44,12 +45,12 @@ fn lived<P: Pledge, N: Names, D: Day<P>, R: Abort + Threads + Wait>(
     blanks: Blanks,
     day: &D,
 ) -> Result<Left, SysError>
-    requires names { AreNames N.Names blanks config }
+    requires names { AreNames N.Names.own N.Naming blanks config }
     requires enough { LEDGER_PARTS ≤ blanks.pages.parts }
 {
-    let (system, mut seats) = System::<P, N>::new(alloc, config, blanks)?;
+    let (system, mut seats) = System::<P, N, Copies<N>>::new(alloc, rt, config, blanks)?;
     day.spend(rt, alloc, config, &system, seats.as_mut_slice());
-    let Closed { slots, arena } = system.close(seats);
+    let Closed { slots, arena } = system.close(rt, seats);
     Ok(Left {
         slots,
         free_pages: arena.free_pages(),
@@ -62,7 +63,8 @@ fn lives_once<P: Pledge, D: Day<P>, R: Abort + Threads + Wait>(
     config: Config,
     day: &D,
 ) -> Result<Left, SysError> {
-    lived::<P, Brand, D, R>(rt, alloc, config, Blanks::of(config), day)
+    let blanks = Blanks::of(alloc, config)?;
+    lived::<P, Brand, D, R>(rt, alloc, config, blanks, day)
 }
 
 /// A system of this size lives this day. It is made once more where there was no memory for it.

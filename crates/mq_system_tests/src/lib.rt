@@ -13,7 +13,7 @@ mod limits;
 #[cfg(test)]
 mod list;
 #[cfg(test)]
-mod shared;
+mod seen;
 #[cfg(test)]
 mod shown;
 #[cfg(test)]

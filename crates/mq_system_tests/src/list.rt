@@ -105,7 +105,7 @@ fn changes<N: Names, R: Abort + Wait>(rt: &R, system: &System<Anything, N>, seat
         Err(refused) => panic!(rt; "not set: {refused}"),
     }
     let first = seat(rt, seats, 0);
-    match system.stat(rt, first, Id::from_number(0)) {
+    match system.stat(first, Id::from_number(0)) {
         Ok(figures) => holds(
             rt,
             figures.qnum == 0 && figures.qbytes == 100,

@@ -91,7 +91,7 @@ impl Day<Anything> for Report {
         }
         let mut rows: [BoardRow; 4] = [row_of_new(9, 9, 9); 4];
         let seat = seat(rt, seats, 1);
-        system.report(rt, seat, &mut rows);
+        system.report(seat, &mut rows);
         let was = BoardRow {
             made: 1,
             ..NO_QUEUE

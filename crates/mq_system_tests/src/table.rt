@@ -160,7 +160,7 @@ fn shown<N: Names, R: Abort + Wait>(
     id: u32,
 ) -> Answer {
     let seat = crate::calls::seat(rt, seats, 1);
-    match system.stat(rt, seat, Id::from_number(id)) {
+    match system.stat(seat, Id::from_number(id)) {
         Ok(figures) => Answer::Shown(figures.qnum, figures.cbytes, figures.qbytes),
         Err(errno) => Answer::Errno(errno),
     }

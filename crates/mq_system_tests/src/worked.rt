@@ -85,7 +85,7 @@ fn sent<N: Names, R: Abort + Wait>(
         Err(_refused) => panic!(rt; "a text was not sent"),
     }
     let seat = seat(rt, seats, 0);
-    match system.stat(rt, seat, Id::from_number(0)) {
+    match system.stat(seat, Id::from_number(0)) {
         Ok(figures) => holds(rt, figures == FIGURES, "one message of two bytes waits"),
         Err(errno) => panic!(rt; "{errno}"),
     }
@@ -104,7 +104,7 @@ fn removed<N: Names, R: Abort + Wait>(rt: &R, system: &System<Anything, N>, seat
         Err(refused) => panic!(rt; "{refused}"),
     }
     let seat = seat(rt, seats, 0);
-    match system.stat(rt, seat, Id::from_number(0)) {
+    match system.stat(seat, Id::from_number(0)) {
         Ok(_) => panic!(rt; "a removed queue is shown"),
         Err(errno) => holds(rt, errno == Errno::EIDRM, "EIDRM of a removed queue"),
     }

@@ -54,12 +54,13 @@ fn add(made: &mut [u64; 2], id: Id) {
 }
 
 fn sent<N: Names, R: Wait>(
-    caller: &mut Caller<'_, Nothing, N, R>,
+    caller: &mut Caller<'_, N, R>,
+    system: &System<Nothing, N>,
     id: Id,
     made: &mut [u64; 2],
 ) -> Result<(), Errno> {
-    match caller.send(id, 1, 7, b"word") {
-        Err(Errno::ENOMEM) => caller.send(id, 1, 7, b"word")?,
+    match caller.send(system, id, 1, 7, b"word") {
+        Err(Errno::ENOMEM) => caller.send(system, id, 1, 7, b"word")?,
         sent => sent?,
     };
     add(made, id);
@@ -67,12 +68,13 @@ fn sent<N: Names, R: Wait>(
 }
 
 fn received<N: Names, R: Wait>(
-    caller: &mut Caller<'_, Nothing, N, R>,
+    caller: &mut Caller<'_, N, R>,
+    system: &System<Nothing, N>,
     id: Id,
     made: &mut [u64; 2],
 ) -> Result<(), Errno> {
-    match caller.receive(id, 10, 0) {
-        Err(Errno::ENOMEM) => caller.receive(id, 10, 0)?,
+    match caller.receive(system, id, 10, 0) {
+        Err(Errno::ENOMEM) => caller.receive(system, id, 10, 0)?,
         received => received?,
     };
     add(made, id);
@@ -95,10 +97,10 @@ impl Worker<Nothing> for Trader {
         let mut made = [0u64; 2];
         let out = queue(rt, system, seat, self.sends_to, &mut made)?;
         let back = queue(rt, system, seat, self.receives_from, &mut made)?;
-        let mut caller = Caller::new(rt, alloc, system, seat);
+        let mut caller = Caller::new(rt, alloc, seat);
         for _ in 0..3 {
-            sent(&mut caller, out, &mut made)?;
-            received(&mut caller, back, &mut made)?;
+            sent(&mut caller, system, out, &mut made)?;
+            received(&mut caller, system, back, &mut made)?;
         }
         let told = [caller.count(0), caller.count(1)];
         Ok(Counted { told, made })

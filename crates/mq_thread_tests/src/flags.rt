@@ -46,17 +46,17 @@ impl Worker<Nothing> for Alone {
         system: &System<Nothing, N>,
         seat: &mut Seat<N>,
     ) -> Result<Met, Errno> {
-        let mut caller = Caller::new(rt, alloc, system, seat);
-        let id = caller.queue(7)?;
-        let empty = caller.receive_with(id, 1, 0, AT_ONCE).err();
+        let mut caller = Caller::new(rt, alloc, seat);
+        let id = caller.queue(system, 7)?;
+        let empty = caller.receive_with(system, id, 1, 0, AT_ONCE).err();
         let text = [3u8; 8192];
-        caller.send(id, 1, 1, &text)?;
-        caller.send(id, 1, 2, &text)?;
+        caller.send(system, id, 1, 1, &text)?;
+        caller.send(system, id, 1, 2, &text)?;
         let full = caller
-            .send_with(id, 1, 3, &text, SendFlags { nowait: true })
+            .send_with(system, id, 1, 3, &text, SendFlags { nowait: true })
             .err();
-        let long = caller.receive(id, 8191, 0).err();
-        let Delivered { length, text, .. } = caller.receive_with(id, 10, 0, CUT)?;
+        let long = caller.receive(system, id, 8191, 0).err();
+        let Delivered { length, text, .. } = caller.receive_with(system, id, 10, 0, CUT)?;
         Ok(Met {
             empty,
             full,

@@ -22,10 +22,10 @@ fn send<N: Names, R: Wait>(
     system: &System<Signed, N>,
     seat: &mut Seat<N>,
 ) -> Result<Id, Errno> {
-    let mut caller = Caller::new(rt, alloc, system, seat);
-    let id = caller.queue(5)?;
+    let mut caller = Caller::new(rt, alloc, seat);
+    let id = caller.queue(system, 5)?;
     let number = (caller.number() % 256) as u8;
-    caller.send(id, 1, 0, &[number])?;
+    caller.send(system, id, 1, 0, &[number])?;
     Ok(id)
 }
 
@@ -39,8 +39,8 @@ fn receive<N: Names, R: Wait>(
 ) -> Result<Delivered<Vec<u8>>, Errno>
     ensures { IfOk result (λ d. slice_index_or d.text.items 0 0 ≡ d.sender % 256) }
 {
-    let mut caller = Caller::new(rt, alloc, system, seat);
-    caller.receive(id, 100, 0)
+    let mut caller = Caller::new(rt, alloc, seat);
+    caller.receive(system, id, 100, 0)
 }
 
 /// Sends at one seat and receives at the next.

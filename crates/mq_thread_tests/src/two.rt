@@ -7,9 +7,12 @@ use std::sync::Wait;
 use std::thread::yield_now;
 
 /// The id of the queue with key 5, of a call that is made once more where it found no memory.
-fn queue<N: Names, R: Wait>(caller: &mut Caller<'_, Nothing, N, R>) -> Result<Id, Errno> {
-    match caller.queue(5) {
-        Err(Errno::ENOMEM) => caller.queue(5),
+fn queue<N: Names, R: Wait>(
+    caller: &mut Caller<'_, N, R>,
+    system: &System<Nothing, N>,
+) -> Result<Id, Errno> {
+    match caller.queue(system, 5) {
+        Err(Errno::ENOMEM) => caller.queue(system, 5),
         answer => answer,
     }
 }
@@ -28,13 +31,13 @@ impl Worker<Nothing> for Receiver {
         system: &System<Nothing, N>,
         seat: &mut Seat<N>,
     ) -> Result<(u64, u64), Errno> {
-        let mut caller = Caller::new(rt, alloc, system, seat);
-        let id = queue(&mut caller)?;
+        let mut caller = Caller::new(rt, alloc, seat);
+        let id = queue(&mut caller, system)?;
         let mut tags = 0u64;
         let mut bytes = 0u64;
         for _ in 0..3 {
-            let received = match caller.receive(id, 8192, 0) {
-                Err(Errno::ENOMEM) => caller.receive(id, 8192, 0)?,
+            let received = match caller.receive(system, id, 8192, 0) {
+                Err(Errno::ENOMEM) => caller.receive(system, id, 8192, 0)?,
                 received => received?,
             };
             tags = tags.wrapping_mul(10).wrapping_add(received.tag);
@@ -60,12 +63,12 @@ impl Worker<Nothing> for Sender {
         system: &System<Nothing, N>,
         seat: &mut Seat<N>,
     ) -> Result<u16, Errno> {
-        let mut caller = Caller::new(rt, alloc, system, seat);
-        let id = queue(&mut caller)?;
+        let mut caller = Caller::new(rt, alloc, seat);
+        let id = queue(&mut caller, system)?;
         let text = [1u8; 8192];
         for tag in 1..4 {
-            match caller.send(id, 1, tag, &text) {
-                Err(Errno::ENOMEM) => caller.send(id, 1, tag, &text)?,
+            match caller.send(system, id, 1, tag, &text) {
+                Err(Errno::ENOMEM) => caller.send(system, id, 1, tag, &text)?,
                 sent => sent?,
             };
         }
@@ -87,13 +90,13 @@ impl Worker<Nothing> for Waiter {
         system: &System<Nothing, N>,
         seat: &mut Seat<N>,
     ) -> Errno {
-        let mut caller = Caller::new(rt, alloc, system, seat);
-        let id = match queue(&mut caller) {
+        let mut caller = Caller::new(rt, alloc, seat);
+        let id = match queue(&mut caller, system) {
             Ok(id) => id,
             Err(errno) => return errno,
         };
-        match caller.receive(id, 10, 0) {
-            Err(Errno::ENOMEM) => match caller.receive(id, 10, 0) {
+        match caller.receive(system, id, 10, 0) {
+            Err(Errno::ENOMEM) => match caller.receive(system, id, 10, 0) {
                 Err(errno) => errno,
                 Ok(_) => Errno::EPERM,
             },
@@ -117,10 +120,10 @@ impl Worker<Nothing> for Remover {
         system: &System<Nothing, N>,
         seat: &mut Seat<N>,
     ) -> Result<u64, Errno> {
-        let mut caller = Caller::new(rt, alloc, system, seat);
+        let mut caller = Caller::new(rt, alloc, seat);
         let id = Id::from_number(0);
         for _ in rt.forever() {
-            match caller.remove(id) {
+            match caller.remove(system, id) {
                 Err(Errno::EINVAL) | Err(Errno::ENOMEM) => yield_now(),
                 Err(errno) => return Err(errno),
                 Ok(removal) => return Ok(removal.entry),

@@ -44,7 +44,7 @@ fn makes<N: Names, R: Wait>(rt: &R, system: &System<Nothing, N>, seat: &mut Seat
     for _queue in 0..10u8 {
         let id = queue(rt, system, seat, 1)?;
         for _look in 0..LOOKS {
-            if matches!(system.stat(rt, seat, id), Ok(shown) if shown.qnum > 0) {
+            if matches!(system.stat(seat, id), Ok(shown) if shown.qnum > 0) {
                 break;
             }
             spin_loop();

@@ -39,103 +39,102 @@ type Done = Result<(i64, u64), Errno>;
 #[derive(Drop)]
 struct At<'a, N: Names, R: Wait> {
     rt: &'a R,
-    system: &'a System<Nothing, N>,
     seat: &'a mut Seat<N>,
     here: Id,
     said: Id,
 }
 
 impl<'a, N: Names, R: Wait> At<'a, N, R> {
-    fn ready(&mut self) -> Result<(), Errno> {
-        send(self.rt, self.system, self.seat, self.said, 1, 0)
+    fn ready(&mut self, system: &System<Nothing, N>) -> Result<(), Errno> {
+        send(self.rt, system, self.seat, self.said, 1, 0)
     }
 
-    fn hears(&mut self) -> Result<(), Errno> {
-        receive(self.rt, self.system, self.seat, self.said, 0, 0)?;
+    fn hears(&mut self, system: &System<Nothing, N>) -> Result<(), Errno> {
+        receive(self.rt, system, self.seat, self.said, 0, 0)?;
         Ok(())
     }
 
-    fn receives(&mut self, msgtyp: i64, size: u64) -> Done {
-        receive(self.rt, self.system, self.seat, self.here, size, msgtyp)
+    fn receives(&mut self, system: &System<Nothing, N>, msgtyp: i64, size: u64) -> Done {
+        receive(self.rt, system, self.seat, self.here, size, msgtyp)
     }
 
-    fn sends(&mut self, mtype: i64, len: u64) -> Result<(), Errno> {
-        send(self.rt, self.system, self.seat, self.here, mtype, len)
+    fn sends(&mut self, system: &System<Nothing, N>, mtype: i64, len: u64) -> Result<(), Errno> {
+        send(self.rt, system, self.seat, self.here, mtype, len)
     }
 
-    fn quota(&mut self, qbytes: u64) -> Result<(), Errno> {
-        set(self.rt, self.system, self.seat, self.here, qbytes)
+    fn quota(&mut self, system: &System<Nothing, N>, qbytes: u64) -> Result<(), Errno> {
+        set(self.rt, system, self.seat, self.here, qbytes)
     }
 
-    fn waits_for(&mut self, msgtyp: i64, size: u64) -> Done {
-        self.ready()?;
-        let done = self.receives(msgtyp, size);
-        self.ready()?;
+    fn waits_for(&mut self, system: &System<Nothing, N>, msgtyp: i64, size: u64) -> Done {
+        self.ready(system)?;
+        let done = self.receives(system, msgtyp, size);
+        self.ready(system)?;
         done
     }
 
-    fn fills(&mut self, count: u8) -> Done {
+    fn fills(&mut self, system: &System<Nothing, N>, count: u8) -> Done {
         for sent in 0..count {
             if sent + 1 == count {
-                self.ready()?;
+                self.ready(system)?;
             }
-            self.sends(1, FULL)?;
+            self.sends(system, 1, FULL)?;
         }
         Ok((i64::from(count), 0))
     }
 
-    fn serves(&mut self, types: u8) -> Done {
+    fn serves(&mut self, system: &System<Nothing, N>, types: u8) -> Done {
         for _ in 0..types {
-            self.hears()?;
+            self.hears(system)?;
         }
         for before in 0..types {
-            self.sends(i64::from(types - before), 3)?;
-            self.hears()?;
+            self.sends(system, i64::from(types - before), 3)?;
+            self.hears(system)?;
         }
         Ok((i64::from(types), 0))
     }
 
-    fn sends_under_quota(&mut self) -> Done {
-        self.quota(FULL)?;
-        self.fills(2)
+    fn sends_under_quota(&mut self, system: &System<Nothing, N>) -> Done {
+        self.quota(system, FULL)?;
+        self.fills(system, 2)
     }
 
-    fn raises_quota(&mut self) -> Done {
-        self.hears()?;
-        self.quota(2 * FULL)?;
+    fn raises_quota(&mut self, system: &System<Nothing, N>) -> Done {
+        self.hears(system)?;
+        self.quota(system, 2 * FULL)?;
         Ok((0, 0))
     }
 
-    fn removes(&mut self, waiting: u8) -> Done {
+    fn removes(&mut self, system: &System<Nothing, N>, waiting: u8) -> Done {
         for _ in 0..waiting {
-            self.hears()?;
+            self.hears(system)?;
         }
-        remove(self.rt, self.system, self.seat, self.here)?;
+        remove(self.rt, system, self.seat, self.here)?;
         Ok((0, 0))
     }
 
-    fn sends_five(&mut self) -> Done {
-        self.hears()?;
-        self.sends(1, 5)?;
-        self.hears()?;
-        self.receives(0, 10)
+    fn sends_five(&mut self, system: &System<Nothing, N>) -> Done {
+        self.hears(system)?;
+        self.sends(system, 1, 5)?;
+        self.hears(system)?;
+        self.receives(system, 0, 10)
     }
 
-    fn makes_room(&mut self) -> Done {
-        self.hears()?;
-        self.receives(0, FULL)
+    fn makes_room(&mut self, system: &System<Nothing, N>) -> Done {
+        self.hears(system)?;
+        self.receives(system, 0, FULL)
     }
 
-    fn plays(&mut self, part: Part) -> Done {
+    fn plays(&mut self, system: &System<Nothing, N>, part: Part) -> Done {
         match part {
-            Part::Receives(msgtyp, size) => self.waits_for(msgtyp, size),
-            Part::Sends(count) => self.fills(count),
-            Part::Serves(types) => self.serves(types),
-            Part::MakesRoom => self.makes_room(),
-            Part::SendsUnderQuota => self.sends_under_quota(),
-            Part::RaisesQuota => self.raises_quota(),
-            Part::Removes(waiting) => self.removes(waiting),
-            Part::SendsFive => self.sends_five(),
+            Part::Receives(msgtyp, size) => self.waits_for(system, msgtyp, size),
+            Part::Sends(count) => self.fills(system, count),
+            Part::Serves(types) => self.serves(system, types),
+            Part::MakesRoom => self.makes_room(system),
+            Part::SendsUnderQuota => self.sends_under_quota(system),
+            Part::RaisesQuota => self.raises_quota(system),
+            Part::Removes(waiting) => self.removes(system, waiting),
+            Part::SendsFive => self.sends_five(system),
         }
     }
 }
@@ -154,12 +153,11 @@ impl Worker<Nothing> for Part {
         let said = queue(rt, system, seat, 2)?;
         let mut at = At {
             rt,
-            system,
             seat,
             here,
             said,
         };
-        at.plays(self)
+        at.plays(system, self)
     }
 }
 

@@ -13,11 +13,13 @@ use std::thread::Threads;
 struct Numbered(u32);
 
 impl Job for Numbered {
+    type Shared = ();
+
     type Answer = u32;
 
     ghost after = { λ job answer. answer ≡ job.0 };
 
-    fn run<R: Wait>(self, _rt: &R) -> u32 {
+    fn run<R: Wait>(self, _rt: &R, _shared: &()) -> u32 {
         self.0
     }
 }
@@ -36,7 +38,7 @@ fn answers<R: Threads + Wait + Sync>(
     count: u32,
 ) -> Result<Vec<u32>, JobsError> {
     match so_many(alloc, count) {
-        Ok(jobs) => run_jobs(rt, alloc, jobs),
+        Ok(jobs) => run_jobs(rt, alloc, &(), jobs),
         Err(_) => Err(JobsError::Memory),
     }
 }
@@ -94,7 +96,7 @@ fn outcomes<R: Threads + Wait + Sync>(
     let (Ok(plans), Ok(mut ports)) = (rising(alloc, count), ports(alloc, count)) else {
         return Err(RunFault::Memory);
     };
-    run_workers(rt, alloc, &plans, ports.as_mut_slice())
+    run_workers(rt, alloc, &(), &plans, ports.as_mut_slice())
 }
 
 #[test]

@@ -22,11 +22,14 @@ struct Meeting<'a> {
 }
 
 impl<'a> Port for Meeting<'a> {
+    type Shared = ();
+
     ghost calls = { λ port. port.calls };
 
     fn put<R: Wait>(
         &mut self,
         _rt: &R,
+        _shared: &(),
         _id: Id,
         _mtype: i64,
         _tag: u64,
@@ -39,6 +42,7 @@ impl<'a> Port for Meeting<'a> {
     fn take<R: Wait>(
         &mut self,
         _rt: &R,
+        _shared: &(),
         _id: Id,
         msgtyp: i64,
         _moment: u64,
@@ -55,7 +59,13 @@ impl<'a> Port for Meeting<'a> {
         })
     }
 
-    fn remove<R: Wait>(&mut self, _rt: &R, _id: Id, _moment: u64) -> Result<u64, Errno> {
+    fn remove<R: Wait>(
+        &mut self,
+        _rt: &R,
+        _shared: &(),
+        _id: Id,
+        _moment: u64,
+    ) -> Result<u64, Errno> {
         Err(Errno::EPERM)
     }
 }
@@ -111,7 +121,7 @@ fn meet<R: Threads + Wait + Sync>(rt: &R, alloc: Global) -> Result<Vec<Outcome>,
     let (Ok(plans), Ok(mut ports)) = (two_takes(alloc), both(alloc, &first, &second)) else {
         return Err(RunFault::Memory);
     };
-    run_workers(rt, alloc, &plans, ports.as_mut_slice())
+    run_workers(rt, alloc, &(), &plans, ports.as_mut_slice())
 }
 
 /// Whether a worker had no memory for its notes, and so never came to the meeting.

@@ -15,11 +15,14 @@ struct Told<'a> {
 }
 
 impl<'a> Port for Told<'a> {
+    type Shared = ();
+
     ghost calls = { λ port. port.calls };
 
     fn put<R: Wait>(
         &mut self,
         _rt: &R,
+        _shared: &(),
         _id: Id,
         _mtype: i64,
         _tag: u64,
@@ -32,6 +35,7 @@ impl<'a> Port for Told<'a> {
     fn take<R: Wait>(
         &mut self,
         _rt: &R,
+        _shared: &(),
         _id: Id,
         _msgtyp: i64,
         _moment: u64,
@@ -44,7 +48,13 @@ impl<'a> Port for Told<'a> {
         Ok(taken)
     }
 
-    fn remove<R: Wait>(&mut self, _rt: &R, _id: Id, _moment: u64) -> Result<u64, Errno> {
+    fn remove<R: Wait>(
+        &mut self,
+        _rt: &R,
+        _shared: &(),
+        _id: Id,
+        _moment: u64,
+    ) -> Result<u64, Errno> {
         Err(Errno::EPERM)
     }
 }
@@ -62,7 +72,7 @@ fn from(sender: u16, tag: u64, mtype: i64) -> Taken {
 fn ordered<R: Wait>(rt: &R, alloc: Global, taken: &[Taken; 3]) -> Option<bool> {
     for _ in 0..2 {
         let mut port = Told { taken, calls: 0 };
-        let outcome = work(rt, alloc, &mut port, &[take(3)]);
+        let outcome = work(rt, alloc, &(), &mut port, &[take(3)]);
         match outcome.end {
             None if outcome.received == 3 => return Some(outcome.ordered),
             _ => (),

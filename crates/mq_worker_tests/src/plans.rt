@@ -30,11 +30,14 @@ impl Counting {
 }
 
 impl Port for Counting {
+    type Shared = ();
+
     ghost calls = { λ port. port.calls };
 
     fn put<R: Wait>(
         &mut self,
         _rt: &R,
+        _shared: &(),
         _id: Id,
         _mtype: i64,
         _tag: u64,
@@ -47,6 +50,7 @@ impl Port for Counting {
     fn take<R: Wait>(
         &mut self,
         _rt: &R,
+        _shared: &(),
         _id: Id,
         msgtyp: i64,
         _moment: u64,
@@ -62,7 +66,13 @@ impl Port for Counting {
         }
     }
 
-    fn remove<R: Wait>(&mut self, _rt: &R, _id: Id, _moment: u64) -> Result<u64, Errno> {
+    fn remove<R: Wait>(
+        &mut self,
+        _rt: &R,
+        _shared: &(),
+        _id: Id,
+        _moment: u64,
+    ) -> Result<u64, Errno> {
         self.call()
     }
 }

@@ -7,12 +7,12 @@ use std::sync::Wait;
 /// What becomes of two messages sent, three received and a removal, where so many calls succeed.
 fn outcome<R: Wait>(rt: &R, alloc: Global, lets: u64) -> (Outcome, u64) {
     let mut port = Counting { calls: 0, lets };
-    let first = work(rt, alloc, &mut port, &[put(2), take(3), remove()]);
+    let first = work(rt, alloc, &(), &mut port, &[put(2), take(3), remove()]);
     if first.end != Some(Errno::ENOMEM) {
         return (first, port.calls);
     }
     let mut port = Counting { calls: 0, lets };
-    let second = work(rt, alloc, &mut port, &[put(2), take(3), remove()]);
+    let second = work(rt, alloc, &(), &mut port, &[put(2), take(3), remove()]);
     (second, port.calls)
 }
 
@@ -47,7 +47,7 @@ fn a_plan_that_is_not_refused_is_done(rt: HostRuntime) {
 #[test]
 fn an_empty_plan_makes_no_call(rt: HostRuntime) {
     let mut port = Counting { calls: 0, lets: 9 };
-    let outcome = work(&rt, rt.alloc(), &mut port, &[]);
+    let outcome = work(&rt, rt.alloc(), &(), &mut port, &[]);
     assert!(rt; outcome.end == None && outcome.ordered, "done");
     assert!(rt;
         outcome.sent == 0 && outcome.received == 0 && port.calls == 0,

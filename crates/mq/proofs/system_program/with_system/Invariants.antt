@@ -1,13 +1,9 @@
+use Rattle.mq_shared.proofs.NameLemmas.{books_of, names_of}
 use Rattle.mq.proofs.system_program.with_system.Given as goal
 
--- the ledgers that were just made, and this size
-abbrev pub ghosts-run_system : goal.ghosts-run_system
-ghosts-run_system g a = record {
-  pages = a.blanks.pages.name;
-  page_parts = a.blanks.pages.parts;
-  height = a.config.height;
-  entries = a.blanks.entries.name;
-  slots = a.config.slots;
-  seats = a.config.seats;
-  last_seq = a.config.last_seq;
-}
+-- the ledgers and boards that were just made, and this size
+abbrev pub ghosts-run_system-N-Names : goal.ghosts-run_system-N-Names
+ghosts-run_system-N-Names g a = names_of a.blanks a.config
+
+abbrev pub ghosts-run_system-N-Naming : goal.ghosts-run_system-N-Naming
+ghosts-run_system-N-Naming g a = books_of a.blanks

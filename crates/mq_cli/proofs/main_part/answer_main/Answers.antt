@@ -2,7 +2,7 @@ use Rattle.std.proofs.Common.{◌≡◌, ◌≢◌, ◌<◌, ◌≤◌, rules, r
 use Rattle.mq_queue.specs.declared.limits.TheConstants.{MSGMNB}
 use Rattle.mq_table.specs.Ids.{slot_of}
 use Rattle.mq_system.specs.Get.{MayGet, MayRefuse}
-use Rattle.mq_system.specs.Refusals.{Refuses, MaySet, out_of_slots}
+use Rattle.mq_shared.specs.Refusals.{Refuses, MaySet, out_of_slots}
 use Rattle.mq_cli.specs.declared.threads_script.MainCall.TheVariants.{Get, Set}
 use Rattle.mq_cli.specs.Transcript.{given, at}
 use Rattle.mq_cli.proofs.MainLemmas.{replied, refused_so}

@@ -1,13 +1,9 @@
+use Rattle.mq_shared.proofs.NameLemmas.{books_of, names_of}
 use Rattle.mq_cli.proofs.threads.run_threads.Given as goal
 
--- the ledgers that were just made, and this size
-abbrev pub ghosts-run_wanted : goal.ghosts-run_wanted
-ghosts-run_wanted g a = record {
-  pages = a.blanks.pages.name;
-  page_parts = a.blanks.pages.parts;
-  entries = a.blanks.entries.name;
-  height = a.config.height;
-  slots = a.config.slots;
-  seats = a.config.seats;
-  last_seq = a.config.last_seq;
-}
+-- the ledgers and boards that were just made, and this size
+abbrev pub ghosts-run_wanted-N-Names : goal.ghosts-run_wanted-N-Names
+ghosts-run_wanted-N-Names g a = names_of a.blanks a.config
+
+abbrev pub ghosts-run_wanted-N-Naming : goal.ghosts-run_wanted-N-Naming
+ghosts-run_wanted-N-Naming g a = books_of a.blanks

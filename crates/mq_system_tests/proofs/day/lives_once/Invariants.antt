@@ -1,13 +1,9 @@
+use Rattle.mq_shared.proofs.NameLemmas.{books_of, names_of}
 use Rattle.mq_system_tests.proofs.day.lives_once.Given as goal
 
--- the ledgers that are opened, and the size that is asked for
-abbrev pub ghosts-lived : goal.ghosts-lived
-ghosts-lived g a = record {
-  pages = a.blanks.pages.name;
-  page_parts = a.blanks.pages.parts;
-  height = a.config.height;
-  entries = a.blanks.entries.name;
-  slots = a.config.slots;
-  seats = a.config.seats;
-  last_seq = a.config.last_seq;
-}
+-- the ledgers and boards that are opened, and the size that is asked for
+abbrev pub ghosts-lived-N-Names : goal.ghosts-lived-N-Names
+ghosts-lived-N-Names g a = names_of a.blanks a.config
+
+abbrev pub ghosts-lived-N-Naming : goal.ghosts-lived-N-Naming
+ghosts-lived-N-Naming g a = books_of a.blanks

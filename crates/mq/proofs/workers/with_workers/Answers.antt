@@ -1,0 +1,6 @@
+use Rattle.mq_shared.proofs.NameLemmas.{names_are}
+use Rattle.mq.proofs.workers.with_workers.Goals as goal
+
+pub run_workers-requires-clause-names : goal.run_workers-requires-clause-names
+run_workers-requires-clause-names g c lifetimes outlive =
+    names_are c.in-Ok.blanks c.args.config c.in-Ok.ensures.entries c.in-Ok.ensures.boards

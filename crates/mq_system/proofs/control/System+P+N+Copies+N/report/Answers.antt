@@ -1,0 +1,31 @@
+use Rattle.std.proofs.Common.{◌≡◌, ◌<◌, ◌∙◌, length, arith, rules, sym}
+use Rattle.mq_shared.proofs.LaterLemmas.{later_trans, same_trans}
+use Rattle.mq_system.proofs.ReportLemmas.{all_rows, rows_more}
+use Rattle.mq_system.proofs.control.System+P+N+Copies+N.report.Goals as goal
+
+pub loop-number-preserved : goal.loop-number-preserved
+loop-number-preserved g c =
+    let had = c.loop-number.invariant in
+    let seat = c.loop-number.seat in
+    let now = c.row.new.self in
+    let told = c.row.ensures in
+    let slots : c.slots-number-end.result ≡ g.N.Names.slots = search rules in
+    let within : c.loop-number.number < length c.loop-number.rows = search rules in
+    let low : c.loop-number.number < length seat.fronts =
+    omega (arith, had.2.count, c.holds.ensures.fronts, slots, c.loop-number-test.true) in (
+      search rules,
+      same_trans c.args.seat.now seat now had.1 told.same,
+      later_trans c.args.seat.now seat now had.2 told.later,
+      rows_more seat now c.loop-number.rows c.loop-number.number c.row.result within low
+          told.others told.row had.3,
+    )
+
+pub returns-clause-rows : goal.returns-clause-rows
+returns-clause-rows g c =
+    let had = c.loop-number.invariant in
+    let seat = c.loop-number.seat in
+    let slots : c.slots-number-end.result ≡ g.N.Names.slots = search rules in
+    let same : length c.loop-number.rows ≡ length seat.fronts =
+    omega (arith, had.0, c.requires, had.2.count, c.holds.ensures.fronts) in
+    all_rows seat.fronts c.loop-number.rows same
+    (λ k d less. had.3 k d (omega (arith, less, had.0, c.requires, slots, c.loop-number.end-fits)))

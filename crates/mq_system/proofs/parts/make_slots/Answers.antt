@@ -1,0 +1,33 @@
+use Rattle.std.proofs.Common.{ℕ, ◌≡◌, ◌∙◌, arith, rules, ap, sym, length, length-append, ◌∷◌, []}
+use Rattle.std.specs.Global.{Vec}
+use Rattle.mq_board.specs.Readers.{ReaderState, seats}
+use Rattle.mq_table.specs.Slot.{SlotState, empty_slot}
+use Rattle.mq_system.proofs.StartLemmas.{each_push}
+use Rattle.mq_system.proofs.parts.make_slots.Goals as goal
+
+pub loop-number-preserved : goal.loop-number-preserved
+loop-number-preserved g c =
+    let had = c.loop-number.invariant in
+    let slots = c.loop-number.slots.items in
+    let rows = c.loop-number.rows.items in
+    let board = c.in-Ok-next_board.ensures in
+    let put = c.push_reserved.ensures in
+    let added = c.push_reserved-in-loop-number.ensures in
+    let slot = c.new-in-loop-number.result in
+    let empty : slot.slot ≡ empty_slot (length slots) =
+    ap (λ p. p.slot) c.new-in-loop-number.ensures ∙ c.new.ensures
+    ∙ ap (λ n. empty_slot n) (sym had.0) in
+    let readers = c.in-Ok-next_board.readers in
+    let all : readers.items ≡ seats (length rows) c.args.seats =
+    board.readers ∙ ap (λ n. seats n c.args.seats) (sym had.1) in (
+      omega (arith, ap length put.items, length-append slots (slot ∷ []), had.0),
+      omega (arith, ap length added.items, length-append rows (readers ∷ []), had.1),
+      rw put.items (each_push (λ k p. p.slot ≡ empty_slot k) slots slot had.2 empty),
+      rw added.items
+          (each_push (λ k (r : Vec ReaderState). r.items ≡ seats k c.args.seats) rows readers had.3 all),
+      omega (arith, had.4, put.capacity),
+      omega (arith, had.5, added.capacity),
+      omega (arith, had.6, board.left),
+      board.named,
+      had.8,
+    )
