@@ -2,8 +2,9 @@
 
 A crate's file planted/goals.txt says what was seen when it was written by `.ci/planted --record`: a
 line `mistake NAME: GOAL` which goal fell, and a line `function FOLDER: GOAL ..` which goals the
-function had, whose proof is in that folder. It says no more than what to try first. A goal that it
-does not name is tried too, and where the named one does not fall, all are.
+function had, whose proof is in that folder. They say no more than what to try first. A goal that
+they do not name is tried too, and where the named one does not fall, all are. A line `sources: SUM`
+says that all of the crate's mistakes were refused, and over which sources.
 """
 import re
 
@@ -14,8 +15,9 @@ SIGNATURE = re.compile(r"(?m)^(?:abbrev )?(?:pub )?(\S+) : (.*)")
 class Recorded:
     """What a crate's planted/goals.txt says."""
 
-    def __init__(self, mistakes=(), functions=()):
+    def __init__(self, mistakes=(), functions=(), sources=None):
         self.mistakes, self.functions = dict(mistakes), dict(functions)
+        self.sources = sources
 
     def goal(self, edit):
         """The goal that fell by an edit, where that is known."""
@@ -26,19 +28,20 @@ class Recorded:
         return self.functions.get(str(edit.proof), ())
 
     def write(self, path):
-        lines = [f"mistake {name}: {goal}" for name, goal in sorted(self.mistakes.items())]
+        lines = [f"sources: {self.sources}"] if self.sources else []
+        lines += [f"mistake {name}: {goal}" for name, goal in sorted(self.mistakes.items())]
         lines += [f"function {place}: {' '.join(it)}" for place, it in sorted(self.functions.items())]
         path.write_text("\n".join(lines) + "\n")
 
 
 def recorded(path):
     """What this file says, or nothing where there is none."""
-    found = {"mistake": {}, "function": {}}
+    found = {"sources": {}, "mistake": {}, "function": {}}
     for line in path.read_text().splitlines() if path.is_file() else ():
         head, _, said = line.partition(": ")
         kind, _, name = head.partition(" ")
-        found[kind][name] = said if kind == "mistake" else said.split()
-    return Recorded(found["mistake"], found["function"])
+        found[kind][name] = said.split() if kind == "function" else said
+    return Recorded(found["mistake"], found["function"], found["sources"].get(""))
 
 
 def cites(text, name):

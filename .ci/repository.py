@@ -1,4 +1,5 @@
 """The crates of the repository, and how some functions of one are checked."""
+import hashlib
 import subprocess
 from pathlib import Path
 
@@ -27,6 +28,24 @@ class Crates:
     def level(self, name):
         """How many crates stand one on another up to this one."""
         return 1 + max((self.level(it) for it in self.uses[name] if it in self.uses), default=0)
+
+    def sources(self, name):
+        """A sum of all that a trial of this crate's planted mistakes reads: the toolchain's version,
+        the texts of the crate and of those that it stands on, and the mistakes."""
+        version = subprocess.run(["rt", "version"], capture_output=True, text=True, check=True)
+        texts = [version.stdout.encode()]
+        for it in sorted({name, *self.below(name)}):
+            crate = self.top / "crates" / it
+            texts.append(" ".join([it, *self.uses[it]]).encode())
+            for part in ("src", "specs", "proofs"):
+                for path in sorted(crate.glob(f"{part}/**/*.*t")):
+                    texts += [str(path.relative_to(self.top)).encode(), path.read_bytes()]
+        for path in sorted((self.top / "crates" / name).glob("planted/*.edit")):
+            texts += [path.name.encode(), path.read_bytes()]
+        whole = hashlib.sha256()
+        for text in texts:
+            whole.update(len(text).to_bytes(8, "big") + text)
+        return whole.hexdigest()[:16]
 
     def rlib(self, name):
         return self.top / "crates" / name / "out" / "rlib"
