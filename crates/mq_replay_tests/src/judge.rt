@@ -1,0 +1,121 @@
+//! Whether the replies of all seats are those of the slots' lists.
+
+use crate::calls::{Answer, Call, SLOTS};
+use crate::flaws::Flaw;
+use crate::history::History;
+use crate::seen::Seen;
+use mq::{ClosedSlot, Event};
+use std::alloc::{AllocError, Global};
+
+/// What one seat asked and was answered, in its order.
+#[derive(Drop)]
+pub(crate) struct Told {
+    pub(crate) seat: u16,
+    pub(crate) calls: Vec<Call>,
+}
+
+fn histories_of(alloc: Global, slots: &[ClosedSlot]) -> Result<Vec<History>, AllocError> {
+    let mut histories = Vec::new(alloc);
+    for slot in slots {
+        histories.push(History::of(alloc, slot)?)?;
+    }
+    Ok(histories)
+}
+
+/// Each call of a seat is right; what the seat has seen at the end.
+fn seen_by(histories: &[History], told: &Told, last_seq: u32) -> Result<Seen, Flaw> {
+    let mut seen = Seen::new(told.seat, last_seq);
+    for (place, call) in told.calls.iter().enumerate() {
+        if let Err(fault) = seen.check(histories, call) {
+            return Err(Flaw::Call(told.seat, place, fault));
+        }
+    }
+    Ok(seen)
+}
+
+/// The seats' changes are all that happened: each event is of one call, and no two calls have one.
+fn counted(histories: &[History], all: &[Told], last_seq: u32) -> Result<(), Flaw> {
+    let mut sums = [0u64; SLOTS];
+    for told in all {
+        let seen = seen_by(histories, told, last_seq)?;
+        for (slot, (history, sum)) in histories.iter().zip(&mut sums).enumerate() {
+            let changes = seen.changes(slot);
+            if changes != history.count_by(told.seat) {
+                return Err(Flaw::Slot(slot, "a seat has more or fewer events than calls"));
+            }
+            *sum = sum.wrapping_add(changes);
+        }
+    }
+    for (slot, (history, sum)) in histories.iter().zip(&sums).enumerate() {
+        if *sum != history.entries() {
+            return Err(Flaw::Slot(slot, "an event of no seat"));
+        }
+    }
+    Ok(())
+}
+
+/// What was left in the slot is what waits at the end, and its list is cut where its live queue
+/// begins.
+fn left(history: &History, slot: &ClosedSlot) -> bool {
+    let Some(end) = history.state(history.entries()) else {
+        return false;
+    };
+    let live = matches!(slot.last.first(), Some(Event::Made { .. }));
+    let past = slot.past.len() as u64;
+    let begun = if live {
+        end.begun() == past
+    } else {
+        history.entries() == past
+    };
+    begun && end.row.live == live && end.waiting.len() as u64 == slot.left
+}
+
+/// The tags of all that was received, in their order.
+fn received(alloc: Global, all: &[Told]) -> Result<Vec<u64>, AllocError> {
+    let mut tags = Vec::new(alloc);
+    for told in all {
+        for call in told.calls.iter() {
+            if let Answer::Handed(handed) = &call.answer {
+                tags.push(handed.tag)?;
+            }
+        }
+    }
+    tags.sort()?;
+    Ok(tags)
+}
+
+/// No message was received twice: each has a tag of its own.
+fn once(tags: &[u64]) -> bool {
+    let mut before = None;
+    for tag in tags {
+        if before == Some(*tag) {
+            return false;
+        }
+        before = Some(*tag);
+    }
+    true
+}
+
+/// Finds a reply that is not the one that the slots' lists say, if there is one.
+pub(crate) fn judge(
+    alloc: Global,
+    slots: &[ClosedSlot],
+    all: &[Told],
+    last_seq: u32,
+) -> Result<(), Flaw> {
+    let histories = histories_of(alloc, slots)?;
+    let histories = histories.as_slice();
+    if histories.len() != SLOTS {
+        return Err(Flaw::Slot(histories.len(), "another number of slots"));
+    }
+    if !once(received(alloc, all)?.as_slice()) {
+        return Err(Flaw::Slot(0, "a message was received twice"));
+    }
+    counted(histories, all, last_seq)?;
+    for (place, (history, slot)) in histories.iter().zip(slots).enumerate() {
+        if !left(history, slot) {
+            return Err(Flaw::Slot(place, "another end than what was left"));
+        }
+    }
+    Ok(())
+}
