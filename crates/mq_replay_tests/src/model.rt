@@ -109,9 +109,9 @@ fn bytes_of(waiting: &[Message]) -> u64 {
     sum
 }
 
-/// What waits but for the message at this place.
+/// What waits but for the message at this place, with room for one more.
 fn without(alloc: Global, waiting: &[Message], place: u64) -> Result<Vec<Message>, AllocError> {
-    let mut left = Vec::new(alloc);
+    let mut left = Vec::with_capacity(alloc, waiting.len().saturating_add(1))?;
     for message in waiting {
         if message.place != place {
             left.push(*message)?;
@@ -142,10 +142,11 @@ impl State {
         entry: u64,
         event: Event,
     ) -> Result<Vec<Message>, AllocError> {
+        let waiting = self.waiting.as_slice();
         match event {
             Event::Made { .. } | Event::Removed { .. } => Ok(Vec::new(alloc)),
-            Event::Changed { .. } => self.waiting.as_slice().to_vec(alloc),
-            Event::Received { place, .. } => without(alloc, self.waiting.as_slice(), place),
+            Event::Changed { .. } => waiting.to_vec(alloc),
+            Event::Received { place, .. } => without(alloc, waiting, place),
             Event::Sent {
                 seat,
                 moment: _,
@@ -153,15 +154,16 @@ impl State {
                 mtype,
                 length,
             } => {
-                let mut waiting = self.waiting.as_slice().to_vec(alloc)?;
-                waiting.push(Message {
-                    place: entry.wrapping_sub(self.begun),
+                let place = entry.wrapping_sub(self.begun);
+                let mut more = without(alloc, waiting, place)?;
+                more.push(Message {
+                    place,
                     sender: seat,
                     tag,
                     mtype,
                     length,
                 })?;
-                Ok(waiting)
+                Ok(more)
             }
         }
     }
