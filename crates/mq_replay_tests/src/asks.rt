@@ -184,6 +184,14 @@ pub(crate) fn report<N: Names>(
     Some(rows)
 }
 
+/// How many changes the seat has counted in each slot.
+pub(crate) fn counts<N: Names>(system: &System<Nothing, N>, seat: &Seat<N>) -> [u64; SLOTS] {
+    if system.slots() != SLOTS as u8 {
+        return [0; SLOTS];
+    }
+    [seat.count(0), seat.count(1), seat.count(2)]
+}
+
 /// The answer to this call; `None` where a text found no pages, and no call was made.
 pub(crate) fn answer<N: Names, R: Wait>(
     rt: &R,

@@ -12,6 +12,8 @@ use std::alloc::{AllocError, Global};
 pub(crate) struct Told {
     pub(crate) seat: u16,
     pub(crate) calls: Vec<Call>,
+    /// How many changes the seat counted in each slot.
+    pub(crate) counts: [u64; SLOTS],
 }
 
 fn histories_of(alloc: Global, slots: &[ClosedSlot]) -> Result<Vec<History>, AllocError> {
@@ -33,21 +35,28 @@ fn seen_by(histories: &[History], told: &Told, last_seq: u32) -> Result<Seen, Fl
     Ok(seen)
 }
 
+/// The seat's changes in a slot are as many as it counted, and as many as the slot lists of it.
+fn counts_all(history: &History, told: &Told, seen: &Seen, slot: usize) -> bool {
+    let changes = seen.changes(slot);
+    told.counts.get(slot) == Some(&changes) && history.count_by(told.seat) == changes
+}
+
 /// The seats' changes are all that happened: each event is of one call, and no two calls have one.
 fn counted(histories: &[History], all: &[Told], last_seq: u32) -> Result<(), Flaw> {
     let mut sums = [0u64; SLOTS];
     for told in all {
         let seen = seen_by(histories, told, last_seq)?;
-        for (slot, (history, sum)) in histories.iter().zip(&mut sums).enumerate() {
-            let changes = seen.changes(slot);
-            if changes != history.count_by(told.seat) {
+        for (slot, history) in histories.iter().enumerate() {
+            if !counts_all(history, told, &seen, slot) {
                 return Err(Flaw::Slot(slot, "a seat has more or fewer events than calls"));
             }
-            *sum = sum.wrapping_add(changes);
+            if let Some(sum) = sums.get_mut(slot) {
+                *sum = sum.wrapping_add(seen.changes(slot));
+            }
         }
     }
-    for (slot, (history, sum)) in histories.iter().zip(&sums).enumerate() {
-        if *sum != history.entries() {
+    for (slot, history) in histories.iter().enumerate() {
+        if sums.get(slot) != Some(&history.entries()) {
             return Err(Flaw::Slot(slot, "an event of no seat"));
         }
     }

@@ -156,7 +156,11 @@ fn first_seat(alloc: Global) -> Result<Told, AllocError> {
         call(12, Asked::Set { id: 0, qbytes: 100 }, Answer::Done(4)),
         call(13, Asked::Report, Answer::Rows([LAST, NO_ROW, NO_ROW])),
     ]?;
-    Ok(Told { seat: 1, calls })
+    Ok(Told {
+        seat: 1,
+        calls,
+        counts: [3, 0, 0],
+    })
 }
 
 fn second_seat(alloc: Global) -> Result<Told, AllocError> {
@@ -168,7 +172,11 @@ fn second_seat(alloc: Global) -> Result<Told, AllocError> {
         call(24, receive(9, 7, true), refused(Errno::ENOMSG, 5)),
         call(25, receive(2, 0, true), refused(Errno::E2BIG, 5)),
     ]?;
-    Ok(Told { seat: 2, calls })
+    Ok(Told {
+        seat: 2,
+        calls,
+        counts: [2, 0, 0],
+    })
 }
 
 /// Slot 0, in which so many messages are left, and two that were not used.

@@ -1,6 +1,6 @@
 //! What each thread does.
 
-use crate::asks::{Nothing, answer, report};
+use crate::asks::{Nothing, answer, counts, report};
 use crate::calls::{Answer, Asked, Call};
 use crate::chooser::Chooser;
 use crate::judge::Told;
@@ -172,6 +172,7 @@ impl<'a> Worker<Nothing> for Asker<'a> {
         Told {
             seat: number,
             calls,
+            counts: counts(system, seat),
         }
     }
 }
