@@ -2,8 +2,8 @@
 
 use crate::calls::{Answer, Asked, Handed, SLOTS, byte_of};
 use mq::{
-    BoardRow, Delivered, Errno, Figures, GetFlags, Id, MSGMAX, Names, Pledge, RecvFlags, Refused,
-    Seat, SendFlags, System, TextOf,
+    BoardRow, Delivered, Event, Figures, GetFlags, Id, MSGMAX, Names, Pledge, RecvFlags, Refused,
+    Removal, Seat, SendFlags, System, TextOf,
 };
 use std::sync::Wait;
 
@@ -155,11 +155,16 @@ fn remove<N: Names, R: Wait>(
     rt: &R,
     system: &System<Nothing, N>,
     seat: &mut Seat<N>,
+    logs: &mut Vec<Vec<Event>>,
     id: u32,
     moment: u64,
 ) -> Answer {
     match system.rmid(rt, seat, Id::from_number(id), moment) {
-        Ok(removal) => Answer::Removed(removal.entry, removal.log.into_events()),
+        Ok(removal) => {
+            let Removal { entry, log } = removal;
+            let _ = logs.push(log.into_events());
+            Answer::Removed(entry)
+        }
         Err(why) => refused(why),
     }
 }
@@ -192,11 +197,13 @@ pub(crate) fn counts<N: Names>(system: &System<Nothing, N>, seat: &Seat<N>) -> [
     [seat.count(0), seat.count(1), seat.count(2)]
 }
 
-/// The answer to this call; `None` where a text found no pages, and no call was made.
+/// The answer to this call, with the log of a queue that it removes; `None` where a text found no
+/// pages, and no call was made.
 pub(crate) fn answer<N: Names, R: Wait>(
     rt: &R,
     system: &System<Nothing, N>,
     seat: &mut Seat<N>,
+    logs: &mut Vec<Vec<Event>>,
     asked: Asked,
     moment: u64,
 ) -> Option<Answer> {
@@ -225,7 +232,7 @@ pub(crate) fn answer<N: Names, R: Wait>(
             Some(receive(rt, system, seat, id, size, msgtyp, flags, moment))
         }
         Asked::Set { id, qbytes } => Some(set(rt, system, seat, id, qbytes, moment)),
-        Asked::Remove { id } => Some(remove(rt, system, seat, id, moment)),
+        Asked::Remove { id } => Some(remove(rt, system, seat, logs, id, moment)),
         Asked::Stat { id } => Some(stat(system, seat, id)),
         Asked::Report => Some(Answer::Rows(report(system, seat)?)),
     }

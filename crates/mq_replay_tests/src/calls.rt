@@ -1,12 +1,13 @@
 //! What a seat keeps of each of its calls.
 
 use mq::{BoardRow, Errno, Event, Figures, GetFlags};
+use std::alloc::{AllocError, Global};
 
 /// How many slots there are.
 pub(crate) const SLOTS: usize = 3;
 
 /// What a call asks for. An id is its number, and a text is told by its length and its tag.
-#[derive(Clone, Copy, Debug)]
+#[derive(Clone, Copy)]
 pub(crate) enum Asked {
     Get {
         key: i32,
@@ -56,26 +57,43 @@ pub(crate) struct Handed {
 }
 
 /// What a call was answered.
-#[derive(Drop)]
+#[derive(Clone, Copy)]
 pub(crate) enum Answer {
     /// The id, and the entry of a making.
     Got(u32, Option<u64>),
     /// The entry of a sending or of a new quota.
     Done(u64),
     Handed(Handed),
-    /// The entry of a removal, and the removed queue's log.
-    Removed(u64, Vec<Event>),
+    /// The entry of a removal.
+    Removed(u64),
     Shown(Figures),
     Rows([BoardRow; SLOTS]),
     /// Why, and after how many entries, where that is told.
     Refused(Errno, Option<u64>),
 }
 
-#[derive(Drop)]
+#[derive(Clone, Copy)]
 pub(crate) struct Call {
     pub(crate) moment: u64,
     pub(crate) asked: Asked,
     pub(crate) answer: Answer,
+}
+
+/// All calls of a seat in its order.
+#[derive(Drop)]
+pub(crate) struct Kept {
+    pub(crate) calls: Vec<Call>,
+    /// The logs of the queues that it removed.
+    pub(crate) logs: Vec<Vec<Event>>,
+}
+
+impl Kept {
+    /// Room for so many calls.
+    pub(crate) fn with_capacity(alloc: Global, count: usize) -> Result<Kept, AllocError> {
+        let calls = Vec::with_capacity(alloc, count)?;
+        let logs = Vec::with_capacity(alloc, count)?;
+        Ok(Kept { calls, logs })
+    }
 }
 
 /// The byte at this position of a text with this tag.

@@ -2,7 +2,7 @@
 ghost use Rattle.std.specs.Prelude.{◌<◌};
 
 use crate::calls::{Answer, Asked, SLOTS};
-use mq::GetFlags;
+use mq::{Errno, GetFlags};
 
 /// How many of each 64 calls are of each kind. Sends and receipts are together so many, by turns
 /// more of the one and more of the other, so that queues fill and empty.
@@ -59,15 +59,15 @@ impl Chooser {
 
     /// The id of the queue that was made last in the slot, as far as the seat knows; seldom an older
     /// one, one that is not given yet, or one of no slot.
-    fn id_in(&mut self, slot: usize) -> u32 {
-        let made = self.made.get(slot).copied().unwrap_or(0);
+    fn id_in(&mut self, slot: u32) -> u32 {
+        let made = self.made.get(slot as usize).copied().unwrap_or(0);
         let last = made.saturating_sub(1);
         let seq = match self.below(64) {
             0 => last.saturating_sub(1),
             1 => last.wrapping_add(500),
             _ => last,
         };
-        let slot = if self.one_of(128) { 63 } else { slot as u32 };
+        let slot = if self.one_of(128) { 63 } else { slot };
         seq.wrapping_mul(64).wrapping_add(slot)
     }
 
@@ -210,7 +210,7 @@ impl Chooser {
                     *made = row.made;
                 }
             }
-            Answer::Refused(mq::Errno::EIDRM | mq::Errno::EINVAL, _) => self.lost = true,
+            Answer::Refused(Errno::EIDRM | Errno::EINVAL, _) => self.lost = true,
             _ => (),
         }
     }

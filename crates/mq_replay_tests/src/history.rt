@@ -73,11 +73,15 @@ impl History {
         self.events.get(entry as usize).copied()
     }
 
-    /// The events from the one entry up to the other.
-    pub(crate) fn between(&self, from: u64, to: u64) -> Option<&[Event]> {
+    /// The last queue's own log up to the event at this entry.
+    pub(crate) fn log_at(&self, entry: u64) -> Option<&[Event]> {
+        let Some(state) = self.state(entry) else {
+            return None;
+        };
+        let from = state.begun();
         let events = self.events.as_slice();
-        if from <= to && to <= events.len() as u64 {
-            Some(&events[from as usize..to as usize])
+        if from <= entry && entry < events.len() as u64 {
+            Some(&events[from as usize..entry as usize + 1])
         } else {
             None
         }

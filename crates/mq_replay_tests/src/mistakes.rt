@@ -1,8 +1,8 @@
 //! That the judge finds wrong replies: a short list whose replies are right, and then each with one
 //! call that is not.
 
-use crate::calls::{Answer, Asked, Call, Handed, SLOTS};
-use crate::flaws::Flaw;
+use crate::calls::{Answer, Asked, Call, Handed, Kept, SLOTS};
+use crate::flaws::{Fault, Flaw};
 use crate::judge::{Told, judge};
 use mq::{BoardRow, ClosedSlot, Errno, Event, Figures, GetFlags, Selection};
 use std::alloc::{AllocError, Global};
@@ -109,259 +109,463 @@ const SECOND: Handed = Handed {
     as_sent: true,
 };
 
-fn get(create: bool, exclusive: bool) -> Asked {
-    Asked::Get {
-        key: 5,
-        flags: GetFlags { create, exclusive },
-    }
-}
+/// Any message of up to nine bytes of the lowest type that is at most 2.
+const RECEIVE: Asked = Asked::Receive {
+    id: 0,
+    size: 9,
+    msgtyp: -2,
+    except: false,
+    noerror: false,
+    nowait: true,
+};
 
-fn send(id: u32, mtype: i64, tag: u64, length: u64) -> Asked {
-    Asked::Send {
-        id,
-        mtype,
-        tag,
-        length,
-        nowait: true,
-    }
-}
+/// One of a type that none has.
+const SEVENTH: Asked = Asked::Receive {
+    id: 0,
+    size: 9,
+    msgtyp: 7,
+    except: false,
+    noerror: false,
+    nowait: true,
+};
 
-fn receive(size: u64, msgtyp: i64, nowait: bool) -> Asked {
-    Asked::Receive {
-        id: 0,
-        size,
-        msgtyp,
-        except: false,
-        noerror: false,
-        nowait,
-    }
-}
+/// The first, where there is room for two bytes.
+const SHORT: Asked = Asked::Receive {
+    id: 0,
+    size: 2,
+    msgtyp: 0,
+    except: false,
+    noerror: false,
+    nowait: true,
+};
 
-fn call(moment: u64, asked: Asked, answer: Answer) -> Call {
+const SET: Asked = Asked::Set { id: 0, qbytes: 100 };
+
+const STAT: Asked = Asked::Stat { id: 0 };
+
+const NEW: Asked = Asked::Get {
+    key: 5,
+    flags: GetFlags {
+        create: true,
+        exclusive: true,
+    },
+};
+
+const OLD: Asked = Asked::Get {
+    key: 5,
+    flags: GetFlags {
+        create: false,
+        exclusive: false,
+    },
+};
+
+/// What seat 1 asked and was answered.
+const FIRST_SEAT: [Call; 4] = [
     Call {
-        moment,
-        asked,
-        answer,
-    }
+        moment: 10,
+        asked: NEW,
+        answer: Answer::Got(0, Some(0)),
+    },
+    Call {
+        moment: 11,
+        asked: Asked::Send {
+            id: 0,
+            mtype: 2,
+            tag: 11,
+            length: 3,
+            nowait: true,
+        },
+        answer: Answer::Done(1),
+    },
+    Call {
+        moment: 12,
+        asked: SET,
+        answer: Answer::Done(4),
+    },
+    Call {
+        moment: 13,
+        asked: Asked::Report,
+        answer: Answer::Rows([LAST, NO_ROW, NO_ROW]),
+    },
+];
+
+/// What seat 2 asked and was answered.
+const SECOND_SEAT: [Call; 6] = [
+    Call {
+        moment: 20,
+        asked: OLD,
+        answer: Answer::Got(0, None),
+    },
+    Call {
+        moment: 21,
+        asked: Asked::Send {
+            id: 0,
+            mtype: 1,
+            tag: 21,
+            length: 4,
+            nowait: true,
+        },
+        answer: Answer::Done(2),
+    },
+    Call {
+        moment: 22,
+        asked: STAT,
+        answer: Answer::Shown(BOTH),
+    },
+    Call {
+        moment: 23,
+        asked: RECEIVE,
+        answer: Answer::Handed(SECOND),
+    },
+    Call {
+        moment: 24,
+        asked: SEVENTH,
+        answer: Answer::Refused(Errno::ENOMSG, Some(5)),
+    },
+    Call {
+        moment: 25,
+        asked: SHORT,
+        answer: Answer::Refused(Errno::E2BIG, Some(5)),
+    },
+];
+
+/// A call that a seat makes in place of another, and what is wrong with it.
+#[derive(Clone, Copy)]
+struct Wrong {
+    seat: u16,
+    place: usize,
+    asked: Asked,
+    answer: Answer,
+    fault: Fault,
 }
 
-fn refused(errno: Errno, entry: u64) -> Answer {
-    Answer::Refused(errno, Some(entry))
-}
+/// In place of the set quota, which is at entry 4.
+const OF_SET: Wrong = Wrong {
+    seat: 1,
+    place: 2,
+    asked: SET,
+    answer: Answer::Done(4),
+    fault: Fault::OtherCall,
+};
 
-fn first_seat(alloc: Global) -> Result<Told, AllocError> {
-    let calls = vec![in alloc;
-        call(10, get(true, true), Answer::Got(0, Some(0))),
-        call(11, send(0, 2, 11, 3), Answer::Done(1)),
-        call(12, Asked::Set { id: 0, qbytes: 100 }, Answer::Done(4)),
-        call(13, Asked::Report, Answer::Rows([LAST, NO_ROW, NO_ROW])),
-    ]?;
+/// In place of the refused receipt of type 7.
+const OF_SEVENTH: Wrong = Wrong {
+    seat: 2,
+    place: 4,
+    asked: SEVENTH,
+    answer: Answer::Refused(Errno::ENOMSG, Some(5)),
+    fault: Fault::OtherCall,
+};
+
+/// In place of the receipt.
+const OF_RECEIPT: Wrong = Wrong {
+    place: 3,
+    asked: RECEIVE,
+    answer: Answer::Handed(SECOND),
+    ..OF_SEVENTH
+};
+
+/// In place of the figures.
+const OF_STAT: Wrong = Wrong {
+    place: 2,
+    asked: STAT,
+    answer: Answer::Shown(BOTH),
+    fault: Fault::NeverShown,
+    ..OF_SEVENTH
+};
+
+/// In place of the report.
+const OF_REPORT: Wrong = Wrong {
+    place: 3,
+    asked: Asked::Report,
+    answer: Answer::Rows([LAST, NO_ROW, NO_ROW]),
+    fault: Fault::NeverShown,
+    ..OF_SET
+};
+
+/// In place of the making.
+const OF_MAKING: Wrong = Wrong {
+    place: 0,
+    asked: NEW,
+    answer: Answer::Got(0, Some(0)),
+    ..OF_SET
+};
+
+/// In place of the finding.
+const OF_FINDING: Wrong = Wrong {
+    place: 0,
+    asked: OLD,
+    answer: Answer::Got(0, None),
+    ..OF_SEVENTH
+};
+
+const WRONG_ENTRIES: [Wrong; 5] = [
+    Wrong {
+        answer: Answer::Done(1),
+        fault: Fault::EntryGoesBack,
+        ..OF_SET
+    },
+    Wrong {
+        answer: Answer::Done(3),
+        fault: Fault::OtherEvent,
+        ..OF_SET
+    },
+    Wrong {
+        answer: Answer::Done(9),
+        fault: Fault::NoEntry,
+        ..OF_SET
+    },
+    Wrong {
+        answer: Answer::Refused(Errno::ENOMSG, Some(3)),
+        fault: Fault::EntryGoesBack,
+        ..OF_SEVENTH
+    },
+    Wrong {
+        answer: Answer::Refused(Errno::ENOMSG, Some(6)),
+        fault: Fault::NoEntry,
+        ..OF_SEVENTH
+    },
+];
+
+const WRONG_ROWS: [Wrong; 4] = [
+    Wrong {
+        answer: Answer::Shown(FIRST),
+        ..OF_STAT
+    },
+    Wrong {
+        answer: Answer::Refused(Errno::EIDRM, None),
+        ..OF_STAT
+    },
+    Wrong {
+        answer: Answer::Rows([NO_ROW; SLOTS]),
+        ..OF_REPORT
+    },
+    Wrong {
+        answer: Answer::Rows([BoardRow { key: 6, ..LAST }, NO_ROW, NO_ROW]),
+        ..OF_REPORT
+    },
+];
+
+const WRONG_REFUSALS: [Wrong; 5] = [
+    Wrong {
+        asked: RECEIVE,
+        fault: Fault::OtherRefusal,
+        ..OF_SEVENTH
+    },
+    Wrong {
+        answer: Answer::Refused(Errno::ENOMEM, Some(5)),
+        fault: Fault::OtherRefusal,
+        ..OF_SEVENTH
+    },
+    Wrong {
+        asked: Asked::Receive {
+            id: 0,
+            size: 9,
+            msgtyp: 7,
+            except: false,
+            noerror: false,
+            nowait: false,
+        },
+        fault: Fault::DidNotWait,
+        ..OF_SEVENTH
+    },
+    Wrong {
+        answer: Answer::Refused(Errno::EINVAL, None),
+        fault: Fault::NotEarly,
+        ..OF_SEVENTH
+    },
+    Wrong {
+        asked: Asked::Remove { id: 63 },
+        answer: Answer::Refused(Errno::EINVAL, Some(5)),
+        fault: Fault::NotEarly,
+        ..OF_SEVENTH
+    },
+];
+
+const WRONG_MESSAGES: [Wrong; 3] = [
+    Wrong {
+        answer: Answer::Handed(Handed { tag: 11, ..SECOND }),
+        fault: Fault::OtherMessage,
+        ..OF_RECEIPT
+    },
+    Wrong {
+        answer: Answer::Handed(Handed { came: 3, ..SECOND }),
+        fault: Fault::OtherLength,
+        ..OF_RECEIPT
+    },
+    Wrong {
+        answer: Answer::Handed(Handed {
+            as_sent: false,
+            ..SECOND
+        }),
+        fault: Fault::OtherBytes,
+        ..OF_RECEIPT
+    },
+];
+
+const WRONG_IDS: [Wrong; 6] = [
+    Wrong {
+        answer: Answer::Got(64, None),
+        fault: Fault::OtherKey,
+        ..OF_FINDING
+    },
+    Wrong {
+        asked: NEW,
+        fault: Fault::OtherFlags,
+        ..OF_FINDING
+    },
+    Wrong {
+        answer: Answer::Got(64, Some(0)),
+        fault: Fault::OtherId,
+        ..OF_MAKING
+    },
+    Wrong {
+        answer: Answer::Got(2, Some(0)),
+        fault: Fault::OtherSlot,
+        ..OF_MAKING
+    },
+    Wrong {
+        asked: NEW,
+        answer: Answer::Refused(Errno::ENOSPC, None),
+        fault: Fault::OtherSlot,
+        ..OF_REPORT
+    },
+    Wrong {
+        asked: OLD,
+        answer: Answer::Refused(Errno::ENOENT, None),
+        fault: Fault::OtherKey,
+        ..OF_REPORT
+    },
+];
+
+fn told(
+    alloc: Global,
+    seat: u16,
+    calls: &[Call],
+    counts: [u64; SLOTS],
+) -> Result<Told, AllocError> {
     Ok(Told {
-        seat: 1,
-        calls,
-        counts: [3, 0, 0],
+        seat,
+        kept: Kept {
+            calls: calls.to_vec(alloc)?,
+            logs: Vec::new(alloc),
+        },
+        counts,
     })
 }
 
-fn second_seat(alloc: Global) -> Result<Told, AllocError> {
-    let calls = vec![in alloc;
-        call(20, get(false, false), Answer::Got(0, None)),
-        call(21, send(0, 1, 21, 4), Answer::Done(2)),
-        call(22, Asked::Stat { id: 0 }, Answer::Shown(BOTH)),
-        call(23, receive(9, -2, true), Answer::Handed(SECOND)),
-        call(24, receive(9, 7, true), refused(Errno::ENOMSG, 5)),
-        call(25, receive(2, 0, true), refused(Errno::E2BIG, 5)),
-    ]?;
-    Ok(Told {
-        seat: 2,
-        calls,
-        counts: [2, 0, 0],
+/// A slot in which this happened, and in which so many messages are left.
+fn closed(alloc: Global, events: &[Event], left: u64) -> Result<ClosedSlot, AllocError> {
+    Ok(ClosedSlot {
+        past: Vec::new(alloc),
+        last: events.to_vec(alloc)?,
+        left,
     })
 }
 
-/// Slot 0, in which so many messages are left, and two that were not used.
-fn closed(alloc: Global, left: u64) -> Result<Vec<ClosedSlot>, AllocError> {
-    let mut slots = Vec::new(alloc);
-    for slot in 0..SLOTS {
-        let events: &[Event] = if slot == 0 { &EVENTS } else { &[] };
-        slots.push(ClosedSlot {
-            past: Vec::new(alloc),
-            last: events.to_vec(alloc)?,
-            left: if slot == 0 { left } else { 0 },
-        })?;
-    }
-    Ok(slots)
-}
-
-/// What is found where this seat, 0 or 1, makes this call in place of the one that it has there.
-fn found(alloc: Global, seat: usize, place: usize, call: Call) -> Result<(), Flaw> {
+/// What is found where this seat makes this call in place of the one that it has there.
+fn found(alloc: Global, seat: u16, place: usize, call: Call) -> Result<(), Flaw> {
     let mut all = Vec::with_capacity(alloc, 2)?;
-    all.push_reserved(first_seat(alloc)?);
-    all.push_reserved(second_seat(alloc)?);
-    if let Some(told) = all.get_mut(seat)
-        && let Some(old) = told.calls.get_mut(place)
-    {
-        *old = call;
+    all.push_reserved(told(alloc, 1, &FIRST_SEAT, [3, 0, 0])?);
+    all.push_reserved(told(alloc, 2, &SECOND_SEAT, [2, 0, 0])?);
+    for told in all.iter_mut() {
+        if told.seat == seat
+            && let Some(old) = told.kept.calls.get_mut(place)
+        {
+            *old = call;
+        }
     }
-    judge(alloc, closed(alloc, 1)?.as_slice(), all.as_slice(), 9)
+    let mut slots = Vec::with_capacity(alloc, SLOTS)?;
+    slots.push_reserved(closed(alloc, &EVENTS, 1)?);
+    slots.push_reserved(closed(alloc, &[], 0)?);
+    slots.push_reserved(closed(alloc, &[], 0)?);
+    judge(alloc, slots.as_slice(), all.as_slice(), 9)
 }
 
-/// This flaw is found in the call of this seat, 1 or 2, where it is put in.
-fn finds(rt: &impl Abort, alloc: Global, seat: u16, place: usize, call: Call, fault: &'static str) {
-    match found(alloc, usize::from(seat).wrapping_sub(1), place, call) {
-        Err(Flaw::Call(at, number, found)) => {
-            assert!(rt; at == seat && number == place && found == fault, "{found}");
+/// The same of a call at the moment that has its seat and place.
+fn found_by(alloc: Global, wrong: &Wrong) -> Result<(), Flaw> {
+    let moment = u64::from(wrong.seat)
+        .wrapping_mul(10)
+        .wrapping_add(wrong.place as u64);
+    let call = Call {
+        moment,
+        asked: wrong.asked,
+        answer: wrong.answer,
+    };
+    found(alloc, wrong.seat, wrong.place, call)
+}
+
+/// Each of these calls is found, with what is wrong with it.
+fn finds(rt: &impl Abort, alloc: Global, wrongs: &[Wrong]) {
+    for wrong in wrongs {
+        let flaw = Flaw::Call(wrong.seat, wrong.place, wrong.fault);
+        match found_by(alloc, wrong) {
+            Err(Flaw::Memory) => panic!(rt; "out of memory"),
+            found => assert!(rt; found == Err(flaw), "{found:?}, not {flaw:?}"),
         }
-        Err(flaw) => panic!(rt; "{flaw}"),
-        Ok(()) => panic!(rt; "not found: {fault}"),
     }
 }
 
 #[test]
 fn right_replies_are_right(rt: HostRuntime) {
-    let same = call(25, receive(2, 0, true), refused(Errno::E2BIG, 5));
-    if let Err(flaw) = found(rt.alloc(), 1, 5, same) {
-        panic!(rt; "{flaw}");
+    for wrong in [
+        OF_SET, OF_SEVENTH, OF_RECEIPT, OF_STAT, OF_REPORT, OF_MAKING, OF_FINDING,
+    ] {
+        let found = found_by(rt.alloc(), &wrong);
+        assert!(rt; found == Ok(()), "{found:?}");
     }
-    let memory = call(25, receive(9, 0, true), refused(Errno::ENOMEM, 5));
-    if let Err(flaw) = found(rt.alloc(), 1, 5, memory) {
-        panic!(rt; "{flaw}");
-    }
-}
-
-#[test]
-fn what_was_shown_before_is_not_shown_again(rt: HostRuntime) {
-    let alloc = rt.alloc();
-    let stat = Asked::Stat { id: 0 };
-    let old = call(22, stat, Answer::Shown(FIRST));
-    finds(&rt, alloc, 2, 2, old, "figures of no time");
-    let removed = call(22, stat, Answer::Refused(Errno::EIDRM, None));
-    finds(&rt, alloc, 2, 2, removed, "figures of no time");
-    let unmade = call(13, Asked::Report, Answer::Rows([NO_ROW; SLOTS]));
-    finds(&rt, alloc, 1, 3, unmade, "a row of no time");
-    let other = BoardRow { key: 6, ..LAST };
-    let other = call(13, Asked::Report, Answer::Rows([other, NO_ROW, NO_ROW]));
-    finds(&rt, alloc, 1, 3, other, "a row of no time");
+    let memory = Wrong {
+        asked: RECEIVE,
+        answer: Answer::Refused(Errno::ENOMEM, Some(5)),
+        ..OF_SEVENTH
+    };
+    let found = found_by(rt.alloc(), &memory);
+    assert!(rt; found == Ok(()), "{found:?}");
 }
 
 #[test]
 fn an_entry_that_goes_back_is_found(rt: HostRuntime) {
-    let alloc = rt.alloc();
-    let set = Asked::Set { id: 0, qbytes: 100 };
-    finds(
-        &rt,
-        alloc,
-        1,
-        2,
-        call(12, set, Answer::Done(1)),
-        "the entry goes back",
-    );
-    let fault = "another event stands at the entry";
-    finds(&rt, alloc, 1, 2, call(12, set, Answer::Done(3)), fault);
-    let early = call(24, receive(9, 7, true), refused(Errno::ENOMSG, 3));
-    finds(&rt, alloc, 2, 4, early, "the refusal's entry goes back");
-    let late = call(24, receive(9, 7, true), refused(Errno::ENOMSG, 6));
-    finds(&rt, alloc, 2, 4, late, "there are fewer entries");
+    finds(&rt, rt.alloc(), &WRONG_ENTRIES);
+}
+
+#[test]
+fn what_was_shown_before_is_not_shown_again(rt: HostRuntime) {
+    finds(&rt, rt.alloc(), &WRONG_ROWS);
 }
 
 #[test]
 fn a_wrong_refusal_is_found(rt: HostRuntime) {
-    let alloc = rt.alloc();
-    let waits = call(24, receive(9, 2, true), refused(Errno::ENOMSG, 5));
-    finds(&rt, alloc, 2, 4, waits, "what was there is another answer");
-    let memory = call(24, receive(9, 7, true), refused(Errno::ENOMEM, 5));
-    finds(&rt, alloc, 2, 4, memory, "what was there is another answer");
-    let sleeper = call(24, receive(9, 7, false), refused(Errno::ENOMSG, 5));
-    finds(&rt, alloc, 2, 4, sleeper, "the call was to wait");
-    let alone = call(24, send(0, 1, 24, 0), Answer::Refused(Errno::EINVAL, None));
-    finds(
-        &rt,
-        alloc,
-        2,
-        4,
-        alone,
-        "the arguments alone do not refuse the call",
-    );
-    let after = call(24, send(63, 1, 24, 0), refused(Errno::EINVAL, 5));
-    finds(
-        &rt,
-        alloc,
-        2,
-        4,
-        after,
-        "the arguments alone refuse the call",
-    );
+    finds(&rt, rt.alloc(), &WRONG_REFUSALS);
 }
 
 #[test]
 fn a_wrong_message_is_found(rt: HostRuntime) {
-    let alloc = rt.alloc();
-    let asked = receive(9, -2, true);
-    let other = Handed { tag: 11, ..SECOND };
-    let fault = "another message is handed out";
-    finds(
-        &rt,
-        alloc,
-        2,
-        3,
-        call(23, asked, Answer::Handed(other)),
-        fault,
-    );
-    let cut = Handed { came: 3, ..SECOND };
-    let fault = "the text has another length";
-    finds(
-        &rt,
-        alloc,
-        2,
-        3,
-        call(23, asked, Answer::Handed(cut)),
-        fault,
-    );
-    let changed = Handed {
-        as_sent: false,
-        ..SECOND
-    };
-    let fault = "the text has another byte";
-    finds(
-        &rt,
-        alloc,
-        2,
-        3,
-        call(23, asked, Answer::Handed(changed)),
-        fault,
-    );
-    let twice = call(24, receive(9, -2, true), Answer::Handed(SECOND));
-    let twice = found(alloc, 1, 4, twice);
-    assert_eq!(&rt; twice, Err(Flaw::Slot(0, "a message was received twice")));
+    finds(&rt, rt.alloc(), &WRONG_MESSAGES);
 }
 
 #[test]
 fn a_wrong_id_is_found(rt: HostRuntime) {
-    let alloc = rt.alloc();
-    let later = call(20, get(false, false), Answer::Got(64, None));
-    finds(&rt, alloc, 2, 0, later, "no such queue was there");
-    let new = call(20, get(true, true), Answer::Got(0, None));
-    let fault = "a queue is found where a new one is wanted";
-    finds(&rt, alloc, 2, 0, new, fault);
-    let second = call(10, get(true, true), Answer::Got(64, Some(0)));
-    finds(&rt, alloc, 1, 0, second, "the id has another seq");
-    let lower = call(10, get(true, true), Answer::Got(2, Some(0)));
-    finds(&rt, alloc, 1, 0, lower, "a lower slot was free");
-    let full = call(13, get(true, false), Answer::Refused(Errno::ENOSPC, None));
-    finds(&rt, alloc, 1, 3, full, "ENOSPC with a slot that was free");
-    let absent = call(13, get(false, false), Answer::Refused(Errno::ENOENT, None));
-    finds(&rt, alloc, 1, 3, absent, "ENOENT of a key that was there");
+    finds(&rt, rt.alloc(), &WRONG_IDS);
+}
+
+#[test]
+fn a_message_that_comes_twice_is_found(rt: HostRuntime) {
+    let twice = Wrong {
+        asked: RECEIVE,
+        answer: Answer::Handed(SECOND),
+        ..OF_SEVENTH
+    };
+    let found = found_by(rt.alloc(), &twice);
+    assert!(rt; found == Err(Flaw::Twice), "{found:?}");
 }
 
 #[test]
 fn an_event_that_no_call_made_is_found(rt: HostRuntime) {
-    let alloc = rt.alloc();
-    let none = call(
-        12,
-        Asked::Stat { id: 1 },
-        Answer::Refused(Errno::EINVAL, None),
-    );
-    let none = found(alloc, 0, 2, none);
-    let fault = "a seat has more or fewer events than calls";
-    assert_eq!(&rt; none, Err(Flaw::Slot(0, fault)));
+    let none = Wrong {
+        asked: Asked::Stat { id: 1 },
+        answer: Answer::Refused(Errno::EINVAL, None),
+        ..OF_SET
+    };
+    let found = found_by(rt.alloc(), &none);
+    assert!(rt; found == Err(Flaw::Counts(1, 0)), "{found:?}");
 }

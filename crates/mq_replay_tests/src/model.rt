@@ -24,7 +24,7 @@ const NO_FIGURES: Figures = Figures {
 };
 
 /// A message that waits.
-#[derive(Clone, Copy, Debug, PartialEq)]
+#[derive(Clone, Copy)]
 pub(crate) struct Message {
     pub(crate) place: u64,
     pub(crate) sender: u16,

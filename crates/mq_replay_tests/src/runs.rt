@@ -1,7 +1,7 @@
 //! Sixteen threads that call at once.
 
 use crate::asks::Nothing;
-use crate::calls::SLOTS;
+use crate::calls::{Kept, SLOTS};
 use crate::judge::judge;
 use crate::worker::{Asker, STEPS, WAITS};
 use mq::{Config, WorkersError, with_workers};
@@ -25,7 +25,7 @@ fn askers<'a>(alloc: Global, through: &'a AtomicU32) -> Result<Vec<Asker<'a>>, A
         askers.push(Asker {
             all: u32::from(SEATS),
             through,
-            calls: Vec::with_capacity(alloc, (STEPS + WAITS) as usize + 20)?,
+            kept: Kept::with_capacity(alloc, (STEPS + WAITS) as usize + 20)?,
         })?;
     }
     Ok(askers)
@@ -45,7 +45,7 @@ fn each_reply_is_that_of_the_slots_list(rt: HostRuntime) {
     let told = ended.answer.as_slice();
     let judged = judge(rt.alloc(), ended.slots.as_slice(), told, CONFIG.last_seq);
     if let Err(flaw) = judged {
-        panic!(rt; "{flaw}");
+        panic!(rt; "{flaw:?}");
     }
     assert!(rt; ended.free_pages == 1024, "a page is lost");
 }

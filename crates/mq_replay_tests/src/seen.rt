@@ -1,12 +1,10 @@
 //! What one seat must have seen, call by call.
 
 use crate::calls::{Answer, Asked, Call, Handed, SLOTS};
+use crate::flaws::Fault;
 use crate::history::{Fact, History};
-use crate::model::{pick, selection_of, seq_of, slot_of};
-use mq::{BoardRow, Errno, Event, Figures, GetFlags};
-
-/// What is wrong with a reply.
-pub(crate) type Fault = &'static str;
+use crate::model::{State, pick, selection_of, seq_of, slot_of};
+use mq::{BoardRow, Errno, Figures, GetFlags};
 
 /// What a seat is known to have seen of each slot: at least the events before this entry.
 #[derive(Clone, Copy)]
@@ -18,31 +16,23 @@ pub(crate) struct Seen {
     changes: [u64; SLOTS],
 }
 
-fn must(is: bool, fault: Fault) -> Result<(), Fault> {
-    if is { Ok(()) } else { Err(fault) }
-}
-
-/// The id that a call names.
-fn id_of(asked: Asked) -> Option<u32> {
+/// The slot of the id that a call names, or no slot's number where it names none.
+pub(crate) fn slot_asked(asked: Asked) -> usize {
     match asked {
-        Asked::Get { .. } | Asked::Report => None,
+        Asked::Get { .. } | Asked::Report => SLOTS,
         Asked::Send { id, .. }
         | Asked::Receive { id, .. }
         | Asked::Set { id, .. }
         | Asked::Remove { id }
-        | Asked::Stat { id } => Some(id),
+        | Asked::Stat { id } => slot_of(id) as usize,
     }
 }
 
-/// Whether the arguments alone refuse the call.
+/// Whether the arguments alone refuse the call of a queue.
 fn is_early(asked: Asked) -> bool {
-    let out = match id_of(asked) {
-        Some(id) => slot_of(id) as usize >= SLOTS,
-        None => false,
-    };
     match asked {
-        Asked::Send { mtype, .. } => mtype < 1 || out,
-        _ => out,
+        Asked::Send { mtype, .. } => mtype < 1 || slot_asked(asked) >= SLOTS,
+        _ => slot_asked(asked) >= SLOTS,
     }
 }
 
@@ -52,6 +42,43 @@ fn waits(asked: Asked, errno: Errno) -> bool {
         Asked::Send { nowait: false, .. } => errno == Errno::EAGAIN,
         Asked::Receive { nowait: false, .. } => errno == Errno::ENOMSG,
         _ => false,
+    }
+}
+
+/// The state of the slot after so many events.
+pub(crate) fn state_at(histories: &[History], slot: usize, entry: u64) -> Option<&State> {
+    match histories.get(slot) {
+        Some(history) => history.state(entry),
+        None => None,
+    }
+}
+
+/// What is wrong with a message that is handed out where this state was.
+fn handed_at(state: &State, asked: Asked, handed: &Handed) -> Option<Fault> {
+    let Asked::Receive {
+        size,
+        msgtyp,
+        except,
+        ..
+    } = asked
+    else {
+        return Some(Fault::OtherCall);
+    };
+    let Some(message) = pick(state.waiting.as_slice(), selection_of(msgtyp, except)) else {
+        return Some(Fault::WasRefused);
+    };
+    if handed.mtype != message.mtype
+        || handed.sender != message.sender
+        || handed.tag != message.tag
+        || handed.length != message.length
+    {
+        Some(Fault::OtherMessage)
+    } else if handed.came != message.length.min(size) {
+        Some(Fault::OtherLength)
+    } else if !handed.as_sent {
+        Some(Fault::OtherBytes)
+    } else {
+        None
     }
 }
 
@@ -84,32 +111,28 @@ impl Seen {
         }
     }
 
-    /// The slot showed this fact, no earlier than what the seat had seen of it.
-    fn saw(
-        &mut self,
-        histories: &[History],
-        slot: usize,
-        fact: Fact,
-        fault: Fault,
-    ) -> Result<(), Fault> {
-        let history = histories.get(slot).ok_or(fault)?;
-        let entry = history.least(self.known(slot), fact).ok_or(fault)?;
-        self.knows(slot, entry);
-        Ok(())
+    /// Whether the slot showed this fact, no earlier than what the seat had seen of it.
+    fn saw(&mut self, histories: &[History], slot: usize, fact: Fact) -> bool {
+        let Some(history) = histories.get(slot) else {
+            return false;
+        };
+        match history.least(self.known(slot), fact) {
+            Some(entry) => {
+                self.knows(slot, entry);
+                true
+            }
+            None => false,
+        }
     }
 
-    /// Each of the first slots, as many as this, showed the fact.
-    fn saw_each(
-        &mut self,
-        histories: &[History],
-        count: usize,
-        fact: Fact,
-        fault: Fault,
-    ) -> Result<(), Fault> {
+    /// Whether each of the first slots, as many as this, showed the fact.
+    fn saw_each(&mut self, histories: &[History], count: usize, fact: Fact) -> bool {
         for slot in 0..count {
-            self.saw(histories, slot, fact, fault)?;
+            if !self.saw(histories, slot, fact) {
+                return false;
+            }
         }
-        Ok(())
+        true
     }
 
     /// A change stands at this entry: it is the call's, and what was there before allows it.
@@ -119,270 +142,256 @@ impl Seen {
         slot: usize,
         entry: u64,
         call: &Call,
-    ) -> Result<(), Fault> {
-        must(entry >= self.known(slot), "the entry goes back")?;
-        let history = histories.get(slot).ok_or("there is no such slot")?;
-        let state = history.state(entry).ok_or("there is no such entry")?;
-        must(
-            state.refusal(call.asked).is_none(),
-            "what was there refuses the call",
-        )?;
+    ) -> Option<Fault> {
+        if entry < self.known(slot) {
+            return Some(Fault::EntryGoesBack);
+        }
+        let Some(history) = histories.get(slot) else {
+            return Some(Fault::NoEntry);
+        };
+        let Some(state) = history.state(entry) else {
+            return Some(Fault::NoEntry);
+        };
+        if state.refusal(call.asked).is_some() {
+            return Some(Fault::WasRefused);
+        }
         let event = state.event(self.number, call.moment, call.asked);
-        must(
-            event.is_some() && history.event(entry) == event,
-            "another event stands at the entry",
-        )?;
+        if event.is_none() || history.event(entry) != event {
+            return Some(Fault::OtherEvent);
+        }
         self.knows(slot, entry.wrapping_add(1));
         if let Some(changes) = self.changes.get_mut(slot) {
             *changes = changes.wrapping_add(1);
         }
-        Ok(())
+        None
     }
 
     /// A message was handed out: the one that the selection names.
-    fn handed(
-        &self,
-        histories: &[History],
-        slot: usize,
-        asked: Asked,
-        handed: &Handed,
-    ) -> Result<(), Fault> {
-        let Asked::Receive {
-            size,
-            msgtyp,
-            except,
-            ..
-        } = asked
-        else {
-            return Err("a message for another call");
+    fn handed(&mut self, histories: &[History], call: &Call, handed: &Handed) -> Option<Fault> {
+        let slot = slot_asked(call.asked);
+        let Some(state) = state_at(histories, slot, handed.entry) else {
+            return Some(Fault::NoEntry);
         };
-        let state = histories
-            .get(slot)
-            .and_then(|history| history.state(handed.entry));
-        let state = state.ok_or("there is no such entry")?;
-        let message = pick(state.waiting.as_slice(), selection_of(msgtyp, except));
-        let message = message.ok_or("no message is named")?;
-        must(
-            handed.mtype == message.mtype
-                && handed.sender == message.sender
-                && handed.tag == message.tag
-                && handed.length == message.length,
-            "another message is handed out",
-        )?;
-        must(
-            handed.came == message.length.min(size),
-            "the text has another length",
-        )?;
-        must(handed.as_sent, "the text has another byte")
+        match handed_at(state, call.asked, handed) {
+            Some(fault) => Some(fault),
+            None => self.made(histories, slot, handed.entry, call),
+        }
     }
 
-    /// A queue was removed, and this was its log.
-    fn removed(
-        &self,
-        histories: &[History],
-        slot: usize,
-        entry: u64,
-        log: &[Event],
-    ) -> Result<(), Fault> {
-        let history = histories.get(slot).ok_or("there is no such slot")?;
-        let state = history.state(entry).ok_or("there is no such entry")?;
-        let own = history.between(state.begun(), entry.wrapping_add(1));
-        must(own == Some(log), "the removed queue had another log")
-    }
-
-    /// A call of a queue was refused.
-    fn refused(
+    /// A call of a queue was refused after so many entries.
+    fn refused_at(
         &mut self,
         histories: &[History],
         asked: Asked,
         errno: Errno,
-        entry: Option<u64>,
-    ) -> Result<(), Fault> {
-        let slot = id_of(asked).map_or(SLOTS, |id| slot_of(id) as usize);
-        let Some(entry) = entry else {
-            return must(
-                is_early(asked) && errno == Errno::EINVAL,
-                "the arguments alone do not refuse the call",
-            );
+        entry: u64,
+    ) -> Option<Fault> {
+        let slot = slot_asked(asked);
+        if is_early(asked) {
+            return Some(Fault::NotEarly);
+        }
+        if entry < self.known(slot) {
+            return Some(Fault::EntryGoesBack);
+        }
+        let Some(state) = state_at(histories, slot, entry) else {
+            return Some(Fault::NoEntry);
         };
-        must(!is_early(asked), "the arguments alone refuse the call")?;
-        must(entry >= self.known(slot), "the refusal's entry goes back")?;
-        let history = histories.get(slot).ok_or("there is no such slot")?;
-        let state = history.state(entry).ok_or("there are fewer entries")?;
-        let refusal = state.refusal(asked).unwrap_or(Errno::ENOMEM);
-        must(errno == refusal, "what was there is another answer")?;
-        must(!waits(asked, errno), "the call was to wait")?;
+        if state.refusal(asked).unwrap_or(Errno::ENOMEM) != errno {
+            return Some(Fault::OtherRefusal);
+        }
+        if waits(asked, errno) {
+            return Some(Fault::DidNotWait);
+        }
         self.knows(slot, entry);
-        Ok(())
+        None
     }
 
-    /// At some time of a call before which so much was seen, no slot had a queue with this key,
-    /// unless it is 0. What else the call showed may have been at another time.
-    fn lacked(
-        &mut self,
-        histories: &[History],
-        before: Seen,
-        key: i32,
-        fault: Fault,
-    ) -> Result<(), Fault> {
+    /// Whether no slot had a queue with this key, unless it is 0, at some time of a call before which
+    /// so much was seen. What else the call showed may have been at another time.
+    fn lacked(&mut self, histories: &[History], before: Seen, key: i32) -> bool {
         if key == 0 {
-            return Ok(());
+            return true;
         }
         let mut then = before;
-        then.saw_each(histories, SLOTS, Fact::Lacks(key), fault)?;
+        if !then.saw_each(histories, SLOTS, Fact::Lacks(key)) {
+            return false;
+        }
         for slot in 0..SLOTS {
             self.knows(slot, then.known(slot));
         }
-        Ok(())
+        true
     }
 
-    /// A slot had a queue with this key. Which one is not told, so nothing more is seen of any.
-    fn had(&self, histories: &[History], key: i32) -> Result<(), Fault> {
+    /// Whether a slot had a queue with this key. Which one is not told, so nothing more is seen of
+    /// any.
+    fn had(&self, histories: &[History], key: i32) -> bool {
         for (slot, history) in histories.iter().enumerate() {
             if history.least(self.known(slot), Fact::Has(key)).is_some() {
-                return Ok(());
+                return true;
             }
         }
-        Err("EEXIST of a key that was not there")
+        false
     }
 
-    fn got(
+    /// msgget has found a queue.
+    fn found(
+        &mut self,
+        histories: &[History],
+        key: i32,
+        flags: GetFlags,
+        id: u32,
+    ) -> Option<Fault> {
+        if key == 0 || flags.create && flags.exclusive {
+            Some(Fault::OtherFlags)
+        } else if !self.saw(
+            histories,
+            slot_of(id) as usize,
+            Fact::Keyed(seq_of(id), key),
+        ) {
+            Some(Fault::OtherKey)
+        } else {
+            None
+        }
+    }
+
+    /// msgget has made a queue, in the first slot that was free.
+    fn new_queue(
         &mut self,
         histories: &[History],
         call: &Call,
         key: i32,
         flags: GetFlags,
         id: u32,
-        made: Option<u64>,
-    ) -> Result<(), Fault> {
+        entry: u64,
+    ) -> Option<Fault> {
         let slot = slot_of(id) as usize;
-        must(slot < SLOTS, "an id of no slot")?;
-        let seq = seq_of(id);
-        let Some(entry) = made else {
-            must(
-                key != 0 && !(flags.create && flags.exclusive),
-                "a queue is found where a new one is wanted",
-            )?;
-            return self.saw(
-                histories,
-                slot,
-                Fact::Keyed(seq, key),
-                "no such queue was there",
-            );
+        let Some(state) = state_at(histories, slot, entry) else {
+            return Some(Fault::NoEntry);
         };
-        must(
-            key == 0 || flags.create,
-            "a queue is made without IPC_CREAT",
-        )?;
-        let state = histories.get(slot).and_then(|history| history.state(entry));
-        let state = state.ok_or("there is no such entry")?;
-        must(state.is_free(self.last_seq), "the slot was not free")?;
-        must(state.row.made == seq, "the id has another seq")?;
+        if key != 0 && !flags.create {
+            return Some(Fault::OtherFlags);
+        }
+        if state.row.made != seq_of(id) {
+            return Some(Fault::OtherId);
+        }
         let before = *self;
-        self.saw_each(
-            histories,
-            slot,
-            Fact::Taken(self.last_seq),
-            "a lower slot was free",
-        )?;
-        self.lacked(histories, before, key, "the key was there")?;
+        let taken = Fact::Taken(self.last_seq);
+        if !state.is_free(self.last_seq) || !self.saw_each(histories, slot, taken) {
+            return Some(Fault::OtherSlot);
+        }
+        if !self.lacked(histories, before, key) {
+            return Some(Fault::OtherKey);
+        }
         self.made(histories, slot, entry, call)
     }
 
+    /// msgget was refused.
     fn not_got(
         &mut self,
         histories: &[History],
         key: i32,
         flags: GetFlags,
         errno: Errno,
-    ) -> Result<(), Fault> {
+    ) -> Option<Fault> {
         let may_make = key == 0 || flags.create;
-        let before = *self;
-        match errno {
-            Errno::EEXIST => {
-                must(
-                    key != 0 && flags.create && flags.exclusive,
-                    "EEXIST without IPC_EXCL",
-                )?;
-                self.had(histories, key)
-            }
-            Errno::ENOENT => {
-                must(!may_make, "ENOENT where a queue may be made")?;
-                self.lacked(histories, before, key, "ENOENT of a key that was there")
-            }
-            Errno::ENOSPC => {
-                must(may_make, "ENOSPC where no queue may be made")?;
-                let fact = Fact::Taken(self.last_seq);
-                self.saw_each(histories, SLOTS, fact, "ENOSPC with a slot that was free")?;
-                self.lacked(histories, before, key, "ENOSPC of a key that was there")
-            }
-            Errno::ENOMEM => must(may_make, "ENOMEM where no queue may be made"),
-            _ => Err("a refusal that msgget has not"),
+        let allowed = match errno {
+            Errno::EEXIST => key != 0 && flags.create && flags.exclusive,
+            Errno::ENOENT => !may_make,
+            Errno::ENOSPC | Errno::ENOMEM => may_make,
+            _ => false,
+        };
+        if !allowed {
+            return Some(Fault::OtherFlags);
         }
+        let before = *self;
+        let taken = Fact::Taken(self.last_seq);
+        if errno == Errno::ENOSPC && !self.saw_each(histories, SLOTS, taken) {
+            return Some(Fault::OtherSlot);
+        }
+        let right = match errno {
+            Errno::EEXIST => self.had(histories, key),
+            Errno::ENOMEM => true,
+            _ => self.lacked(histories, before, key),
+        };
+        if right { None } else { Some(Fault::OtherKey) }
     }
 
+    /// IPC_STAT has answered.
     fn shown(
         &mut self,
         histories: &[History],
         id: u32,
         answer: Result<Figures, Errno>,
-    ) -> Result<(), Fault> {
-        if is_early(Asked::Stat { id }) {
-            return must(answer == Err(Errno::EINVAL), "figures of an id of no slot");
+    ) -> Option<Fault> {
+        let asked = Asked::Stat { id };
+        if is_early(asked) {
+            return if answer == Err(Errno::EINVAL) {
+                None
+            } else {
+                Some(Fault::NotEarly)
+            };
         }
-        let slot = slot_of(id) as usize;
-        self.saw(
-            histories,
-            slot,
-            Fact::Stat(id, answer),
-            "figures of no time",
-        )
+        if self.saw(histories, slot_asked(asked), Fact::Stat(id, answer)) {
+            None
+        } else {
+            Some(Fault::NeverShown)
+        }
     }
 
-    fn rows(&mut self, histories: &[History], rows: &[BoardRow]) -> Result<(), Fault> {
+    /// A report has shown these rows.
+    fn rows(&mut self, histories: &[History], rows: &[BoardRow; SLOTS]) -> Option<Fault> {
         for (slot, row) in rows.iter().enumerate() {
-            self.saw(histories, slot, Fact::Row(*row), "a row of no time")?;
+            if !self.saw(histories, slot, Fact::Row(*row)) {
+                return Some(Fault::NeverShown);
+            }
         }
-        Ok(())
+        None
     }
 
-    /// A call is right, and what it shows is seen.
-    pub(crate) fn check(&mut self, histories: &[History], call: &Call) -> Result<(), Fault> {
+    /// What is wrong with a refusal of a call of a queue.
+    fn refused(
+        &mut self,
+        histories: &[History],
+        asked: Asked,
+        errno: Errno,
+        entry: Option<u64>,
+    ) -> Option<Fault> {
+        match entry {
+            Some(entry) => self.refused_at(histories, asked, errno, entry),
+            None if is_early(asked) && errno == Errno::EINVAL => None,
+            None => Some(Fault::NotEarly),
+        }
+    }
+
+    /// What is wrong with a reply, if anything is; what it shows is seen.
+    pub(crate) fn fault(&mut self, histories: &[History], call: &Call) -> Option<Fault> {
         let asked = call.asked;
-        let slot = id_of(asked).map_or(SLOTS, |id| slot_of(id) as usize);
-        match (asked, &call.answer) {
-            (Asked::Get { key, flags }, Answer::Got(id, made)) => {
-                self.got(histories, call, key, flags, *id, *made)
+        match (asked, call.answer) {
+            (Asked::Get { key, flags }, Answer::Got(id, None)) => {
+                self.found(histories, key, flags, id)
+            }
+            (Asked::Get { key, flags }, Answer::Got(id, Some(entry))) => {
+                self.new_queue(histories, call, key, flags, id, entry)
             }
             (Asked::Get { key, flags }, Answer::Refused(errno, _)) => {
-                self.not_got(histories, key, flags, *errno)
-            }
-            (Asked::Send { .. } | Asked::Set { .. }, Answer::Done(entry)) => {
-                self.made(histories, slot, *entry, call)
-            }
-            (Asked::Receive { .. }, Answer::Handed(handed)) => {
-                self.handed(histories, slot, asked, handed)?;
-                self.made(histories, slot, handed.entry, call)
-            }
-            (Asked::Remove { .. }, Answer::Removed(entry, log)) => {
-                self.removed(histories, slot, *entry, log.as_slice())?;
-                self.made(histories, slot, *entry, call)
+                self.not_got(histories, key, flags, errno)
             }
             (Asked::Stat { id }, Answer::Shown(figures)) => {
-                self.shown(histories, id, Ok(*figures))
+                self.shown(histories, id, Ok(figures))
             }
             (Asked::Stat { id }, Answer::Refused(errno, _)) => {
-                self.shown(histories, id, Err(*errno))
+                self.shown(histories, id, Err(errno))
             }
-            (Asked::Report, Answer::Rows(rows)) => self.rows(histories, rows),
-            (
-                Asked::Send { .. }
-                | Asked::Receive { .. }
-                | Asked::Set { .. }
-                | Asked::Remove { .. },
-                Answer::Refused(errno, entry),
-            ) => self.refused(histories, asked, *errno, *entry),
-            _ => Err("an answer to another call"),
+            (Asked::Report, Answer::Rows(rows)) => self.rows(histories, &rows),
+            (Asked::Receive { .. }, Answer::Handed(handed)) => {
+                self.handed(histories, call, &handed)
+            }
+            (Asked::Send { .. } | Asked::Set { .. }, Answer::Done(entry))
+            | (Asked::Remove { .. }, Answer::Removed(entry)) => {
+                self.made(histories, slot_asked(asked), entry, call)
+            }
+            (_, Answer::Refused(errno, entry)) => self.refused(histories, asked, errno, entry),
+            _ => Some(Fault::OtherCall),
         }
     }
 }

@@ -1,7 +1,7 @@
 //! What each thread does.
 
 use crate::asks::{Nothing, answer, counts, report};
-use crate::calls::{Answer, Asked, Call};
+use crate::calls::{Answer, Asked, Call, Kept};
 use crate::chooser::Chooser;
 use crate::judge::Told;
 use mq::{Errno, Names, Seat, System, Worker};
@@ -29,7 +29,7 @@ pub(crate) struct Asker<'a> {
     /// How many are through with the calls that do not wait.
     pub(crate) through: &'a AtomicU32,
     /// Where its calls are kept, with room for all of them.
-    pub(crate) calls: Vec<Call>,
+    pub(crate) kept: Kept,
 }
 
 /// Makes a call, and keeps it.
@@ -38,15 +38,15 @@ fn ask<N: Names, R: Wait>(
     system: &System<Nothing, N>,
     seat: &mut Seat<N>,
     chooser: &mut Chooser,
-    calls: &mut Vec<Call>,
+    kept: &mut Kept,
     asked: Asked,
     moment: u64,
 ) {
-    let Some(answer) = answer(rt, system, seat, asked, moment) else {
+    let Some(answer) = answer(rt, system, seat, &mut kept.logs, asked, moment) else {
         return;
     };
     chooser.learn(&answer);
-    let _ = calls.push(Call {
+    let _ = kept.calls.push(Call {
         moment,
         asked,
         answer,
@@ -64,12 +64,12 @@ fn steps<N: Names, R: Wait>(
     system: &System<Nothing, N>,
     seat: &mut Seat<N>,
     chooser: &mut Chooser,
-    calls: &mut Vec<Call>,
+    kept: &mut Kept,
 ) {
     for step in 0..STEPS {
         let moment = stamp(seat.number(), step);
         let asked = chooser.next(step, moment);
-        ask(rt, system, seat, chooser, calls, asked, moment);
+        ask(rt, system, seat, chooser, kept, asked, moment);
         if chooser.below(4) == 0 {
             yield_now();
         }
@@ -82,7 +82,7 @@ fn waits<N: Names, R: Wait>(
     system: &System<Nothing, N>,
     seat: &mut Seat<N>,
     chooser: &mut Chooser,
-    calls: &mut Vec<Call>,
+    kept: &mut Kept,
 ) {
     for step in STEPS..STEPS + WAITS {
         let moment = stamp(seat.number(), step);
@@ -90,7 +90,7 @@ fn waits<N: Names, R: Wait>(
             0 => chooser.send(moment, false),
             _ => chooser.receive(false),
         };
-        ask(rt, system, seat, chooser, calls, asked, moment);
+        ask(rt, system, seat, chooser, kept, asked, moment);
     }
 }
 
@@ -99,17 +99,17 @@ fn remove<N: Names, R: Wait>(
     rt: &R,
     system: &System<Nothing, N>,
     seat: &mut Seat<N>,
-    calls: &mut Vec<Call>,
+    kept: &mut Kept,
     id: u32,
     moment: u64,
 ) {
     let asked = Asked::Remove { id };
     for _ in rt.forever() {
-        let Some(answer) = answer(rt, system, seat, asked, moment) else {
+        let Some(answer) = answer(rt, system, seat, &mut kept.logs, asked, moment) else {
             return;
         };
         let again = matches!(&answer, Answer::Refused(Errno::ENOMEM, _));
-        let _ = calls.push(Call {
+        let _ = kept.calls.push(Call {
             moment,
             asked,
             answer,
@@ -125,13 +125,13 @@ fn clear<N: Names, R: Wait>(
     rt: &R,
     system: &System<Nothing, N>,
     seat: &mut Seat<N>,
-    calls: &mut Vec<Call>,
+    kept: &mut Kept,
 ) {
     let moment = stamp(seat.number(), STEPS + WAITS);
     let Some(rows) = report(system, seat) else {
         return;
     };
-    let _ = calls.push(Call {
+    let _ = kept.calls.push(Call {
         moment,
         asked: Asked::Report,
         answer: Answer::Rows(rows),
@@ -141,7 +141,7 @@ fn clear<N: Names, R: Wait>(
         if row.live {
             let seq = row.made.saturating_sub(1);
             let id = seq.wrapping_mul(64).wrapping_add(slot);
-            remove(rt, system, seat, calls, id, moment);
+            remove(rt, system, seat, kept, id, moment);
         }
         slot = slot.wrapping_add(1);
     }
@@ -160,18 +160,18 @@ impl<'a> Worker<Nothing> for Asker<'a> {
         let Asker {
             all,
             through,
-            mut calls,
+            mut kept,
         } = self;
         let number = seat.number();
         let mut chooser = Chooser::new(u64::from(number));
-        steps(rt, system, seat, &mut chooser, &mut calls);
+        steps(rt, system, seat, &mut chooser, &mut kept);
         if through.fetch_add(1, Ordering::SeqCst).wrapping_add(1) == all {
-            clear(rt, system, seat, &mut calls);
+            clear(rt, system, seat, &mut kept);
         }
-        waits(rt, system, seat, &mut chooser, &mut calls);
+        waits(rt, system, seat, &mut chooser, &mut kept);
         Told {
             seat: number,
-            calls,
+            kept,
             counts: counts(system, seat),
         }
     }
