@@ -463,36 +463,35 @@ fn closed(alloc: Global, events: &[Event], left: u64) -> Result<ClosedSlot, Allo
     })
 }
 
-/// What is found where this seat makes this call in place of the one that it has there.
-fn found(alloc: Global, seat: u16, place: usize, call: Call) -> Result<(), Flaw> {
+/// Both seats, where this call is made in place of the one that stands there.
+fn seats(alloc: Global, wrong: &Wrong) -> Result<Vec<Told>, AllocError> {
     let mut all = Vec::with_capacity(alloc, 2)?;
     all.push_reserved(told(alloc, 1, &FIRST_SEAT, [3, 0, 0])?);
     all.push_reserved(told(alloc, 2, &SECOND_SEAT, [2, 0, 0])?);
     for told in all.iter_mut() {
-        if told.seat == seat
-            && let Some(old) = told.kept.calls.get_mut(place)
+        if told.seat == wrong.seat
+            && let Some(call) = told.kept.calls.get_mut(wrong.place)
         {
-            *old = call;
+            call.asked = wrong.asked;
+            call.answer = wrong.answer;
         }
     }
+    Ok(all)
+}
+
+fn slots(alloc: Global) -> Result<Vec<ClosedSlot>, AllocError> {
     let mut slots = Vec::with_capacity(alloc, SLOTS)?;
     slots.push_reserved(closed(alloc, &EVENTS, 1)?);
     slots.push_reserved(closed(alloc, &[], 0)?);
     slots.push_reserved(closed(alloc, &[], 0)?);
-    judge(alloc, slots.as_slice(), all.as_slice(), 9)
+    Ok(slots)
 }
 
-/// The same of a call at the moment that has its seat and place.
+/// What is found where this call is made.
 fn found_by(alloc: Global, wrong: &Wrong) -> Result<(), Flaw> {
-    let moment = u64::from(wrong.seat)
-        .wrapping_mul(10)
-        .wrapping_add(wrong.place as u64);
-    let call = Call {
-        moment,
-        asked: wrong.asked,
-        answer: wrong.answer,
-    };
-    found(alloc, wrong.seat, wrong.place, call)
+    let slots = slots(alloc)?;
+    let all = seats(alloc, wrong)?;
+    judge(alloc, slots.as_slice(), all.as_slice(), 9)
 }
 
 /// Each of these calls is found, with what is wrong with it.

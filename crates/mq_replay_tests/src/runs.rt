@@ -6,7 +6,10 @@ use crate::judge::judge;
 use crate::worker::{Asker, STEPS, WAITS};
 use mq::{Config, WorkersError, with_workers};
 use std::alloc::{AllocError, Global};
+use std::process::Abort;
+use std::sync::Wait;
 use std::sync::atomic::AtomicU32;
+use std::thread::Threads;
 
 const SEATS: u16 = 16;
 
@@ -18,11 +21,21 @@ const CONFIG: Config = Config {
     last_seq: 9999,
 };
 
+/// How often sixteen threads begin, each time with other choices.
+const ROUNDS: u16 = 4;
+
 /// One worker for each seat, with room for all that it will keep.
-fn askers<'a>(alloc: Global, through: &'a AtomicU32) -> Result<Vec<Asker<'a>>, AllocError> {
+fn askers<'a>(
+    alloc: Global,
+    through: &'a AtomicU32,
+    round: u16,
+) -> Result<Vec<Asker<'a>>, AllocError> {
     let mut askers = Vec::new(alloc);
-    for _seat in 0..SEATS {
+    for seat in 0..SEATS {
         askers.push(Asker {
+            seed: u64::from(round)
+                .wrapping_mul(100)
+                .wrapping_add(u64::from(seat)),
             all: u32::from(SEATS),
             through,
             kept: Kept::with_capacity(alloc, (STEPS + WAITS) as usize + 20)?,
@@ -31,21 +44,26 @@ fn askers<'a>(alloc: Global, through: &'a AtomicU32) -> Result<Vec<Asker<'a>>, A
     Ok(askers)
 }
 
-#[test]
-fn each_reply_is_that_of_the_slots_list(rt: HostRuntime) {
+/// Sixteen threads call, and each reply is right.
+fn replays<R: Abort + Threads + Wait + Sync>(rt: &R, alloc: Global, round: u16) {
     let through = AtomicU32::new(0);
-    let Ok(askers) = askers(rt.alloc(), &through) else {
+    let Ok(askers) = askers(alloc, &through, round) else {
         panic!(rt; "out of memory");
     };
-    let ended = match with_workers(&rt, rt.alloc(), CONFIG, askers) {
+    let ended = match with_workers(rt, alloc, CONFIG, askers) {
         Ok(ended) => ended,
         Err(WorkersError::Memory | WorkersError::Thread) => panic!(rt; "out of memory"),
         Err(error) => panic!(rt; "{error}"),
     };
     let told = ended.answer.as_slice();
-    let judged = judge(rt.alloc(), ended.slots.as_slice(), told, CONFIG.last_seq);
-    if let Err(flaw) = judged {
-        panic!(rt; "{flaw:?}");
+    let judged = judge(alloc, ended.slots.as_slice(), told, CONFIG.last_seq);
+    assert!(rt; judged == Ok(()), "round {round}: {judged:?}");
+    assert!(rt; ended.free_pages == 1024, "round {round}: a page is lost");
+}
+
+#[test]
+fn each_reply_is_that_of_the_slots_list(rt: HostRuntime) {
+    for round in 0..ROUNDS {
+        replays(&rt, rt.alloc(), round);
     }
-    assert!(rt; ended.free_pages == 1024, "a page is lost");
 }

@@ -24,6 +24,8 @@ pub(crate) const WAITS: u64 = 40;
 /// EIDRM, if it has not ended before.
 #[derive(Drop)]
 pub(crate) struct Asker<'a> {
+    /// What its choices begin with.
+    pub(crate) seed: u64,
     /// How many workers there are.
     pub(crate) all: u32,
     /// How many are through with the calls that do not wait.
@@ -158,12 +160,13 @@ impl<'a> Worker<Nothing> for Asker<'a> {
         seat: &mut Seat<N>,
     ) -> Told {
         let Asker {
+            seed,
             all,
             through,
             mut kept,
         } = self;
         let number = seat.number();
-        let mut chooser = Chooser::new(u64::from(number));
+        let mut chooser = Chooser::new(seed);
         steps(rt, system, seat, &mut chooser, &mut kept);
         if through.fetch_add(1, Ordering::SeqCst).wrapping_add(1) == all {
             clear(rt, system, seat, &mut kept);
