@@ -1,8 +1,8 @@
 #!/usr/bin/env bash
-# Runs the test of mq_replay_tests in which sixteen threads call at once, in whatever schedules come,
-# and some times with all its threads on one processor. Each run must end, and find each reply in
-# the lists that the slots leave. Wants the test to be built. Prints the runs that fail; the last
-# line counts the runs.
+# Runs the test of mq_replay_tests in which sixteen threads call at once, in whatever schedules
+# come, and some times with all its threads on one processor. Each run must end within a minute, and
+# find each reply in the lists that the slots leave. Wants the test to be built. Prints the runs
+# that fail; the last line counts the runs.
 source "$(dirname "$0")/cases.sh"
 runs=8
 alone=4

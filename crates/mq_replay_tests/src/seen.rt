@@ -206,8 +206,8 @@ impl Seen {
         None
     }
 
-    /// Whether no slot had a queue with this key, unless it is 0, at some time of a call before which
-    /// so much was seen. What else the call showed may have been at another time.
+    /// Whether no slot had a queue with this key, unless it is 0, at some time of a call before
+    /// which so much was seen. What else the call showed may have been at another time.
     fn lacked(&mut self, histories: &[History], before: Seen, key: i32) -> bool {
         if key == 0 {
             return true;

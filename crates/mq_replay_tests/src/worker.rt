@@ -17,11 +17,12 @@ pub(crate) const WAITS: u64 = 40;
 
 /// Makes its calls, and then calls that wait.
 ///
-/// It ends in every schedule. Its first calls do not wait. Each worker that is through with them adds
-/// one to `through`, and the last one to do so removes each queue that is there. Nobody makes a queue
-/// any more then, since a call that waits makes none. So a call that waits names a queue that is gone,
-/// and is refused; or one that is removed at the latest by the last one through, and then it answers
-/// EIDRM, if it has not ended before.
+/// It ends in every schedule. Its first calls do not wait. Each worker that is through with them
+/// adds one to `through`, and the last one to do so removes each queue that is there, again where
+/// there was no memory for it. Its report shows all of them: a making is shown before it is
+/// answered. Nobody makes a queue any more then, since a call that waits makes none. So a call that
+/// waits names a queue that is gone, and is refused; or one that is removed at the latest by the
+/// last one through, and then it answers EIDRM, if it has not ended before.
 #[derive(Drop)]
 pub(crate) struct Asker<'a> {
     /// What its choices begin with.
