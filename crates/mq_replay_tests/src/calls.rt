@@ -1,0 +1,103 @@
+//! What a seat keeps of each of its calls.
+
+use mq::{BoardRow, Errno, Event, Figures, GetFlags};
+use std::alloc::{AllocError, Global};
+
+/// How many slots there are.
+pub(crate) const SLOTS: usize = 3;
+
+/// What a call asks for. An id is its number, and a text is told by its length and its tag.
+#[derive(Clone, Copy)]
+pub(crate) enum Asked {
+    Get {
+        key: i32,
+        flags: GetFlags,
+    },
+    Send {
+        id: u32,
+        mtype: i64,
+        tag: u64,
+        length: u64,
+        nowait: bool,
+    },
+    Receive {
+        id: u32,
+        size: u64,
+        msgtyp: i64,
+        except: bool,
+        noerror: bool,
+        nowait: bool,
+    },
+    Set {
+        id: u32,
+        qbytes: u64,
+    },
+    Remove {
+        id: u32,
+    },
+    Stat {
+        id: u32,
+    },
+    Report,
+}
+
+/// A message as its receiver got it.
+#[derive(Clone, Copy)]
+pub(crate) struct Handed {
+    pub(crate) entry: u64,
+    pub(crate) mtype: i64,
+    pub(crate) sender: u16,
+    pub(crate) tag: u64,
+    /// How many bytes were sent.
+    pub(crate) length: u64,
+    /// How many bytes came.
+    pub(crate) came: u64,
+    /// Whether each of them is the one that the tag says.
+    pub(crate) as_sent: bool,
+}
+
+/// What a call was answered.
+#[derive(Clone, Copy)]
+pub(crate) enum Answer {
+    /// The id, and the entry of a making.
+    Got(u32, Option<u64>),
+    /// The entry of a sending or of a new quota.
+    Done(u64),
+    Handed(Handed),
+    /// The entry of a removal.
+    Removed(u64),
+    Shown(Figures),
+    Rows([BoardRow; SLOTS]),
+    /// Why, and after how many entries, where that is told.
+    Refused(Errno, Option<u64>),
+}
+
+#[derive(Clone, Copy)]
+pub(crate) struct Call {
+    pub(crate) moment: u64,
+    pub(crate) asked: Asked,
+    pub(crate) answer: Answer,
+}
+
+/// All calls of a seat in its order.
+#[derive(Drop)]
+pub(crate) struct Kept {
+    pub(crate) calls: Vec<Call>,
+    /// The logs of the queues that it removed.
+    pub(crate) logs: Vec<Vec<Event>>,
+}
+
+impl Kept {
+    /// Room for so many calls.
+    pub(crate) fn with_capacity(alloc: Global, count: usize) -> Result<Kept, AllocError> {
+        let calls = Vec::with_capacity(alloc, count)?;
+        let logs = Vec::with_capacity(alloc, count)?;
+        Ok(Kept { calls, logs })
+    }
+}
+
+/// The byte at this position of a text with this tag.
+pub(crate) fn byte_of(tag: u64, position: u64) -> u8 {
+    let sum = tag.wrapping_mul(31).wrapping_add(position.wrapping_mul(7));
+    (sum % 251) as u8
+}

@@ -1,0 +1,69 @@
+//! Sixteen threads that call at once.
+
+use crate::asks::Nothing;
+use crate::calls::{Kept, SLOTS};
+use crate::judge::judge;
+use crate::worker::{Asker, STEPS, WAITS};
+use mq::{Config, WorkersError, with_workers};
+use std::alloc::{AllocError, Global};
+use std::process::Abort;
+use std::sync::Wait;
+use std::sync::atomic::AtomicU32;
+use std::thread::Threads;
+
+const SEATS: u16 = 16;
+
+/// Pages enough for all that can wait and be drafted at a time, and ids enough for all calls.
+const CONFIG: Config = Config {
+    height: 10,
+    slots: SLOTS as u8,
+    seats: SEATS,
+    last_seq: 9999,
+};
+
+/// How often sixteen threads begin, each time with other choices.
+const ROUNDS: u16 = 4;
+
+/// One worker for each seat, with room for all that it will keep.
+fn askers<'a>(
+    alloc: Global,
+    through: &'a AtomicU32,
+    round: u16,
+) -> Result<Vec<Asker<'a>>, AllocError> {
+    let mut askers = Vec::new(alloc);
+    for seat in 0..SEATS {
+        askers.push(Asker {
+            seed: u64::from(round)
+                .wrapping_mul(100)
+                .wrapping_add(u64::from(seat)),
+            all: u32::from(SEATS),
+            through,
+            kept: Kept::with_capacity(alloc, (STEPS + WAITS) as usize + 20)?,
+        })?;
+    }
+    Ok(askers)
+}
+
+/// Sixteen threads call, and each reply is right.
+fn replays<R: Abort + Threads + Wait + Sync>(rt: &R, alloc: Global, round: u16) {
+    let through = AtomicU32::new(0);
+    let Ok(askers) = askers(alloc, &through, round) else {
+        panic!(rt; "out of memory");
+    };
+    let ended = match with_workers(rt, alloc, CONFIG, askers) {
+        Ok(ended) => ended,
+        Err(WorkersError::Memory | WorkersError::Thread) => panic!(rt; "out of memory"),
+        Err(error) => panic!(rt; "{error}"),
+    };
+    let told = ended.answer.as_slice();
+    let judged = judge(alloc, ended.slots.as_slice(), told, CONFIG.last_seq);
+    assert!(rt; judged == Ok(()), "round {round}: {judged:?}");
+    assert!(rt; ended.free_pages == 1024, "round {round}: a page is lost");
+}
+
+#[test]
+fn each_reply_is_that_of_the_slots_list(rt: HostRuntime) {
+    for round in 0..ROUNDS {
+        replays(&rt, rt.alloc(), round);
+    }
+}

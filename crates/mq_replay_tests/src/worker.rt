@@ -1,0 +1,182 @@
+//! What each thread does.
+
+use crate::asks::{Nothing, answer, counts, report};
+use crate::calls::{Answer, Asked, Call, Kept};
+use crate::chooser::Chooser;
+use crate::judge::Told;
+use mq::{Errno, Names, Seat, System, Worker};
+use std::alloc::Global;
+use std::sync::Wait;
+use std::sync::atomic::{AtomicU32, Ordering};
+use std::thread::yield_now;
+
+/// How many calls a seat makes that do not wait, and then how many that do.
+pub(crate) const STEPS: u64 = 300;
+
+pub(crate) const WAITS: u64 = 40;
+
+/// Makes its calls, and then calls that wait.
+///
+/// It ends in every schedule. Its first calls do not wait. Each worker that is through with them
+/// adds one to `through`, and the last one to do so removes each queue that is there, again where
+/// there was no memory for it. Its report shows all of them: a making is shown before it is
+/// answered. Nobody makes a queue any more then, since a call that waits makes none. So a call that
+/// waits names a queue that is gone, and is refused; or one that is removed at the latest by the
+/// last one through, and then it answers EIDRM, if it has not ended before.
+#[derive(Drop)]
+pub(crate) struct Asker<'a> {
+    /// What its choices begin with.
+    pub(crate) seed: u64,
+    /// How many workers there are.
+    pub(crate) all: u32,
+    /// How many are through with the calls that do not wait.
+    pub(crate) through: &'a AtomicU32,
+    /// Where its calls are kept, with room for all of them.
+    pub(crate) kept: Kept,
+}
+
+/// Makes a call, and keeps it.
+fn ask<N: Names, R: Wait>(
+    rt: &R,
+    system: &System<Nothing, N>,
+    seat: &mut Seat<N>,
+    chooser: &mut Chooser,
+    kept: &mut Kept,
+    asked: Asked,
+    moment: u64,
+) {
+    let Some(answer) = answer(rt, system, seat, &mut kept.logs, asked, moment) else {
+        return;
+    };
+    chooser.learn(&answer);
+    let _ = kept.calls.push(Call {
+        moment,
+        asked,
+        answer,
+    });
+}
+
+/// A number that no other call has: the seat's and the call's.
+fn stamp(number: u16, step: u64) -> u64 {
+    u64::from(number).wrapping_mul(10_000).wrapping_add(step)
+}
+
+/// The calls that do not wait. Now and then others are let go first.
+fn steps<N: Names, R: Wait>(
+    rt: &R,
+    system: &System<Nothing, N>,
+    seat: &mut Seat<N>,
+    chooser: &mut Chooser,
+    kept: &mut Kept,
+) {
+    for step in 0..STEPS {
+        let moment = stamp(seat.number(), step);
+        let asked = chooser.next(step, moment);
+        ask(rt, system, seat, chooser, kept, asked, moment);
+        if chooser.below(4) == 0 {
+            yield_now();
+        }
+    }
+}
+
+/// The calls that may wait.
+fn waits<N: Names, R: Wait>(
+    rt: &R,
+    system: &System<Nothing, N>,
+    seat: &mut Seat<N>,
+    chooser: &mut Chooser,
+    kept: &mut Kept,
+) {
+    for step in STEPS..STEPS + WAITS {
+        let moment = stamp(seat.number(), step);
+        let asked = match chooser.below(2) {
+            0 => chooser.send(moment, false),
+            _ => chooser.receive(false),
+        };
+        ask(rt, system, seat, chooser, kept, asked, moment);
+    }
+}
+
+/// Removes this queue; a call for which there was no memory is made again.
+fn remove<N: Names, R: Wait>(
+    rt: &R,
+    system: &System<Nothing, N>,
+    seat: &mut Seat<N>,
+    kept: &mut Kept,
+    id: u32,
+    moment: u64,
+) {
+    let asked = Asked::Remove { id };
+    for _ in rt.forever() {
+        let Some(answer) = answer(rt, system, seat, &mut kept.logs, asked, moment) else {
+            return;
+        };
+        let again = matches!(&answer, Answer::Refused(Errno::ENOMEM, _));
+        let _ = kept.calls.push(Call {
+            moment,
+            asked,
+            answer,
+        });
+        if !again {
+            return;
+        }
+    }
+}
+
+/// Removes each queue that is there.
+fn clear<N: Names, R: Wait>(
+    rt: &R,
+    system: &System<Nothing, N>,
+    seat: &mut Seat<N>,
+    kept: &mut Kept,
+) {
+    let moment = stamp(seat.number(), STEPS + WAITS);
+    let Some(rows) = report(system, seat) else {
+        return;
+    };
+    let _ = kept.calls.push(Call {
+        moment,
+        asked: Asked::Report,
+        answer: Answer::Rows(rows),
+    });
+    let mut slot = 0u32;
+    for row in &rows {
+        if row.live {
+            let seq = row.made.saturating_sub(1);
+            let id = seq.wrapping_mul(64).wrapping_add(slot);
+            remove(rt, system, seat, kept, id, moment);
+        }
+        slot = slot.wrapping_add(1);
+    }
+}
+
+impl<'a> Worker<Nothing> for Asker<'a> {
+    type Answer = Told;
+
+    fn work<N: Names, R: Wait>(
+        self,
+        rt: &R,
+        _alloc: Global,
+        system: &System<Nothing, N>,
+        seat: &mut Seat<N>,
+    ) -> Told {
+        let Asker {
+            seed,
+            all,
+            through,
+            mut kept,
+        } = self;
+        let number = seat.number();
+        let mut chooser = Chooser::new(seed);
+        steps(rt, system, seat, &mut chooser, &mut kept);
+        if through.fetch_add(1, Ordering::SeqCst).wrapping_add(1) == all {
+            clear(rt, system, seat, &mut kept);
+        }
+        waits(rt, system, seat, &mut chooser, &mut kept);
+        Told {
+            seat: number,
+            kept,
+            counts: counts(system, seat),
+        }
+    }
+}
