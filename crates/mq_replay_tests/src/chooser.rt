@@ -19,6 +19,9 @@ const STATS: u64 = 6;
 /// After so many calls a seat that mostly sent mostly receives.
 const TURN: u64 = 64;
 
+/// The ids of so many queues later are never given: the last seq is lower.
+pub(crate) const NEVER: u32 = 10_000;
+
 /// A seat's choices.
 #[derive(Drop)]
 pub(crate) struct Chooser {
@@ -58,13 +61,13 @@ impl Chooser {
     }
 
     /// The id of the queue that was made last in the slot, as far as the seat knows; seldom an
-    /// older one, one that is not given yet, or one of no slot.
+    /// older one, one that is never given, or one of no slot.
     fn id_in(&mut self, slot: u32) -> u32 {
         let made = self.made.get(slot as usize).copied().unwrap_or(0);
         let last = made.saturating_sub(1);
         let seq = match self.below(64) {
             0 => last.saturating_sub(1),
-            1 => last.wrapping_add(500),
+            1 => last.wrapping_add(NEVER),
             _ => last,
         };
         let slot = if self.one_of(128) { 63 } else { slot };

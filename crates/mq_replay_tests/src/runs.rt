@@ -2,8 +2,9 @@
 
 use crate::asks::Nothing;
 use crate::calls::{Kept, SLOTS};
+use crate::chooser::NEVER;
 use crate::judge::judge;
-use crate::worker::{Asker, STEPS, WAITS};
+use crate::worker::{ALL, Asker};
 use mq::{Config, WorkersError, with_workers};
 use std::alloc::{AllocError, Global};
 use std::process::Abort;
@@ -18,7 +19,7 @@ const CONFIG: Config = Config {
     height: 10,
     slots: SLOTS as u8,
     seats: SEATS,
-    last_seq: 9999,
+    last_seq: NEVER - 1,
 };
 
 /// How often sixteen threads begin, each time with other choices.
@@ -38,7 +39,7 @@ fn askers<'a>(
                 .wrapping_add(u64::from(seat)),
             all: u32::from(SEATS),
             through,
-            kept: Kept::with_capacity(alloc, (STEPS + WAITS) as usize + 20)?,
+            kept: Kept::with_capacity(alloc, ALL as usize + 20)?,
         })?;
     }
     Ok(askers)

@@ -10,26 +10,28 @@ use std::sync::Wait;
 use std::sync::atomic::{AtomicU32, Ordering};
 use std::thread::yield_now;
 
-/// How many calls a seat makes that do not wait, and then how many that do.
-pub(crate) const STEPS: u64 = 300;
+/// A seat's first calls do not wait, up to this one; the next ones may; and the last ones do not.
+const FIRST: u64 = 300;
 
-pub(crate) const WAITS: u64 = 40;
+const WAITING: u64 = 340;
 
-/// Makes its calls, and then calls that wait.
+pub(crate) const ALL: u64 = 380;
+
+/// Makes calls that do not wait, then calls that may, and then more that do not.
 ///
-/// It ends in every schedule. Its first calls do not wait. Each worker that is through with them
-/// adds one to `through`, and the last one to do so removes each queue that is there, again where
-/// there was no memory for it. Its report shows all of them: a making is shown before it is
-/// answered. Nobody makes a queue any more then, since a call that waits makes none. So a call that
-/// waits names a queue that is gone, and is refused; or one that is removed at the latest by the
-/// last one through, and then it answers EIDRM, if it has not ended before.
+/// It ends in every schedule. Each worker that is through with its first calls adds one to
+/// `through`, and the last one to do so removes each queue that is there, again where there was no
+/// memory for it. Its report shows all of them: a making is shown before it is answered. A call
+/// that may wait names an id that its seat knew when it was through, or one that is never given. So
+/// the queue that it names, if there was one, is gone at the latest when the last one through has
+/// removed what was there; and then it answers EIDRM, if it has not ended before.
 #[derive(Drop)]
 pub(crate) struct Asker<'a> {
     /// What its choices begin with.
     pub(crate) seed: u64,
     /// How many workers there are.
     pub(crate) all: u32,
-    /// How many are through with the calls that do not wait.
+    /// How many are through with their first calls.
     pub(crate) through: &'a AtomicU32,
     /// Where its calls are kept, with room for all of them.
     pub(crate) kept: Kept,
@@ -61,15 +63,17 @@ fn stamp(number: u16, step: u64) -> u64 {
     u64::from(number).wrapping_mul(10_000).wrapping_add(step)
 }
 
-/// The calls that do not wait. Now and then others are let go first.
+/// The calls between these numbers, which do not wait. Now and then others are let go first.
 fn steps<N: Names, R: Wait>(
     rt: &R,
     system: &System<Nothing, N>,
     seat: &mut Seat<N>,
     chooser: &mut Chooser,
     kept: &mut Kept,
+    from: u64,
+    to: u64,
 ) {
-    for step in 0..STEPS {
+    for step in from..to {
         let moment = stamp(seat.number(), step);
         let asked = chooser.next(step, moment);
         ask(rt, system, seat, chooser, kept, asked, moment);
@@ -87,7 +91,7 @@ fn waits<N: Names, R: Wait>(
     chooser: &mut Chooser,
     kept: &mut Kept,
 ) {
-    for step in STEPS..STEPS + WAITS {
+    for step in FIRST..WAITING {
         let moment = stamp(seat.number(), step);
         let asked = match chooser.below(2) {
             0 => chooser.send(moment, false),
@@ -130,7 +134,7 @@ fn clear<N: Names, R: Wait>(
     seat: &mut Seat<N>,
     kept: &mut Kept,
 ) {
-    let moment = stamp(seat.number(), STEPS + WAITS);
+    let moment = stamp(seat.number(), ALL);
     let Some(rows) = report(system, seat) else {
         return;
     };
@@ -168,11 +172,12 @@ impl<'a> Worker<Nothing> for Asker<'a> {
         } = self;
         let number = seat.number();
         let mut chooser = Chooser::new(seed);
-        steps(rt, system, seat, &mut chooser, &mut kept);
+        steps(rt, system, seat, &mut chooser, &mut kept, 0, FIRST);
         if through.fetch_add(1, Ordering::SeqCst).wrapping_add(1) == all {
             clear(rt, system, seat, &mut kept);
         }
         waits(rt, system, seat, &mut chooser, &mut kept);
+        steps(rt, system, seat, &mut chooser, &mut kept, WAITING, ALL);
         Told {
             seat: number,
             kept,
