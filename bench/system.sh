@@ -1,16 +1,18 @@
 #!/bin/bash
-# Times System: one text that a seat drafts, sends, receives and spends, beside the same cycle of
-# OneThread and of the kernel's queues; and one that two threads pass there and back, each waiting
-# for the other, beside two threads on the kernel's queues: `bench/system.sh [CYCLES] [ROUNDS]`, at
-# least 15 rounds. Medians of rounds in which the programs take turns; what a run of no cycles takes
-# is left out. Each time is printed beside what is wanted; the status is 1 where one is missed.
+# Times System: one text that a seat drafts, sends, receives and spends, among 2 seats and among 16,
+# beside the same cycle of OneThread and of the kernel's queues; one that two threads pass there and
+# back, each waiting for the other, beside two threads on the kernel's queues; and the figures that a
+# seat asks for while 0, 2 and 8 others send and receive, beside IPC_STAT of a queue of the kernel:
+# `bench/system.sh [CYCLES] [ROUNDS]`, at least 15 rounds. Medians of rounds in which the programs
+# take turns; what a run of no cycles takes is left out. Each time is printed beside what is wanted;
+# the status is 1 where one is missed.
 # Wants cc, and a machine with nothing else to do.
 set -euo pipefail
 cd "$(dirname "$0")/.."
 (cd crates/bench && rt run > /dev/null)
 folder=$(mktemp -d)
 trap 'rm -rf "$folder"' EXIT
-for program in kernel_cycle kernel_two; do
+for program in kernel_cycle kernel_two kernel_stat; do
     cc -O2 -Wall -Wextra -pthread -o "$folder/$program" "bench/$program.c"
 done
 python3 - "${1:-100000}" "${2:-15}" "$folder" <<'PYTHON'
@@ -21,31 +23,43 @@ import sys
 import time
 
 CYCLES, ROUNDS, FOLDER = int(sys.argv[1]), int(sys.argv[2]), sys.argv[3]
-ONE_THREAD = ["crates/bench/out/bench", "cycle"]
-SYSTEM = ["crates/bench/out/bench", "system"]
-# The most of the kernel's time, and the most nanoseconds more than OneThread's.
-OF_KERNEL, MORE = 0.4, 130
+BENCH = "crates/bench/out/bench"
+# The most of the kernel's time: of a text of 1,024 bytes by the number of seats, there and back,
+# and of the figures.
+OF_CYCLE, BACK, STAT = {2: 0.75, 16: 1.0}, 0.4, 0.1
 
 
-def run(command, size, cycles):
-    """Seconds of one run, whose answer is looked at."""
+def seconds(words, cycles):
+    """The time of one run; the first number that it prints is looked at."""
     begin = time.perf_counter()
-    line = subprocess.run([*command, str(size), str(cycles)], check=True, capture_output=True,
-                          text=True).stdout
-    seconds = time.perf_counter() - begin
-    assert line.startswith(f"{size * cycles} bytes came"), line
-    return seconds
+    said = subprocess.run([*map(str, words)], check=True, capture_output=True, text=True).stdout
+    spent = time.perf_counter() - begin
+    assert cycles == 0 or int(said.split()[0]) % cycles == 0, said
+    return spent
 
 
-def nanoseconds(commands, size, cycles):
-    """The median of each program for one cycle."""
-    times = [[] for _ in commands]
+def nanoseconds(runs, cycles):
+    """The median of each run for one cycle, where a run is its words for a number of cycles."""
+    times = [[] for _ in runs]
     for turn in range(ROUNDS):
-        order = list(enumerate(commands))
-        for k, command in order if turn % 2 == 0 else reversed(order):
-            empty = run(command, size, 0)
-            times[k].append((run(command, size, cycles) - empty) / cycles * 1e9)
+        order = list(enumerate(runs))
+        for k, words in order if turn % 2 == 0 else reversed(order):
+            empty = seconds(words(0), 0)
+            times[k].append((seconds(words(cycles), cycles) - empty) / cycles * 1e9)
     return [statistics.median(each) for each in times]
+
+
+def cycles_of(size):
+    """The median of a cycle among 2 seats, among 16, by OneThread, and by the kernel."""
+    return nanoseconds(
+        [
+            lambda n: [BENCH, "system", "alone", size, n, 2],
+            lambda n: [BENCH, "system", "alone", size, n, 16],
+            lambda n: [BENCH, "cycle", size, n],
+            lambda n: [f"{FOLDER}/kernel_cycle", size, n],
+        ],
+        CYCLES,
+    )
 
 
 def main():
@@ -53,20 +67,34 @@ def main():
         sys.exit("at least 15 rounds")
     print("load average at the start:", *(f"{load:.2f}" for load in os.getloadavg()))
     missed = 0
-    print(f"{'alone':>6}{'System ns':>11}{'OneThread ns':>14}{'more':>6}{'wanted':>8}"
-          f"{'kernel ns':>11}{'ratio':>7}{'wanted':>8}")
+    print(f"{'bytes':>6}{'2 seats ns':>12}{'16 seats ns':>13}{'OneThread ns':>14}{'kernel ns':>11}"
+          f"{'2 seats':>9}{'wanted':>8}{'16 seats':>10}{'wanted':>8}")
     for size in (0, 16, 1024, 8192):
-        system, one, kernel = nanoseconds(
-            [[*SYSTEM, "alone"], ONE_THREAD, [f"{FOLDER}/kernel_cycle"]], size, CYCLES)
-        missed += (system - one > MORE) + (system / kernel > OF_KERNEL)
-        print(f"{size:6}{system:11.0f}{one:14.0f}{system - one:6.0f}{MORE:8}{kernel:11.0f}"
-              f"{system / kernel:7.2f}{OF_KERNEL:8.2f}")
+        two, sixteen, one, kernel = cycles_of(size)
+        wanted = OF_CYCLE if size == 1024 else {}
+        ratios = {2: two / kernel, 16: sixteen / kernel}
+        missed += sum(ratios[seats] > most for seats, most in wanted.items())
+        print(f"{size:6}{two:12.0f}{sixteen:13.0f}{one:14.0f}{kernel:11.0f}"
+              f"{ratios[2]:9.2f}{wanted.get(2, ''):>8}{ratios[16]:10.2f}{wanted.get(16, ''):>8}")
     print(f"{'two':>6}{'System ns':>11}{'kernel ns':>11}{'ratio':>7}{'wanted':>8}")
     for size in (0, 8192):
-        system, kernel = nanoseconds(
-            [[*SYSTEM, "two"], [f"{FOLDER}/kernel_two"]], size, CYCLES // 5)
-        missed += system / kernel > OF_KERNEL
-        print(f"{size:6}{system:11.0f}{kernel:11.0f}{system / kernel:7.2f}{OF_KERNEL:8.2f}")
+        ours, kernel = nanoseconds(
+            [
+                lambda n: [BENCH, "system", "two", size, n],
+                lambda n: [f"{FOLDER}/kernel_two", size, n],
+            ],
+            CYCLES // 5,
+        )
+        missed += ours / kernel > BACK
+        print(f"{size:6}{ours:11.0f}{kernel:11.0f}{ours / kernel:7.2f}{BACK:8.2f}")
+    print(f"{'stat':>6}{'System ns':>11}{'kernel ns':>11}{'ratio':>7}{'wanted':>8}")
+    for senders in (0, 2, 8):
+        ours, kernel = nanoseconds(
+            [lambda n: [BENCH, "stat", n, senders], lambda n: [f"{FOLDER}/kernel_stat", n]],
+            CYCLES * 5,
+        )
+        missed += ours / kernel > STAT
+        print(f"{senders:6}{ours:11.0f}{kernel:11.0f}{ours / kernel:7.2f}{STAT:8.2f}")
     sys.exit(f"{missed} missed" if missed else 0)
 
 

@@ -1,11 +1,12 @@
 //! What the scripts of bench/ measure, by the first word: `bench tree`, `cycle`, `system`,
-//! `channel`, `waiting` or `board`, each with words of its own. Without words it does a little of
-//! each.
+//! `stat`, `channel`, `waiting` or `board`, each with words of its own. Without words it does a
+//! little of each.
 #![tactic(auto)]
 
 mod board;
 mod channel;
 mod cycle;
+mod stat;
 mod system;
 mod tree;
 mod waiting;
@@ -28,6 +29,7 @@ fn main(rt: HostRuntime) -> Result<()> {
         "tree" => tree::run(&rt, alloc, &words),
         "cycle" => cycle::run(&rt, alloc, &words),
         "system" => system::run(&rt, alloc, &words),
+        "stat" => stat::run(&rt, alloc, &words),
         "channel" => channel::run(&rt, alloc, &words),
         "waiting" => waiting::run(&rt, alloc, &words),
         "board" => board::run(&rt, alloc, &words),
@@ -35,6 +37,7 @@ fn main(rt: HostRuntime) -> Result<()> {
             tree::run(&rt, alloc, &words)?;
             cycle::run(&rt, alloc, &words)?;
             system::run(&rt, alloc, &words)?;
+            stat::run(&rt, alloc, &words)?;
             channel::run(&rt, alloc, &words)?;
             waiting::run(&rt, alloc, &words)?;
             board::run(&rt, alloc, &words)

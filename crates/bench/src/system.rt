@@ -11,7 +11,7 @@ use std::sync::Wait;
 use std::thread::Threads;
 
 /// Nothing is pledged.
-struct Anything;
+pub(crate) struct Anything;
 
 impl Pledge for Anything {
     ghost kept = { λ _ _ _ _. Unit {0} };
@@ -57,8 +57,8 @@ impl Worker<Anything> for Player {
     }
 }
 
-// The queue of this key, which is made where it is not there yet.
-fn queue<N: Names, R: Wait>(
+/// The queue of this key, which is made where it is not there yet.
+pub(crate) fn queue<N: Names, R: Wait>(
     rt: &R,
     system: &System<Anything, N>,
     seat: &mut Seat<N>,
@@ -74,8 +74,8 @@ fn queue<N: Names, R: Wait>(
     }
 }
 
-// Sends a text of these bytes.
-fn send<N: Names, R: Wait>(
+/// Sends a text of these bytes.
+pub(crate) fn send<N: Names, R: Wait>(
     rt: &R,
     system: &System<Anything, N>,
     seat: &mut Seat<N>,
@@ -96,8 +96,8 @@ fn send<N: Names, R: Wait>(
     }
 }
 
-// Receives the first message; how many bytes it has.
-fn receive<N: Names, R: Wait>(
+/// Receives the first message; how many bytes it has.
+pub(crate) fn receive<N: Names, R: Wait>(
     rt: &R,
     system: &System<Anything, N>,
     seat: &mut Seat<N>,
@@ -149,7 +149,7 @@ impl Sizes {
         })
     }
 
-    // So many that send, and so many that receive their share of what these send.
+    /// So many that send, and so many that receive their share of what these send.
     fn flow(&self, senders: u32, receivers: u32, share: u32) -> Result<Vec<Player>, AllocError> {
         let mut players = Vec::new(self.alloc);
         for _ in 0..senders {
@@ -162,10 +162,10 @@ impl Sizes {
     }
 }
 
-/// `system alone BYTES CYCLES`, where one seat sends and receives by turns; `system two BYTES
-/// CYCLES`, where two pass one text there and back; `system flow BYTES COUNT SENDERS RECEIVERS`,
-/// where each sender sends COUNT texts through one queue and each receiver takes its share of them:
-/// counts the bytes that came.
+/// `system alone BYTES CYCLES SEATS`, where one of so many seats sends and receives by turns;
+/// `system two BYTES CYCLES`, where two pass one text there and back; `system flow BYTES COUNT
+/// SENDERS RECEIVERS`, where each sender sends COUNT texts through one queue and each receiver takes
+/// its share of them: counts the bytes that came.
 pub(crate) fn run(
     rt: &(impl Print + Threads + Wait + Sync),
     alloc: Global,
@@ -176,6 +176,10 @@ pub(crate) fn run(
         alloc,
         bytes: words.number(2, 16)? as usize,
         rounds,
+    };
+    let mut config = Config {
+        height: MAX_HEIGHT,
+        ..DEFAULTS
     };
     let players = match words.word(1) {
         "two" => {
@@ -190,11 +194,10 @@ pub(crate) fn run(
             };
             sizes.flow(senders, receivers, share)?
         }
-        _ => vec![in alloc; sizes.player(rounds, Some(1), Some(1), None)?]?,
-    };
-    let config = Config {
-        height: MAX_HEIGHT,
-        ..DEFAULTS
+        _ => {
+            config.seats = words.number(4, 16)?.min(16) as u16;
+            vec![in alloc; sizes.player(rounds, Some(1), Some(1), None)?]?
+        }
     };
     let ended = with_workers(rt, alloc, config, players)?;
     let mut came = 0u64;
