@@ -164,8 +164,8 @@ impl Sizes {
 
 /// `system alone BYTES CYCLES SEATS`, where one of so many seats sends and receives by turns;
 /// `system two BYTES CYCLES`, where two pass one text there and back; `system flow BYTES COUNT
-/// SENDERS RECEIVERS`, where each sender sends COUNT texts through one queue and each receiver takes
-/// its share of them: counts the bytes that came.
+/// SENDERS RECEIVERS`, where each sender sends COUNT texts through one queue and each receiver
+/// takes its share of them: counts the bytes that came.
 pub(crate) fn run(
     rt: &(impl Print + Threads + Wait + Sync),
     alloc: Global,
