@@ -3,23 +3,41 @@ ghost use Rattle.std.specs.Prelude.{◌≡◌};
 
 use crate::calls::{CREATE, first, get, holds, receive, remove, send};
 use crate::day::{Anything, Day, config, left_by};
-use mq_arena::Homecoming;
+use mq_arena::{Homecoming, Parts};
 use mq_message::Body;
-use mq_system::{Config, Delivered, Names, Seat, System, TextOf};
+use mq_system::{ClosedSlot, Config, Delivered, Names, Seat, System, TextOf};
 use std::alloc::Global;
 use std::process::Abort;
 use std::sync::Wait;
 use std::thread::Threads;
 
+/// Whether all bytes are this letter.
+fn repeats(bytes: &[u8], letter: u8) -> bool {
+    for byte in bytes {
+        if *byte != letter {
+            return false;
+        }
+    }
+    true
+}
+
+/// Whether the next part has this length and no letter but this one.
+fn is_next(parts: &mut Parts<'_>, length: usize, letter: u8) -> bool {
+    match parts.next() {
+        Some(part) => part.len() == length && repeats(part, letter),
+        None => false,
+    }
+}
+
 /// Whether its parts are of 1,024, 1,024 and 2 bytes, the first of this letter and the others of
 /// that one.
 fn has_letters<N: Names>(text: &TextOf<N>, first: u8, others: u8) -> bool {
-    let lengths: [usize; 3] = [1024, 1024, 2];
-    let letters: [u8; 3] = [first, others, others];
+    let mut parts = text.parts();
     text.count() == 3
-        && text.parts().zip(lengths).zip(letters).all(|((part, length), letter)| {
-            part.len() == length && part.iter().all(|byte| *byte == letter)
-        })
+        && is_next(&mut parts, 1024, first)
+        && is_next(&mut parts, 1024, others)
+        && is_next(&mut parts, 2, others)
+        && parts.next().is_none()
 }
 
 /// A text that is filled in halves, each by a thread of its own.
@@ -186,19 +204,28 @@ impl Day<Anything> for Leaves {
     }
 }
 
+/// The slot has so many events of removed queues and of its last one, and left so many messages.
+fn slot_leaves(rt: &impl Abort, slot: &ClosedSlot, past: usize, last: usize, waited: u64) {
+    holds(
+        rt,
+        slot.past.len() == past,
+        "the events of the removed queues",
+    );
+    holds(rt, slot.last.len() == last, "the events of the live queue");
+    holds(rt, slot.left == waited, "as many messages waited");
+}
+
 #[test]
 fn texts_that_wait_at_the_end_come_home(rt: HostRuntime) {
     let left = left_by(&rt, rt.alloc(), config(3, 4, 9), &Leaves);
     holds(&rt, left.free_pages == 8, "all pages are home");
-    holds(&rt, left.slots.len() == 4, "there were four slots");
-    let wanted: [(usize, usize, u64); 4] = [(3, 3, 2), (2, 0, 0), (0, 2, 1), (0, 0, 0)];
-    for (slot, (past, last, waited)) in left.slots.iter().zip(wanted) {
-        holds(
-            &rt,
-            slot.past.len() == past,
-            "the events of the removed queues",
-        );
-        holds(&rt, slot.last.len() == last, "the events of the live queue");
-        holds(&rt, slot.left == waited, "as many messages waited");
+    match left.slots.as_slice() {
+        [first, second, third, fourth] => {
+            slot_leaves(&rt, first, 3, 3, 2);
+            slot_leaves(&rt, second, 2, 0, 0);
+            slot_leaves(&rt, third, 0, 2, 1);
+            slot_leaves(&rt, fourth, 0, 0, 0);
+        }
+        _ => panic!(&rt; "there were other than four slots"),
     }
 }
