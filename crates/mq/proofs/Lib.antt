@@ -1,3 +1,4 @@
 pub mod EitherLemmas
+pub mod LawLemmas
 pub mod SendLemmas
 pub mod WorkerLemmas

@@ -2,4 +2,5 @@ pub mod Bytes
 pub mod Caller
 pub mod Either
 pub mod Ended
+pub mod Laws
 pub mod Workers

@@ -1,10 +1,16 @@
-ghost use Rattle.std.specs.Prelude.{◌≡◌, ◌<◌, ◌≤◌, true, false, length, slice_index, IfOk, IfErr, OnOk, MatchResult};
-ghost use Rattle.mq_table.specs.Ids.{slot_of};
-ghost use Rattle.mq_system.specs.Get.{MayRefuse};
+ghost use Rattle.std.specs.Prelude.{◌≡◌, ◌⊎◌, ◌+◌, ◌<◌, ◌≤◌, false, length, slice_index, take};
+ghost use Rattle.std.specs.Prelude.{IfOk, IfErr, OnOk, MatchResult};
+ghost use Rattle.mq_queue.specs.Row.{last_log};
+ghost use Rattle.mq_queue.specs.declared.event.Event.TheVariants.{Removed, Sent};
+ghost use Rattle.mq_select.specs.Selection.{selection_of};
+ghost use Rattle.mq_table.specs.Ids.{seq_of, slot_of};
+ghost use Rattle.mq_one_thread.specs.declared.errno.Errno.TheVariants.{ENOMEM};
 ghost use Rattle.mq_shared.specs.Refusals.{MayReceive, MayRemove, MaySend, never_sent, out_of_slots};
+ghost use Rattle.mq_shared.specs.Seat.{IsCounted, IsLater, IsSame, front_of};
+ghost use Rattle.mq_shared.specs.Seen.{IsDone, IsReceipt, receive_verdict, remove_verdict, send_verdict};
 ghost use Rattle.mq_shared.specs.Shown.{IsRemoval};
-ghost use Rattle.mq_shared.specs.Seat.{IsCounted, IsSame};
-ghost use Rattle.mq.specs.Caller.{MayCount, MeetsCut};
+ghost use Rattle.mq_system.specs.Get.{IsNotGot, MayRefuse};
+ghost use Rattle.mq.specs.Caller.{creating, IsGotId, IsRefusal, MayCount, MayNotDraft, MeetsCut, with_bytes};
 
 use crate::bytes::copy_out;
 use mq_one_thread::{Delivered, Errno, GetFlags, Removal, SendRefused};
@@ -57,10 +63,15 @@ impl<'a, N: Names, R: Wait> Caller<'a, N, R> {
     /// The queue with this key, which is made where it is not there (msgget(2) with IPC_CREAT).
     pub fn queue<P: Pledge>(&mut self, system: &System<P, N>, key: i32) -> Result<Id, Errno>
         ensures within { IfOk result (λ id. out_of_slots N.slots id ≡ false) }
-        ensures refused { IfErr result
-            (MayRefuse key (record { create = true; exclusive = false })) }
+        ensures refused { IfErr result (MayRefuse key creating) }
         ensures counted { MatchResult result (MayCount self.old.seat.now self.new.seat.now)
             (λ _. IsSame self.old.seat.now self.new.seat.now) }
+        ensures moment { self.new.moment ≡ self.old.moment }
+        ensures later { IsLater self.old.seat.now self.new.seat.now }
+        ensures got { IfOk result (IsGotId N.slots N.last_seq key self.old.moment
+            self.old.seat.now self.new.seat.now) }
+        ensures not_got { IfErr result
+            (IsNotGot N.slots N.last_seq key self.old.seat.now self.new.seat.now) }
     {
         let flags = GetFlags {
             create: true,
@@ -73,11 +84,20 @@ impl<'a, N: Names, R: Wait> Caller<'a, N, R> {
     /// Removes the queue (msgctl(2), IPC_RMID). Who waits in it answers EIDRM.
     pub fn remove<P: Pledge>(&mut self, system: &System<P, N>, id: Id) -> Result<Removal, Errno>
         ensures ok { OnOk result (out_of_slots N.slots id ≡ false) }
-        ensures log { IfOk result (IsRemoval N.last_seq) }
+        ensures lawful { IfOk result (IsRemoval N.last_seq) }
         ensures refused { IfErr result MayRemove }
         ensures counted { MatchResult result
             (λ _. IsCounted self.old.seat.now self.new.seat.now (slot_of id))
             (λ _. IsSame self.old.seat.now self.new.seat.now) }
+        ensures moment { self.new.moment ≡ self.old.moment }
+        ensures later { IsLater self.old.seat.now self.new.seat.now }
+        ensures done { IfOk result (λ r. IsDone self.old.seat.now self.new.seat.now (slot_of id)
+            (remove_verdict (seq_of id)) r.entry
+            (Removed self.old.seat.now.number self.old.moment)) }
+        ensures log { IfOk result (λ r. r.log
+            ≡ last_log (take (r.entry + 1) (front_of self.new.seat.now (slot_of id)))) }
+        ensures decided { IfErr result (IsRefusal (out_of_slots N.slots id) MayRemove
+            self.old.seat.now self.new.seat.now (slot_of id) (remove_verdict (seq_of id))) }
     {
         match system.rmid(self.rt, self.seat, id, self.moment) {
             Ok(removal) => Ok(removal),
@@ -100,6 +120,15 @@ impl<'a, N: Names, R: Wait> Caller<'a, N, R> {
         ensures counted { MatchResult result
             (λ _. IsCounted self.old.seat.now self.new.seat.now (slot_of id))
             (λ _. IsSame self.old.seat.now self.new.seat.now) }
+        ensures moment { self.new.moment ≡ self.old.moment }
+        ensures later { IsLater self.old.seat.now self.new.seat.now }
+        ensures done { IfOk result (λ entry. IsDone self.old.seat.now self.new.seat.now (slot_of id)
+            (send_verdict (seq_of id) mtype (length bytes.now)) entry
+            (Sent self.old.seat.now.number self.old.moment tag mtype (length bytes.now))) }
+        ensures decided { IfErr result (λ errno. MayNotDraft (length bytes.now) errno
+            ⊎ IsRefusal (never_sent N.slots id mtype) (MaySend false)
+            self.old.seat.now self.new.seat.now (slot_of id)
+            (send_verdict (seq_of id) mtype (length bytes.now)) errno) }
     {
         self.send_with(system, id, mtype, tag, bytes, SendFlags { nowait: false })
     }
@@ -120,6 +149,15 @@ impl<'a, N: Names, R: Wait> Caller<'a, N, R> {
         ensures counted { MatchResult result
             (λ _. IsCounted self.old.seat.now self.new.seat.now (slot_of id))
             (λ _. IsSame self.old.seat.now self.new.seat.now) }
+        ensures moment { self.new.moment ≡ self.old.moment }
+        ensures later { IsLater self.old.seat.now self.new.seat.now }
+        ensures done { IfOk result (λ entry. IsDone self.old.seat.now self.new.seat.now (slot_of id)
+            (send_verdict (seq_of id) mtype (length bytes.now)) entry
+            (Sent self.old.seat.now.number self.old.moment tag mtype (length bytes.now))) }
+        ensures decided { IfErr result (λ errno. MayNotDraft (length bytes.now) errno
+            ⊎ IsRefusal (never_sent N.slots id mtype) (MaySend flags.nowait)
+            self.old.seat.now self.new.seat.now (slot_of id)
+            (send_verdict (seq_of id) mtype (length bytes.now)) errno) }
     {
         let text = match system.draft_of(self.rt, bytes) {
             Ok(text) => text,
@@ -152,6 +190,15 @@ impl<'a, N: Names, R: Wait> Caller<'a, N, R> {
         ensures counted { MatchResult result
             (λ _. IsCounted self.old.seat.now self.new.seat.now (slot_of id))
             (λ _. IsSame self.old.seat.now self.new.seat.now) }
+        ensures moment { self.new.moment ≡ self.old.moment }
+        ensures later { IsLater self.old.seat.now self.new.seat.now }
+        ensures done { IfOk result (λ d. IsReceipt self.old.seat.now self.new.seat.now (slot_of id)
+            (seq_of id) size (selection_of msgtyp false) false self.old.moment
+            (with_bytes d d.text.items)) }
+        ensures decided { IfErr result (λ errno. (errno ≡ ENOMEM)
+            ⊎ IsRefusal (out_of_slots N.slots id) (MayReceive false false)
+            self.old.seat.now self.new.seat.now (slot_of id)
+            (receive_verdict (seq_of id) size (selection_of msgtyp false) false) errno) }
     {
         let flags = RecvFlags {
             nowait: false,
@@ -179,6 +226,15 @@ impl<'a, N: Names, R: Wait> Caller<'a, N, R> {
         ensures counted { MatchResult result
             (λ _. IsCounted self.old.seat.now self.new.seat.now (slot_of id))
             (λ _. IsSame self.old.seat.now self.new.seat.now) }
+        ensures moment { self.new.moment ≡ self.old.moment }
+        ensures later { IsLater self.old.seat.now self.new.seat.now }
+        ensures done { IfOk result (λ d. IsReceipt self.old.seat.now self.new.seat.now (slot_of id)
+            (seq_of id) size (selection_of msgtyp flags.except) flags.noerror self.old.moment
+            (with_bytes d d.text.items)) }
+        ensures decided { IfErr result (λ errno. (errno ≡ ENOMEM)
+            ⊎ IsRefusal (out_of_slots N.slots id) (MayReceive flags.nowait flags.noerror)
+            self.old.seat.now self.new.seat.now (slot_of id)
+            (receive_verdict (seq_of id) size (selection_of msgtyp flags.except) flags.noerror) errno) }
     {
         let Ok(mut bytes) = Vec::with_capacity(self.alloc, size as usize) else {
             return Err(Errno::ENOMEM);

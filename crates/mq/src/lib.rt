@@ -8,6 +8,7 @@ mod bytes;
 mod caller;
 mod either;
 mod ended;
+pub mod laws;
 mod program;
 mod system_program;
 mod two;

@@ -18,8 +18,9 @@ use std::sync::Wait;
 use std::thread::Threads;
 
 /// Makes a system of this size, runs each worker on a thread and at a seat of its own, and closes
-/// the system once all have ended. No worker begins before there is a thread for each; where the
-/// answer is `Err`, none has begun.
+/// the system once all have ended. It has as many seats as workers, since each change of a queue
+/// costs more with each seat; `config` says how many there may be. No worker begins before there is
+/// a thread for each; where the answer is `Err`, none has begun.
 pub fn with_workers<P: Pledge + Send + Sync, W: Worker<P> + Send, R: Threads + Wait + Sync>(
     rt: &R,
     alloc: Global,
@@ -39,10 +40,16 @@ pub fn with_workers<P: Pledge + Send + Sync, W: Worker<P> + Send, R: Threads + W
     if workers.len() > config.seats as usize {
         return Err(WorkersError::TooManyWorkers);
     }
-    let Ok(blanks) = Blanks::of(alloc, config) else {
+    let seats = if workers.is_empty() {
+        1
+    } else {
+        workers.len() as u16
+    };
+    let sized = Config { seats, ..config };
+    let Ok(blanks) = Blanks::of(alloc, sized) else {
         return Err(WorkersError::Memory);
     };
-    run_workers::<P, Brand, W, R>(rt, alloc, config, blanks, workers)
+    run_workers::<P, Brand, W, R>(rt, alloc, sized, blanks, workers)
 }
 
 fn run_workers<
