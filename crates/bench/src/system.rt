@@ -149,6 +149,16 @@ impl Sizes {
         })
     }
 
+    /// One that sends and receives by turns, among so many seats, of which the others end at once.
+    fn alone(&self, seats: u32) -> Result<Vec<Player>, AllocError> {
+        let mut players = Vec::new(self.alloc);
+        players.push(self.player(self.rounds, Some(1), Some(1), None)?)?;
+        for _ in 1..seats {
+            players.push(self.player(0, None, None, None)?)?;
+        }
+        Ok(players)
+    }
+
     /// So many that send, and so many that receive their share of what these send.
     fn flow(&self, senders: u32, receivers: u32, share: u32) -> Result<Vec<Player>, AllocError> {
         let mut players = Vec::new(self.alloc);
@@ -177,7 +187,7 @@ pub(crate) fn run(
         bytes: words.number(2, 16)? as usize,
         rounds,
     };
-    let mut config = Config {
+    let config = Config {
         height: MAX_HEIGHT,
         ..DEFAULTS
     };
@@ -194,10 +204,7 @@ pub(crate) fn run(
             };
             sizes.flow(senders, receivers, share)?
         }
-        _ => {
-            config.seats = words.number(4, 16)?.min(16) as u16;
-            vec![in alloc; sizes.player(rounds, Some(1), Some(1), None)?]?
-        }
+        _ => sizes.alone(words.number(4, 16)?)?,
     };
     let ended = with_workers(rt, alloc, config, players)?;
     let mut came = 0u64;
