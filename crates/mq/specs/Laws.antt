@@ -13,7 +13,8 @@ use Rattle.mq_system.specs.Shown.{stat_of}
 
 -- a change that a seat made stays at its entry in all that the seat knows later
 abbrev pub StaysWritten : Type 0
-StaysWritten = (old now later : SeatState) (slot : ℕ) (verdict : Verdict) (entry : ℕ) (event : Event)
+StaysWritten = (old now later : SeatState) (slot : ℕ) (verdict : Verdict)
+    (entry : ℕ) (event : Event)
     → IsDone old now slot verdict entry event → IsLater now later
     → slice_get (front_of later slot) entry ≡ Some event
 
@@ -26,7 +27,8 @@ BeginsLawfully = (last_seq : ℕ) (events more : List Event)
 -- events it is refused with EIDRM
 pub record FindsRemoved (old new : SeatState) (slot : ℕ) (verdict : Verdict) : Type 0 where
   pub never_done : (entry : ℕ) (event : Event) → ¬ IsDone old new slot verdict entry event
-  pub refused : (entry : ℕ) (errno : Errno) → IsRefused old new slot verdict entry errno → errno ≡ EIDRM
+  pub refused : (entry : ℕ) (errno : Errno) → IsRefused old new slot verdict entry errno
+      → errno ≡ EIDRM
 
 -- a seat that knows that an id's queue was removed, in a slot whose list goes on as it may after
 -- what the seat knows once the call is done

@@ -234,7 +234,8 @@ impl<'a, N: Names, R: Wait> Caller<'a, N, R> {
         ensures decided { IfErr result (λ errno. (errno ≡ ENOMEM)
             ⊎ IsRefusal (out_of_slots N.slots id) (MayReceive flags.nowait flags.noerror)
             self.old.seat.now self.new.seat.now (slot_of id)
-            (receive_verdict (seq_of id) size (selection_of msgtyp flags.except) flags.noerror) errno) }
+            (receive_verdict (seq_of id) size (selection_of msgtyp flags.except) flags.noerror)
+            errno) }
     {
         let Ok(mut bytes) = Vec::with_capacity(self.alloc, size as usize) else {
             return Err(Errno::ENOMEM);
