@@ -4,7 +4,8 @@ A crate's file planted/goals.txt says what was seen when it was written by `.ci/
 line `mistake NAME: GOAL` which goal fell, and a line `function FOLDER: GOAL ..` which goals the
 function had, whose proof is in that folder. They say no more than what to try first. A goal that
 they do not name is tried too, and where the named one does not fall, all are. A line `sources: SUM`
-says that all of the crate's mistakes were refused, and over which sources.
+says that all of the crate's mistakes were refused, and over which sources, and each line
+`toolchain: VERSION` with which toolchain.
 """
 import re
 
@@ -15,9 +16,18 @@ SIGNATURE = re.compile(r"(?m)^(?:abbrev )?(?:pub )?(\S+) : (.*)")
 class Recorded:
     """What a crate's planted/goals.txt says."""
 
-    def __init__(self, mistakes=(), functions=(), sources=None):
+    def __init__(self, mistakes=(), functions=(), sources=None, toolchains=()):
         self.mistakes, self.functions = dict(mistakes), dict(functions)
-        self.sources = sources
+        self.sources, self.toolchains = sources, list(toolchains)
+
+    def holds(self, sources, toolchain):
+        """Whether all of the crate's mistakes were refused over these sources with this toolchain."""
+        return self.sources == sources and toolchain in self.toolchains
+
+    def add(self, sources, toolchain):
+        """All of the crate's mistakes are refused over these sources with this toolchain."""
+        kept = self.toolchains if self.sources == sources else []
+        self.sources, self.toolchains = sources, sorted({*kept, toolchain})
 
     def goal(self, edit):
         """The goal that fell by an edit, where that is known."""
@@ -29,6 +39,7 @@ class Recorded:
 
     def write(self, path):
         lines = [f"sources: {self.sources}"] if self.sources else []
+        lines += [f"toolchain: {it}" for it in self.toolchains]
         lines += [f"mistake {name}: {goal}" for name, goal in sorted(self.mistakes.items())]
         lines += [f"function {place}: {' '.join(it)}" for place, it in sorted(self.functions.items())]
         path.write_text("\n".join(lines) + "\n")
@@ -36,12 +47,15 @@ class Recorded:
 
 def recorded(path):
     """What this file says, or nothing where there is none."""
-    found = {"sources": {}, "mistake": {}, "function": {}}
+    found, toolchains = {"sources": {}, "mistake": {}, "function": {}}, []
     for line in path.read_text().splitlines() if path.is_file() else ():
         head, _, said = line.partition(": ")
         kind, _, name = head.partition(" ")
-        found[kind][name] = said.split() if kind == "function" else said
-    return Recorded(found["mistake"], found["function"], found["sources"].get(""))
+        if kind == "toolchain":
+            toolchains.append(said)
+        else:
+            found[kind][name] = said.split() if kind == "function" else said
+    return Recorded(found["mistake"], found["function"], found["sources"].get(""), toolchains)
 
 
 def cites(text, name):

@@ -4,17 +4,18 @@ import subprocess
 from pathlib import Path
 
 
-def toolchain():
-    """The folder of the toolchain."""
-    page = subprocess.run(["rt", "doc"], capture_output=True, text=True, check=True)
-    return Path(page.stdout.strip()).parent
+def said(verb):
+    """What the toolchain's command says."""
+    run = subprocess.run(["rt", verb], capture_output=True, text=True, check=True)
+    return run.stdout.strip()
 
 
 class Crates:
     """The crates of the repository, and what a check of one is passed."""
 
     def __init__(self, top):
-        self.top, self.kit, self.uses = top, toolchain(), {}
+        self.top, self.kit, self.toolchain = top, Path(said("doc")).parent, said("version")
+        self.uses = {}
         for line in (top / "crates.txt").read_text().splitlines():
             name, colon, names = line.partition("#")[0].partition(":")
             if colon:
@@ -30,10 +31,9 @@ class Crates:
         return 1 + max((self.level(it) for it in self.uses[name] if it in self.uses), default=0)
 
     def sources(self, name):
-        """A sum of all that a trial of this crate's planted mistakes reads: the toolchain's version,
-        the texts of the crate and of those that it stands on, and the mistakes."""
-        version = subprocess.run(["rt", "version"], capture_output=True, text=True, check=True)
-        texts = [version.stdout.encode()]
+        """A sum of all that a trial of this crate's planted mistakes reads beside the toolchain: the
+        texts of the crate and of those that it stands on, and the mistakes."""
+        texts = []
         for it in sorted({name, *self.below(name)}):
             crate = self.top / "crates" / it
             texts.append(" ".join([it, *self.uses[it]]).encode())

@@ -1,4 +1,4 @@
-ghost use Rattle.std.specs.Prelude.{◌≡◌, ◌≤◌, ◌⊎◌, ℕ, true, Err, All, IfErr, IfOk, IfSome, OnOk};
+ghost use Rattle.std.specs.Prelude.{◌≡◌, ◌+◌, ◌≤◌, ◌⊎◌, ℕ, true, Err, All, IfErr, IfOk, IfSome, OnOk};
 ghost use Rattle.std.specs.Prelude.{IsErrOf, length, vec_len};
 ghost use Rattle.std.specs.List.{AllZip};
 ghost use Rattle.std.specs.Io.KnownBytes.{IsAtEnd, Keeps};
@@ -81,32 +81,37 @@ pub fn run_threads<T: Threads + Wait + Sync, R: Read, W: Write>(
 {
     let script = read_script(alloc, reader)?;
     let wanted = read_threads_script(alloc, &script)?;
-    let Ok(blanks) = Blanks::of(alloc, config) else {
+    // Each change of a queue costs more with each seat: there is one for each section, and the
+    // first.
+    let seats = wanted.sections.len() as u16 + 1;
+    let Ok(blanks) = Blanks::of(alloc, Config { seats, ..config }) else {
         return Err(RunFault::Memory);
     };
-    run_wanted::<Brand, T, W>(rt, alloc, config, blanks, &wanted, writer)
+    run_wanted::<Brand, T, W>(rt, alloc, config, seats, blanks, &wanted, writer)
 }
 
-/// Runs a script that has been read, and flushes the writer. However the run ends, all texts have
-/// then given their pages back.
+/// Runs a script that has been read, on a system of so many seats, and flushes the writer. However
+/// the run ends, all texts have then given their pages back.
 fn run_wanted<N: Names + Send + Sync, T: Threads + Wait + Sync, W: Write>(
     rt: &T,
     alloc: Global,
     config: Config,
+    seats: u16,
     blanks: Blanks,
     wanted: &ThreadsScript,
     writer: &mut W,
 ) -> Result<(), RunFault>
-    requires names { AreNames N.Names.own N.Naming blanks config }
+    requires names { AreNames N.Names.own N.Naming blanks (record config { seats = seats }) }
     requires enough { LEDGER_PARTS ≤ blanks.pages.parts }
     requires limits { keeps_limits config ≡ true }
-    requires seats { config.seats ≡ 16 }
+    requires seats { seats ≡ vec_len wanted.now.sections + 1 }
     requires few { vec_len wanted.now.sections ≤ MAX_WORKERS }
     requires countable { All (λ plan. IsCountable plan.items) wanted.now.sections.items }
     ensures { RanThreads config (wanted_seen wanted.now)
         (W.contents writer.old) (W.contents writer.new) result }
 {
-    let Ok((system, mut seats)) = System::<Letters, N, Copies<N>>::new(alloc, rt, config, blanks)
+    let sized = Config { seats, ..config };
+    let Ok((system, mut seats)) = System::<Letters, N, Copies<N>>::new(alloc, rt, sized, blanks)
     else {
         return Err(RunFault::Memory);
     };
@@ -127,8 +132,7 @@ fn run_parts<N: Names + Send + Sync, T: Threads + Wait + Sync, W: Write>(
     wanted: &ThreadsScript,
     writer: &mut W,
 ) -> Result<Vec<Outcome>, RunFault>
-    requires seats { vec_len seats.old ≡ 16 }
-    requires few { vec_len wanted.now.sections ≤ MAX_WORKERS }
+    requires seats { vec_len seats.old ≡ vec_len wanted.now.sections + 1 }
     requires countable { All (λ plan. IsCountable plan.items) wanted.now.sections.items }
     ensures count { vec_len seats.new ≡ vec_len seats.old }
     ensures ran { RanParts N.slots (wanted_seen wanted.now)

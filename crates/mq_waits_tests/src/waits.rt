@@ -1,6 +1,7 @@
 //! Each worker says on the queue with key 2 that it is ready, and then waits on the one with key 1;
 //! another worker takes what is said before it does what they wait for. So nobody sleeps to let
-//! another go first, and a wake that is lost lets the test run out of its time.
+//! another go first, and a wake that is lost lets the test run out of its time. Whoever makes room
+//! looks at the queue for some milliseconds first, so that the sender waits by then.
 
 use crate::calls::{Nothing, SMALL, queue, receive, remove, send, set};
 use mq::{Ended, Errno, Id, Names, Seat, System, Worker, WorkersError, with_workers};
@@ -9,6 +10,9 @@ use std::sync::Wait;
 use std::thread::Threads;
 
 const FULL: u64 = 8192;
+
+/// How often a worker looks at the queue before it makes room in it.
+const LOOKS: u32 = 100_000;
 
 /// What a worker does.
 #[derive(Clone, Copy, Drop)]
@@ -66,6 +70,13 @@ impl<'a, N: Names, R: Wait> At<'a, N, R> {
         set(self.rt, system, self.seat, self.here, qbytes)
     }
 
+    fn looks(&mut self, system: &System<Nothing, N>) -> Result<(), Errno> {
+        for _ in 0..LOOKS {
+            system.stat(self.seat, self.here)?;
+        }
+        Ok(())
+    }
+
     fn waits_for(&mut self, system: &System<Nothing, N>, msgtyp: i64, size: u64) -> Done {
         self.ready(system)?;
         let done = self.receives(system, msgtyp, size);
@@ -101,6 +112,7 @@ impl<'a, N: Names, R: Wait> At<'a, N, R> {
 
     fn raises_quota(&mut self, system: &System<Nothing, N>) -> Done {
         self.hears(system)?;
+        self.looks(system)?;
         self.quota(system, 2 * FULL)?;
         Ok((0, 0))
     }
@@ -122,6 +134,7 @@ impl<'a, N: Names, R: Wait> At<'a, N, R> {
 
     fn makes_room(&mut self, system: &System<Nothing, N>) -> Done {
         self.hears(system)?;
+        self.looks(system)?;
         self.receives(system, 0, FULL)
     }
 

@@ -1,4 +1,4 @@
-use Rattle.std.proofs.Common.{◌≡◌, List, ℕ, Ok, subst}
+use Rattle.std.proofs.Common.{◌≡◌, ◌+◌, List, ℕ, Ok, subst}
 use Rattle.mq_shared.proofs.NameLemmas.{names_are}
 use Rattle.mq_cli.specs.ThreadsParsed.{wanted_seen}
 use Rattle.mq_cli.specs.ThreadsScript.{wanted_of}
@@ -15,4 +15,4 @@ returns-clause-thread g c =
 
 pub run_wanted-requires-clause-names : goal.run_wanted-requires-clause-names
 run_wanted-requires-clause-names g c lifetimes outlive =
-    names_are c.in-Ok.blanks c.args.config c.in-Ok.ensures.entries c.in-Ok.ensures.boards
+    names_are c.in-Ok.blanks (record c.args.config { seats = c.len.result + 1 }) c.in-Ok.ensures.entries c.in-Ok.ensures.boards

@@ -1,9 +1,9 @@
 use Rattle.mq_shared.proofs.NameLemmas.{books_of, names_of}
 use Rattle.mq_cli.proofs.threads.run_threads.Given as goal
 
--- the ledgers and boards that were just made, and this size
+-- the ledgers and boards that were just made, and this size with so many seats
 abbrev pub ghosts-run_wanted-N-Names : goal.ghosts-run_wanted-N-Names
-ghosts-run_wanted-N-Names g a = names_of a.blanks a.config
+ghosts-run_wanted-N-Names g a = names_of a.blanks (record a.config { seats = a.seats })
 
 abbrev pub ghosts-run_wanted-N-Naming : goal.ghosts-run_wanted-N-Naming
 ghosts-run_wanted-N-Naming g a = books_of a.blanks
