@@ -204,6 +204,13 @@ impl<J: Naming> Front<J> {
         self.number
     }
 
+    /// How many events it has.
+    pub fn count(&self) -> u64
+        ensures { result ≡ length self.now.events }
+    {
+        self.count
+    }
+
     /// A copy, which takes no memory.
     pub fn again(&self) -> Front<J>
         ensures { result ≡ self.now }
@@ -292,6 +299,13 @@ impl<J: Naming> Baton<J> {
             .compare_exchange::<Add, Nothing>(0, 0, &mut self.seen, &mut offer, &mut self.pen);
         self.pen = pen;
         self.count += 1;
+    }
+
+    /// How many events the history has.
+    pub fn count(&self) -> u64
+        ensures { result ≡ length self.now.events }
+    {
+        self.count
     }
 
     /// All that was added, as a front.

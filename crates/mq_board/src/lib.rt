@@ -3,6 +3,7 @@
 
 #![tactic(auto)]
 
+mod bell;
 mod history;
 mod making;
 mod posted;

@@ -3,6 +3,7 @@
 ghost use Rattle.std.specs.Prelude.{◌≡◌, ◌+◌, ◌<◌, ◌≤◌, [], drop, fold, IfOk};
 ghost use Rattle.mq_board.specs.Readers.{seat, seats};
 
+use crate::bell::Bell;
 use crate::history::{Naming, Opened};
 use crate::posted::Posted;
 use crate::reader::BoardReader;
@@ -56,12 +57,14 @@ pub fn board<J: Naming, R: Wait>(
     };
     let roll = roll.number::<J>(number);
     let first = Posted::new(EMPTY, baton.front());
+    let bell = Bell::new(alloc)?;
     let copies = widen(alloc, rt, &first, readers)?;
-    let Ok(made) = seat_all(alloc, &copies, &roll, &first, readers as u16) else {
+    let Ok(made) = seat_all(alloc, &copies, &roll, &first, &bell, readers as u16) else {
         let _shown = copies.take(rt);
         return Err(AllocError);
     };
-    Ok((BoardWriter::new(copies, baton, roll, Vec::new(alloc)), made))
+    let pending = Vec::new(alloc);
+    Ok((BoardWriter::new(copies, baton, roll, pending, bell), made))
 }
 
 /// The two copies, both empty, whose log has room for what the publishes append. So it is made long
@@ -101,6 +104,7 @@ fn seat_all<J: Naming>(
     copies: &Copies<J>,
     roll: &Roll<J>,
     first: &Posted<J>,
+    bell: &Bell,
     count: u16,
 ) -> Result<Vec<BoardReader<J>>, AllocError>
     requires board { roll.now.board ≡ first.now.board }
@@ -110,7 +114,7 @@ fn seat_all<J: Naming>(
 {
     let mut readers = Vec::new(alloc);
     for given in 0..count {
-        let reader = seat_one(copies, roll, first, given)?;
+        let reader = seat_one(copies, roll, first, bell, given)?;
         readers.push(reader)?;
     }
     Ok(readers)
@@ -121,6 +125,7 @@ fn seat_one<J: Naming>(
     copies: &Copies<J>,
     roll: &Roll<J>,
     first: &Posted<J>,
+    bell: &Bell,
     given: u16,
 ) -> Result<BoardReader<J>, AllocError>
     requires board { roll.now.board ≡ first.now.board }
@@ -131,6 +136,7 @@ fn seat_one<J: Naming>(
     let Some(place) = roll.give_out(given) else {
         return Err(AllocError);
     };
+    let bell = bell.again()?;
     let reader = copies.factory().reader()?;
-    Ok(BoardReader::new(reader, place, first.again()))
+    Ok(BoardReader::new(reader, place, first.again(), bell))
 }

@@ -2,6 +2,7 @@ ghost use Rattle.std.specs.Prelude.{◌≡◌, ◌<◌, ◌≤◌, [], length, I
 ghost use Rattle.mq_queue.specs.Row.{row};
 ghost use Rattle.mq_board.specs.Readers.{IsLater};
 
+use crate::bell::Bell;
 use crate::history::Naming;
 use crate::posted::{Posted, Told};
 use crate::roll::Place;
@@ -18,6 +19,7 @@ pub struct BoardReader<J: Naming> {
     place: Place<J>,
     /// Its front, with the row.
     kept: Posted<J>,
+    bell: Bell,
 }
 
 impl<J: Naming> Model for BoardReader<J> {
@@ -40,6 +42,7 @@ impl<J: Naming> BoardReader<J> {
         reader: Reader<Posted<J>, (), Unruled>,
         place: Place<J>,
         kept: Posted<J>,
+        bell: Bell,
     ) -> BoardReader<J>
         requires { place.board ≡ kept.board }
         ensures { result ≡ record {
@@ -52,6 +55,7 @@ impl<J: Naming> BoardReader<J> {
             reader: Some(reader),
             place,
             kept,
+            bell,
         }
     }
 
@@ -76,10 +80,19 @@ impl<J: Naming> BoardReader<J> {
         ensures later { IsLater self.old self.new }
         ensures row { result ≡ row self.new.events }
     {
+        if self.kept.front().count() < self.bell.heard() {
+            self.enter();
+        }
+        self.kept.row()
+    }
+
+    /// Enters the board, and learns what it shows.
+    fn enter(&mut self)
+        ensures { IsLater self.old self.new }
+    {
         if let Some(seen) = self.look() {
             self.take_in(seen);
         }
-        self.kept.row()
     }
 
     /// Learns what the board's writer told, if the list is at least as long as the front.
@@ -133,6 +146,7 @@ impl<J: Naming> BoardReader<J> {
             reader: _,
             place,
             kept,
+            bell: _,
         } = self;
         (place, kept)
     }

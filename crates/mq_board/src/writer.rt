@@ -5,6 +5,7 @@ ghost use Rattle.mq_queue.specs.declared.event.Event.{Event};
 ghost use Rattle.mq_board.specs.Histories.{history};
 ghost use Rattle.mq_board.specs.Writers.{IsReady, posting};
 
+use crate::bell::Bell;
 use crate::history::{Baton, Naming};
 use crate::posted::{Posted, Told};
 use crate::posting::Posting;
@@ -34,6 +35,7 @@ pub struct BoardWriter<J: Naming, W> {
     /// The key of the queue that was made last, also once it was removed.
     key: i32,
     pending: Vec<Posting>,
+    bell: Bell,
 }
 
 impl<J: Naming, W> Model for BoardWriter<J, W> {
@@ -75,6 +77,7 @@ impl<J: Naming, W> BoardWriter<J, W> {
         baton: Baton<J>,
         roll: Roll<J>,
         pending: Vec<Posting>,
+        bell: Bell,
     ) -> BoardWriter<J, W>
         requires empty { (baton.events ≡ []) × (pending.items ≡ []) }
         requires board { roll.board ≡ baton.board }
@@ -93,6 +96,7 @@ impl<J: Naming, W> BoardWriter<J, W> {
             shown: EMPTY,
             key: 0,
             pending,
+            bell,
         }
     }
 
@@ -153,6 +157,7 @@ impl<J: Naming> BoardWriter<J, Copies<J>> {
         };
         self.post(next);
         self.show(rt);
+        self.bell.ring(self.baton.count());
     }
 
     /// Shows readers the published list.
@@ -164,9 +169,12 @@ impl<J: Naming> BoardWriter<J, Copies<J>> {
         let _always = replace_with(
             &mut self.copies,
             (rt, next),
-            |copies, (rt, next)| -> (Copies<J>, Result<(), AllocError>)
+            |mut copies, (rt, next)| -> (Copies<J>, Result<(), AllocError>)
                 ensures { result.0.desk.shown.value.events ≡ next.events }
-            { lay(copies, rt, next).publish_as::<Unruled, R>(rt) },
+            {
+                lay(&mut copies, rt, next);
+                copies.publish_as::<Unruled, R>(rt)
+            },
         );
     }
 
@@ -195,22 +203,22 @@ impl<J: Naming> BoardWriter<J, Copies<J>> {
             shown: _,
             key: _,
             pending: _,
+            bell: _,
         } = self;
         let _shown = copies.take(rt);
     }
 }
 
 /// Appends what is to be shown next. There is room for it: `board` made it.
-fn lay<J: Naming, R: Wait>(copies: Copies<J>, rt: &R, next: Posted<J>) -> Copies<J>
+fn lay<J: Naming, R: Wait>(copies: &mut Copies<J>, rt: &R, next: Posted<J>)
     ensures { (shown : List Event) →
-        fold (λ _ operation. operation.events) shown (drop result.behind result.log.items)
+        fold (λ _ operation. operation.events) shown (drop copies.new.behind copies.new.log.items)
         ≡ next.events }
 {
-    let mut copies = copies;
     let mut next = next;
     for _ in rt.forever() {
         match copies.append(next) {
-            Ok(()) => return copies,
+            Ok(()) => return,
             Err(refused) => next = refused,
         }
     }

@@ -34,7 +34,7 @@ fn follow<J: Naming, R: Wait>(
 ) -> Result<Seen, AllocError>
     requires empty { writer.old.events ≡ [] }
     requires idle { writer.old.pending ≡ [] }
-    requires two { length readers.old ≡ 2 }
+    requires three { length readers.old ≡ 3 }
 {
     let before = readers[0].figures();
     let nothing = writer.tell();
@@ -55,21 +55,33 @@ fn follow<J: Naming, R: Wait>(
     })
 }
 
-/// What the two saw, and what they answer once the board was given up.
+/// What the rows are of a reader that saw all, and of one that never looked, once the board was
+/// given up.
+#[derive(Drop)]
+struct Left {
+    saw_all: BoardRow,
+    never_looked: BoardRow,
+}
+
+/// What the first two saw, and what is left of the board to those that are out.
 fn followed<J: Naming, R: Wait>(
     rt: &R,
     alloc: Global,
     opened: OpenedBoard,
-) -> Result<(Seen, BoardRow), AllocError>
+) -> Result<(Seen, Left), AllocError>
     requires { (opened.history.seen.book ≡ J.board 0) × (opened.roll.seen.book ≡ J.roll 0) }
 {
-    let (mut writer, mut readers) = board::<J, R>(alloc, rt, opened, 0, 2)?;
+    let (mut writer, mut readers) = board::<J, R>(alloc, rt, opened, 0, 3)?;
     let seen = follow(rt, alloc, &mut writer, readers.as_mut_slice());
     writer.close(rt);
-    Ok((seen?, readers[0].figures()))
+    let left = Left {
+        saw_all: readers[0].figures(),
+        never_looked: readers[2].figures(),
+    };
+    Ok((seen?, left))
 }
 
-fn run<R: Wait>(rt: &R, alloc: Global) -> Result<(Seen, BoardRow), AllocError> {
+fn run<R: Wait>(rt: &R, alloc: Global) -> Result<(Seen, Left), AllocError> {
     followed::<Brand, R>(rt, alloc, OpenedBoard::new())
 }
 
@@ -95,6 +107,7 @@ fn a_list_is_learned_that_is_not_shorter(rt: HostRuntime) -> Result<(), Fail> {
 #[test]
 fn a_reader_of_a_board_given_up_answers_its_front(rt: HostRuntime) -> Result<(), Fail> {
     let (seen, left) = run(&rt, rt.alloc())?;
-    assert!(rt; left == seen.told);
+    assert!(rt; left.saw_all == seen.told);
+    assert!(rt; left.never_looked == seen.before);
     Ok(())
 }

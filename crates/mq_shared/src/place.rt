@@ -3,30 +3,33 @@ ghost use Rattle.std.specs.Sync.Mutex.{mutex_guard_value};
 ghost use Rattle.mq_shared.specs.Seat.{IsLater, IsSame, front_of};
 
 use crate::{Names, Pledge, Seat, SharedSlot};
+use crossbeam_utils::{Backoff, CachePadded};
 use mq_board::Copies;
 use std::hint::spin_loop;
 use std::sync::{Condvar, Mutex, MutexGuard, Wait};
 use std::time::Duration;
 
-/// How often a call tries to take a slot's lock before it sleeps for it.
-const TRIES: u32 = 100;
+/// How often a call tries to take a slot's lock before it sleeps for it. Each try takes the lock's
+/// line away from who holds it, so the pauses between them grow.
+const TRIES: u32 = 20;
 
 /// How often a call that waits looks for a change before it sleeps.
 const LOOKS: u32 = 1000;
 
-/// A slot's lock, and those who wait: senders for room, receivers for what arrives.
+/// A slot's lock, and those who wait: senders for room, receivers for what arrives. They look at
+/// lines of their own, which no change of the slot takes away from them.
 pub struct Place<P: Pledge, N: Names, W = Copies<N>> {
     held: Mutex<SharedSlot<P, N, W>>,
-    pub(crate) room: Condvar,
-    pub(crate) arrived: Condvar,
+    pub(crate) room: CachePadded<Condvar>,
+    pub(crate) arrived: CachePadded<Condvar>,
 }
 
 impl<P: Pledge, N: Names, W> Place<P, N, W> {
     pub fn new(slot: SharedSlot<P, N, W>) -> Place<P, N, W> {
         Place {
             held: Mutex::new(slot),
-            room: Condvar::new(),
-            arrived: Condvar::new(),
+            room: CachePadded::new(Condvar::new()),
+            arrived: CachePadded::new(Condvar::new()),
         }
     }
 
@@ -60,6 +63,7 @@ impl<P: Pledge, N: Names> Place<P, N, Copies<N>> {
         ensures known { front_of seat.new number ≡ (mutex_guard_value result).events }
     {
         seat.holds();
+        let backoff = Backoff::new();
         for _try in 0..TRIES {
             if let Some(held) = self.held.try_lock() {
                 if held.enter(seat, number) {
@@ -67,7 +71,7 @@ impl<P: Pledge, N: Names> Place<P, N, Copies<N>> {
                 }
                 MutexGuard::unlock(held);
             }
-            spin_loop();
+            backoff.spin();
         }
         for _ in rt.forever() {
             let held = self.held.lock(rt);
