@@ -24,6 +24,10 @@ const TRIES: u32 = 100_000_000;
 
 const LOOKS: u32 = 1000;
 
+/// How often who removes a queue under a receiver looks at it before, which takes some milliseconds:
+/// the receiver sleeps by then, and the next queue has its message before it looks again.
+const LONG: u32 = 500_000;
+
 /// What a worker does.
 #[derive(Clone, Copy, Drop)]
 enum Part<'a> {
@@ -119,6 +123,9 @@ fn makes_again<N: Names, R: Wait>(
         spin_loop();
     }
     let first = queue(rt, system, seat, 1)?;
+    for _look in 0..LONG {
+        let _shown = system.stat(seat, first);
+    }
     remove(rt, system, seat, first)?;
     let second = queue(rt, system, seat, 1)?;
     send(rt, system, seat, second, 5, 3)?;

@@ -12,7 +12,7 @@ use std::thread::Threads;
 const FULL: u64 = 8192;
 
 /// How often a worker looks at the queue before it makes room in it.
-const LOOKS: u32 = 100_000;
+const LOOKS: u32 = 500_000;
 
 /// What a worker does.
 #[derive(Clone, Copy, Drop)]
