@@ -1,36 +1,59 @@
 -- What may be published of a queue.
-use Rattle.std.proofs.Common.{◌≡◌, ◌<◌, ◌^◌, false, List, [], ◌∷◌, ◌++◌, length, refl, ap, sym, ◌∙◌, subst, arith, length-append}
+use Rattle.std.proofs.Common.{◌≡◌, ◌<◌, ◌^◌, Bool, true, false, not, cond, List, [], ◌∷◌, ◌++◌, length, map, refl, ap, sym, ◌∙◌, subst, arith}
 use Rattle.mq_queue.specs.declared.event.Event.{Event}
 use Rattle.mq_queue.specs.declared.figures.Figures.{Figures}
-use Rattle.mq_queue.specs.Figures.{figures}
+use Rattle.mq_queue.specs.Figures.{figures, live_figures, no_figures}
 use Rattle.mq_queue.specs.Lawful.{Lawful}
 use Rattle.mq_queue.specs.Log.{ends_with_removed}
 use Rattle.mq_queue.specs.Row.{made_count, slot_figures}
-use Rattle.mq_table.proofs.Logs.{counted, last_log_is, live_is, made_once}
+use Rattle.mq_table.proofs.Logs.{counted, last_log_is, made_once}
 use Rattle.mq_board.specs.Writers.{Desk, IsReady, posting}
+use Rattle.mq_board_tests.specs.Shown.{IsPending, IsShown}
+
+-- once a queue is removed there are no figures, in its log as in its slot
+shown_once : (removed : Bool) (live : Figures)
+    → cond (not removed) (cond removed no_figures live) no_figures
+    ≡ cond removed no_figures live
+shown_once true live = refl
+shown_once false live = refl
 
 -- the figures of a queue's log are those of its slot
-slot_is : (log : List Event) → Lawful log → ends_with_removed log ≡ false
-    → slot_figures log ≡ figures log
-slot_is log lawful live = rw (live_is [] log lawful live) (ap figures (last_log_is [] log lawful))
+slot_is : (log : List Event) → Lawful log → slot_figures log ≡ figures log
+slot_is log lawful =
+    rw (last_log_is [] log lawful, lawful.begun)
+    (shown_once (ends_with_removed log) (live_figures log))
 
 -- the last event of a queue may be published, where those before it are
 pub ready : (events log : List Event) (event : Event) (after : Figures) → log ≡ events ++ event ∷ []
-    → Lawful log → ends_with_removed log ≡ false → after ≡ figures log → length log < 2 ^ 63
+    → Lawful log → after ≡ figures log → length events < 2 ^ 63
     → IsReady events (posting event after ∷ [])
-ready events log event after is lawful live same short = record {
+ready events log event after is lawful same short = record {
   next = posting event after;
   one = refl;
-  figures = same ∙ (sym (slot_is log lawful live) ∙ ap slot_figures is);
-  length_fits = omega (arith, ap length is, length-append events (event ∷ []), short);
+  figures = same ∙ (sym (slot_is log lawful) ∙ ap slot_figures is);
+  length_fits = omega (arith, short);
   made_fits = omega (arith, ap made_count is, counted events (event ∷ []), made_once log lawful);
 }
 
 -- so it may be where a writer that had nothing pending took it in
 pub taken : {W : Type 0} (old new : Desk W) (log : List Event) (event : Event) → old.pending ≡ []
     → new ≡ record old { pending = old.pending ++ posting event (figures log) ∷ [] }
-    → log ≡ old.events ++ event ∷ [] → Lawful log → ends_with_removed log ≡ false
-    → length log < 2 ^ 63 → IsReady new.events new.pending
-taken {W} old new log event idle took is lawful live short =
+    → log ≡ old.events ++ event ∷ [] → Lawful log → length old.events < 2 ^ 63
+    → IsReady new.events new.pending
+taken {W} old new log event idle took is lawful short =
     let Ready : Desk W → Type 0 = λ desk. IsReady desk.events desk.pending in
-    subst Ready (sym took) (rw idle (ready old.events log event (figures log) is lawful live refl short))
+    subst Ready (sym took)
+    (rw idle (ready old.events log event (figures log) is lawful refl short))
+
+-- and it is what is pending then
+pub pending : {W : Type 0} (before log : List Event) (old new : Desk W) (event : Event)
+    → IsShown before old
+    → new ≡ record old { pending = old.pending ++ posting event (figures log) ∷ [] }
+    → log ≡ before ++ event ∷ [] → Lawful log → length before < 2 ^ 63 → IsPending log new
+pending {W} before log old new event shown took is lawful short =
+    let is' : log ≡ old.events ++ event ∷ [] = rw shown.0 is in
+    let short' : length old.events < 2 ^ 63 = rw shown.0 short in
+    let Whole : Desk W → Type 0 = λ desk. desk.events ++ map (λ p. p.event) desk.pending ≡ log in (
+      taken old new log event shown.1 took is' lawful short',
+      subst Whole (sym took) (rw shown.1 (sym is')),
+    )

@@ -3,9 +3,15 @@
 #![tactic(auto)]
 
 #[cfg(test)]
+mod answers;
+#[cfg(test)]
+mod calls;
+#[cfg(test)]
 mod ends;
 #[cfg(test)]
 mod fronts;
+#[cfg(test)]
+mod list;
 #[cfg(test)]
 mod long;
 #[cfg(test)]

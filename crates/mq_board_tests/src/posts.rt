@@ -1,6 +1,6 @@
 //! A queue whose events are published on a board.
 
-ghost use Rattle.std.specs.Prelude.{◌≡◌, ◌++◌, ◌∷◌, [], IfOk};
+ghost use Rattle.std.specs.Prelude.{◌≡◌, ◌++◌, ◌∷◌, [], IfOk, OnErr};
 ghost use Rattle.std.specs.List.{All};
 ghost use Rattle.mq_board.specs.Writers.{IsReady, posting};
 
@@ -40,7 +40,9 @@ pub(crate) fn open<J: Naming, R: Wait>(
 ) -> Result<Queue, AllocError>
     requires empty { writer.old.events ≡ [] }
     requires idle { writer.old.pending ≡ [] }
-    ensures { IfOk result (λ queue. (writer.new.events ≡ queue.log) × (writer.new.pending ≡ [])) }
+    ensures ok { IfOk result (λ queue. (writer.new.events ≡ queue.log)
+        × (writer.new.pending ≡ [])) }
+    ensures unchanged { OnErr result (writer.new ≡ writer.old) }
 {
     let queue = Queue::made(alloc, 7, 1, 10, writer)?;
     writer.publish(rt);
@@ -64,10 +66,10 @@ pub(crate) fn send<J: Naming, R: Wait>(
         tag: 5,
         body: VecBody::from_slice(alloc, &[])?,
     };
+    let _small = queue.log_len();
     let Ok(_place) = queue.send(message, 20, writer) else {
         return Err(AllocError);
     };
-    let _small = queue.log_len();
     writer.publish(rt);
     Ok(())
 }

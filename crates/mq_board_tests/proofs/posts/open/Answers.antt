@@ -6,4 +6,4 @@ pub publish-requires : goal.publish-requires
 publish-requires g c =
     let made = c.in_ok-queue.ensures in
     taken _ _ c.in_ok-queue.queue.log _ c.requires.idle made.noticed (rw c.requires.empty made.log)
-    made.sound.lawful made.sound.live (omega (arith, ap length made.log))
+    made.sound.lawful (omega (arith, ap length c.requires.empty))

@@ -1,4 +1,4 @@
-use Rattle.std.proofs.Common.{arith}
+use Rattle.std.proofs.Common.{length, ap, arith}
 use Rattle.mq_board_tests.proofs.Ready.{taken}
 use Rattle.mq_board_tests.proofs.posts.send.Goals as goal
 
@@ -6,4 +6,4 @@ pub publish-requires : goal.publish-requires
 publish-requires g c =
     let sent = c.in-Ok.ensures in
     taken _ _ c.send.new.self.log _ c.requires.idle sent.noticed (rw c.requires.same sent.log)
-    c.send.ensures.sound.lawful c.send.ensures.sound.live (omega arith)
+    c.send.ensures.sound.lawful (omega (arith, ap length c.requires.same))

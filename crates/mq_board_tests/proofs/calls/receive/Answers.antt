@@ -1,0 +1,19 @@
+use Rattle.std.proofs.Common.{◌<◌, ◌^◌, length, arith}
+use Rattle.mq_board_tests.specs.Shown.{IsShown}
+use Rattle.mq_board_tests.proofs.Ready.{pending}
+use Rattle.mq_board_tests.proofs.calls.receive.Goals as goal
+
+pub returns-in-Ok : goal.returns-in-Ok
+returns-in-Ok g c =
+    let received = c.in-Ok.ensures in
+    pending _ _ _ _ _ c.requires received.noticed received.log
+    c.receive.ensures.sound.lawful (omega arith)
+
+pub returns : goal.returns
+returns g c =
+    let refused = c.in_default.ensures in
+    let received = c.in-Ok-receive.ensures in
+    let shown : IsShown c.receive.new.self.log c.receive.new.notice =
+    rw (refused.unchanged, refused.unnoticed) c.requires in
+    let short : length c.receive.new.self.log < 2 ^ 63 = rw refused.unchanged (omega arith) in
+    pending _ _ _ _ _ shown received.noticed received.log c.receive-2.ensures.sound.lawful short
