@@ -42,7 +42,7 @@ impl<P: Pledge, N: Names> Place<P, N, Copies<N>> {
         MutexGuard::unlock(held);
         match answer {
             Ok(entry) => {
-                self.room.notify_all();
+                self.room.wake();
                 Ok(entry)
             }
             Err(refused) => Err(refused),
@@ -84,7 +84,7 @@ impl<P: Pledge, N: Names> Place<P, N, Copies<N>> {
 
     /// Wakes all who wait in the slot: they look at it once more.
     pub fn wake(&self) {
-        self.arrived.notify_all();
-        self.room.notify_all();
+        self.arrived.wake();
+        self.room.wake();
     }
 }

@@ -8,7 +8,6 @@ ghost use Rattle.mq_shared.specs.Refusals.{Refuses, MayReceive, MaySend};
 ghost use Rattle.mq_shared.specs.Seat.{IsCounted, IsLater, IsSame};
 ghost use Rattle.mq_shared.specs.Seen.{IsDecided, IsDone, IsReceipt, receive_verdict, send_verdict};
 
-use crate::place::wait_for;
 use crate::{Names, Place, Pledge, RecvFlags, Seat, SendFlags, TextOf};
 use mq_board::Copies;
 use mq_one_thread::{Delivered, Errno, Refused, SendRefused};
@@ -51,7 +50,7 @@ impl<P: Pledge, N: Names> Place<P, N, Copies<N>> {
             match held.send(rt, seat, id, mtype, tag, text, moment) {
                 Ok(entry) => {
                     MutexGuard::unlock(held);
-                    self.arrived.notify_all();
+                    self.arrived.wake();
                     return Ok(entry);
                 }
                 Err(refusal) => {
@@ -61,7 +60,7 @@ impl<P: Pledge, N: Names> Place<P, N, Copies<N>> {
                     }
                     let (_, again) = refusal.into_text();
                     text = again;
-                    wait_for(rt, &self.room, held);
+                    self.room.wait(rt, held);
                 }
             }
         }
@@ -99,7 +98,7 @@ impl<P: Pledge, N: Names> Place<P, N, Copies<N>> {
             match held.receive(rt, seat, id, size, selection, flags.noerror, moment) {
                 Ok(delivered) => {
                     MutexGuard::unlock(held);
-                    self.room.notify_all();
+                    self.room.wake();
                     return Ok(delivered);
                 }
                 Err(refused) => {
@@ -107,7 +106,7 @@ impl<P: Pledge, N: Names> Place<P, N, Copies<N>> {
                         MutexGuard::unlock(held);
                         return Err(refused);
                     }
-                    wait_for(rt, &self.arrived, held);
+                    self.arrived.wait(rt, held);
                 }
             }
         }
