@@ -17,9 +17,12 @@ class Crates:
         self.top, self.kit, self.toolchain = top, Path(said("doc")).parent, said("version")
         self.uses = {}
         for line in (top / "crates.txt").read_text().splitlines():
-            name, colon, names = line.partition("#")[0].partition(":")
+            listed, _, remark = line.partition("#")
+            name, colon, names = listed.partition(":")
+            # What is listed for the order of the proofs alone is not used.
+            later = remark.split()[1:] if remark.split()[:1] == ["after"] else []
             if colon:
-                self.uses[name.split()[0]] = names.split()
+                self.uses[name.split()[0]] = [it for it in names.split() if it not in later]
 
     def below(self, name):
         """The crates of the repository that this one stands on."""
