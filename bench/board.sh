@@ -5,7 +5,7 @@
 # are medians of rounds in which the programs take turns; what a run of no events or looks takes is
 # left out. The times are printed beside those that are wanted, and fail nothing.
 # Fails where the memory of a board grows with the events: ten times as many may take 256 kB more.
-# Wants cc.
+# Wants cc and GNU time.
 set -euo pipefail
 cd "$(dirname "$0")/.."
 (cd crates/bench && rt run > /dev/null)
@@ -48,11 +48,10 @@ def nanoseconds(commands):
 
 
 def kilobytes(readers, count):
-    """The most memory that a run has."""
-    child = subprocess.Popen([*OURS, "events", str(readers), str(count)], stdout=subprocess.DEVNULL)
-    _, status, used = os.wait4(child.pid, 0)
-    assert status == 0, status
-    return used.ru_maxrss
+    """The most memory that a run has. GNU time starts it, since what the kernel tells of a child of
+    this process begins with the memory of this one."""
+    command = ["/usr/bin/time", "-f", "%M", *OURS, "events", str(readers), str(count)]
+    return int(subprocess.run(command, check=True, capture_output=True, text=True).stderr)
 
 
 def main():

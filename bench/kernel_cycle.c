@@ -1,5 +1,6 @@
 /* Sends a text of that many bytes to one of the kernel's System V message queues and receives it,
-   that many times, and counts the bytes that came: `kernel_cycle BYTES CYCLES`. The program that
+   that many times, and counts the bytes that came: `kernel_cycle BYTES CYCLES [MOST]`, where a text
+   of more than MOST bytes goes in pieces, each received before the next is sent. The program that
    bench/cycle.sh times a cycle of one thread against. */
 #define _GNU_SOURCE
 #include <stdio.h>
@@ -8,18 +9,16 @@
 #include <sys/ipc.h>
 #include <sys/msg.h>
 
-enum { TEXT_MOST = 8192 };
+#include "kernel_text.h"
 
-static struct {
-    long type;
-    char text[TEXT_MOST];
-} sent, received;
+static struct text sent, received;
 
 int main(int argc, char **argv)
 {
     long size = argc > 1 ? strtol(argv[1], NULL, 10) : 16;
     long count = argc > 2 ? strtol(argv[2], NULL, 10) : 10;
-    if (size < 0 || size > TEXT_MOST)
+    long most = argc > 3 ? strtol(argv[3], NULL, 10) : TEXT_MOST;
+    if (size < 0 || size > TEXT_MOST || most < 1)
         return 2;
     int queue = msgget(IPC_PRIVATE, 0600);
     if (queue < 0) {
@@ -27,15 +26,19 @@ int main(int argc, char **argv)
         return 1;
     }
     sent.type = 1;
-    memset(sent.text, 'x', sizeof sent.text);
+    memset(sent.bytes, 'x', sizeof sent.bytes);
     unsigned long long came = 0;
     int failed = 0;
     for (long i = 0; i < count && !failed; i++) {
-        failed = msgsnd(queue, &sent, size, IPC_NOWAIT) != 0;
-        ssize_t length = failed ? -1 : msgrcv(queue, &received, TEXT_MOST, 0, IPC_NOWAIT);
-        failed = length < 0;
-        if (!failed)
-            came += length;
+        long left = size;
+        do {
+            long length = piece_of(left, most);
+            failed = msgsnd(queue, &sent, length, IPC_NOWAIT) != 0
+                     || msgrcv(queue, &received, TEXT_MOST, 0, IPC_NOWAIT) != length;
+            if (!failed)
+                came += length;
+            left -= length;
+        } while (left > 0 && !failed);
     }
     if (failed)
         perror("msgsnd, msgrcv");

@@ -3,13 +3,14 @@
    IPC_NOWAIT, and writes the same answers, for all commands but `ipcs` and `arena`.
 
    - A message's text is carried behind a header of 16 bytes with its tag, whole length and seat,
-     which the kernel does not keep. The kernel counts it: of texts over 8,176 bytes, and where
-     only the headers are too much for the quota, its answer is not mqsim's. `stat` leaves the
-     headers out of `cbytes`.
+     which the kernel does not keep. The kernel counts it: of texts of which fewer than 16 bytes
+     are wanting to the kernel's msgmax, and where only the headers are too much for the quota,
+     its answer is not mqsim's. `stat` leaves the headers out of `cbytes`.
    - Each queue is made with IPC_PRIVATE. Ids, keys and the numbers after `at` are counted here,
      so that a removed id answers EIDRM for good, and a key meets no queue of another program.
    - lspid and lrpid are process ids, the times are seconds.
-   - A privileged user may set a quota over the kernel's limit; mqsim answers EPERM.
+   - A quota that is not set is the kernel's msgmnb. A privileged user may set one over that;
+     mqsim answers EPERM.
    - A size that is over any text is taken, as mqsim does; the kernel refuses one of 2^63.
    - It is less strict than mqsim about lines that are not well formed, and names no cause.
 
@@ -27,7 +28,7 @@
 
 enum {
     SCRIPT_MOST = 1048576,
-    TEXT_MOST = 8192,
+    TEXT_MOST = 65536,
     SLOTS = 16,
     ID_SLOTS = 64,
     LAST_SEQ = 32767,
@@ -303,7 +304,7 @@ static void get(struct line *line)
 }
 
 /* Points `from` at the text's bytes and answers their number. Letters are there for the first
-   8,192 bytes alone. */
+   65,536 bytes alone. */
 static uint64_t read_text(struct line *line, const char **from)
 {
     struct line text = *line;

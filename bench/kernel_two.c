@@ -1,6 +1,7 @@
 /* Two threads pass a text of that many bytes there and back on two of the kernel's System V message
-   queues, that many times, and the first counts the bytes that came: `kernel_two BYTES CYCLES`. The
-   program that bench/system.sh times two threads of a system against. */
+   queues, that many times, and the first counts the bytes that came: `kernel_two BYTES CYCLES
+   [MOST]`, where a text of more than MOST bytes goes in pieces. The program that bench/system.sh
+   times two threads of a system against. */
 #define _GNU_SOURCE
 #include <pthread.h>
 #include <stdio.h>
@@ -9,15 +10,10 @@
 #include <sys/ipc.h>
 #include <sys/msg.h>
 
-enum { TEXT_MOST = 8192 };
-
-struct text {
-    long type;
-    char bytes[TEXT_MOST];
-};
+#include "kernel_text.h"
 
 static int there, back;
-static long size, count;
+static long size, count, most;
 
 static void *answer(void *unused)
 {
@@ -26,7 +22,7 @@ static void *answer(void *unused)
     sent.type = 1;
     memset(sent.bytes, 'x', sizeof sent.bytes);
     for (long i = 0; i < count; i++)
-        if (msgrcv(there, &came, TEXT_MOST, 0, 0) < 0 || msgsnd(back, &sent, size, 0) != 0)
+        if (receive_whole(there, &came, size, most) < 0 || !send_whole(back, &sent, size, most))
             return (void *)1;
     return NULL;
 }
@@ -35,10 +31,11 @@ int main(int argc, char **argv)
 {
     size = argc > 1 ? strtol(argv[1], NULL, 10) : 16;
     count = argc > 2 ? strtol(argv[2], NULL, 10) : 10;
+    most = argc > 3 ? strtol(argv[3], NULL, 10) : TEXT_MOST;
     there = msgget(IPC_PRIVATE, 0600);
     back = msgget(IPC_PRIVATE, 0600);
     pthread_t other;
-    if (size < 0 || size > TEXT_MOST || there < 0 || back < 0
+    if (size < 0 || size > TEXT_MOST || most < 1 || there < 0 || back < 0
         || pthread_create(&other, NULL, answer, NULL) != 0) {
         perror("kernel_two");
         return 1;
@@ -49,8 +46,8 @@ int main(int argc, char **argv)
     unsigned long long bytes = 0;
     int failed = 0;
     for (long i = 0; i < count && !failed; i++) {
-        failed = msgsnd(there, &sent, size, 0) != 0;
-        ssize_t length = failed ? -1 : msgrcv(back, &came, TEXT_MOST, 0, 0);
+        long length = send_whole(there, &sent, size, most)
+                          ? receive_whole(back, &came, size, most) : -1;
         failed = length < 0;
         if (!failed)
             bytes += length;

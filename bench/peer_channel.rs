@@ -1,24 +1,22 @@
 //! Threads of one process send and receive texts of one length through a bounded channel of Rust's
 //! standard library, and the receivers count the bytes that came: `peer_channel SENDERS RECEIVERS
-//! BYTES COUNT`, where each sender sends COUNT texts; or `peer_channel back BYTES COUNT`, in which
-//! two threads pass one text there and back, on two channels. A channel of the standard library has
-//! one receiver: several share it by a mutex. The bound is that of a queue's quota. A program that
-//! bench/threads.sh times the queues against.
+//! BYTES COUNT QUOTA`, where each sender sends COUNT texts; or `peer_channel back BYTES COUNT QUOTA`,
+//! in which two threads pass one text there and back, on two channels. A channel of the standard
+//! library has one receiver: several share it by a mutex. As many texts may wait as QUOTA has bytes
+//! for, or that many of no bytes. A program that bench/threads.sh times the queues against.
 use std::sync::mpsc::{Receiver, SyncSender, sync_channel};
 use std::sync::{Arc, Mutex};
 use std::thread;
 
-const QUOTA: usize = 16_384;
+static SOURCE: [u8; 65_536] = [b'x'; 65_536];
 
-static SOURCE: [u8; 8192] = [b'x'; 8192];
-
-fn bounded(size: usize) -> (SyncSender<Vec<u8>>, Receiver<Vec<u8>>) {
-    sync_channel(if size == 0 { QUOTA } else { QUOTA / size })
+fn bounded(size: usize, quota: usize) -> (SyncSender<Vec<u8>>, Receiver<Vec<u8>>) {
+    sync_channel(quota / size.max(1))
 }
 
-fn pass_back(size: usize, count: usize) -> usize {
-    let (there, comes) = bounded(size);
-    let (answer, back) = bounded(size);
+fn pass_back(size: usize, count: usize, quota: usize) -> usize {
+    let (there, comes) = bounded(size, quota);
+    let (answer, back) = bounded(size, quota);
     let other = thread::spawn(move || {
         for _ in 0..count {
             comes.recv().unwrap();
@@ -34,8 +32,8 @@ fn pass_back(size: usize, count: usize) -> usize {
     bytes
 }
 
-fn flow(senders: usize, receivers: usize, size: usize, count: usize) -> usize {
-    let (there, comes) = bounded(size);
+fn flow(senders: usize, receivers: usize, size: usize, count: usize, quota: usize) -> usize {
+    let (there, comes) = bounded(size, quota);
     let comes = Arc::new(Mutex::new(comes));
     let mut threads = Vec::new();
     for _ in 0..senders {
@@ -65,9 +63,9 @@ fn main() {
     let words: Vec<String> = std::env::args().skip(1).collect();
     let number = |k: usize| words[k].parse::<usize>().unwrap();
     let bytes = if words[0] == "back" {
-        pass_back(number(1), number(2))
+        pass_back(number(1), number(2), number(3))
     } else {
-        flow(number(0), number(1), number(2), number(3))
+        flow(number(0), number(1), number(2), number(3), number(4))
     };
     println!("{bytes} bytes came");
 }

@@ -3,7 +3,9 @@
    sends COUNT texts and each receiver takes its share; or `peer_threads QUEUE back BYTES COUNT`, in
    which two threads pass one text there and back, on two queues. QUEUE is `kernel`, a System V
    message queue of the kernel, or `mutex`, a mutex with two condition variables over a ring of heap
-   buffers with the same quota. The program that bench/threads.sh times the queues against. */
+   buffers with the same quota. Two words may follow: the quota, of which the kernel gives no more
+   than its msgmnb, and the most bytes of a text that the kernel takes in one call. The program that
+   bench/threads.sh times the queues against. */
 #define _GNU_SOURCE
 #include <pthread.h>
 #include <stdio.h>
@@ -12,26 +14,23 @@
 #include <sys/ipc.h>
 #include <sys/msg.h>
 
-enum { TEXT_MOST = 8192, QUOTA = 16384, THREADS_MOST = 16 };
+#include "kernel_text.h"
+
+enum { QUOTA_MOST = 131072, THREADS_MOST = 16 };
 
 /* A queue of the kernel or of this program. */
 struct queue {
     int id;
     pthread_mutex_t lock;
     pthread_cond_t room, arrived;
-    char *waiting[QUOTA];
-    size_t lengths[QUOTA];
+    char *waiting[QUOTA_MOST];
+    size_t lengths[QUOTA_MOST];
     size_t first, count, bytes;
-};
-
-struct text {
-    long type;
-    char bytes[TEXT_MOST];
 };
 
 static struct queue queues[2];
 static int of_kernel;
-static long size, count, shares;
+static long size, count, shares, quota = QUOTA_MOST, most = TEXT_MOST;
 static char source[TEXT_MOST];
 
 static void fail(const char *what)
@@ -45,15 +44,23 @@ static void make(struct queue *queue)
     pthread_mutex_init(&queue->lock, NULL);
     pthread_cond_init(&queue->room, NULL);
     pthread_cond_init(&queue->arrived, NULL);
-    if (of_kernel && (queue->id = msgget(IPC_PRIVATE, 0600)) < 0)
+    if (!of_kernel)
+        return;
+    struct msqid_ds values;
+    queue->id = msgget(IPC_PRIVATE, 0600);
+    if (queue->id < 0 || msgctl(queue->id, IPC_STAT, &values) != 0)
         fail("msgget");
+    if (values.msg_qbytes > (msglen_t)quota)
+        values.msg_qbytes = quota;
+    if (msgctl(queue->id, IPC_SET, &values) != 0)
+        fail("msgctl");
 }
 
 static void send_text(struct queue *queue, struct text *scratch)
 {
     if (of_kernel) {
         memcpy(scratch->bytes, source, size);
-        if (msgsnd(queue->id, scratch, size, 0) != 0)
+        if (!send_whole(queue->id, scratch, size, most))
             fail("msgsnd");
         return;
     }
@@ -62,9 +69,9 @@ static void send_text(struct queue *queue, struct text *scratch)
         fail("malloc");
     memcpy(text, source, size);
     pthread_mutex_lock(&queue->lock);
-    while (queue->count == QUOTA || queue->bytes + size > QUOTA)
+    while (queue->count == (size_t)quota || queue->bytes + size > (size_t)quota)
         pthread_cond_wait(&queue->room, &queue->lock);
-    size_t last = (queue->first + queue->count) % QUOTA;
+    size_t last = (queue->first + queue->count) % quota;
     queue->waiting[last] = text;
     queue->lengths[last] = size;
     queue->count++;
@@ -76,7 +83,7 @@ static void send_text(struct queue *queue, struct text *scratch)
 static size_t receive_text(struct queue *queue, struct text *scratch)
 {
     if (of_kernel) {
-        ssize_t length = msgrcv(queue->id, scratch, TEXT_MOST, 0, 0);
+        long length = receive_whole(queue->id, scratch, size, most);
         if (length < 0)
             fail("msgrcv");
         return length;
@@ -86,7 +93,7 @@ static size_t receive_text(struct queue *queue, struct text *scratch)
         pthread_cond_wait(&queue->arrived, &queue->lock);
     char *text = queue->waiting[queue->first];
     size_t length = queue->lengths[queue->first];
-    queue->first = (queue->first + 1) % QUOTA;
+    queue->first = (queue->first + 1) % quota;
     queue->count--;
     queue->bytes -= length;
     pthread_mutex_unlock(&queue->lock);
@@ -165,16 +172,22 @@ static size_t flow(long senders, long receivers)
 
 int main(int argc, char **argv)
 {
-    int goes_back = argc == 5 && strcmp(argv[2], "back") == 0;
-    if (argc != 6 && !goes_back) {
-        fprintf(stderr, "peer_threads kernel|mutex SENDERS RECEIVERS BYTES COUNT, or back BYTES COUNT\n");
+    int goes_back = argc > 2 && strcmp(argv[2], "back") == 0, words = goes_back ? 5 : 6;
+    if (argc < words || argc > words + 2) {
+        fprintf(stderr, "peer_threads kernel|mutex SENDERS RECEIVERS BYTES COUNT [QUOTA [MOST]], or "
+                        "back BYTES COUNT [QUOTA [MOST]]\n");
         return 2;
     }
     of_kernel = strcmp(argv[1], "kernel") == 0;
     size = strtol(argv[goes_back ? 3 : 4], NULL, 10);
     count = strtol(argv[goes_back ? 4 : 5], NULL, 10);
     long senders = strtol(argv[2], NULL, 10), receivers = goes_back ? 0 : strtol(argv[3], NULL, 10);
-    if (size < 0 || size > TEXT_MOST || count < 0
+    if (argc > words)
+        quota = strtol(argv[words], NULL, 10);
+    if (argc > words + 1)
+        most = strtol(argv[words + 1], NULL, 10);
+    if (size < 0 || size > TEXT_MOST || count < 0 || quota < 1 || quota > QUOTA_MOST || size > quota
+        || most < 1
         || (!goes_back && (senders < 1 || senders > THREADS_MOST || receivers < 1
                            || receivers > THREADS_MOST || senders * count % receivers != 0))) {
         fprintf(stderr, "peer_threads: out of range\n");

@@ -24,11 +24,34 @@ def drawn(path, settings, rows, plots):
     subprocess.run(["gnuplot"], input=script, text=True, check=True)
 
 
+def write_table(path, columns, rows):
+    """Writes rows of numbers under the names of their columns."""
+    with open(path, "w") as file:
+        file.writelines(" ".join(map(str, row)) + "\n" for row in (columns, *rows))
+
+
+def read_table(path):
+    """The rows of such a file, each by the names of its columns."""
+    with open(path) as file:
+        columns, *rows = (line.split() for line in file)
+    return [dict(zip(columns, map(int, row))) for row in rows]
+
+
 def lines(path, names, rows, across, up):
     """A line for each column over the first one, with logarithmic axes."""
     settings = f"set logscale xy\nset xlabel '{across}'\nset ylabel '{up}'"
     drawn(path, settings, rows,
           [f"using 1:{k + 2} with lines lt {k + 1} title '{name}'" for k, name in enumerate(names)])
+
+
+def steps(path, names, rows, across, up):
+    """A line for each column, of the line type that stands beside its name, over the first one's
+    numbers at equal distances, so that 0 is there too; the heights are logarithmic."""
+    settings = (f"set logscale y\nset xlabel '{across}'\nset ylabel '{up}'\n"
+                "set xtics rotate by -30\nset rmargin 7")
+    drawn(path, settings, [(f"{row[0]:,}", *row[1:]) for row in rows],
+          [f"using {k + 2}:xtic(1) with linespoints lt {it} pt 7 ps 0.5 title '{name}'"
+           for k, (name, it) in enumerate(names)])
 
 
 def bars(path, names, rows, up):

@@ -5,7 +5,8 @@
 # lines a second to the kernel's. Wanted is a ratio of 1.6 with one queue, by sends and receives
 # alone and by all calls, and of 1.4 with 8 queues in an arena of height 10. Fails, with status 1,
 # where a ratio is less, and where the answers differ in more than process ids and times. A script
-# that MQSIM does not take yet is left out.
+# that MQSIM does not take yet is left out, and so is the one with texts to 65,536 bytes where the
+# kernel's limits, which are raised while it runs, cannot be.
 set -euo pipefail
 top=$(realpath "$(dirname "$0")/..")
 mqsim=$(realpath -m "${1:-$top/crates/mqsim/out/mqsim}")
@@ -14,9 +15,11 @@ if [ ! -x "$mqsim" ]; then
     exit 1
 fi
 cd "$top"
+. bench/kernel_limits.sh
 folder=$(mktemp -d)
-trap 'rm -rf "$folder"' EXIT
+trap 'restore_limits; rm -rf "$folder"' EXIT
 cc -O2 -Wall -Wextra -o "$folder/kernel_queues" bench/kernel_queues.c
+raise_limits
 python3 - "$mqsim" "${2:-9}" "$folder" <<'PYTHON'
 import itertools
 import os
@@ -28,21 +31,22 @@ import time
 MQSIM, ROUNDS, FOLDER = sys.argv[1], int(sys.argv[2]), sys.argv[3]
 KERNEL = [f"{FOLDER}/kernel_queues"]
 SEED = "1"
-# Name, arguments of script.py, options of mqsim, the least ratio that is wanted.
+# Name, arguments of script.py, options of mqsim, the least ratio that is wanted, the longest text.
 SCRIPTS = [
-    ("1 queue, snd and rcv", ["--calls", "snd,rcv"], [], 1.6),
-    ("1 queue, all calls", [], [], 1.6),
-    ("8 queues, height 10", ["--queues", "8", "--height", "10"], ["--height", "10"], 1.4),
+    ("1 queue, snd and rcv", ["--calls", "snd,rcv"], [], 1.6, 8192),
+    ("1 queue, all calls", [], [], 1.6, 8192),
+    ("8 queues, height 10", ["--queues", "8", "--height", "10"], ["--height", "10"], 1.4, 8192),
+    ("8 queues, to 65,536 B", ["--queues", "8", "--height", "10"], ["--height", "10"], None, 65536),
 ]
 
 
-def check_limits():
-    """The kernel's limits must be those of mqsim."""
-    for name, wanted in (("msgmax", 8192), ("msgmnb", 16384)):
+def kernel_takes(longest):
+    """Whether the kernel's limits are enough for such texts and a quota of twice as many bytes."""
+    for name, wanted in (("msgmax", longest), ("msgmnb", 2 * longest)):
         with open(f"/proc/sys/kernel/{name}") as file:
-            found = int(file.read())
-        if found != wanted:
-            sys.exit(f"/proc/sys/kernel/{name} is {found}, not {wanted}")
+            if int(file.read()) < wanted:
+                return False
+    return True
 
 
 def answers(command, path):
@@ -127,15 +131,15 @@ def measure(name, ours, path, wanted):
         count = sum(1 for _ in file)
     our_time, kernel_time = medians(ours, path)
     ratio = kernel_time / our_time
+    fast = wanted is None or ratio >= wanted
     print(f"{name:22}{count:7}{count / our_time:16,.0f}{count / kernel_time:16,.0f}"
-          f"{ratio:8.2f}{wanted:8.1f}{'' if ratio >= wanted else '  missed'}")
-    return ratio >= wanted
+          f"{ratio:8.2f}{wanted or '':>8}{'' if fast else '  missed'}")
+    return fast
 
 
 def main():
     if ROUNDS < 7:
         sys.exit("at least 7 rounds")
-    check_limits()
     print("load average at the start:", *(f"{load:.2f}" for load in os.getloadavg()))
     understood = answers([MQSIM, "serial"], "/dev/null")[1] == 0
     program = [MQSIM, "serial"] if understood else [MQSIM]
@@ -143,8 +147,11 @@ def main():
     print(f"an empty script: mqsim {empty[0]}, the kernel's queues {empty[1]}; it is in all times")
     print(f"{'script':22}{'lines':>7}{'mqsim lines/s':>16}{'kernel lines/s':>16}{'ratio':>8}{'wanted':>8}")
     measured = missed = 0
-    for number, (name, arguments, options, wanted) in enumerate(SCRIPTS):
-        path = make_script(number, arguments)
+    for number, (name, arguments, options, wanted, longest) in enumerate(SCRIPTS):
+        if not kernel_takes(longest):
+            print(f"{name}: left out: the kernel takes no texts of {longest} bytes")
+            continue
+        path = make_script(number, [*arguments, "--longest", str(longest)])
         ours = program + options if understood else program
         if judge(name, ours, path):
             missed += not measure(name, ours, path, wanted)

@@ -1,20 +1,19 @@
 #!/usr/bin/env python3
 """Writes a script for mqsim that bench/kernel_queues.c answers alike.
 
-`bench/script.py SEED [--queues Q] [--calls snd,rcv,set,stat] [--height H] [--bytes B]`. The same
-arguments always give the same script. It makes Q queues, then sends, receives, sets quotas and
-asks for figures, near B bytes in all. Most calls succeed; some answer EAGAIN, ENOMSG, E2BIG or
+`bench/script.py SEED [--queues Q] [--calls snd,rcv,set,stat] [--height H] [--longest L] [--bytes B]`.
+The same arguments always give the same script. It makes Q queues with a quota of twice L, then
+sends texts of at most L bytes, receives, sets quotas and asks for figures, near B bytes in all. A
+text and its header have L bytes at most. Most calls succeed; some answer EAGAIN, ENOMSG, E2BIG or
 EINVAL. The queues and the arena of 2^H pages are followed along, for two reasons: no text is sent
 for which there are no pages, since the kernel has no arena; and none that fits the quota only
 without the 16 bytes that kernel_queues.c puts before each text.
 """
 import argparse
+import math
 import random
 
 HEADER = 16
-LONGEST = 8192 - HEADER
-QUOTA = 16384
-LEAST_QUOTA = 8192
 PAGE = 1024
 DEEPEST = 48
 PRINTABLE = "".join(map(chr, range(0x20, 0x7F)))
@@ -49,9 +48,9 @@ class Arena:
 class Queue:
     """What waits, as (type, length, block), and the quota."""
 
-    def __init__(self, number):
+    def __init__(self, number, quota):
         self.number = number
-        self.quota = QUOTA
+        self.quota = quota
         self.bytes = 0
         self.waiting = []
         self.wanted = 0
@@ -83,7 +82,9 @@ class Writer:
     def __init__(self, options):
         self.random = random.Random(options.seed)
         self.arena = Arena(options.height)
-        self.queues = [Queue(number) for number in range(options.queues)]
+        self.longest = options.longest - HEADER
+        self.quotas = options.longest, 2 * options.longest
+        self.queues = [Queue(number, self.quotas[1]) for number in range(options.queues)]
         self.calls = options.calls.split(",")
 
     def chance(self, one_in):
@@ -92,8 +93,7 @@ class Writer:
     def first_lines(self):
         for queue in self.queues:
             yield "get 0 c"
-            if "set" in self.calls:
-                yield f"set {queue.number} {queue.quota}"
+            yield f"set {queue.number} {queue.quota}"
 
     def next_line(self):
         queue = self.random.choice(self.queues)
@@ -111,14 +111,14 @@ class Writer:
         return self.receive(queue)
 
     def set(self, queue):
-        queue.quota = self.random.randrange(LEAST_QUOTA, QUOTA + 1)
+        queue.quota = self.random.randint(*self.quotas)
         return f"set {queue.number} {queue.quota}"
 
     def text(self):
         """A text's word and its length."""
         if self.chance(12):
-            length = int(2 ** self.random.uniform(0, 13))
-            return f"*{min(length, LONGEST)}", min(length, LONGEST)
+            length = int(2 ** self.random.uniform(0, math.log2(self.quotas[0])))
+            return f"*{min(length, self.longest)}", min(length, self.longest)
         length = self.random.randrange(65)
         return "=" + "".join(self.random.choices(PRINTABLE, k=length)), length
 
@@ -159,7 +159,7 @@ class Writer:
         kind = self.random.randrange(16)
         if kind == 0:
             return self.random.randrange(length + 1), not self.chance(3)
-        return (length if kind < 4 else LONGEST), kind % 4 == 0
+        return (length if kind < 4 else self.longest), kind % 4 == 0
 
     def receive(self, queue):
         msgtyp, except_type = self.selection(queue)
@@ -192,6 +192,7 @@ def main():
     parser.add_argument("--queues", type=int, default=1)
     parser.add_argument("--calls", default="snd,rcv,set,stat")
     parser.add_argument("--height", type=int, default=6)
+    parser.add_argument("--longest", type=int, default=8192)
     parser.add_argument("--bytes", type=int, default=1048576)
     print(write_script(parser.parse_args()), end="")
 

@@ -121,9 +121,13 @@ for k in 0 1 2; do
     printf 'worker\n'
     printf "put $k %d 2 800\ntake $k 0 2\nput $k 7 1 0\ntake $k -9 1\n" {1..9}
 done >> "$folder/queues"
+# Texts whose drafts take memory, in an arena that has a block for each of them at any time.
+printf 'get 0 c\nworker\nput 0 1 2 8193\ntake 0 1 2\nworker\nput 0 2 1 65536\ntake 0 2 1\n' \
+    > "$folder/long"
 begin "$folder/types" threads
 begin "$folder/types" 'threads --height 4 --slots 1 --last-seq 0'
 begin "$folder/queues" 'threads --slots 64'
+begin "$folder/long" 'threads --height 7'
 
 source tests/serial_tables.sh
 for words in '' 'serial --height 6 --slots 16 --last-seq 32767' 'serial --height 2 --slots 2' \

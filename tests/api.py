@@ -29,11 +29,11 @@ GROUPS = {
                                       "Names", "Pages", "Blanks"],
     "What the calls take and answer": ["Id", "GetFlags", "Got", "Delivered", "Removal", "Figures",
                                        "BoardRow"],
-    "Refusals": ["Errno", "Refused", "SendRefused", "DraftError"],
+    "Refusals": ["Errno", "Refused", "SendRefused", "DraftError", "TakeError"],
     "Texts": ["Text", "Body", "Parts", "Homecoming", "Block", "Page"],
     "Logs": ["Event", "Selection", "Log", "Received"],
-    "Limits": ["MSGMAX", "MSGMNB", "PAGE_LEN", "MAX_HEIGHT", "MAX_ORDER", "MAX_PAGES", "MAX_SLOTS",
-               "MAX_SEATS", "MAX_SEQ", "LEDGER_PARTS"],
+    "Limits": ["MSGMAX", "MSGMNB", "PAGE_LEN", "INLINE_LEN", "MAX_HEIGHT", "MAX_ORDER", "MAX_PAGES",
+               "INLINE_ORDER", "INLINE_PAGES", "MAX_SLOTS", "MAX_SEATS", "MAX_SEQ", "LEDGER_PARTS"],
     "Without `with_queues`": ["Ledger", "Blank", "Closed", "ArenaState"],
 }
 

@@ -4,9 +4,11 @@
 #
 # Of the wrong bodies that the proofs let through it finds these, each of which was tried:
 #   the parser's error is not printed;
-#   an option that was read is passed over (`Config { height: DEFAULTS.height, ..options_of(given) }`);
+#   an option that was read is passed over
+#     (`Config { height: SCRIPT_DEFAULTS.height, ..options_of(given) }`);
 #   the parser's range of an option is narrower (`.range(1..=63)`);
-#   words without a subcommand have another default (`None => Ok(Config { height: 5, ..DEFAULTS })`).
+#   words without a subcommand have another default
+#     (`None => Config { height: 5, ..SCRIPT_DEFAULTS }`).
 source "$(dirname "$0")/cases.sh"
 
 # Counts a run with the words from $2 on, which was right if $1 is 0.

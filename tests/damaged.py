@@ -54,6 +54,7 @@ snd 5 1 =a
 """
 
 PAIRS = b"""get 9 c
+set 0 16384
 worker
 put 0 1 100 1000
 worker
@@ -65,11 +66,12 @@ take 0 2 100
 """
 
 PAIRS_TOLD = b"""id 0
+at 1
 worker 2 sent 100 received 0 order yes end done
 worker 3 sent 100 received 0 order yes end done
 worker 4 sent 0 received 100 order yes end done
 worker 5 sent 0 received 100 order yes end done
-slot 0 events 401 sent 200 received 200 left 0
+slot 0 events 402 sent 200 received 200 left 0
 pages 64 free 64
 """
 

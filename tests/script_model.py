@@ -3,7 +3,7 @@ with the default options, and how it ends."""
 import re
 
 SLOTS, LAST_SEQ, PAGES = 16, 32767, 64
-MSGMAX, MSGMNB = 8192, 16384
+MSGMAX, MSGMNB = 65536, 131072
 LETTERS = b"abcdefghijklmnopqrstuvwxyz"
 COLUMNS = (("slot", 4), ("id", 8), ("key", 12), ("qnum", 7), ("cbytes", 8), ("qbytes", 8),
            ("lspid", 6), ("lrpid", 6))

@@ -1,7 +1,8 @@
 #!/usr/bin/env bash
-# Runs mqsim over each script of serial_tables.sh, and over one that uses a slot up, and wants its
-# answers: all that both outputs have, and status 1 where a line is not well formed, else 0. Wants
-# mqsim to be built. Prints the cases that fail; the last line counts.
+# Runs mqsim over each script of serial_tables.sh, over texts that just fit and just do not fit a
+# block, and over a script that uses a slot up, and wants its answers: all that both outputs have,
+# and status 1 where a line is not well formed, else 0. Wants mqsim to be built. Prints the cases
+# that fail; the last line counts.
 source "$(dirname "$0")/cases.sh"
 
 table() {
@@ -17,10 +18,20 @@ case_of() {
     [ "$status" -eq $(($# > 3)) ] && cmp -s "$seen/out" "$seen/wanted" \
         && cmp -s "$seen/err" "$seen/fault"
     count $? "$property: mqsim $1 <<< '${2:0:200}': status $status," \
-        "$(diff "$seen/wanted" "$seen/out" | head -3), standard error: $(head -c 300 "$seen/err")"
+        "$(diff "$seen/wanted" "$seen/out" | head -3 | cut -c 1-200)," \
+        "standard error: $(head -c 300 "$seen/err")"
 }
 
 source tests/serial_tables.sh
+
+table a_text_is_answered_whole
+letters=$(printf 'abcdefghijklmnopqrstuvwxyz%.0s' {1..2521})
+for length in 8192 8193 16384 16385 32768 32769 65536; do
+    answer="msg 1 seat 1 tag 2 len $length =${letters:0:length}"
+    case_of 'serial --height 6' \
+        "get 0 c\nsnd 0 1 *$length\nrcv 0 $length 0\narena\n" \
+        "id 0\nat 1\n$answer\npages 64 free 64 largest 6\n"
+done
 
 # A slot has 32,768 queues, one after another, and then no more; the last id is 2,097,088.
 table a_slot_is_used_up

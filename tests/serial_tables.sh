@@ -63,11 +63,14 @@ case_of '' \
     'id 0\nat 1\nat 2\nmsg 2 seat 1 tag 3 len 6 =long\n'
 # The quota is bytes and messages; an empty text still has room beside full bytes.
 case_of '' \
-    'get 0 c\nsnd 0 1 *8192\nsnd 0 1 *8192\nsnd 0 1 =a\nsnd 0 1 =\n' \
+    'get 0 c\nset 0 16384\nsnd 0 1 *8192\nsnd 0 1 *8192\nsnd 0 1 =a\nsnd 0 1 =\n' \
+    'id 0\nat 1\nat 2\nat 3\nEAGAIN\nat 4\n'
+case_of 'serial --height 8' \
+    'get 0 c\nsnd 0 1 *65536\nsnd 0 1 *65536\nsnd 0 1 =a\nsnd 0 1 =\n' \
     'id 0\nat 1\nat 2\nEAGAIN\nat 3\n'
 # A text over the limit is refused before it is made, whatever the id and the type.
 case_of '' \
-    'snd 0 1 *8193\nget 0 c\nsnd 0 1 *18446744073709551615\nsnd 9 0 *8193\nsnd 0 1 *0\nsnd 0 1 *28\nrcv 0 99 0\nrcv 0 99 0\n' \
+    'snd 0 1 *65537\nget 0 c\nsnd 0 1 *18446744073709551615\nsnd 9 0 *65537\nsnd 0 1 *0\nsnd 0 1 *28\nrcv 0 99 0\nrcv 0 99 0\n' \
     'EINVAL\nid 0\nEINVAL\nEINVAL\nat 1\nat 2\nmsg 1 seat 1 tag 5 len 0 =\nmsg 1 seat 1 tag 6 len 28 =abcdefghijklmnopqrstuvwxyzab\n'
 # Each seat sends as itself.
 case_of '' \
@@ -99,8 +102,19 @@ case_of 'serial --height 6' \
     'get 0 c\nsnd 0 1 =hello\nrcv 0 3 0\nrcv 0 3 0 n\nsnd 0 1 =hello\nrcv 0 0 0 n\narena\n' \
     'id 0\nat 1\nE2BIG\nmsg 1 seat 1 tag 2 len 5 =hel\nat 3\nmsg 1 seat 1 tag 5 len 5 =\npages 64 free 64 largest 6\n'
 case_of 'serial --height 6' \
-    'get 0 c\nsnd 0 1 *0\narena\nsnd 0 1 *1\nsnd 0 1 *1024\nsnd 0 1 *1025\nsnd 0 1 *2049\nsnd 0 1 *8192\narena\nsnd 0 1 *8193\n' \
+    'get 0 c\nsnd 0 1 *0\narena\nsnd 0 1 *1\nsnd 0 1 *1024\nsnd 0 1 *1025\nsnd 0 1 *2049\nsnd 0 1 *8192\narena\nsnd 0 1 *65537\n' \
     'id 0\nat 1\npages 64 free 64 largest 6\nat 2\nat 3\nat 4\nat 5\nat 6\npages 64 free 48 largest 5\nEINVAL\n'
+# Blocks of 16, 32 and 64 pages: which one a length takes, where it lies, and when none fits.
+case_of 'serial --height 6' \
+    'get 0 c\nsnd 0 1 *8193\narena\nsnd 0 1 *65537\nsnd 0 1 *32769\nsnd 0 1 *32768\narena\nset 0 131073\nset 0 131072\n' \
+    'id 0\nat 1\npages 64 free 48 largest 5\nEINVAL\nENOMEM\nat 2\npages 64 free 16 largest 4\nEPERM\nat 3\n'
+case_of 'serial --height 7' \
+    'get 0 c\nsnd 0 1 *16384\narena\nsnd 0 1 *16385\narena\nsnd 0 1 *8193\narena\nsnd 0 1 *32769\narena\n' \
+    'id 0\nat 1\npages 128 free 112 largest 6\nat 2\npages 128 free 80 largest 6\nat 3\npages 128 free 64 largest 6\nat 4\npages 128 free 0 largest none\n'
+# The longest text takes all 64 pages, which come back where it is cut and where its queue is removed.
+case_of 'serial --height 6' \
+    'get 0 c\nsnd 0 1 *65536\narena\nsnd 0 1 =a\nsnd 0 1 =\nrcv 0 65535 0\nrcv 0 28 0 n\narena\nsnd 0 1 *65536\nrm 0\narena\n' \
+    'id 0\nat 1\npages 64 free 0 largest none\nENOMEM\nat 2\nE2BIG\nmsg 1 seat 1 tag 2 len 65536 =abcdefghijklmnopqrstuvwxyzab\npages 64 free 64 largest 6\nat 4\nat 5 events 6\npages 64 free 64 largest 6\n'
 # One page: a text that finds no run of pages is refused, an empty one needs none.
 case_of 'serial --height 0' \
     'get 0 c\nsnd 0 1 =a\nsnd 0 1 =b\nsnd 0 1 =\nrcv 0 9 0\nsnd 0 1 =b\narena\n' \
@@ -111,7 +125,7 @@ case_of 'serial --height 2' \
     'id 0\nat 1\nat 2\nat 3\nat 4\nmsg 1 seat 1 tag 2 len 1 =a\nmsg 3 seat 1 tag 4 len 1 =c\npages 4 free 2 largest 0\nENOMEM\nmsg 2 seat 1 tag 3 len 1 =b\nat 8\n'
 # The text is made first, so its refusal comes before that of the id and of the type.
 case_of 'serial --height 0' \
-    'get 0 c\nsnd 0 1 =a\nsnd 9 0 *1\nsnd 9 0 *8193\nsnd 9 0 =\nrcv 0 1 0\nsnd 9 1 =b\narena\n' \
+    'get 0 c\nsnd 0 1 =a\nsnd 9 0 *1\nsnd 9 0 *65537\nsnd 9 0 =\nrcv 0 1 0\nsnd 9 1 =b\narena\n' \
     'id 0\nat 1\nENOMEM\nEINVAL\nEINVAL\nmsg 1 seat 1 tag 2 len 1 =a\nEINVAL\npages 1 free 1 largest 0\n'
 
 table each_change_of_a_queue_is_seen
@@ -121,11 +135,11 @@ case_of '' \
     'id 0\nat 1\nat 2\nat 3\nEAGAIN\nat 4\nat 5\nEAGAIN\n'
 # A queue over its quota takes nothing, and takes again once it is under.
 case_of '' \
-    'get 0 c\nsnd 0 1 =abcdef\nset 0 4\nsnd 0 1 =\nrcv 0 9 0\nsnd 0 1 =\nset 0 16385\nset 0 0\nrcv 0 9 0\nsnd 0 1 =\n' \
+    'get 0 c\nsnd 0 1 =abcdef\nset 0 4\nsnd 0 1 =\nrcv 0 9 0\nsnd 0 1 =\nset 0 131073\nset 0 0\nrcv 0 9 0\nsnd 0 1 =\n' \
     'id 0\nat 1\nat 2\nEAGAIN\nmsg 1 seat 1 tag 2 len 6 =abcdef\nat 4\nEPERM\nat 5\nmsg 1 seat 1 tag 6 len 0 =\nEAGAIN\n'
 # The greatest quota is taken, the next one and the greatest number are not.
 case_of '' \
-    'get 0 c\nset 0 16384\nset 0 16385\nset 0 18446744073709551615\nset 1 0\n' \
+    'get 0 c\nset 0 131072\nset 0 131073\nset 0 18446744073709551615\nset 1 0\n' \
     'id 0\nat 1\nEPERM\nEPERM\nEINVAL\n'
 # A removal gives the pages of all that waits back, and no call finds the queue again.
 case_of '' \
@@ -133,23 +147,23 @@ case_of '' \
     'id 0\nat 1\nat 2\nat 3\nat 4 events 5\npages 64 free 64 largest 6\nEIDRM\nEIDRM\nEIDRM\nEINVAL\n'
 # A type below 1 is refused before the id is looked at; a removed id is given no more.
 case_of '' \
-    'rm 0\nset 0 1\nstat 0\nget 0 c\nrm 0\nsnd 0 0 =a\nsnd 0 1 =a\nset 0 16385\nrm 0\nget 0 c\nrm 1\narena\n' \
+    'rm 0\nset 0 1\nstat 0\nget 0 c\nrm 0\nsnd 0 0 =a\nsnd 0 1 =a\nset 0 131073\nrm 0\nget 0 c\nrm 1\narena\n' \
     'EINVAL\nEINVAL\nEINVAL\nid 0\nat 1 events 2\nEINVAL\nEIDRM\nEIDRM\nEIDRM\nid 64\nEINVAL\npages 64 free 64 largest 6\n'
 # The figures, and who changed the queue last and when.
 case_of '' \
     'get 0 c\nsnd 0 5 =hello\nstat 0\nset 0 100\nrcv 0 5 -9\nstat 0\n' \
-    'id 0\nat 1\nqnum 1 cbytes 5 qbytes 16384 lspid 1 lrpid 0 stime 2 rtime 0 ctime 1\nat 2\nmsg 5 seat 1 tag 2 len 5 =hello\nqnum 0 cbytes 0 qbytes 100 lspid 1 lrpid 1 stime 2 rtime 5 ctime 4\n'
+    'id 0\nat 1\nqnum 1 cbytes 5 qbytes 131072 lspid 1 lrpid 0 stime 2 rtime 0 ctime 1\nat 2\nmsg 5 seat 1 tag 2 len 5 =hello\nqnum 0 cbytes 0 qbytes 100 lspid 1 lrpid 1 stime 2 rtime 5 ctime 4\n'
 # A refused call leaves the figures; the same quota can be set once more.
 case_of '' \
-    'seat 3\nget 0 c\nseat 4\nsnd 0 1 =abc\nseat 5\nsnd 0 0 =a\nrcv 0 2 0\nrcv 0 9 2\nset 0 16385\nstat 0\nset 0 16384\nstat 0\n' \
-    'id 0\nat 1\nEINVAL\nE2BIG\nENOMSG\nEPERM\nqnum 1 cbytes 3 qbytes 16384 lspid 4 lrpid 0 stime 4 rtime 0 ctime 2\nat 2\nqnum 1 cbytes 3 qbytes 16384 lspid 4 lrpid 0 stime 4 rtime 0 ctime 11\n'
+    'seat 3\nget 0 c\nseat 4\nsnd 0 1 =abc\nseat 5\nsnd 0 0 =a\nrcv 0 2 0\nrcv 0 9 2\nset 0 131073\nstat 0\nset 0 131072\nstat 0\n' \
+    'id 0\nat 1\nEINVAL\nE2BIG\nENOMSG\nEPERM\nqnum 1 cbytes 3 qbytes 131072 lspid 4 lrpid 0 stime 4 rtime 0 ctime 2\nat 2\nqnum 1 cbytes 3 qbytes 131072 lspid 4 lrpid 0 stime 4 rtime 0 ctime 11\n'
 # A cut text gives back the room of its whole length.
 case_of '' \
     'get 0 c\nset 0 5\nsnd 0 1 =hello\nrcv 0 1 0 n\nstat 0\nsnd 0 1 =world\n' \
     'id 0\nat 1\nat 2\nmsg 1 seat 1 tag 3 len 5 =h\nqnum 0 cbytes 0 qbytes 5 lspid 1 lrpid 1 stime 3 rtime 4 ctime 2\nat 4\n'
 # A queue may be left with messages at the end of a run.
 case_of '' \
-    'get 0 c\nsnd 0 1 *8192\nset 0 0' \
+    'get 0 c\nsnd 0 1 *65536\nset 0 0' \
     'id 0\nat 1\nat 2\n'
 
 table each_system_gives_ids_and_keys_as_it_must
@@ -160,7 +174,7 @@ case_of 'serial --slots 1 --last-seq 32767' \
 # A table of the live queues, and seats that send and receive.
 case_of 'serial --slots 16 --last-seq 32767' \
     'get 9 c\nseat 3\nsnd 0 5 =hello\nget 0 c\nipcs\nseat 2\nrcv 0 9 5\nstat 0\n' \
-    'id 0\nat 1\nid 1\nslot      id         key   qnum  cbytes  qbytes lspid lrpid\n   0       0           9      1       5   16384     3     0\n   1       1           0      0       0   16384     0     0\nmsg 5 seat 3 tag 3 len 5 =hello\nqnum 0 cbytes 0 qbytes 16384 lspid 3 lrpid 2 stime 3 rtime 7 ctime 1\n'
+    'id 0\nat 1\nid 1\nslot      id         key   qnum  cbytes  qbytes lspid lrpid\n   0       0           9      1       5  131072     3     0\n   1       1           0      0       0  131072     0     0\nmsg 5 seat 3 tag 3 len 5 =hello\nqnum 0 cbytes 0 qbytes 131072 lspid 3 lrpid 2 stime 3 rtime 7 ctime 1\n'
 # A slot is used up; its ids stay removed, and the next one was never given.
 case_of 'serial --slots 1 --last-seq 1' \
     'get 0 c\nrm 0\nsnd 0 0 =a\nsnd 0 -1 =a\nsnd 0 1 =a\nget 0 c\nrm 64\nget 0 c\nrm 64\nrm 128\n' \
@@ -172,7 +186,7 @@ case_of 'serial --slots 2 --last-seq 0' \
 # No queue, and one that was removed, have no row.
 case_of 'serial --slots 2 --last-seq 32767' \
     'ipcs\nget 7 c\nget 8 c\nrm 0\nipcs\nrm 1\nipcs\n' \
-    'slot      id         key   qnum  cbytes  qbytes lspid lrpid\nid 0\nid 1\nat 1 events 2\nslot      id         key   qnum  cbytes  qbytes lspid lrpid\n   1       1           8      0       0   16384     0     0\nat 1 events 2\nslot      id         key   qnum  cbytes  qbytes lspid lrpid\n'
+    'slot      id         key   qnum  cbytes  qbytes lspid lrpid\nid 0\nid 1\nat 1 events 2\nslot      id         key   qnum  cbytes  qbytes lspid lrpid\n   1       1           8      0       0  131072     0     0\nat 1 events 2\nslot      id         key   qnum  cbytes  qbytes lspid lrpid\n'
 # The least slot that is free is taken; key 0 never finds a queue.
 case_of 'serial --slots 3 --last-seq 32767' \
     'get 0 c\nget 0 cx\nget 0 c\nget 0 c\nget 0\nrm 1\nrm 0\nget 0\nget 0 x\n' \
@@ -180,7 +194,7 @@ case_of 'serial --slots 3 --last-seq 32767' \
 # IPC_EXCL says nothing alone; the bounds of a key.
 case_of 'serial --slots 4 --last-seq 32767' \
     'get 5 x\nget -2147483648 cx\nget 2147483647 cx\nget -1 c\nget -2147483648 x\nget 2147483647\nget -1\nget -1 cx\nipcs\n' \
-    'ENOENT\nid 0\nid 1\nid 2\nid 0\nid 1\nid 2\nEEXIST\nslot      id         key   qnum  cbytes  qbytes lspid lrpid\n   0       0 -2147483648      0       0   16384     0     0\n   1       1  2147483647      0       0   16384     0     0\n   2       2          -1      0       0   16384     0     0\n'
+    'ENOENT\nid 0\nid 1\nid 2\nid 0\nid 1\nid 2\nEEXIST\nslot      id         key   qnum  cbytes  qbytes lspid lrpid\n   0       0 -2147483648      0       0  131072     0     0\n   1       1  2147483647      0       0  131072     0     0\n   2       2          -1      0       0  131072     0     0\n'
 # A key that is removed is forgotten, and the others are still found.
 case_of 'serial --slots 4 --last-seq 32767' \
     'get 1 c\nget 0 c\nget 3 c\nrm 1\nget 3\nget 1\nrm 0\nget 1\nget 3\nget 1 c\n' \

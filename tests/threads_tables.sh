@@ -17,13 +17,16 @@
 #                                   how many workers ended so: ENOMEM, EIDRM, EINVAL, done
 # A worker that ends early may let another wait for good, so here no worker waits for what a refusal
 # could keep another from doing; and where texts need pages, there are enough for all that can be
-# drafted, waiting and received at once, unless the case is of pages that are used up.
+# drafted, waiting and received at once, unless the case is of pages that are used up. The first
+# quota lets more wait than the 64 pages of the default arena hold: where much is sent, the main
+# part sets a lower one.
 
-# Makes $1 queues, one in each slot.
+# Makes $1 queues, one in each slot, of the quota $2 where it is given.
 queues() {
     local k
     for ((k = 0; k < $1; k++)); do
         main 'get 0 c' "id $k"
+        [ $# -lt 2 ] || main "set $k $2" 'at 1'
     done
 }
 
@@ -38,17 +41,17 @@ turns() {
 table pairs_hand_on_all
 # Seven pairs in one queue, each by its own type, and one worker by itself.
 case_of threads
-main 'get 9 c' 'id 0'
+main 'get 9 c' 'id 0' 'set 0 16384' 'at 1'
 for type in {1..7}; do
     worker 200 0 done "put 0 $type 200 1000"
     worker 0 200 done "take 0 $type 200"
 done
 worker 5 5 done 'put 0 8 5 1000' 'take 0 8 5'
-slot 0 2811 1405 1405 0
+slot 0 2812 1405 1405 0
 pages 64
 # Three queues; in each, two who send one type and one who sends another, one who takes each.
 case_of threads
-queues 3
+queues 3 16384
 for k in 0 1 2; do
     worker 100 0 done "put $k 3 100 1000"
     worker 100 0 done "put $k 3 100 1000"
@@ -57,23 +60,23 @@ for k in 0 1 2; do
     worker 0 100 done "take $k 5 60" "take $k 4 40"
 done
 for k in 0 1 2; do
-    slot "$k" 601 300 300 0
+    slot "$k" 602 300 300 0
 done
 pages 64
 # Eight who send to seven who take whatever comes first.
 case_of threads
-queues 1
+queues 1 16384
 for type in {1..8}; do
     worker 70 0 done "put 0 $type 70 1000"
 done
 for _ in {1..7}; do
     worker 0 80 done 'take 0 0 80'
 done
-slot 0 1121 560 560 0
+slot 0 1122 560 560 0
 pages 64
 # Types up to a bound, beside one type above it, at both ends of the types.
 case_of threads
-queues 1
+queues 1 16384
 for type in 1 2 3 4 5 6; do
     worker 50 0 done "put 0 $type 50 900"
 done
@@ -82,14 +85,14 @@ for _ in 1 2 3; do
     worker 0 100 done 'take 0 -6 100'
 done
 worker 0 50 done 'take 0 9223372036854775807 50'
-slot 0 701 350 350 0
+slot 0 702 350 350 0
 pages 64
 case_of threads
-queues 1
+queues 1 16384
 worker 50 0 done 'put 0 9223372036854775807 50 1000'
 worker 50 0 done 'put 0 1 50 1000'
 worker 0 100 done 'take 0 -9223372036854775808 100'
-slot 0 201 100 100 0
+slot 0 202 100 100 0
 pages 64
 # Each puts and then takes, in one queue and of one type: whoever waits finds what another sent.
 case_of threads
@@ -113,7 +116,7 @@ pages 64
 table workers_in_a_row_and_in_a_ring
 # A row of 15 over 14 queues, with a step for each message.
 case_of 'threads --height 8'
-queues 14
+queues 14 16384
 worker 60 0 done 'put 0 1 60 1000'
 for k in {1..13}; do
     mapfile -t lines < <(turns 60 "take $((k - 1)) 0 1" "put $k 1 1 1000")
@@ -121,7 +124,7 @@ for k in {1..13}; do
 done
 worker 0 60 done 'take 13 0 60'
 for k in {0..13}; do
-    slot "$k" 121 60 60 0
+    slot "$k" 122 60 60 0
 done
 pages 256
 # A ring of 15, over queues and over types, that hands on one text, over one page.
@@ -180,34 +183,48 @@ for k in {0..63}; do
     slot "$k" 2 0 0 0
 done
 pages 1
-# 960 pages wait, in 60 queues without room for more, in blocks of one page and of eight.
+# 960 pages wait, in 60 queues without room for more, in blocks of one page and of eight; and in
+# eight queues, all but one of them full, in blocks of 16, 32 and 64.
 case_of 'threads --slots 64 --height 10'
-queues 64
+queues 64 16384
 for k in {0..14}; do
     mapfile -t lines < <(seq -f 'put %g 7 16 1024' $((4 * k)) $((4 * k + 3)))
     worker 64 0 done "${lines[@]}"
 done
 for k in {0..59}; do
-    slot "$k" 17 16 0 16
+    slot "$k" 18 16 0 16
 done
 for k in {60..63}; do
-    slot "$k" 1 0 0 0
+    slot "$k" 2 0 0 0
 done
 pages 1024
 case_of 'threads --slots 64 --height 10'
-queues 60
+queues 60 16384
 for k in {0..14}; do
     worker 8 0 done "put $((4 * k)) 7 2 8192" "put $((4 * k + 1)) 7 2 4097" \
         "put $((4 * k + 2)) 7 2 8000" "put $((4 * k + 3)) 7 2 8191"
 done
 for k in {0..59}; do
-    slot "$k" 3 2 0 2
+    slot "$k" 4 2 0 2
 done
 pages 1024
-# Blocks of every size, in queues with room for so few that there is always a block.
 case_of 'threads --height 10'
-queues 5
-main 'set 0 8' 'at 1'
+queues 8
+for k in {0..14}; do
+    count=$((1 << k / 2 % 3))
+    worker "$count" 0 done "put $((k / 2)) 7 $count $((65536 / count))"
+done
+for k in {0..6}; do
+    count=$((2 << k % 3))
+    slot "$k" $((count + 1)) "$count" 0 "$count"
+done
+slot 7 3 2 0 2
+pages 1024
+# Blocks of every size, in queues with room for so few that there is always a block: the arena has
+# 128 runs of eight pages and 16 of 64, and fewer blocks than that are lent at a time.
+case_of 'threads --height 10'
+queues 5 16384
+main 'set 0 8' 'at 2'
 k=0
 for length in 1 1025 2049 4097 8192; do
     worker 80 0 done "put $k 1 80 $length"
@@ -215,9 +232,23 @@ for length in 1 1025 2049 4097 8192; do
     worker 0 40 done "take $k -1 40"
     k=$((k + 1))
 done
-slot 0 162 80 80 0
+slot 0 163 80 80 0
 for k in {1..4}; do
-    slot "$k" 161 80 80 0
+    slot "$k" 162 80 80 0
+done
+pages 1024
+case_of 'threads --height 10'
+queues 3
+main 'set 0 32768' 'at 1' 'set 1 65536' 'at 1' 'set 2 131072' 'at 1'
+k=0
+for length in 16384 32768 65536; do
+    worker 80 0 done "put $k 1 80 $length"
+    worker 0 40 done "take $k 0 40"
+    worker 0 40 done "take $k -1 40"
+    k=$((k + 1))
+done
+for k in 0 1 2; do
+    slot "$k" 162 80 80 0
 done
 pages 1024
 
@@ -226,10 +257,11 @@ table scripts_at_their_bounds_are_run
 # that a line may hand on.
 case_of 'threads --height 0'
 queues 2
+main 'set 0 16384' 'at 1'
 worker 20000 0 done 'put 0 1 20000 0'
 worker 0 20000 done 'take 0 1 20000'
 worker 1 0 done 'put 1 1 1 1024'
-slot 0 40001 20000 20000 0
+slot 0 40002 20000 20000 0
 slot 1 2 1 0 1
 pages 1
 case_of 'threads --height 0 --slots 1 --last-seq 0' exact 1
@@ -241,9 +273,9 @@ pages 1
 # 1,048,576 bytes, lines of 4,096, and keys, types and quotas at both their ends.
 case_of 'threads --slots 2 --height 10'
 main 'get -2147483648 cx' 'id 0' 'get 2147483647 cx' 'id 1' 'get 2147483647' 'id 1' \
-    'set 1 16384' 'at 1' 'set 1 18446744073709551615' EPERM 'set 4294967295 0' EINVAL
+    'set 1 131072' 'at 1' 'set 1 18446744073709551615' EPERM 'set 4294967295 0' EINVAL
 for k in {1..14}; do
-    worker 2 1 done 'put 1 9223372036854775807 1 8192' 'put 0 1 1 0' \
+    worker 2 1 done 'put 1 9223372036854775807 1 65536' 'put 0 1 1 0' \
         'take 1 -9223372036854775808 1'
 done
 worker 0 14 done 'take 0 9223372036854775807 0' 'take 0 -1 14'
@@ -263,12 +295,12 @@ table a_worker_ends_at_its_first_refusal
 case_of threads
 queues 1
 for line in 'put 0 0 1 0' 'put 0 -1 1 1' 'put 0 -9223372036854775808 1 1' 'put 1 1 1 1' \
-    'put 64 1 1 1' 'put 63 1 1 1' 'put 4294967295 1 1 1' 'put 0 1 1 8193' \
+    'put 64 1 1 1' 'put 63 1 1 1' 'put 4294967295 1 1 1' 'put 0 1 1 65537' \
     'put 0 1 1 18446744073709551615' 'take 1 0 1' 'take 64 0 1' 'take 4294967295 0 1' 'rm 1' \
     'rm 64'; do
     worker 3 1 EINVAL 'put 0 1 3 1' 'take 0 1 1' "$line" 'put 0 1 1 1' 'rm 0'
 done
-worker 2 2 done 'put 0 2 2 1' 'put 9 0 0 8193' 'take 9 0 0' 'take 0 2 2'
+worker 2 2 done 'put 0 2 2 1' 'put 9 0 0 65537' 'take 9 0 0' 'take 0 2 2'
 slot 0 61 44 16 28
 pages 64
 case_of threads
@@ -313,8 +345,9 @@ done
 slot 0 1025 1024 0 1024
 pages 1024
 sums 1024 0 ENOMEM 15
-# Blocks of two, four and eight pages.
-for block in '3 1025 4' '4 4096 4' '3 8192 1' '4 8192 2'; do
+# Blocks of two to 64 pages.
+for block in '3 1025 4' '4 4096 4' '3 8192 1' '4 8192 2' '6 8193 4' '6 16384 4' '7 16385 4' \
+    '6 32768 2' '6 32769 1' '6 65536 1' '7 65536 2'; do
     read -r height length count <<< "$block"
     case_of "threads --height $height" sums
     queues 1
@@ -386,7 +419,7 @@ pages 64
 # One queue is removed under seven who send, the first of whom says so after 50 texts, and seven who
 # receive more than the others send; or each of three is, at once or in the midst.
 case_of threads parts 20 done EIDRM
-queues 2
+queues 2 16384
 worker - - - 'put 0 1 50 1000' 'put 1 1 1 0' 'put 0 1 100000 1000'
 for _ in {1..6}; do
     worker - - - 'put 0 1 100000 1000'
@@ -395,11 +428,11 @@ for _ in {1..7}; do
     worker - - - 'take 0 1 100000'
 done
 worker - - - 'take 1 1 1' 'rm 0'
-slot 0 2 - - 0
-slot 1 1 - - 0
+slot 0 3 - - 0
+slot 1 2 - - 0
 pages 64
 case_of 'threads --height 7' parts 20 done EIDRM
-queues 3
+queues 3 16384
 for k in 0 1 2; do
     worker - - - "put $k 1 2000 1000"
     worker - - - "put $k 2 2000 2000"
@@ -407,7 +440,7 @@ for k in 0 1 2; do
     worker - - - "take $k -1 2000"
 done
 worker - - - 'rm 0' 'rm 1' 'rm 2'
-slot 0 2 - - 0
-slot 1 2 - - 0
-slot 2 2 - - 0
+slot 0 3 - - 0
+slot 1 3 - - 0
+slot 2 3 - - 0
 pages 128

@@ -9,8 +9,6 @@ use std::alloc::{AllocError, Global};
 use std::sync::Wait;
 use std::thread::Threads;
 
-const QUOTA: usize = 16_384;
-
 type Letter = Vec<u8>;
 
 /// Does so many rounds, in each of which it sends, receives, and sends, where it has such an end.
@@ -60,11 +58,16 @@ struct Sizes {
     alloc: Global,
     bytes: usize,
     rounds: u32,
+    /// How many bytes may wait, or texts of none.
+    quota: usize,
 }
 
 impl Sizes {
     fn channel(&self) -> Result<(Sender<Letter>, Receiver<Letter>), AllocError> {
-        bounded(self.alloc, QUOTA.checked_div(self.bytes).unwrap_or(QUOTA))
+        bounded(
+            self.alloc,
+            self.quota.checked_div(self.bytes).unwrap_or(self.quota),
+        )
     }
 
     fn player(
@@ -107,7 +110,7 @@ impl Sizes {
 }
 
 /// `channel two BYTES CYCLES`, where two threads pass one text there and back, each on a channel;
-/// `channel flow BYTES COUNT SENDERS RECEIVERS`, as in a system: counts the bytes that came.
+/// `channel flow BYTES COUNT SENDERS RECEIVERS QUOTA`, as in a system: counts the bytes that came.
 pub(crate) fn run(
     rt: &(impl Print + Threads + Wait + Sync),
     alloc: Global,
@@ -117,6 +120,7 @@ pub(crate) fn run(
         alloc,
         bytes: words.number(2, 16)? as usize,
         rounds: words.number(3, 10)?,
+        quota: words.number(6, 131_072)? as usize,
     };
     let players = match words.word(1) {
         "flow" => {

@@ -1,11 +1,12 @@
 //! What the scripts of bench/ measure, by the first word: `bench tree`, `cycle`, `system`,
-//! `stat`, `channel`, `waiting` or `board`, each with words of its own. Without words it does a
-//! little of each.
+//! `stat`, `channel`, `waiting`, `board` or `start`, each with words of its own. Without words it
+//! does a little of each.
 #![tactic(auto)]
 
 mod board;
 mod channel;
 mod cycle;
+mod start;
 mod stat;
 mod system;
 mod tree;
@@ -33,6 +34,7 @@ fn main(rt: HostRuntime) -> Result<()> {
         "channel" => channel::run(&rt, alloc, &words),
         "waiting" => waiting::run(&rt, alloc, &words),
         "board" => board::run(&rt, alloc, &words),
+        "start" => start::run(&rt, alloc, &words),
         "" => {
             tree::run(&rt, alloc, &words)?;
             cycle::run(&rt, alloc, &words)?;
@@ -40,7 +42,8 @@ fn main(rt: HostRuntime) -> Result<()> {
             stat::run(&rt, alloc, &words)?;
             channel::run(&rt, alloc, &words)?;
             waiting::run(&rt, alloc, &words)?;
-            board::run(&rt, alloc, &words)
+            board::run(&rt, alloc, &words)?;
+            start::run(&rt, alloc, &words)
         }
         other => bail!("nothing to measure: {other}"),
     }

@@ -23,6 +23,8 @@ impl Pledge for Anything {
 struct Player {
     bytes: Vec<u8>,
     rounds: u32,
+    /// The quota of the queue that it sends to first.
+    quota: u64,
     sends: Option<i32>,
     receives: Option<i32>,
     replies: Option<i32>,
@@ -41,6 +43,11 @@ impl Worker<Anything> for Player {
         let sends = queue(rt, system, seat, self.sends)?;
         let receives = queue(rt, system, seat, self.receives)?;
         let replies = queue(rt, system, seat, self.replies)?;
+        if let Some(id) = sends {
+            if let Err(refused) = system.set(rt, seat, id, self.quota, 1) {
+                return Err(refused.errno);
+            }
+        }
         let mut came = 0u64;
         for _ in 0..self.rounds {
             if let Some(id) = sends {
@@ -130,6 +137,7 @@ struct Sizes {
     alloc: Global,
     bytes: usize,
     rounds: u32,
+    quota: u64,
 }
 
 impl Sizes {
@@ -143,6 +151,7 @@ impl Sizes {
         Ok(Player {
             bytes: vec![in self.alloc; b'x'; self.bytes]?,
             rounds,
+            quota: self.quota,
             sends,
             receives,
             replies,
@@ -174,8 +183,8 @@ impl Sizes {
 
 /// `system alone BYTES CYCLES SEATS`, where one of so many seats sends and receives by turns;
 /// `system two BYTES CYCLES`, where two pass one text there and back; `system flow BYTES COUNT
-/// SENDERS RECEIVERS`, where each sender sends COUNT texts through one queue and each receiver
-/// takes its share of them: counts the bytes that came.
+/// SENDERS RECEIVERS QUOTA`, where each sender sends COUNT texts through one queue of that quota
+/// and each receiver takes its share of them: counts the bytes that came.
 pub(crate) fn run(
     rt: &(impl Print + Threads + Wait + Sync),
     alloc: Global,
@@ -186,6 +195,7 @@ pub(crate) fn run(
         alloc,
         bytes: words.number(2, 16)? as usize,
         rounds,
+        quota: u64::from(words.number(6, 131_072)?),
     };
     let config = Config {
         height: MAX_HEIGHT,

@@ -1,16 +1,18 @@
-use Rattle.std.proofs.Common.{◌≡◌, ℕ, ℤ, List, length, slice_index_or, Some, Result, Ok, Err, refl, sym, ap, ◌∙◌}
+use Rattle.std.proofs.Common.{◌≡◌, ℕ, ℤ, List, length, slice_index_or, Some, Result, Ok, Err, IsOk, ◌<◌, ◌⊎◌, inl, inr, refl, sym, ap, ◌∙◌}
 use Rattle.mq_message.specs.Text.{PlainText}
+use Rattle.mq_message.specs.declared.order.TheConstants.{INLINE_LEN}
 use Rattle.mq_table.specs.Ids.{slot_of}
 use Rattle.mq_table.specs.Slot.{SlotState, empty_slot}
 use Rattle.mq_one_thread.proofs.DraftLemmas.{spent_after}
 use Rattle.mq_one_thread.specs.Calls.{msgsnd}
 use Rattle.mq_one_thread.specs.Look.{Answer, refused_early, refused_or_memory}
 use Rattle.mq_one_thread.specs.State.{State, with_arena}
-use Rattle.mq_one_thread.specs.Texts.{draft_errno, drafts, drafts_of, spends, with_bytes}
+use Rattle.mq_one_thread.specs.Texts.{draft_errno, draft_refusal, drafts, drafts_of, spends, with_bytes}
 use Rattle.mq_one_thread.specs.declared.draft_error.DraftError.{DraftError}
+use Rattle.mq_one_thread.specs.declared.draft_error.DraftError.TheVariants.{Memory}
 use Rattle.mq_one_thread.specs.declared.errno.Errno.TheVariants.{ENOMEM}
 use Rattle.mq_one_thread.specs.declared.results.Refused.{Refused}
-use Rattle.mq.specs.Bytes.{sends_bytes, sends_draft}
+use Rattle.mq.specs.Bytes.{MayLackMemory, sends_bytes, sends_draft}
 
 -- the queues once the text is spent
 abbrev pub spent : PlainText → State → State
@@ -32,12 +34,18 @@ pub sends_drafted : (q after : State) (seat id : ℕ) (mtype : ℤ) (tag : ℕ) 
 sends_drafted q after seat id mtype tag bytes moment text e =
     filled_first seat id mtype tag bytes moment (drafts q (length bytes)) ∙ ap (sends_text seat id mtype tag moment) e
 
--- a refusal of the draft is one of the send
+-- a draft that is refused is a send that is refused, unless memory did it
 pub refused_draft : (q : State) (seat id : ℕ) (mtype : ℤ) (tag : ℕ) (bytes : List ℕ) (moment : ℕ) (refused : DraftError)
-    → drafts_of q bytes ≡ Err refused
-    → sends_bytes q seat id mtype tag bytes moment ≡ Err (refused_early (draft_errno refused))
-refused_draft q seat id mtype tag bytes moment refused e =
-    filled_first seat id mtype tag bytes moment (drafts q (length bytes)) ∙ ap (sends_text seat id mtype tag moment) e
+    → refused ≡ draft_refusal (drafts_of q bytes) → (refused ≡ Memory → INLINE_LEN < length bytes)
+    → (draft_errno refused ≡ (refused_or_memory q id (sends_bytes q seat id mtype tag bytes moment)).errno)
+    ⊎ ((draft_errno refused ≡ ENOMEM) × MayLackMemory q bytes)
+refused_draft q seat id mtype tag bytes moment refused is over = by_draft (drafts q (length bytes)) is
+  where
+    by_draft : (d : Result (PlainText × State) DraftError) → refused ≡ draft_refusal (with_bytes bytes d)
+        → (draft_errno refused ≡ (refused_or_memory q id (sends_draft seat id mtype tag bytes moment d)).errno)
+        ⊎ ((draft_errno refused ≡ ENOMEM) × ((INLINE_LEN < length bytes) × IsOk d))
+    by_draft (Ok d) is = inr (ap draft_errno is, (over is, refl))
+    by_draft (Err e) is = inl (ap draft_errno is)
 
 -- a refusal counts the events of its slot, and a draft adds none
 refused_before : (q after : State) (id : ℕ) (a : Answer ℕ) → after.slots ≡ q.slots → refused_or_memory after id a ≡ refused_or_memory q id a

@@ -1,6 +1,7 @@
 -- Texts that are sent and received whole, as bytes.
-use Rattle.std.specs.Prelude.{ℕ, ℤ, Bool, List, length, Result, Ok, Err}
+use Rattle.std.specs.Prelude.{ℕ, ℤ, ◌<◌, Bool, List, length, Result, Ok, Err, IsOk}
 use Rattle.mq_message.specs.Text.{PlainText}
+use Rattle.mq_message.specs.declared.order.TheConstants.{INLINE_LEN}
 use Rattle.mq_one_thread.specs.Calls.{msgrcv, msgsnd}
 use Rattle.mq_one_thread.specs.Look.{Answer, refused_early}
 use Rattle.mq_one_thread.specs.State.{State, with_arena}
@@ -19,6 +20,10 @@ sends_draft seat id mtype tag bytes moment (Err e) = Err (refused_early (draft_e
 abbrev pub sends_bytes : State → ℕ → ℕ → ℤ → ℕ → List ℕ → ℕ → Answer ℕ
 sends_bytes s seat id mtype tag bytes moment =
     sends_draft seat id mtype tag bytes moment (drafts s (length bytes))
+
+-- a text of these bytes may find no memory: it takes some, and a run of pages is free for it
+abbrev pub MayLackMemory : State → List ℕ → Type 0
+MayLackMemory s bytes = (INLINE_LEN < length bytes) × IsOk (drafts s (length bytes))
 
 -- what was received, with another form of its text
 abbrev pub with_text : {A B : Type 0} → Delivered A → B → Delivered B

@@ -1,5 +1,5 @@
 -- What a caller of bytes knows: of them, of its seat, and of why a call is refused.
-use Rattle.std.specs.Prelude.{◌≡◌, ◌⊎◌, ℕ, ℤ, ◌<◌, nat_lt, Bool, false, true, List, None, Option}
+use Rattle.std.specs.Prelude.{◌≡◌, ◌⊎◌, ℕ, ℤ, ◌<◌, ◌≤◌, nat_lt, Bool, false, true, List, None, Option}
 use Rattle.mq_message.specs.Text.{PlainText}
 use Rattle.mq_queue.specs.declared.limits.TheConstants.{MSGMAX}
 use Rattle.mq_one_thread.specs.declared.errno.Errno.{Errno}
@@ -43,8 +43,9 @@ pub record IsRefusal (early : Bool) (may : Errno → Type 0) (old new : SeatStat
   pub refuses : Refuses early may (record { errno = errno; entry = entry })
   pub decided : IsDecided old new slot verdict (record { errno = errno; entry = entry })
 
--- why no text was drafted of so many bytes: they are too many, or no run of pages is free
+-- why no text was drafted of so many bytes: they are too many, or no run of pages is free for
+-- them, or no memory
 abbrev pub MayNotDraft : ℕ → Errno → Type 0
 MayNotDraft n EINVAL = nat_lt MSGMAX n ≡ true
-MayNotDraft n ENOMEM = 0 < n
+MayNotDraft n ENOMEM = (0 < n) × (n ≤ MSGMAX)
 MayNotDraft n _ = ⊥

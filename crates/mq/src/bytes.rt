@@ -2,7 +2,7 @@ ghost use Rattle.std.specs.Prelude.{◌≡◌, ◌+◌, ◌≤◌, ◌⊎◌, �
 ghost use Rattle.std.specs.Prelude.{vec_len, vec_capacity};
 ghost use Rattle.mq_one_thread.specs.Look.{refused_or_memory};
 ghost use Rattle.mq_one_thread.specs.declared.errno.Errno.TheVariants.{ENOMEM};
-ghost use Rattle.mq.specs.Bytes.{receives_bytes, sends_bytes, with_text};
+ghost use Rattle.mq.specs.Bytes.{MayLackMemory, receives_bytes, sends_bytes, with_text};
 
 use mq_message::Text;
 use mq_one_thread::{Delivered, Errno, OneThread, SendRefused};
@@ -11,8 +11,9 @@ use std::alloc::Global;
 use std::sync::ledger::Ledger;
 
 /// Drafts a text with these bytes and sends it, or spends it where it is refused. EINVAL and
-/// ENOMEM of the draft, then the refusals of `OneThread::msgsnd`.
-#[tactic(auto, using(crate::proofs::SendLemmas::sends_drafted, crate::proofs::SendLemmas::refused_draft))]
+/// ENOMEM of the draft, then the refusals of `OneThread::msgsnd`: a draft that finds no memory
+/// answers ENOMEM, whatever the send would have answered.
+#[tactic(auto, using(crate::proofs::SendLemmas::sends_drafted))]
 pub fn send_bytes<L: Ledger>(
     queues: &mut OneThread<L>,
     seat: u16,
@@ -24,8 +25,9 @@ pub fn send_bytes<L: Ledger>(
 ) -> Result<u64, Errno>
     ensures ok { IfOk result (λ entry.
         sends_bytes queues.old seat id mtype tag bytes.now moment ≡ Ok (entry, queues.new)) }
-    ensures refused { IfErr result (λ errno. errno ≡ (refused_or_memory queues.old id
-        (sends_bytes queues.old seat id mtype tag bytes.now moment)).errno) }
+    ensures refused { IfErr result (λ errno. (errno ≡ (refused_or_memory queues.old id
+        (sends_bytes queues.old seat id mtype tag bytes.now moment)).errno)
+        ⊎ ((errno ≡ ENOMEM) × MayLackMemory queues.old bytes.now)) }
     ensures unchanged { OnErr result (queues.new ≡ queues.old) }
 {
     let text = match queues.draft_of(bytes) {

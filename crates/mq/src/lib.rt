@@ -19,8 +19,11 @@ mod workers_error;
 pub use bytes::{receive_bytes, send_bytes};
 pub use caller::Caller;
 pub use ended::Ended;
-pub use mq_arena::{ArenaState, Block, Homecoming, LEDGER_PARTS, MAX_ORDER, PAGE_LEN, Page, Parts};
-pub use mq_message::{Body, Text};
+pub use mq_arena::{
+    ArenaState, Block, Homecoming, INLINE_ORDER, INLINE_PAGES, LEDGER_PARTS, MAX_ORDER, PAGE_LEN,
+    Page, Parts, TakeError,
+};
+pub use mq_message::{Body, INLINE_LEN, Text};
 pub use mq_one_thread::{
     Closed, ClosedSlot, Config, DEFAULTS, Delivered, DraftError, Errno, GetFlags, Got, MAX_SEATS,
     OneThread, Refused, Removal, SendRefused, SysError,

@@ -7,13 +7,14 @@ use Rattle.std.proofs.lemmas.List.{take_at, length-replicate, get_or-replicate}
 use Rattle.std.specs.List.{All, list_all, range_with_len}
 use Rattle.mq_tree.proofs.Powers.{pow_le}
 use Rattle.mq_tree.proofs.FreePages.{new_free}
+use Rattle.mq_tree.proofs.Kept.{left_fit}
 use Rattle.mq_tree.proofs.LentSets.{AllPairs-nil}
 use Rattle.mq_tree.specs.Blocks.{Block, block, IsAligned, IsInArena, AreApart, has_page, are_apart, is_block}
 use Rattle.mq_tree.specs.LentSet.{Lending, IsLentSet, StartsBefore, free_pages, joined, left, is_lent, is_free_page}
 use Rattle.mq_tree.specs.Fit.{fit, fits_at}
 use Rattle.mq_arena.specs.Homes.{AreHome, SameOutside}
 use Rattle.mq_arena.specs.Stocked.{IsStocked, IsShelled, IsArena, IsMade}
-use Rattle.mq_arena.specs.declared.limits.TheConstants.{MAX_ORDER, MAX_PAGES}
+use Rattle.mq_arena.specs.declared.limits.TheConstants.{INLINE_ORDER, INLINE_PAGES}
 use Rattle.mq_arena.specs.declared.page.TheConstants.{PAGE_LEN}
 
 -- both tests hold where they hold together
@@ -215,8 +216,8 @@ lent_inside arena homes order start stocked lent =
     ]
 
 -- a block of a low order fits in the inline places
-pub few_pages : (order : ℕ) → order ≤ MAX_ORDER → 2 ^ order ≤ MAX_PAGES
-few_pages order low = pow_le order MAX_ORDER low
+pub few_pages : (order : ℕ) → order ≤ INLINE_ORDER → 2 ^ order ≤ INLINE_PAGES
+few_pages order low = pow_le order INLINE_ORDER low
 
 -- a slice put back in its vector
 pub put_back : (new rest : List (List ℕ)) (len : ℕ) → length new ≡ len → take len (new ++ rest) ≡ new
@@ -246,6 +247,23 @@ arena_taken arena after homes left_homes order start shells places left_shells l
         parted = omega (arith, was.adds_up.parted);
       };
     }
+
+-- a block that is given back at once leaves the lent set as it was
+pub lent_back : (arena out after : Lending) (order start : ℕ) → fit arena.height arena.lent order ≡ Some start
+    → out.height ≡ arena.height → out.lent ≡ joined (block start order) arena.lent → after.height ≡ out.height
+    → after.lent ≡ left (block start order) out.lent → after ≡ arena
+lent_back arena out after order start found out_height is_joined after_height is_left =
+    let same : after.lent ≡ arena.lent =
+    is_left ∙ ap (left (block start order)) is_joined ∙ left_fit arena.height arena.lent order start found in
+    ap (λ h. record { height = h; lent = after.lent }) (after_height ∙ out_height)
+    ∙ ap (λ lent. record { height = arena.height; lent = lent }) same
+
+-- and so the arena, where the shell is back too
+pub arena_back : (arena after : Lending) (homes : List (List ℕ))
+    (shells places same_shells same_places out parts : ℕ) → IsArena arena homes shells places out parts
+    → after ≡ arena → same_shells ≡ shells → same_places ≡ places → IsArena after homes same_shells same_places out parts
+arena_back arena after homes shells places same_shells same_places out parts was same shells_back places_back =
+    rw (same, shells_back, places_back) was
 
 -- the arena once a block has come home
 pub arena_given : (arena after : Lending) (homes full_homes : List (List ℕ))

@@ -1,6 +1,6 @@
 -- A block as its owner holds it.
 use Rattle.std.specs.Prelude.{◌≡◌, ℕ, ◌^◌, ◌≤◌, List, length}
-use Rattle.mq_arena.specs.declared.limits.TheConstants.{MAX_ORDER, MAX_PAGES}
+use Rattle.mq_arena.specs.declared.limits.TheConstants.{MAX_ORDER}
 use Rattle.mq_arena.specs.Bytes.{AreWhole}
 
 -- where a block starts, its order, and its pages with their bytes
@@ -19,10 +19,8 @@ pub record IsBlock (b : OwnedBlock) : Type 0 where
   pub count : length b.pages ≡ 2 ^ b.order
   pub whole : AreWhole b.pages
 
--- the same, in places that can be used again, and the block carries its pages in its share of the
--- arena's count
-pub record IsCounted (b : OwnedBlock) (room amount parts : ℕ) : Type 0 where
+-- the same, and the block carries its pages in its share of the arena's count
+pub record IsCounted (b : OwnedBlock) (amount parts : ℕ) : Type 0 where
   pub block : IsBlock b
-  pub inline : room ≡ MAX_PAGES
   pub counted : amount ≡ 2 ^ b.order
   pub parted : parts ≡ 2 ^ b.order

@@ -31,7 +31,7 @@ impl<L: Ledger> Model for Block<L> {
     ghost view = { λ b. owned b.start b.order b.pages.value.items };
 
     ghost invariant = { λ b. IsCounted (owned b.start b.order b.pages.value.items)
-        b.pages.value.capacity b.share.amount b.share.parts };
+        b.share.amount b.share.parts };
 }
 
 impl<L: Ledger> Block<L> {

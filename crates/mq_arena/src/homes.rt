@@ -3,7 +3,6 @@ ghost use Rattle.std.specs.Prelude.{◌≡◌, ◌+◌, ◌≤◌, [], length};
 ghost use Rattle.mq_arena.specs.Bytes.{AreWhole};
 ghost use Rattle.mq_arena.specs.Homes.{AreHome, SameOutside};
 
-use crate::limits::MAX_PAGES;
 use crate::page::Page;
 use crate::shell::Places;
 use std::alloc::Global;
@@ -18,14 +17,12 @@ pub(crate) fn take_pages(
     count: usize,
     mut places: Places,
 ) -> Places
-    requires inline { count ≤ MAX_PAGES }
     requires within { start + count ≤ length homes.old }
     requires there { AreHome homes.old start count }
     requires empty { places.value.items ≡ [] }
-    requires room { places.value.capacity ≡ MAX_PAGES }
+    requires room { count ≤ places.value.capacity }
     ensures whole { AreWhole result.value.items }
     ensures count { length result.value.items ≡ count }
-    ensures room { result.value.capacity ≡ MAX_PAGES }
     ensures others { SameOutside homes.old homes.new start count }
 {
     for i in start..start + count {
@@ -42,7 +39,6 @@ pub(crate) fn put_pages(homes: &mut [Page], start: usize, mut places: Places) ->
     ensures there { AreHome homes.new start (length places.value.items) }
     ensures others { SameOutside homes.old homes.new start (length places.value.items) }
     ensures empty { result.value.items ≡ [] }
-    ensures room { result.value.capacity ≡ places.value.capacity }
 {
     while let Some(page) = places.pop() {
         homes[start + places.len()] = page;

@@ -1,13 +1,14 @@
 //! The arena under its lock.
-ghost use Rattle.std.specs.Prelude.{ℕ, ◌≡◌, ◌*◌, ◌^◌, ◌≤◌, ◌-◌, ◌++◌, length, replicate, IfSome};
+ghost use Rattle.std.specs.Prelude.{ℕ, ◌≡◌, ◌*◌, ◌^◌, ◌<◌, ◌≤◌, ◌-◌, ◌++◌, length, replicate, IfOk, IsErrOf};
 ghost use Rattle.std.specs.List.{concat};
 ghost use Rattle.mq_arena.specs.Bytes.{pages_with};
 
 use crate::block::Block;
 use crate::homecoming::Homecoming;
-use crate::limits::MAX_ORDER;
+use crate::limits::{INLINE_ORDER, MAX_ORDER};
 use crate::page::PAGE_LEN;
 use crate::state::ArenaState;
+use crate::take_error::TakeError;
 use std::marker::{Brand, Model};
 use std::sync::ledger::Ledger;
 use std::sync::{Mutex, Wait};
@@ -54,36 +55,44 @@ impl<L: OfHeight> Arena<L> {
         }
     }
 
-    /// Takes a block of that order, with all bytes zero, or `None` where none fitted. It takes no
-    /// memory.
+    /// Takes a block of that order, with all bytes zero. `NoRun` where none fitted, then `Memory`,
+    /// which an order up to `INLINE_ORDER` never meets.
     #[tactic(auto, using(crate::proofs::Overwriting::no_bytes))]
-    pub fn take<R: Wait>(&self, rt: &R, order: u8) -> Option<Block<L>>
+    pub fn take<R: Wait>(&self, rt: &R, order: u8) -> Result<Block<L>, TakeError>
         requires { order ≤ MAX_ORDER }
-        ensures order { IfSome result (λ b. b.order ≡ order) }
-        ensures zero { IfSome result (λ b. b.pages ≡ replicate (2 ^ order) (replicate PAGE_LEN 0)) }
+        ensures order { IfOk result (λ b. b.order ≡ order) }
+        ensures zero { IfOk result (λ b. b.pages ≡ replicate (2 ^ order) (replicate PAGE_LEN 0)) }
+        ensures memory { IsErrOf result TakeError.Memory → INLINE_ORDER < order }
     {
         self.take_filled(rt, order, &[])
     }
 
     /// Takes a block as `take` does, with these bytes in its first ones and zeros behind them.
     #[tactic(auto, using(crate::proofs::Overwriting::concat_bytes))]
-    pub fn take_filled<R: Wait>(&self, rt: &R, order: u8, bytes: &[u8]) -> Option<Block<L>>
+    pub fn take_filled<R: Wait>(
+        &self,
+        rt: &R,
+        order: u8,
+        bytes: &[u8],
+    ) -> Result<Block<L>, TakeError>
         requires order { order ≤ MAX_ORDER }
         requires fits { length bytes.now ≤ PAGE_LEN * 2 ^ order }
-        ensures order { IfSome result (λ b. b.order ≡ order) }
-        ensures pages { IfSome result (λ b. b.pages ≡ pages_with (2 ^ order) bytes.now) }
-        ensures bytes { IfSome result (λ b. concat b.pages
+        ensures order { IfOk result (λ b. b.order ≡ order) }
+        ensures pages { IfOk result (λ b. b.pages ≡ pages_with (2 ^ order) bytes.now) }
+        ensures bytes { IfOk result (λ b. concat b.pages
             ≡ bytes.now ++ replicate (PAGE_LEN * 2 ^ order - length bytes.now) 0) }
+        ensures memory { IsErrOf result TakeError.Memory → INLINE_ORDER < order }
     {
         let mut block = self.lent(rt, order)?;
         block.overwrite(bytes);
-        Some(block)
+        Ok(block)
     }
 
     /// Takes a block with the bytes that its pages had.
-    fn lent<R: Wait>(&self, rt: &R, order: u8) -> Option<Block<L>>
+    fn lent<R: Wait>(&self, rt: &R, order: u8) -> Result<Block<L>, TakeError>
         requires { order ≤ MAX_ORDER }
-        ensures { IfSome result (λ b. b.order ≡ order) }
+        ensures order { IfOk result (λ b. b.order ≡ order) }
+        ensures memory { IsErrOf result TakeError.Memory → INLINE_ORDER < order }
     {
         self.held.lock(rt).state.take_block(order)
     }

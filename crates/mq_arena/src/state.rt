@@ -1,5 +1,5 @@
 //! The arena: the pages at home, and which are lent.
-ghost use Rattle.std.specs.Prelude.{◌≡◌, ◌+◌, ◌-◌, ◌*◌, ◌^◌, ◌≤◌, ◌↔◌, ◌++◌, Some, None, length, replicate, IfSome, IfNone, IsTrue};
+ghost use Rattle.std.specs.Prelude.{◌≡◌, ◌+◌, ◌-◌, ◌*◌, ◌^◌, ◌<◌, ◌≤◌, ◌↔◌, ◌++◌, Some, None, length, replicate, IfOk, OnErr, IsErrOf, IsTrue};
 ghost use Rattle.std.specs.List.{concat};
 ghost use Rattle.mq_tree.specs.LentSet.{is_lent, free_pages};
 ghost use Rattle.mq_tree.specs.Fit.{largest};
@@ -11,9 +11,10 @@ use crate::account::{audit, page_count};
 use crate::block::Block;
 use crate::homecoming::Homecoming;
 use crate::homes::{put_pages, take_pages};
-use crate::limits::MAX_ORDER;
+use crate::limits::{INLINE_ORDER, MAX_ORDER};
 use crate::page::{PAGE_LEN, Page};
 use crate::shell::Shell;
+use crate::take_error::TakeError;
 use mq_tree::OrderTree;
 use std::marker::Model;
 use std::sync::ledger::{Book, Ledger, Share};
@@ -46,58 +47,71 @@ impl<L: Ledger> Model for ArenaState<L> {
 }
 
 impl<L: Ledger> ArenaState<L> {
-    /// Takes the block of that order with the least start, with all bytes zero. It takes no memory:
-    /// the pages move into the block.
+    /// Takes the block of that order with the least start, with all bytes zero: the pages move into
+    /// the block. `NoRun` where no block of that order fits, then `Memory`, which an order up to
+    /// `INLINE_ORDER` never meets.
     #[tactic(auto, using(crate::proofs::Overwriting::no_bytes))]
-    pub fn take(&mut self, order: u8) -> Option<Block<L>>
+    pub fn take(&mut self, order: u8) -> Result<Block<L>, TakeError>
         requires { order ≤ MAX_ORDER }
-        ensures lent { IfSome result (λ b. lend self.old order ≡ Some (place b, self.new)) }
-        ensures order { IfSome result (λ b. b.order ≡ order) }
-        ensures zero { IfSome result (λ b. b.pages ≡ replicate (2 ^ order) (replicate PAGE_LEN 0)) }
-        ensures none { IfNone result (lend self.old order ≡ None) }
-        ensures unchanged { IfNone result (self.new ≡ self.old) }
+        ensures lent { IfOk result (λ b. lend self.old order ≡ Some (place b, self.new)) }
+        ensures order { IfOk result (λ b. b.order ≡ order) }
+        ensures zero { IfOk result (λ b. b.pages ≡ replicate (2 ^ order) (replicate PAGE_LEN 0)) }
+        ensures no_run { IsErrOf result TakeError.NoRun ↔ (lend self.old order ≡ None) }
+        ensures memory { IsErrOf result TakeError.Memory → INLINE_ORDER < order }
+        ensures unchanged { OnErr result (self.new ≡ self.old) }
     {
         self.take_filled(order, &[])
     }
 
     /// Takes the block that `take` would, with these bytes in its first ones and zeros behind them.
     #[tactic(auto, using(crate::proofs::Overwriting::concat_bytes))]
-    pub fn take_filled(&mut self, order: u8, bytes: &[u8]) -> Option<Block<L>>
+    pub fn take_filled(&mut self, order: u8, bytes: &[u8]) -> Result<Block<L>, TakeError>
         requires order { order ≤ MAX_ORDER }
         requires fits { length bytes.now ≤ PAGE_LEN * 2 ^ order }
-        ensures lent { IfSome result (λ b. lend self.old order ≡ Some (place b, self.new)) }
-        ensures order { IfSome result (λ b. b.order ≡ order) }
-        ensures pages { IfSome result (λ b. b.pages ≡ pages_with (2 ^ order) bytes.now) }
-        ensures bytes { IfSome result (λ b. concat b.pages
+        ensures lent { IfOk result (λ b. lend self.old order ≡ Some (place b, self.new)) }
+        ensures order { IfOk result (λ b. b.order ≡ order) }
+        ensures pages { IfOk result (λ b. b.pages ≡ pages_with (2 ^ order) bytes.now) }
+        ensures bytes { IfOk result (λ b. concat b.pages
             ≡ bytes.now ++ replicate (PAGE_LEN * 2 ^ order - length bytes.now) 0) }
-        ensures none { IfNone result (lend self.old order ≡ None) }
-        ensures unchanged { IfNone result (self.new ≡ self.old) }
+        ensures no_run { IsErrOf result TakeError.NoRun ↔ (lend self.old order ≡ None) }
+        ensures memory { IsErrOf result TakeError.Memory → INLINE_ORDER < order }
+        ensures unchanged { OnErr result (self.new ≡ self.old) }
     {
         let mut block = self.take_block(order)?;
         block.overwrite(bytes);
-        Some(block)
+        Ok(block)
     }
 
     /// Takes the block that `take` would, with the bytes that its pages had.
-    pub(crate) fn take_block(&mut self, order: u8) -> Option<Block<L>>
+    pub(crate) fn take_block(&mut self, order: u8) -> Result<Block<L>, TakeError>
         requires { order ≤ MAX_ORDER }
-        ensures lent { IfSome result (λ b. lend self.old order ≡ Some (place b, self.new)) }
-        ensures order { IfSome result (λ b. b.order ≡ order) }
-        ensures none { IfNone result (lend self.old order ≡ None) }
-        ensures unchanged { IfNone result (self.new ≡ self.old) }
+        ensures lent { IfOk result (λ b. lend self.old order ≡ Some (place b, self.new)) }
+        ensures order { IfOk result (λ b. b.order ≡ order) }
+        ensures no_run { IsErrOf result TakeError.NoRun ↔ (lend self.old order ≡ None) }
+        ensures memory { IsErrOf result TakeError.Memory → INLINE_ORDER < order }
+        ensures unchanged { OnErr result (self.new ≡ self.old) }
     {
-        let start = self.tree.lend(order)?;
+        let Some(start) = self.tree.lend(order) else {
+            return Err(TakeError::NoRun);
+        };
         let Some(shell) = self.shells.pop() else {
             unreachable!()
         };
         let count = page_count(order);
+        let places = match shell.into_places(order) {
+            Ok(places) => places,
+            Err(shell) => {
+                self.shells.push_reserved(shell);
+                self.tree.give(start, order);
+                return Err(TakeError::Memory);
+            }
+        };
         let alloc = *self.homes.allocator();
         let homes = self.homes.as_mut_slice();
-        let places = shell.into_places();
         let pages = take_pages(alloc, homes, start as usize, count as usize, places);
         let mut share = self.parts.split_off(count as u64, 0);
         self.out.add(&mut share, count as u64);
-        Some(Block {
+        Ok(Block {
             start,
             order,
             pages,

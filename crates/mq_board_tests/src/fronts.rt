@@ -90,7 +90,7 @@ fn a_reader_enters(rt: HostRuntime) -> Result<(), Fail> {
     let (seen, _left) = run(&rt, rt.alloc())?;
     assert!(rt; seen.before.made == 0 && !seen.before.live);
     assert!(rt; seen.made.made == 1 && seen.made.live && seen.made.key == 7);
-    assert!(rt; seen.made.figures.qbytes == 16384 && seen.made.figures.ctime == 10);
+    assert!(rt; seen.made.figures.qbytes == 131_072 && seen.made.figures.ctime == 10);
     assert!(rt; seen.sent.figures.qnum == 1 && seen.sent.figures.stime == 20);
     assert!(rt; seen.sent == seen.told);
     Ok(())

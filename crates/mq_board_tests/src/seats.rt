@@ -224,9 +224,9 @@ fn a_seat_sees_a_queue_come_and_go(rt: HostRuntime) -> Result<(), Fail> {
     let told = run(&rt, rt.alloc())?;
     let seen = &told.seen;
     assert!(rt; seen.never == Err(IdRefusal::Never));
-    assert!(rt; shows(&seen.made, 0, 16_384));
-    assert!(rt; shows(&seen.sent, 1, 16_384));
-    assert!(rt; shows(&seen.received, 0, 16_384));
+    assert!(rt; shows(&seen.made, 0, 131_072));
+    assert!(rt; shows(&seen.sent, 1, 131_072));
+    assert!(rt; shows(&seen.received, 0, 131_072));
     assert!(rt; shows(&seen.changed, 0, 100));
     assert!(rt; seen.removed == Err(IdRefusal::Removed));
     assert!(rt; seen.learned);

@@ -8,8 +8,9 @@ use Rattle.mq_one_thread.proofs.DraftLemmas.{spent_after}
 use Rattle.mq_one_thread.specs.Calls.{msgsnd}
 use Rattle.mq_one_thread.specs.Look.{Answer, refused_or_memory}
 use Rattle.mq_one_thread.specs.State.{State}
-use Rattle.mq_one_thread.specs.Texts.{drafts_of}
+use Rattle.mq_one_thread.specs.Texts.{draft_errno, draft_refusal, drafts_of}
 use Rattle.mq_one_thread.specs.declared.draft_error.DraftError.{DraftError}
+use Rattle.mq_one_thread.specs.declared.draft_error.DraftError.TheVariants.{Memory}
 use Rattle.mq_one_thread.specs.declared.errno.Errno.TheVariants.{ENOMEM}
 use Rattle.mq_one_thread.specs.declared.results.Refused.{Refused}
 use Rattle.mq_cli.specs.Commands.{Text}
@@ -29,6 +30,27 @@ letters_cut all count is fits = rw is (take-map-range_with_len letter 0 MSGMAX c
 drafted_as : (d : Result (PlainText × State) DraftError) (p : PlainText × State) → by_draft_errno d ≡ Ok p → d ≡ Ok p
 drafted_as (Ok made) p e = let same : made ≡ p = cc in ap Ok same
 drafted_as (Err error) p e = absurd (cc e)
+
+-- what refuses a draft, but for want of memory, is told by the queues
+pub refused_as : (q : State) (text : Text) (e : DraftError) → e ≡ draft_refusal (drafts_of q (bytes_of_text text)) → e ≢ Memory
+    → draft q text ≡ Err (draft_errno e)
+refused_as q text e is known = by_draft (drafts_of q (bytes_of_text text)) is
+  where
+    by_draft : (d : Result (PlainText × State) DraftError) → e ≡ draft_refusal d → by_draft_errno d ≡ Err (draft_errno e)
+    by_draft (Ok made) is = absurd (known is)
+    by_draft (Err refusal) is = ap (λ r. Err (draft_errno r)) (sym is)
+
+-- so a send without a text writes that refusal, and leaves all
+pub undrafted : (n seat : ℕ) (q : State) (id : ℕ) (mtype : ℤ) (text : Text) (e : DraftError) (last : State) (old new : List ℕ)
+    (done : Result (Unit {0}) AllocError) → e ≡ draft_refusal (drafts_of q (bytes_of_text text)) → e ≢ Memory → last ≡ q
+    → OnOk done (new ≡ old ++ output (refused (draft_errno e))) → OnOk done (Answered (send_step n seat q id mtype text) old new last)
+undrafted n seat q id mtype text e last old new (Ok _) is known same line =
+    let answer = ap (told q (λ d. told q (λ t. (at t.0, t.1)) (by_errno (msgsnd d.1 seat id mtype n d.0 n)))) (refused_as q text e is known) in
+    record {
+      line = line ∙ ap (λ (t : Reply × State). old ++ output t.0) (sym answer);
+      state = same ∙ ap (λ (t : Reply × State). t.1) (sym answer);
+    }
+undrafted n seat q id mtype text e last old new (Err _) is known same line = tt
 
 -- a text that was drafted and given up leaves the queues as they were
 drafted_home : (q : State) (text : Text) (made : PlainText) (after : State) → draft q text ≡ Ok (made, after) → spent made after ≡ q

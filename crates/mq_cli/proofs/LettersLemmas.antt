@@ -1,5 +1,5 @@
 -- Texts that are cut from a run of letters.
-use Rattle.std.proofs.Common.{◌≡◌, ℕ, ◌+◌, ◌-◌, ◌*◌, ◌/◌, ◌%◌, ◌≤◌, zero, suc, List, [], ◌∷◌, map, length, take, drop, refl, sym, ap, ◌∙◌, subst, arith}
+use Rattle.std.proofs.Common.{◌≡◌, ℕ, ◌+◌, ◌-◌, ◌*◌, ◌/◌, ◌%◌, ◌≤◌, zero, suc, List, [], ◌∷◌, ◌++◌, map, length, take, drop, refl, sym, ap, ◌∙◌, arith}
 use Rattle.std.specs.List.{range_with_len}
 use Rattle.std.proofs.Math.Nat.{mod-add-div, add-mul-mod_self_left}
 use Rattle.std.proofs.lemmas.List.FromFn.{length-map-range_with_len, take-map-range_with_len}
@@ -16,6 +16,17 @@ dropped f a (suc s) n =
     let one : suc s + n ≡ suc (s + n) = omega arith in
     let next : a + 1 + s ≡ a + suc s = omega arith in
     rw one (dropped f (a + 1) s n ∙ ap (λ k. map f (range_with_len k n)) next)
+
+-- a run in two parts
+in_two : (f : ℕ → ℕ) (a s n : ℕ) → map f (range_with_len a (s + n)) ≡ map f (range_with_len a s) ++ map f (range_with_len (a + s) n)
+in_two f a zero n =
+    let none : 0 + n ≡ n = omega arith in
+    let same : a + 0 ≡ a = omega arith in
+    rw (none, same) refl
+in_two f a (suc s) n =
+    let one : suc s + n ≡ suc (s + n) = omega arith in
+    let next : a + 1 + s ≡ a + suc s = omega arith in
+    rw one (ap (λ l. f a ∷ l) (in_two f (a + 1) s n ∙ ap (λ k. map f (range_with_len (a + 1) s) ++ map f (range_with_len k n)) next))
 
 -- a run from a later number, by a function that adds the rest
 shifted : (f : ℕ → ℕ) (s a n : ℕ) → map f (range_with_len (s + a) n) ≡ map (λ i. f (s + i)) (range_with_len a n)
@@ -63,3 +74,23 @@ pub text_is : (all : List ℕ) (total seat tag count : ℕ) → all ≡ map lett
 text_is all total seat tag count is fits =
     let e = text_cut all total seat tag count is fits in
     e ∙ ap (letters_from (seat + tag)) (sym (ap length e ∙ length-letters_from (seat + tag) count))
+
+-- the alphabet once more
+again : (n count : ℕ) → map letter (range_with_len (26 * n) count) ≡ map letter (range_with_len 0 count)
+again n count =
+    let from : 26 * n + 0 ≡ 26 * n = omega arith in
+    ap (λ k. map letter (range_with_len k count)) (sym from) ∙ shifted letter (26 * n) 0 count
+    ∙ same_map (λ i. letter (26 * n + i)) letter (λ i. ap (λ k. 97 + k) (whole i)) (range_with_len 0 count)
+  where
+    whole : (i : ℕ) → (26 * n + i) % 26 ≡ i % 26
+    whole i =
+        let order : 26 * n + i ≡ i + 26 * n = omega arith in
+        ap (λ k. k % 26) order ∙ add-mul-mod_self_left i 26 n
+
+-- whole alphabets, and the beginning of another
+pub more_letters : (all alphabet : List ℕ) (n count : ℕ) → all ≡ map letter (range_with_len 0 (26 * n))
+    → alphabet ≡ map letter (range_with_len 0 count) → all ++ alphabet ≡ map letter (range_with_len 0 (26 * n + count))
+more_letters all alphabet n count is next =
+    let from : 0 + 26 * n ≡ 26 * n = omega arith in
+    rw (is, next) (sym (in_two letter 0 (26 * n) count ∙ ap (λ l. map letter (range_with_len 0 (26 * n)) ++ l)
+    (ap (λ k. map letter (range_with_len k count)) from ∙ again n count)))

@@ -37,16 +37,19 @@ lines_replied replies = flat_map output replies
 
 -- one reply was written behind what the buffer held
 abbrev pub Replies : ℕ → MainCall → List ℕ → List ℕ → Type 0
-Replies slots call old new = (reply : Reply) × MayReply slots call reply × (new ≡ old ++ output reply)
+Replies slots call old new =
+    (reply : Reply) × MayReply slots call reply × (new ≡ old ++ output reply)
 
 -- a reply of each call was written
 abbrev pub WroteAll : ℕ → List MainCall → Option (List ℕ) → Option (List ℕ) → Type 0
 WroteAll slots calls old new =
-    (replies : List Reply) × AreReplies slots calls replies × Appends old new (lines_replied replies)
+    (replies : List Reply) × AreReplies slots calls replies
+    × Appends old new (lines_replied replies)
 
 -- a prefix of the replies of the first calls was written
 abbrev pub WroteSome : ℕ → List MainCall → Option (List ℕ) → Option (List ℕ) → Type 0
-WroteSome slots calls old new = (first : List MainCall) × ((rest : List MainCall) × (calls ≡ first ++ rest))
+WroteSome slots calls old new =
+    (first : List MainCall) × ((rest : List MainCall) × (calls ≡ first ++ rest))
     × ((replies : List Reply) × AreReplies slots first replies
     × AppendsPrefix old new (lines_replied replies))
 

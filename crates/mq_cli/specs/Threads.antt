@@ -42,7 +42,8 @@ pub record IsWhole (config : Config) (wanted : Wanted) (text : List ℕ) : Type 
   pub text_is : text ≡ lines_replied replies ++ told
 
 abbrev pub WroteWhole : Config → Wanted → Option (List ℕ) → Option (List ℕ) → Type 0
-WroteWhole config wanted old new = (text : List ℕ) × IsWhole config wanted text × Appends old new text
+WroteWhole config wanted old new =
+    (text : List ℕ) × IsWhole config wanted text × Appends old new text
 
 -- the main part alone
 abbrev pub WroteMain : Config → Wanted → Option (List ℕ) → Option (List ℕ) → Type 0
@@ -74,7 +75,8 @@ IsMakingFault Thread = Unit {0}
 IsMakingFault _ = ⊥
 
 -- a text was written, or a prefix of it where a write failed or memory ran out
-abbrev pub WroteEnd : Option (List ℕ) → Option (List ℕ) → List ℕ → Result (Unit {0}) RunFault → Type 0
+abbrev pub WroteEnd : Option (List ℕ) → Option (List ℕ) → List ℕ
+    → Result (Unit {0}) RunFault → Type 0
 WroteEnd old new text (Ok _) = Appends old new text
 WroteEnd old new text (Err Write) = AppendsPrefix old new text
 WroteEnd old new text (Err Memory) = AppendsPrefix old new text

@@ -116,7 +116,8 @@ goes_on n w (Err cause) rest = Err (n, cause)
 unfoldable pub wanted_from : ℕ → Wanted → List (List ℕ) → Result Wanted (ℕ × Cause)
 wanted_from n w [] = Ok w
 wanted_from n w (line ∷ lines) =
-    goes_on n w (threads_reading (length w.sections) n line) (λ more. wanted_from (n + 1) more lines)
+    goes_on n w (threads_reading (length w.sections) n line)
+    (λ more. wanted_from (n + 1) more lines)
 
 -- what a script wants done, or the first line of it that is not well formed, with its cause
 abbrev pub wanted_of : List ℕ → Result Wanted (ℕ × Cause)

@@ -17,7 +17,7 @@ use crate::reply::{
 use crate::report::write_report;
 use crate::session::Session;
 use mq_message::Text;
-use mq_one_thread::{Delivered, OneThread, Removal, SendRefused};
+use mq_one_thread::{Delivered, DraftError, OneThread, Removal, SendRefused};
 use mq_table::Id;
 use std::alloc::AllocError;
 use std::sync::ledger::Ledger;
@@ -91,7 +91,8 @@ fn send<L: Ledger>(
 {
     let text = match draft(queues, letters, call.text) {
         Ok(text) => text,
-        Err(errno) => return write_errno(out, errno),
+        Err(DraftError::Memory) => return Err(AllocError),
+        Err(refusal) => return write_errno(out, refusal.errno()),
     };
     match queues.msgsnd(seat, Id::from_number(call.id), call.mtype, line, text, line) {
         Ok(entry) => write_entry(out, entry),

@@ -1,50 +1,53 @@
-ghost use Rattle.std.specs.Prelude.{◌≡◌, ◌≤◌, Ok, Err, IfOk, IfErr, OnErr, map, length};
+ghost use Rattle.std.specs.Prelude.{◌≡◌, ◌<◌, ◌≤◌, Ok, IfOk, IfErr, OnErr, IsErrOf, map, length};
 ghost use Rattle.std.specs.List.{range_with_len};
 ghost use Rattle.mq_queue.specs.declared.limits.TheConstants.{MSGMAX};
+ghost use Rattle.mq_one_thread.specs.Texts.{draft_refusal, drafts_of};
 ghost use Rattle.mq_cli.specs.Drafts.{bytes_of_text};
 ghost use Rattle.mq_cli.specs.Drafts.{draft as draft_answer, letter as letter_at};
 ghost use Rattle.mq_cli.specs.Seen.{text_seen};
 
 use crate::command::TextForm;
-use mq_message::Text;
-use mq_one_thread::{DraftError, Errno, OneThread};
+use mq_message::{INLINE_LEN, Text};
+use mq_one_thread::{DraftError, OneThread};
 use mq_queue::MSGMAX;
 use std::alloc::{AllocError, Global};
 use std::sync::ledger::Ledger;
+
+/// The letters, in their order.
+const ALPHABET: [u8; 26] = *b"abcdefghijklmnopqrstuvwxyz";
 
 /// So many letters: `a` to `z`, over and over.
 pub fn letters(alloc: Global, count: u64) -> Result<Vec<u8>, AllocError>
     ensures { IfOk result (λ bytes. bytes.items ≡ map letter_at (range_with_len 0 count)) }
 {
-    (0..count).map(|place| letter(place)).collect(alloc)
+    let mut letters = Vec::with_capacity(alloc, count as usize)?;
+    for _ in 0..count / 26 {
+        letters.extend_from_slice(&ALPHABET)?;
+    }
+    letters.extend_from_slice(&ALPHABET[..(count % 26) as usize])?;
+    Ok(letters)
 }
 
-/// The letter at this place.
-fn letter(place: u64) -> u8
-    ensures { result ≡ letter_at place }
-{
-    b'a' + (place % 26) as u8
-}
-
-/// Makes the text of a message, each byte written once, in place.
+/// Makes the text of a message, each byte written once, in place. The refusals are those of
+/// `OneThread::draft_of`.
 pub fn draft<L: Ledger>(
     queues: &mut OneThread<L>,
     letters: &[u8],
     text: TextForm<'_>,
-) -> Result<Text<L>, Errno>
+) -> Result<Text<L>, DraftError>
     requires letters { letters.now ≡ map letter_at (range_with_len 0 MSGMAX) }
     ensures ok { IfOk result (λ made.
         draft_answer queues.old (text_seen text.entry) ≡ Ok (made, queues.new)) }
-    ensures refused { IfErr result (λ errno.
-        draft_answer queues.old (text_seen text.entry) ≡ Err errno) }
+    ensures refused { IfErr result (λ e.
+        e ≡ draft_refusal (drafts_of queues.old (bytes_of_text (text_seen text.entry)))) }
+    ensures memory { IsErrOf result DraftError.Memory
+        → INLINE_LEN < length (bytes_of_text (text_seen text.entry)) }
     ensures unchanged { OnErr result (queues.new ≡ queues.old) }
 {
     if text.len() > MSGMAX {
-        return Err(DraftError::TooLong.errno());
+        return Err(DraftError::TooLong);
     }
-    queues
-        .draft_of(bytes_of(letters, text))
-        .map_err(|refusal| refusal.errno())
+    queues.draft_of(bytes_of(letters, text))
 }
 
 /// The bytes that the text is made of.

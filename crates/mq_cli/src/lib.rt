@@ -39,7 +39,7 @@ pub use laws::{
     a_command_is_spelled_one_way, a_spelled_command_is_read_back,
     a_spelled_threads_line_is_read_back, a_threads_line_is_spelled_one_way,
 };
-pub use limits::{LINE_LIMIT, SCRIPT_LIMIT, the_limits};
+pub use limits::{LINE_LIMIT, SCRIPT_DEFAULTS, SCRIPT_LIMIT, the_limits};
 pub use outcome::Outcome;
 pub use plan::work;
 pub use port::Port;

@@ -1,5 +1,14 @@
 ghost use Rattle.std.specs.Prelude.{◌≡◌};
 
+use mq_one_thread::{Config, DEFAULTS};
+
+/// The size of the queue system of a script that is given none: an arena of 64 pages, whose
+/// `arena` lines can be followed by hand.
+pub const SCRIPT_DEFAULTS: Config = Config {
+    height: 6,
+    ..DEFAULTS
+};
+
 /// The greatest length of a script, in bytes.
 pub const SCRIPT_LIMIT: usize = 1_048_576;
 
@@ -19,6 +28,7 @@ pub(crate) const MAX_COUNT: u32 = 100_000;
 
 /// The limits as numbers.
 pub fn the_limits()
+    ensures height { SCRIPT_DEFAULTS.height ≡ 6 }
     ensures script { SCRIPT_LIMIT ≡ 1048576 }
     ensures line { LINE_LIMIT ≡ 4096 }
     ensures reads { READ_CALLS ≡ 2097152 }

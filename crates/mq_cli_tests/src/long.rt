@@ -7,14 +7,14 @@ use mq_cli::{RunFault, SCRIPT_LIMIT, run_serial};
 use std::io::Write;
 use std::test::Fail;
 
-/// The longest text, of which the answer line has 8,192 bytes and some more.
+/// The longest text, of which the answer line has 65,536 bytes and some more.
 #[test]
 fn the_longest_text_is_answered_whole(rt: HostRuntime) -> Result<(), Fail> {
-    for size in [8191u64, 8192, 9000] {
-        let script = format!(in rt.alloc(); "get 0 c\nsnd 0 1 *8192\nrcv 0 {size} 0 n\n")?;
+    for size in [65_535u64, 65_536, 70_000] {
+        let script = format!(in rt.alloc(); "get 0 c\nsnd 0 1 *65536\nrcv 0 {size} 0 n\n")?;
         let mut expected = Vec::new(rt.alloc());
-        write!(expected, "id 0\nat 1\nmsg 1 seat 1 tag 2 len 8192 =")?;
-        for place in 0..size.min(8192) {
+        write!(expected, "id 0\nat 1\nmsg 1 seat 1 tag 2 len 65536 =")?;
+        for place in 0..size.min(65_536) {
             expected.push(b'a' + (place % 26) as u8)?;
         }
         expected.push(b'\n')?;

@@ -1,7 +1,6 @@
 use crate::fakes::{Narrow, Trickle};
 use crate::scripts::{OWN, OWN_TOLD, TWO_PAIRS, lacks_memory};
-use mq_cli::{RunFault, SCRIPT_LIMIT, run_threads};
-use mq_one_thread::DEFAULTS;
+use mq_cli::{RunFault, SCRIPT_DEFAULTS, SCRIPT_LIMIT, run_threads};
 use std::test::Fail;
 
 /// One call for each byte, and one that finds the end.
@@ -15,7 +14,7 @@ fn a_reader_that_fails_leaves_nothing_written(rt: HostRuntime) -> Result<(), Fai
             fails_at,
         };
         let mut written = Vec::new(rt.alloc());
-        let ended = run_threads(&rt, rt.alloc(), &mut reader, &mut written, DEFAULTS);
+        let ended = run_threads(&rt, rt.alloc(), &mut reader, &mut written, SCRIPT_DEFAULTS);
         assert!(rt; ended != Err(RunFault::Memory), "out of memory");
         assert!(rt; ended == Err(RunFault::Read), "at {fails_at}");
         assert!(rt; written.is_empty(), "at {fails_at}");
@@ -35,7 +34,13 @@ fn a_writer_that_fails_has_the_first_bytes(rt: HostRuntime) -> Result<(), Fail> 
                 flushes: 0,
                 fails_at_flush: 0,
             };
-            let ended = run_threads(&rt, rt.alloc(), &mut OWN.as_bytes(), &mut writer, DEFAULTS);
+            let ended = run_threads(
+                &rt,
+                rt.alloc(),
+                &mut OWN.as_bytes(),
+                &mut writer,
+                SCRIPT_DEFAULTS,
+            );
             let expected = if room < OWN_TOLD.len() {
                 Err(RunFault::Write)
             } else {
@@ -67,7 +72,13 @@ fn a_flush_that_fails_is_a_failed_write(rt: HostRuntime) -> Result<(), Fail> {
             flushes: 0,
             fails_at_flush,
         };
-        let ended = run_threads(&rt, rt.alloc(), &mut OWN.as_bytes(), &mut writer, DEFAULTS);
+        let ended = run_threads(
+            &rt,
+            rt.alloc(),
+            &mut OWN.as_bytes(),
+            &mut writer,
+            SCRIPT_DEFAULTS,
+        );
         assert!(rt; !lacks_memory(ended, &writer.taken), "out of memory");
         assert!(rt; ended == end, "at {fails_at_flush}, or out of memory");
         assert!(rt;
@@ -87,7 +98,7 @@ fn a_script_over_the_limit_is_not_run(rt: HostRuntime) -> Result<(), Fail> {
         rt.alloc(),
         &mut script.as_slice(),
         &mut written,
-        DEFAULTS,
+        SCRIPT_DEFAULTS,
     );
     assert!(rt; ended != Err(RunFault::Memory), "out of memory");
     assert!(rt; ended == Err(RunFault::Size));

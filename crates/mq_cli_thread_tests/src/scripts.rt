@@ -21,9 +21,11 @@ slot 0 events 21 sent 10 received 10 left 0
 pages 64 free 64
 ";
 
-/// Two workers send to two others, each pair by a type of its own.
+/// Two workers send to two others, each pair by a type of its own. The quota is 16 pages' bytes, so
+/// that there is always a page for one more text.
 pub const TWO_PAIRS: &str = "\
 get 9 c
+set 0 16384
 worker
 put 0 1 100 1000
 worker
@@ -36,11 +38,12 @@ take 0 2 100
 
 pub const TWO_PAIRS_TOLD: &str = "\
 id 0
+at 1
 worker 2 sent 100 received 0 order yes end done
 worker 3 sent 100 received 0 order yes end done
 worker 4 sent 0 received 100 order yes end done
 worker 5 sent 0 received 100 order yes end done
-slot 0 events 401 sent 200 received 200 left 0
+slot 0 events 402 sent 200 received 200 left 0
 pages 64 free 64
 ";
 

@@ -1,6 +1,5 @@
 use crate::scripts::{OWN, OWN_TOLD, TWO_PAIRS, TWO_PAIRS_TOLD, lacks_memory};
-use mq_cli::{Cause, RunFault, run_threads};
-use mq_one_thread::DEFAULTS;
+use mq_cli::{Cause, RunFault, SCRIPT_DEFAULTS, run_threads};
 use std::process::Abort;
 use std::sync::Wait;
 use std::test::Fail;
@@ -18,7 +17,7 @@ fn is_told<R: AllocGlobal + Abort + Threads + Wait + Sync>(rt: &R, case: Case) -
         rt.alloc(),
         &mut script.as_bytes(),
         &mut written,
-        DEFAULTS,
+        SCRIPT_DEFAULTS,
     );
     assert!(rt; !lacks_memory(ended, &written), "out of memory");
     assert!(rt; ended == end, "{script}");
@@ -74,7 +73,16 @@ fn an_empty_script_tells_the_pages(rt: HostRuntime) -> Result<(), Fail> {
     Ok(())
 }
 
-const TOO_LONG: &str = "get 0 c\nworker\nput 0 1 1 8193\n";
+const LONGEST: &str = "get 0 c\nworker\nput 0 1 1 65536\ntake 0 1 1\n";
+
+const LONGEST_TOLD: &str = "\
+id 0
+worker 2 sent 1 received 1 order yes end done
+slot 0 events 3 sent 1 received 1 left 0
+pages 64 free 64
+";
+
+const TOO_LONG: &str = "get 0 c\nworker\nput 0 1 1 65537\n";
 
 const TOO_LONG_TOLD: &str = "\
 id 0
@@ -92,10 +100,11 @@ slot 0 events 3 sent 2 received 0 left 2
 pages 64 free 64
 ";
 
-/// A text over the limit ends its worker; texts that are left are counted, and their pages are
-/// free.
+/// A text of the greatest length is handed on, and a longer one ends its worker; texts that are left
+/// are counted, and their pages are free.
 #[test]
 fn a_worker_ends_at_a_refusal_or_done(rt: HostRuntime) -> Result<(), Fail> {
+    is_told(&rt, (LONGEST, LONGEST_TOLD, Ok(())))?;
     is_told(&rt, (TOO_LONG, TOO_LONG_TOLD, Ok(())))?;
     is_told(&rt, (LEFT, LEFT_TOLD, Ok(())))?;
     Ok(())
@@ -105,7 +114,7 @@ const MAIN: &str = "\
 get 7 c
 get 7 cx
 get 8
-set 0 16385
+set 0 131073
 set 0 5
 set 1 5
 get 0
@@ -184,7 +193,7 @@ fn a_sixteenth_worker_is_words(rt: HostRuntime) -> Result<(), Fail> {
         rt.alloc(),
         &mut FIFTEEN.as_bytes(),
         &mut written,
-        DEFAULTS,
+        SCRIPT_DEFAULTS,
     );
     assert!(rt; !lacks_memory(ended, &written), "out of memory");
     assert!(rt; ended == Ok(()));
@@ -219,7 +228,7 @@ fn causes_come_in_their_order(rt: HostRuntime) -> Result<(), Fail> {
             rt.alloc(),
             &mut script.as_bytes(),
             &mut written,
-            DEFAULTS,
+            SCRIPT_DEFAULTS,
         );
         assert!(rt; ended != Err(RunFault::Memory), "out of memory");
         assert!(rt; ended == at(2, cause), "{line}");

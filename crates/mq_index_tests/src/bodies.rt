@@ -12,8 +12,8 @@ type Typed = ByType<VecBody>;
 
 type Index = IndexWaiting<VecBody>;
 
-/// How many empty messages fit into a queue.
-const MOST: u64 = 16384;
+/// The quota of a queue that is filled with empty messages: how many fit into it.
+const MOST: u64 = 16_384;
 
 /// Checks what each body tells, step by step.
 fn check(
@@ -172,7 +172,7 @@ fn crosses(steps: &[Step], answers: &[Option<u64>]) -> bool {
         match steps[i] {
             Step::Send(_) => waiting = waiting.wrapping_add(1),
             Step::Receive(_) if answers[i].is_some() => waiting = waiting.wrapping_sub(1),
-            Step::Receive(_) => (),
+            Step::Receive(_) | Step::Set(_) => (),
         }
         if 32 < waiting {
             many = true;
@@ -238,12 +238,15 @@ fn type_of(place: u64) -> i64 {
     ((place % MOST * 5 % MOST + 1) * 8) as i64
 }
 
-/// As many messages as fit are sent, and received by these selections.
+/// As many messages as fit are sent, at the places from 2 on, then one more, and all are received by
+/// these selections.
 fn emptied(alloc: Global, selection_of: &[Selection]) -> Result<Vec<Option<u64>>, AllocError> {
     let mut steps = Vec::new(alloc);
+    steps.push(Step::Set(MOST))?;
     for i in 0..MOST {
-        steps.push(Step::Send(type_of(i + 1)))?;
+        steps.push(Step::Send(type_of(i + 2)))?;
     }
+    steps.push(Step::Send(type_of(2)))?;
     for selection in selection_of {
         steps.push(Step::Receive(*selection))?;
     }
@@ -259,22 +262,27 @@ fn a_full_queue_of_as_many_types_is_emptied(rt: HostRuntime) -> Result<(), Fail>
     let mut lowest = Vec::new(alloc);
     for i in 0..MOST {
         any.push(Selection::Any)?;
-        exact.push(Selection::Exact(type_of(i + 1)))?;
-        except.push(Selection::Except(type_of(1)))?;
+        exact.push(Selection::Exact(type_of(i + 2)))?;
+        except.push(Selection::Except(type_of(2)))?;
         lowest.push(Selection::UpTo(u64::MAX))?;
     }
     let by_any = emptied(alloc, &any)?;
     let by_exact = emptied(alloc, &exact)?;
     let by_except = emptied(alloc, &except)?;
     let by_lowest = emptied(alloc, &lowest)?;
+    assert!(rt; by_any.get(0).copied() == Some(Some(1)));
+    assert!(rt;
+        by_any.get(MOST as usize + 1).copied() == Some(None),
+        "one more is sent"
+    );
     let mut last = 0;
     for i in 0..MOST as usize {
-        let place = i as u64 + 1;
-        let at = MOST as usize + i;
-        assert!(rt; by_any.get(i).copied() == Some(Some(place)));
+        let place = i as u64 + 2;
+        let at = MOST as usize + 2 + i;
+        assert!(rt; by_any.get(i + 1).copied() == Some(Some(place)));
         assert!(rt; by_any.get(at).copied() == Some(Some(place)));
         assert!(rt; by_exact.get(at).copied() == Some(Some(place)));
-        let other = if place < MOST { Some(place + 1) } else { None };
+        let other = if place <= MOST { Some(place + 1) } else { None };
         assert!(rt; by_except.get(at).copied() == Some(other));
         let Some(Some(low)) = by_lowest.get(at).copied() else {
             return Err("nothing waits".into());

@@ -9,6 +9,8 @@ pub(crate) enum Step {
     /// A message of this type is sent.
     Send(i64),
     Receive(Selection),
+    /// The quota becomes this one.
+    Set(u64),
 }
 
 /// A message of this type, with a text of as many bytes as its type tells, below 8.
@@ -42,12 +44,24 @@ fn receive<W: Waiting<VecBody>>(
     queue: &mut QueueState<VecBody, W>,
     selection: Selection,
 ) -> Option<u64> {
-    let answer = match queue.receive(8192, selection, false, 4, 80, &mut NoNotice) {
-        Err(QueueError::Memory) => queue.receive(8192, selection, false, 4, 80, &mut NoNotice),
+    let answer = match queue.receive(65_536, selection, false, 4, 80, &mut NoNotice) {
+        Err(QueueError::Memory) => queue.receive(65_536, selection, false, 4, 80, &mut NoNotice),
         answer => answer,
     };
     match answer {
         Ok(received) => Some(received.place),
+        Err(_) => None,
+    }
+}
+
+/// Sets the quota, and where memory was refused once more. The place of the change.
+fn set<W: Waiting<VecBody>>(queue: &mut QueueState<VecBody, W>, qbytes: u64) -> Option<u64> {
+    let answer = match queue.set(qbytes, 5, 90, &mut NoNotice) {
+        Err(QueueError::Memory) => queue.set(qbytes, 5, 90, &mut NoNotice),
+        answer => answer,
+    };
+    match answer {
+        Ok(place) => Some(place),
         Err(_) => None,
     }
 }
@@ -63,6 +77,7 @@ fn made<W: Waiting<VecBody>>(
         let place = match *step {
             Step::Send(mtype) => send(queue, message(alloc, mtype)?),
             Step::Receive(selection) => receive(queue, selection),
+            Step::Set(qbytes) => set(queue, qbytes),
         };
         places.push(place)?;
     }

@@ -1,5 +1,5 @@
 -- The bytes of a text in a block that was just taken.
-use Rattle.std.proofs.Common.{◌≡◌, refl, ℕ, ◌*◌, ◌≤◌, List, ◌++◌, length, take, replicate, None, Some, ◌∙◌, ap, sym}
+use Rattle.std.proofs.Common.{◌≡◌, refl, ℕ, ◌*◌, ◌≤◌, List, ◌++◌, length, take, replicate, Some, ◌∙◌, ap, sym}
 use Rattle.std.proofs.lemmas.List.{take-replicate, take_at}
 use Rattle.std.specs.List.{concat}
 use Rattle.std.specs.Option.{option_map}
@@ -27,9 +27,3 @@ in_taken arena after b order bytes rest text least lent filled is =
     let whole : text ≡ record { bytes = bytes; block = Some (place b) } = is ∙ ap (λ bs. record { bytes = bs; block = Some (place b) }) cut in
     let found : lend arena (order_for (length bytes)) ≡ Some (place b, after) = ap (lend arena) (sym least) ∙ lent in
     ap (option_map (λ l. (record { bytes = bytes; block = Some l.0 }, l.1))) found ∙ ap (λ t. Some (t, after)) (sym whole)
-
--- where no block was taken, there is no text
-pub in_none : (arena : Lending) (order : ℕ) (bytes : List ℕ) → order ≡ order_for (length bytes) → lend arena order ≡ None
-    → text_in arena bytes ≡ None
-in_none arena order bytes least none =
-    ap (option_map (λ l. (record { bytes = bytes; block = Some l.0 }, l.1))) (ap (lend arena) (sym least) ∙ none)

@@ -10,7 +10,10 @@ pub order_least : (n order : ℕ) → n ≤ PAGE_LEN * 2 ^ order → order_for n
 order_least n zero room = grind (arith, nat_tests)
 order_least n (suc zero) room = grind (arith, nat_tests)
 order_least n (suc (suc zero)) room = grind (arith, nat_tests)
-order_least n (suc (suc (suc order))) room = grind (arith, nat_tests)
+order_least n (suc (suc (suc zero))) room = grind (arith, nat_tests)
+order_least n (suc (suc (suc (suc zero)))) room = grind (arith, nat_tests)
+order_least n (suc (suc (suc (suc (suc zero))))) room = grind (arith, nat_tests)
+order_least n (suc (suc (suc (suc (suc (suc order)))))) room = grind (arith, nat_tests)
 
 -- it has room
 pub order_enough : (n : ℕ) → n ≤ TEXT_LEN → n ≤ PAGE_LEN * 2 ^ order_for n

@@ -11,6 +11,6 @@ mod vec_body;
 
 pub use body::Body;
 pub use message::Message;
-pub use order::{TEXT_LEN, order_for};
+pub use order::{INLINE_LEN, TEXT_LEN, order_for};
 pub use text::Text;
 pub use vec_body::VecBody;

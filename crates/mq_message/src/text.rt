@@ -1,13 +1,14 @@
 //! A text: bytes in a block of pages.
-ghost use Rattle.std.specs.Prelude.{◌≡◌, ℕ, [], slice_index_or, ◌-◌, ◌*◌, ◌^◌, ◌<◌, ◌≤◌, length, take, replicate, min, Some, IfSome, IfNone};
+ghost use Rattle.std.specs.Prelude.{◌≡◌, ℕ, ◌-◌, ◌*◌, ◌^◌, ◌<◌, ◌≤◌, ◌↔◌, [], Some, None, length, take};
+ghost use Rattle.std.specs.Prelude.{replicate, min, slice_index_or, IfSome, IfNone, IfOk, OnErr, IsErrOf};
 ghost use Rattle.std.specs.List.{concat};
 ghost use Rattle.std.specs.Option.{option_map};
 ghost use Rattle.mq_arena.specs.Lent.{place};
 ghost use Rattle.mq_message.specs.Text.{no_text, count_of, order_for, text_in, text_part};
 
 use crate::Body;
-use crate::order::{TEXT_LEN, order_for};
-use mq_arena::{ArenaState, Block, MAX_ORDER, PAGE_LEN, Parts};
+use crate::order::{INLINE_LEN, TEXT_LEN, order_for};
+use mq_arena::{ArenaState, Block, MAX_ORDER, PAGE_LEN, Parts, TakeError};
 use std::marker::Model;
 use std::sync::ledger::Ledger;
 
@@ -61,18 +62,17 @@ impl<L: Ledger> Text<L> {
 
     /// The text of these bytes, in a block that the arena lends for it: the least that has room.
     /// Each byte of the block is written once.
-    pub fn of_bytes(arena: &mut ArenaState<L>, bytes: &[u8]) -> Option<Text<L>>
+    pub fn of_bytes(arena: &mut ArenaState<L>, bytes: &[u8]) -> Result<Text<L>, TakeError>
         requires some { 0 < length bytes.now }
         requires most { length bytes.now ≤ TEXT_LEN }
-        ensures ok { IfSome result (λ text. text_in arena.old bytes.now ≡ Some (text, arena.new)) }
-        ensures none { IfNone result (text_in arena.old bytes.now ≡ None) }
-        ensures unchanged { IfNone result (arena.new ≡ arena.old) }
+        ensures ok { IfOk result (λ text. text_in arena.old bytes.now ≡ Some (text, arena.new)) }
+        ensures no_run { IsErrOf result TakeError.NoRun ↔ (text_in arena.old bytes.now ≡ None) }
+        ensures memory { IsErrOf result TakeError.Memory → INLINE_LEN < length bytes.now }
+        ensures unchanged { OnErr result (arena.new ≡ arena.old) }
     {
         let order = order_for(bytes.len());
-        match arena.take_filled(order, bytes) {
-            Some(block) => Some(Text::of(block, bytes.len())),
-            None => None,
-        }
+        let block = arena.take_filled(order, bytes)?;
+        Ok(Text::of(block, bytes.len()))
     }
 
     /// How many parts it has: one for each page that its bytes begin.

@@ -1,5 +1,6 @@
 -- A text that is drafted with its bytes, and spent.
-use Rattle.std.proofs.Common.{◌≡◌, ◌∙◌, ℕ, ◌<◌, ◌≤◌, ◌==◌, nat_lt, Bool, true, false, cond, List, length, Option, Some, None, Result, Ok, Err, if◌then◌else◌, refl, sym, ap, arith}
+use Rattle.std.proofs.Common.{inl, inr, ◌≡◌, ◌∙◌, ℕ, ◌<◌, ◌≤◌, ◌==◌, nat_lt, Bool, true, false, cond, List, length, Option, Some, None, Result, Ok, Err, if◌then◌else◌, refl, sym, ap, arith}
+use Rattle.std.proofs.lemmas.Bool.{cases_lt}
 use Rattle.std.proofs.lemmas.Bool.Decides.{nat_tests}
 use Rattle.std.specs.Option.{option_map, option_map_or}
 use Rattle.mq_tree.specs.Blocks.{Block, block}
@@ -7,10 +8,14 @@ use Rattle.mq_tree.specs.Fit.{fit}
 use Rattle.mq_tree.specs.LentSet.{Lending, joined}
 use Rattle.mq_tree.proofs.Kept.{left_fit}
 use Rattle.mq_arena.specs.Lent.{lend, with_lent}
+use Rattle.mq_arena.specs.declared.limits.TheConstants.{INLINE_ORDER}
+use Rattle.mq_arena.specs.declared.take_error.TakeError.{TakeError}
+use Rattle.mq_arena.specs.declared.take_error.TakeError.TheVariants as take
+use Rattle.mq_message.specs.declared.order.TheConstants.{INLINE_LEN}
 use Rattle.mq_message.specs.Text.{PlainText, no_text, order_for, text_in}
 use Rattle.mq_queue.specs.declared.limits.TheConstants.{MSGMAX}
 use Rattle.mq_one_thread.specs.State.{State, with_arena}
-use Rattle.mq_one_thread.specs.Texts.{in_block, drafts_of, spends, with_bytes}
+use Rattle.mq_one_thread.specs.Texts.{by_take, draft_refusal, in_block, drafts, drafts_of, spends, with_bytes}
 use Rattle.mq_one_thread.specs.declared.draft_error.DraftError.{DraftError}
 use Rattle.mq_one_thread.specs.declared.draft_error.DraftError.TheVariants.{TooLong, NoRun}
 
@@ -43,6 +48,55 @@ drafted s bytes some short =
     ap (λ t. with_bytes bytes (if t then Err TooLong else (if n == 0 then Ok (no_text, s) else lent))) over
     ∙ ap (λ t. with_bytes bytes (if t then Ok (no_text, s) else lent)) none
     ∙ placed s bytes (lend s.arena (order_for n))
+
+-- the same of zeros
+pub zeros_too_long : (s : State) (n : ℕ) → MSGMAX < n → drafts s n ≡ Err TooLong
+zeros_too_long s n long =
+    let over : nat_lt MSGMAX n ≡ true = grind (arith, nat_tests) in
+    ap (λ t. if t then Err TooLong
+    else (if n == 0 then Ok (no_text, s) else in_block s n (lend s.arena (order_for n)))) over
+
+by_block : (s : State) (n : ℕ) (found : Option (Block × Lending)) (refusal : TakeError)
+    → (refusal ≡ take.NoRun → found ≡ None) → (found ≡ None → refusal ≡ take.NoRun)
+    → by_take refusal ≡ draft_refusal (in_block s n found)
+by_block s n None take.NoRun none run = refl
+by_block s n None take.Memory none run = absurd (cc (run refl))
+by_block s n (Some lent) take.NoRun none run = absurd (cc (none refl))
+by_block s n (Some lent) take.Memory none run = refl
+
+-- zeros for which the arena lends no block
+pub refused_take : (s : State) (n : ℕ) (refusal : TakeError) → 0 < n → n ≤ MSGMAX
+    → (refusal ≡ take.NoRun → lend s.arena (order_for n) ≡ None)
+    → (lend s.arena (order_for n) ≡ None → refusal ≡ take.NoRun) → by_take refusal ≡ draft_refusal (drafts s n)
+refused_take s n refusal some short none run =
+    let over : nat_lt MSGMAX n ≡ false = grind (arith, nat_tests) in
+    let no_bytes : (n == 0) ≡ false = grind (arith, nat_tests) in
+    let lent = in_block s n (lend s.arena (order_for n)) in
+    by_block s n (lend s.arena (order_for n)) refusal none run
+    ∙ ap (λ t. draft_refusal (if t then Ok (no_text, s) else lent)) (sym no_bytes)
+    ∙ ap (λ t. draft_refusal (if t then Err TooLong else (if n == 0 then Ok (no_text, s) else lent))) (sym over)
+
+by_text : (s : State) (found : Option (PlainText × Lending)) (refusal : TakeError)
+    → (refusal ≡ take.NoRun → found ≡ None) → (found ≡ None → refusal ≡ take.NoRun)
+    → by_take refusal ≡ draft_refusal (answer_of s found)
+by_text s None take.NoRun none run = refl
+by_text s None take.Memory none run = absurd (cc (run refl))
+by_text s (Some t) take.NoRun none run = absurd (cc (none refl))
+by_text s (Some t) take.Memory none run = refl
+
+-- bytes for which it lends none
+pub refused_in : (s : State) (bytes : List ℕ) (refusal : TakeError) → 0 < length bytes → length bytes ≤ MSGMAX
+    → (refusal ≡ take.NoRun → text_in s.arena bytes ≡ None)
+    → (text_in s.arena bytes ≡ None → refusal ≡ take.NoRun) → by_take refusal ≡ draft_refusal (drafts_of s bytes)
+refused_in s bytes refusal some short none run =
+    by_text s (text_in s.arena bytes) refusal none run ∙ ap draft_refusal (sym (drafted s bytes some short))
+
+-- memory is wanted only for a text that is longer than the inline places hold
+pub memory_over : (n order : ℕ) → (n ≤ INLINE_LEN → order ≤ INLINE_ORDER) → INLINE_ORDER < order → INLINE_LEN < n
+memory_over n order low high = elim (cases_lt INLINE_LEN n) [
+  | inl over ↦ over
+  | inr under ↦ absurd (omega (arith, low under))
+]
 
 -- the queues once what was drafted is spent
 home : State → Result (PlainText × State) DraftError → State

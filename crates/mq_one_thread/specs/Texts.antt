@@ -6,6 +6,8 @@ use Rattle.mq_tree.specs.Blocks.{Block, is_block}
 use Rattle.mq_tree.specs.LentSet.{Lending, is_lent}
 use Rattle.mq_arena.specs.declared.homecoming.Homecoming.{Homecoming}
 use Rattle.mq_arena.specs.declared.homecoming.Homecoming.TheVariants.{Home, Stray}
+use Rattle.mq_arena.specs.declared.take_error.TakeError.{TakeError}
+use Rattle.mq_arena.specs.declared.take_error.TakeError.TheVariants as take
 use Rattle.mq_arena.specs.Lent.{lend, gives_back, with_lent}
 use Rattle.mq_message.specs.Text.{PlainText, no_text, order_for}
 use Rattle.mq_message.specs.declared.message.Message.{Message}
@@ -13,7 +15,7 @@ use Rattle.mq_queue.specs.declared.limits.TheConstants.{MSGMAX}
 use Rattle.mq_select.specs.Waiting.{message_at}
 use Rattle.mq_one_thread.specs.State.{State, with_arena}
 use Rattle.mq_one_thread.specs.declared.draft_error.DraftError.{DraftError}
-use Rattle.mq_one_thread.specs.declared.draft_error.DraftError.TheVariants.{TooLong, NoRun}
+use Rattle.mq_one_thread.specs.declared.draft_error.DraftError.TheVariants.{TooLong, NoRun, Memory}
 use Rattle.mq_one_thread.specs.declared.errno.Errno.{Errno}
 use Rattle.mq_one_thread.specs.declared.errno.Errno.TheVariants.{EINVAL, ENOMEM}
 
@@ -77,3 +79,14 @@ spends_all messages arena =
 abbrev pub draft_errno : DraftError → Errno
 draft_errno TooLong = EINVAL
 draft_errno NoRun = ENOMEM
+draft_errno Memory = ENOMEM
+
+-- why a draft is refused for which the arena lends no block
+abbrev pub by_take : TakeError → DraftError
+by_take take.NoRun = NoRun
+by_take take.Memory = Memory
+
+-- where nothing refuses a draft that failed, memory did
+abbrev pub draft_refusal : Result (PlainText × State) DraftError → DraftError
+draft_refusal (Ok _) = Memory
+draft_refusal (Err refusal) = refusal

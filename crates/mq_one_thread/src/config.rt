@@ -30,9 +30,10 @@ pub enum SysError {
     Memory,
 }
 
-/// The size of a queue system for whoever needs no other.
+/// The size of a queue system for whoever needs no other. A text takes at least a page, however short
+/// it is, so the arena is the highest: 1,024 texts may be outside or wait.
 pub const DEFAULTS: Config = Config {
-    height: 6,
+    height: MAX_HEIGHT,
     slots: 16,
     seats: MAX_SEATS,
     last_seq: MAX_SEQ,

@@ -1,7 +1,8 @@
 ghost use Rattle.std.specs.Prelude.{◌≡◌};
-ghost use Rattle.mq_one_thread.specs.Texts.{draft_errno};
+ghost use Rattle.mq_one_thread.specs.Texts.{by_take, draft_errno};
 
 use crate::Errno;
+use mq_arena::TakeError;
 use thiserror::Error;
 
 /// Why a text is not drafted, in the order in which the reasons are looked at.
@@ -13,6 +14,21 @@ pub enum DraftError {
     /// No run of free pages has room for it: `ENOMEM`.
     #[error("no run of pages is free")]
     NoRun,
+    /// There is no memory for the handles of its pages, which a text of over `INLINE_LEN` bytes
+    /// takes: `ENOMEM`.
+    #[error("out of memory")]
+    Memory,
+}
+
+impl From<TakeError> for DraftError {
+    ghost from_gives = { λ refusal error. error ≡ by_take refusal };
+
+    fn from(refusal: TakeError) -> DraftError {
+        match refusal {
+            TakeError::NoRun => DraftError::NoRun,
+            TakeError::Memory => DraftError::Memory,
+        }
+    }
 }
 
 impl DraftError {
@@ -21,7 +37,7 @@ impl DraftError {
     {
         match self {
             DraftError::TooLong => Errno::EINVAL,
-            DraftError::NoRun => Errno::ENOMEM,
+            DraftError::NoRun | DraftError::Memory => Errno::ENOMEM,
         }
     }
 }

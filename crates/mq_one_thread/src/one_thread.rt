@@ -12,14 +12,14 @@ ghost use Rattle.mq_table.specs.SlotList.{IsSlotList};
 ghost use Rattle.mq_one_thread.specs.Holds.{AreKeysOf};
 ghost use Rattle.mq_one_thread.specs.Limits.{keeps_limits, start, empty_slots};
 ghost use Rattle.mq_one_thread.specs.State.{slot_at, with_arena};
-ghost use Rattle.mq_one_thread.specs.Texts.{bytes_of, comes_home, drafts, drafts_of, spends};
+ghost use Rattle.mq_one_thread.specs.Texts.{bytes_of, comes_home, draft_refusal, drafts, drafts_of, spends};
 
 use crate::close::ClosedSlot;
 use crate::home::take_back;
 use crate::{Config, DraftError, SysError};
 use mq_arena::{ArenaState, Block, Homecoming, LEDGER_PARTS, Unopened};
 use mq_index::IndexWaiting;
-use mq_message::{Text, order_for};
+use mq_message::{INLINE_LEN, Text, order_for};
 use mq_queue::{BoardRow, MSGMAX};
 use mq_table::{KeyTable, MAX_SEQ, MAX_SLOTS, Slot};
 use std::alloc::Global;
@@ -120,9 +120,11 @@ impl<L: Ledger> OneThread<L> {
     }
 
     /// A text of so many zero bytes, to be filled in place.
+    #[tactic(auto, using(crate::proofs::DraftLemmas::zeros_too_long, crate::proofs::DraftLemmas::refused_take, crate::proofs::DraftLemmas::memory_over))]
     pub fn draft(&mut self, len: u64) -> Result<Text<L>, DraftError>
         ensures ok { IfOk result (λ text. drafts self.old len ≡ Ok (text, self.new)) }
-        ensures refused { IfErr result (λ e. drafts self.old len ≡ Err e) }
+        ensures refused { IfErr result (λ e. e ≡ draft_refusal (drafts self.old len)) }
+        ensures memory { IsErrOf result DraftError.Memory → INLINE_LEN < len }
         ensures unchanged { OnErr result (self.new ≡ self.old) }
     {
         if len > MSGMAX {
@@ -132,18 +134,19 @@ impl<L: Ledger> OneThread<L> {
         if len == 0 {
             return Ok(Text::empty());
         }
-        let Some(block) = self.arena.take(order_for(len)) else {
-            return Err(DraftError::NoRun);
-        };
-        Ok(zero_text(block, len))
+        match self.arena.take(order_for(len)) {
+            Ok(block) => Ok(zero_text(block, len)),
+            Err(refusal) => Err(DraftError::from(refusal)),
+        }
     }
 
     /// A text of these bytes: what `draft` answers for as many, with the bytes in it. They are
     /// written once, and nothing is cleared before.
-    #[tactic(auto, using(crate::proofs::DraftLemmas::too_long, crate::proofs::DraftLemmas::drafted))]
+    #[tactic(auto, using(crate::proofs::DraftLemmas::too_long, crate::proofs::DraftLemmas::drafted, crate::proofs::DraftLemmas::refused_in))]
     pub fn draft_of(&mut self, bytes: &[u8]) -> Result<Text<L>, DraftError>
         ensures ok { IfOk result (λ text. drafts_of self.old bytes.now ≡ Ok (text, self.new)) }
-        ensures refused { IfErr result (λ e. drafts_of self.old bytes.now ≡ Err e) }
+        ensures refused { IfErr result (λ e. e ≡ draft_refusal (drafts_of self.old bytes.now)) }
+        ensures memory { IsErrOf result DraftError.Memory → INLINE_LEN < length bytes.now }
         ensures unchanged { OnErr result (self.new ≡ self.old) }
     {
         if bytes.len() as u64 > MSGMAX {
@@ -153,8 +156,8 @@ impl<L: Ledger> OneThread<L> {
             return Ok(Text::empty());
         }
         match Text::of_bytes(&mut self.arena, bytes) {
-            Some(text) => Ok(text),
-            None => Err(DraftError::NoRun),
+            Ok(text) => Ok(text),
+            Err(refusal) => Err(DraftError::from(refusal)),
         }
     }
 

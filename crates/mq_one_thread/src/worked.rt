@@ -7,7 +7,7 @@ use crate::DEFAULTS;
 
 /// The size that `DEFAULTS` is.
 pub fn the_defaults()
-    ensures height { DEFAULTS.height ≡ 6 }
+    ensures height { DEFAULTS.height ≡ 10 }
     ensures slots { DEFAULTS.slots ≡ 16 }
     ensures seats { DEFAULTS.seats ≡ 16 }
     ensures last_seq { DEFAULTS.last_seq ≡ 32767 }

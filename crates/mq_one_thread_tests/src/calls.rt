@@ -4,8 +4,8 @@ ghost use Rattle.std.specs.Prelude.{◌≡◌, ◌<◌};
 use mq_arena::Homecoming;
 use mq_message::{Body, Text};
 use mq_one_thread::{
-    Closed, Config, Delivered, Errno, GetFlags, Got, OneThread, Refused, Removal, SendRefused,
-    SysError,
+    Closed, Config, Delivered, DraftError, Errno, GetFlags, Got, OneThread, Refused, Removal,
+    SendRefused, SysError,
 };
 use mq_table::Id;
 use std::alloc::Global;
@@ -190,7 +190,18 @@ pub(crate) fn remove<L: Ledger>(
     answer
 }
 
-/// A text with these bytes.
+/// A text of so many zero bytes.
+pub(crate) fn draft<L: Ledger>(
+    system: &mut OneThread<L>,
+    length: u64,
+) -> Result<Text<L>, DraftError> {
+    match system.draft(length) {
+        Err(DraftError::Memory) => system.draft(length),
+        answer => answer,
+    }
+}
+
+/// A short text of these bytes, which wants no memory.
 pub(crate) fn written<L: Ledger>(
     rt: &impl Abort,
     system: &mut OneThread<L>,

@@ -6,7 +6,7 @@ use mq_one_thread::Errno;
 fn an_id_is_never_given_then_live_then_removed(rt: HostRuntime) {
     let never = Answer::Errno(Errno::EINVAL);
     let gone = Answer::Errno(Errno::EIDRM);
-    let live = Answer::Shown(0, 0, 16_384);
+    let live = Answer::Shown(0, 0, 131_072);
     let table: [(Step, Answer); 21] = [
         (Step::Stat(0), never),
         (Step::Get(5, CREATE), Answer::Id(0, Some(0))),
@@ -49,7 +49,7 @@ fn an_id_past_the_slots_was_never_given(rt: HostRuntime) {
         (Step::Receive(2, first(9)), early),
         (Step::Receive(u32::MAX, first(9)), early),
         (Step::Set(63, 1), early),
-        (Step::Set(u32::MAX, 16_385), early),
+        (Step::Set(u32::MAX, 131_073), early),
         (Step::Remove(66), early),
         (Step::Remove(u32::MAX), early),
     ];
@@ -81,7 +81,10 @@ fn a_refusal_tells_how_much_had_happened(rt: HostRuntime) {
             Step::Receive(0, first(9)),
             Answer::Refused(Errno::ENOMSG, Some(1)),
         ),
-        (Step::Set(0, 16_385), Answer::Refused(Errno::EPERM, Some(1))),
+        (
+            Step::Set(0, 131_073),
+            Answer::Refused(Errno::EPERM, Some(1)),
+        ),
         (Step::Set(0, 2), Answer::At(1)),
         (Step::Send(0, 1, 3), Answer::Refused(Errno::EAGAIN, Some(2))),
         (Step::Send(0, 1, 2), Answer::At(2)),
@@ -94,7 +97,7 @@ fn a_refusal_tells_how_much_had_happened(rt: HostRuntime) {
         (Step::Remove(0), Answer::Removed(4, 5)),
         (Step::Send(0, 1, 2), gone),
         (Step::Receive(0, first(2)), gone),
-        (Step::Set(0, 16_385), gone),
+        (Step::Set(0, 131_073), gone),
         (Step::Remove(0), gone),
         (Step::Send(64, 1, 2), never),
         (Step::Receive(64, first(2)), never),

@@ -20,7 +20,7 @@ fn a_key_is_found_or_made_as_the_flags_say(rt: HostRuntime) {
         (Step::Get(9, CREATE), Answer::Id(64, Some(2))),
         (Step::Stat(0), Answer::Errno(Errno::EIDRM)),
         (Step::Stat(1), Answer::Errno(Errno::EINVAL)),
-        (Step::Stat(64), Answer::Shown(0, 0, 16_384)),
+        (Step::Stat(64), Answer::Shown(0, 0, 131_072)),
         (Step::Stat(128), Answer::Errno(Errno::EINVAL)),
         (Step::Get(9, NO_FLAG), Answer::Id(64, None)),
     ];

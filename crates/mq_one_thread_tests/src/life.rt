@@ -17,7 +17,7 @@ use std::sync::ledger::{Blank, Ledger};
 const FIGURES: Figures = Figures {
     qnum: 1,
     cbytes: 2,
-    qbytes: 16_384,
+    qbytes: 131_072,
     stime: 5,
     rtime: 0,
     ctime: 4,
@@ -49,7 +49,7 @@ const MADE: BoardRow = BoardRow {
     live: true,
     key: 0,
     figures: Figures {
-        qbytes: 16_384,
+        qbytes: 131_072,
         ..NO_FIGURES
     },
 };

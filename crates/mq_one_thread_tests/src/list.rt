@@ -3,8 +3,9 @@
 ghost use Rattle.std.specs.Prelude.{◌≡◌, ◌<◌};
 
 use crate::calls::{
-    CREATE, PARTS, Wanted, config, ended, get, made, receive, remove, send, set, spent,
+    CREATE, PARTS, Wanted, config, draft, ended, get, made, receive, remove, send, set, spent,
 };
+use mq_message::Body;
 use mq_one_thread::{Delivered, Got, OneThread, SendRefused};
 use mq_table::Id;
 use std::alloc::Global;
@@ -15,14 +16,24 @@ use std::sync::ledger::{Blank, Ledger};
 /// The messages, eight of each of five types.
 const MESSAGES: u64 = 40;
 
+/// Which of them in the order of sending has a text: one that memory is wanted for, and that takes
+/// all pages.
+const LONG: u64 = 17;
+
 /// The type of the message at this place of those that are sent: the types come in turn.
 fn type_of(place: u64) -> i64 {
     (place % 5 + 1) as i64
 }
 
-/// The type that is received at this place: all of the first type come first.
-fn wanted_at(place: u64) -> i64 {
-    (place / 8 + 1) as i64
+/// How long the text of that message is.
+fn length_of(place: u64) -> u64 {
+    if place == LONG { 8193 } else { 0 }
+}
+
+/// The message that is received at this place, by its place of those that are sent: all of the
+/// first type come first.
+fn received_at(place: u64) -> u64 {
+    place % 8 * 5 + place / 8
 }
 
 fn makes<L: Ledger>(rt: &impl Abort, system: &mut OneThread<L>, key: i32, id: u32, entry: u64) {
@@ -37,8 +48,9 @@ fn makes<L: Ledger>(rt: &impl Abort, system: &mut OneThread<L>, key: i32, id: u3
 }
 
 fn sends<L: Ledger>(rt: &impl Abort, system: &mut OneThread<L>, place: u64) {
-    let Ok(text) = system.draft(0) else {
-        panic!(rt; "an empty text wants no page");
+    let length = length_of(place);
+    let Ok(text) = draft(system, length) else {
+        panic!(rt; "{length} bytes are not drafted");
     };
     match send(system, 0, type_of(place), text, place) {
         Ok(entry) => assert!(rt; entry == place.saturating_add(1), "{place}"),
@@ -50,9 +62,11 @@ fn sends<L: Ledger>(rt: &impl Abort, system: &mut OneThread<L>, place: u64) {
 }
 
 fn receives<L: Ledger>(rt: &impl Abort, system: &mut OneThread<L>, place: u64) {
-    let msgtyp = wanted_at(place);
+    let sent = received_at(place);
+    let length = length_of(sent);
+    let msgtyp = type_of(sent);
     let wanted = Wanted {
-        size: 0,
+        size: length,
         msgtyp,
         except: false,
         noerror: false,
@@ -64,14 +78,15 @@ fn receives<L: Ledger>(rt: &impl Abort, system: &mut OneThread<L>, place: u64) {
                 mtype,
                 sender,
                 tag,
-                length,
+                length: whole,
                 text,
             },
         ) => {
+            assert!(rt; text.len() == length, "{place}");
             spent(rt, system, text);
             assert!(rt; entry == place.saturating_add(MESSAGES + 1), "{place}");
             assert!(rt;
-                mtype == msgtyp && sender == 1 && tag == 7 && length == 0,
+                mtype == msgtyp && sender == 1 && tag == 7 && whole == length,
                 "{place}"
             );
         }
@@ -96,7 +111,7 @@ fn listed<L: Ledger, R: Abort>(rt: &R, alloc: Global, ledger: Blank)
     requires parts { ledger.parts ≡ L.parts }
     requires enough { 1024 < ledger.parts }
 {
-    let mut system = made::<L>(rt, alloc, config(2, 2, 1), ledger);
+    let mut system = made::<L>(rt, alloc, config(4, 2, 1), ledger);
     makes(rt, &mut system, 9, 0, 0);
     makes(rt, &mut system, 0, 1, 0);
     for place in 0..MESSAGES {

@@ -1,3 +1,4 @@
+use mq_arena::TakeError;
 use mq_one_thread::{DraftError, Errno, Refused, SendRefused, SysError};
 use mq_queue::QueueError;
 use mq_table::IdRefusal;
@@ -44,6 +45,9 @@ fn each_layers_refusal_has_its_errno(rt: HostRuntime) {
     assert!(rt; Errno::from(IdRefusal::Removed) == Errno::EIDRM);
     assert!(rt; DraftError::TooLong.errno() == Errno::EINVAL);
     assert!(rt; DraftError::NoRun.errno() == Errno::ENOMEM);
+    assert!(rt; DraftError::Memory.errno() == Errno::ENOMEM);
+    assert!(rt; DraftError::from(TakeError::NoRun) == DraftError::NoRun);
+    assert!(rt; DraftError::from(TakeError::Memory) == DraftError::Memory);
 }
 
 /// Checks what a value prints.
@@ -69,7 +73,8 @@ fn refusals_print_their_reason(rt: HostRuntime) -> Result<(), Fail> {
         &DraftError::TooLong,
         "the text is too long for a message",
     )?;
-    prints(&rt, alloc, &DraftError::NoRun, "no run of pages is free")
+    prints(&rt, alloc, &DraftError::NoRun, "no run of pages is free")?;
+    prints(&rt, alloc, &DraftError::Memory, "out of memory")
 }
 
 #[test]

@@ -1,7 +1,7 @@
 //! Tables of calls and of what they answer.
 ghost use Rattle.std.specs.Prelude.{◌≡◌, ◌<◌};
 
-use crate::calls::{PARTS, Wanted, ended, get, made, receive, remove, send, set};
+use crate::calls::{PARTS, Wanted, draft, ended, get, made, receive, remove, send, set};
 use mq_arena::Homecoming;
 use mq_message::Body;
 use mq_one_thread::{Config, Delivered, Errno, GetFlags, Got, OneThread, Refused, SendRefused};
@@ -64,7 +64,7 @@ fn sent<L: Ledger>(
     length: u64,
     moment: u64,
 ) -> Answer {
-    let text = match system.draft(length) {
+    let text = match draft(system, length) {
         Ok(text) => text,
         Err(refusal) => return Answer::Errno(refusal.errno()),
     };

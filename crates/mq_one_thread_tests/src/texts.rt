@@ -2,8 +2,8 @@
 ghost use Rattle.std.specs.Prelude.{◌≡◌, ◌<◌};
 
 use crate::calls::{
-    CREATE, PARTS, Wanted, config, delivered, ended, first, get, has, made, receive, spent, taken,
-    written,
+    CREATE, PARTS, Wanted, config, delivered, draft, ended, first, get, has, made, receive, spent,
+    taken, written,
 };
 use crate::steps::{Answer, Step, plays};
 use mq_message::{Body, Text};
@@ -14,7 +14,7 @@ use std::process::Abort;
 use std::sync::ledger::{Blank, Ledger};
 
 fn drafted<L: Ledger>(rt: &impl Abort, system: &mut OneThread<L>, len: u64) -> Text<L> {
-    match system.draft(len) {
+    match draft(system, len) {
         Ok(text) => {
             assert!(rt; text.len() == len);
             text
@@ -33,16 +33,22 @@ fn not_drafted<L: Ledger>(rt: &impl Abort, system: &mut OneThread<L>, len: u64) 
 /// The length of a text, what is free beside it, and where it begins.
 type Beside = (u64, u32, Option<u8>, Option<u32>);
 
-const LENGTHS: [Beside; 9] = [
-    (0, 16, Some(4), None),
-    (1, 15, Some(3), Some(0)),
-    (1024, 15, Some(3), Some(0)),
-    (1025, 14, Some(3), Some(0)),
-    (2048, 14, Some(3), Some(0)),
-    (2049, 12, Some(3), Some(0)),
-    (4096, 12, Some(3), Some(0)),
-    (4097, 8, Some(3), Some(0)),
-    (8192, 8, Some(3), Some(0)),
+const LENGTHS: [Beside; 15] = [
+    (0, 64, Some(6), None),
+    (1, 63, Some(5), Some(0)),
+    (1024, 63, Some(5), Some(0)),
+    (1025, 62, Some(5), Some(0)),
+    (2048, 62, Some(5), Some(0)),
+    (2049, 60, Some(5), Some(0)),
+    (4096, 60, Some(5), Some(0)),
+    (4097, 56, Some(5), Some(0)),
+    (8192, 56, Some(5), Some(0)),
+    (8193, 48, Some(5), Some(0)),
+    (16_384, 48, Some(5), Some(0)),
+    (16_385, 32, Some(5), Some(0)),
+    (32_768, 32, Some(5), Some(0)),
+    (32_769, 0, None, Some(0)),
+    (65_536, 0, None, Some(0)),
 ];
 
 fn is_zero<L: Ledger>(rt: &impl Abort, text: &Text<L>) {
@@ -61,7 +67,7 @@ fn length_drafted<L: Ledger>(rt: &impl Abort, system: &mut OneThread<L>, beside:
     assert!(rt; system.free_pages() == free);
     assert!(rt; system.largest() == largest);
     spent(rt, system, text);
-    assert!(rt; system.free_pages() == 16);
+    assert!(rt; system.free_pages() == 64);
 }
 
 fn lengths_drafted<L: Ledger, R: Abort>(rt: &R, alloc: Global, ledger: Blank)
@@ -69,8 +75,8 @@ fn lengths_drafted<L: Ledger, R: Abort>(rt: &R, alloc: Global, ledger: Blank)
     requires parts { ledger.parts ≡ L.parts }
     requires enough { 1024 < ledger.parts }
 {
-    let mut system = made::<L>(rt, alloc, config(4, 1, 9), ledger);
-    assert!(rt; system.pages() == 16);
+    let mut system = made::<L>(rt, alloc, config(6, 1, 9), ledger);
+    assert!(rt; system.pages() == 64);
     for beside in LENGTHS {
         length_drafted(rt, &mut system, beside);
     }
@@ -91,12 +97,14 @@ fn drafts_refused<L: Ledger, R: Abort>(rt: &R, alloc: Global, ledger: Blank)
     let page = drafted(rt, &mut system, 1);
     assert!(rt; system.largest() == Some(2));
     assert!(rt; not_drafted(rt, &mut system, 8192) == DraftError::NoRun);
-    assert!(rt; not_drafted(rt, &mut system, 8193) == DraftError::TooLong);
+    assert!(rt; not_drafted(rt, &mut system, 65_537) == DraftError::TooLong);
     spent(rt, &mut system, page);
     let whole = drafted(rt, &mut system, 8192);
     assert!(rt; (system.free_pages(), system.largest()) == (0, None));
     assert!(rt; not_drafted(rt, &mut system, 1) == DraftError::NoRun);
-    assert!(rt; not_drafted(rt, &mut system, 8193) == DraftError::TooLong);
+    assert!(rt; not_drafted(rt, &mut system, 8193) == DraftError::NoRun);
+    assert!(rt; not_drafted(rt, &mut system, 65_536) == DraftError::NoRun);
+    assert!(rt; not_drafted(rt, &mut system, 65_537) == DraftError::TooLong);
     assert!(rt; not_drafted(rt, &mut system, u64::MAX) == DraftError::TooLong);
     // The empty text needs no page.
     let empty = drafted(rt, &mut system, 0);
@@ -110,6 +118,95 @@ fn drafts_refused<L: Ledger, R: Abort>(rt: &R, alloc: Global, ledger: Blank)
 #[test]
 fn a_draft_is_refused_where_it_is_too_long_or_no_run_is_free(rt: HostRuntime) {
     drafts_refused::<Brand, HostRuntime>(&rt, rt.alloc(), Blank::new(PARTS));
+}
+
+/// Beside a page of an arena of 64 pages the longest text has no run, and one of half its length
+/// has one.
+fn long_drafts_refused<L: Ledger, R: Abort>(rt: &R, alloc: Global, ledger: Blank)
+    requires name { ledger.name ≡ L.name }
+    requires parts { ledger.parts ≡ L.parts }
+    requires enough { 1024 < ledger.parts }
+{
+    let mut system = made::<L>(rt, alloc, config(6, 1, 9), ledger);
+    let page = drafted(rt, &mut system, 1);
+    assert!(rt; not_drafted(rt, &mut system, 65_536) == DraftError::NoRun);
+    assert!(rt; not_drafted(rt, &mut system, 32_769) == DraftError::NoRun);
+    let half = drafted(rt, &mut system, 32_768);
+    assert!(rt; half.start() == Some(32));
+    assert!(rt; not_drafted(rt, &mut system, 16_385) == DraftError::NoRun);
+    let quarter = drafted(rt, &mut system, 8193);
+    assert!(rt; quarter.start() == Some(16));
+    assert!(rt; not_drafted(rt, &mut system, 8193) == DraftError::NoRun);
+    assert!(rt; system.largest() == Some(3));
+    spent(rt, &mut system, page);
+    spent(rt, &mut system, quarter);
+    spent(rt, &mut system, half);
+    let whole = drafted(rt, &mut system, 65_536);
+    assert!(rt; (whole.start(), whole.count()) == (Some(0), 64));
+    assert!(rt; system.free_pages() == 0);
+    spent(rt, &mut system, whole);
+    ended(rt, system);
+}
+
+#[test]
+fn a_long_draft_is_refused_just_where_no_run_is_free(rt: HostRuntime) {
+    long_drafts_refused::<Brand, HostRuntime>(&rt, rt.alloc(), Blank::new(PARTS));
+}
+
+fn all_is_free<L: Ledger>(rt: &impl Abort, system: &OneThread<L>) {
+    assert!(rt; (system.free_pages(), system.largest()) == (64, Some(6)));
+}
+
+/// A text of 8,193 of these letters, which takes a block of 16 pages of the 64.
+fn long_spent<L: Ledger>(
+    rt: &impl Abort,
+    system: &mut OneThread<L>,
+    answer: Result<Text<L>, DraftError>,
+    letter: u8,
+) {
+    let Ok(text) = answer else {
+        panic!(rt; "not drafted");
+    };
+    assert!(rt; (text.len(), text.count(), text.start()) == (8193, 9, Some(0)));
+    for part in text.parts() {
+        for byte in part {
+            assert!(rt; *byte == letter);
+        }
+    }
+    assert!(rt; system.free_pages() == 48);
+    spent(rt, system, text);
+    all_is_free(rt, system);
+}
+
+fn long_drafted<L: Ledger, R: Abort>(rt: &R, alloc: Global, ledger: Blank)
+    requires name { ledger.name ≡ L.name }
+    requires parts { ledger.parts ≡ L.parts }
+    requires enough { 1024 < ledger.parts }
+{
+    let mut system = made::<L>(rt, alloc, config(6, 1, 9), ledger);
+    let zeros = match system.draft(8193) {
+        Err(DraftError::Memory) => {
+            all_is_free(rt, &system);
+            system.draft(8193)
+        }
+        answer => answer,
+    };
+    long_spent(rt, &mut system, zeros, 0);
+    let letters = match system.draft_of(&[b'a'; 8193]) {
+        Err(DraftError::Memory) => {
+            all_is_free(rt, &system);
+            system.draft_of(&[b'a'; 8193])
+        }
+        answer => answer,
+    };
+    long_spent(rt, &mut system, letters, b'a');
+    ended(rt, system);
+}
+
+/// Run with each allocation refused in turn, which is where memory for a draft is refused.
+#[test]
+fn a_draft_without_memory_leaves_all_pages_free_and_is_then_made(rt: HostRuntime) {
+    long_drafted::<Brand, HostRuntime>(&rt, rt.alloc(), Blank::new(PARTS));
 }
 
 /// A message of type 3 and a tag of 7, the second event of its slot, that seat 1 sent.
@@ -204,13 +301,14 @@ fn each_flag_of_msgrcv_does_its_own(rt: HostRuntime) {
 
 #[test]
 fn a_text_that_is_not_drafted_is_not_sent(rt: HostRuntime) {
-    let table: [(Step, Answer); 6] = [
+    let table: [(Step, Answer); 7] = [
         (Step::Get(0, CREATE), Answer::Id(0, Some(0))),
-        (Step::Send(0, 0, 8193), Answer::Errno(Errno::EINVAL)),
+        (Step::Send(0, 0, 65_537), Answer::Errno(Errno::EINVAL)),
+        (Step::Send(0, 0, 65_536), Answer::Errno(Errno::ENOMEM)),
         (Step::Send(0, 1, 1), Answer::At(1)),
         (Step::Send(0, 1, 1), Answer::Errno(Errno::ENOMEM)),
         (Step::Send(0, 1, 0), Answer::At(2)),
-        (Step::Stat(0), Answer::Shown(2, 1, 16_384)),
+        (Step::Stat(0), Answer::Shown(2, 1, 131_072)),
     ];
     plays(&rt, rt.alloc(), config(0, 1, 9), &table);
 }

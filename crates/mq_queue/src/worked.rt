@@ -26,10 +26,10 @@ pub fn room_by_quota()
 
 /// The type is looked at first, then the length, then the room.
 pub fn first_refusal()
-    ensures mtype { send_refusal [] 4 (pos 0) 8193 ≡ Some TypeInvalid }
-    ensures length { send_refusal [] 4 (pos 1) 8193 ≡ Some TooLong }
-    ensures room { send_refusal [] 4 (pos 1) 8192 ≡ Some Full }
-    ensures longest { send_refusal [] 8192 (pos 1) 8192 ≡ None }
+    ensures mtype { send_refusal [] 4 (pos 0) 65537 ≡ Some TypeInvalid }
+    ensures length { send_refusal [] 4 (pos 1) 65537 ≡ Some TooLong }
+    ensures room { send_refusal [] 4 (pos 1) 65536 ≡ Some Full }
+    ensures longest { send_refusal [] 65536 (pos 1) 65536 ≡ None }
 {}
 
 /// A text that is too long for the receiver is refused, though a later one would fit, or it is
@@ -55,7 +55,7 @@ pub fn selected()
 pub fn full_by_bytes_and_by_count()
     ensures waits { waiting quota_of_4 ≡ ab_and_cd }
     ensures quota { quota quota_of_4 ≡ 4 }
-    ensures made { quota (made 1 ∷ []) ≡ 16384 }
+    ensures made { quota (made 1 ∷ []) ≡ 131072 }
     ensures bytes { send_refusal (waiting quota_of_4) (quota quota_of_4) (pos 1) 2 ≡ Some Full }
     ensures empty { send_refusal (waiting quota_of_4) (quota quota_of_4) (pos 1) 0 ≡ None }
     ensures count { send_refusal (waiting four_texts) (quota four_texts) (pos 1) 0 ≡ Some Full }
@@ -67,8 +67,8 @@ pub fn over_and_under()
     ensures over { send_refusal (waiting over_quota) (quota over_quota) (pos 1) 0 ≡ Some Full }
     ensures received { receive_answer (waiting over_quota) 9 Any false ≡ Ok (text 1 1 6) }
     ensures under { send_refusal (waiting under_quota) (quota under_quota) (pos 1) 0 ≡ None }
-    ensures above { set_refusal 16385 ≡ Some OverLimit }
-    ensures greatest { set_refusal 16384 ≡ None }
+    ensures above { set_refusal 131073 ≡ Some OverLimit }
+    ensures greatest { set_refusal 131072 ≡ None }
     ensures least { set_refusal 0 ≡ None }
     ensures none { send_refusal (waiting shut) (quota shut) (pos 1) 0 ≡ Some Full }
 {}

@@ -135,9 +135,9 @@ pub(crate) fn close(queue: Queue) -> Log {
 #[test]
 fn the_longest_text_and_the_whole_quota_are_taken(rt: HostRuntime) -> Result<(), Fail> {
     let steps = [
-        (Step::Send(1, 8193), Answer::Refused(QueueError::TooLong)),
-        (Step::Send(1, 8192), Answer::At(1)),
-        (Step::Send(1, 8192), Answer::At(2)),
+        (Step::Send(1, 65_537), Answer::Refused(QueueError::TooLong)),
+        (Step::Send(1, 65_536), Answer::At(1)),
+        (Step::Send(1, 65_536), Answer::At(2)),
         (Step::Send(1, 1), Answer::Refused(QueueError::Full)),
         (Step::Send(1, 0), Answer::At(3)),
     ];
@@ -149,13 +149,13 @@ fn the_longest_text_and_the_whole_quota_are_taken(rt: HostRuntime) -> Result<(),
 #[test]
 fn a_receipt_makes_room_by_as_much_as_was_sent(rt: HostRuntime) -> Result<(), Fail> {
     let steps = [
-        (Step::Send(1, 8192), Answer::At(1)),
-        (Step::Send(1, 8192), Answer::At(2)),
+        (Step::Send(1, 65_536), Answer::At(1)),
+        (Step::Send(1, 65_536), Answer::At(2)),
         (
             Step::Receive(1, Selection::Any, true),
-            Answer::Got(3, 1, 8192, 1),
+            Answer::Got(3, 1, 65_536, 1),
         ),
-        (Step::Send(1, 8192), Answer::At(4)),
+        (Step::Send(1, 65_536), Answer::At(4)),
         (Step::Send(1, 1), Answer::Refused(QueueError::Full)),
     ];
     check_new(&rt, rt.alloc(), &steps)?;
@@ -169,11 +169,11 @@ fn a_size_of_zero_takes_an_empty_text_or_cuts(rt: HostRuntime) -> Result<(), Fai
     let whole = Step::Receive(0, Selection::Any, false);
     let steps = [
         (Step::Send(1, 0), Answer::At(1)),
-        (Step::Send(1, 8192), Answer::At(2)),
+        (Step::Send(1, 65_536), Answer::At(2)),
         (Step::Send(1, 0), Answer::At(3)),
         (cutting, Answer::Got(4, 1, 0, 0)),
         (whole, Answer::Refused(QueueError::TooBig)),
-        (cutting, Answer::Got(5, 2, 8192, 0)),
+        (cutting, Answer::Got(5, 2, 65_536, 0)),
         (whole, Answer::Got(6, 3, 0, 0)),
         (cutting, Answer::Refused(QueueError::NoMessage)),
     ];
@@ -187,7 +187,7 @@ fn a_type_below_one_is_refused_before_the_length(rt: HostRuntime) -> Result<(), 
     let lowest = Step::Receive(u64::MAX, Selection::UpTo(u64::MAX), false);
     let steps = [
         (
-            Step::Send(0, 8193),
+            Step::Send(0, 65_537),
             Answer::Refused(QueueError::TypeInvalid),
         ),
         (
@@ -254,8 +254,8 @@ fn a_queue_over_a_lowered_quota_refuses_an_empty_text(rt: HostRuntime) -> Result
             Answer::Got(3, 1, 6, 6),
         ),
         (Step::Send(1, 0), Answer::At(4)),
-        (Step::Set(16385), Answer::Refused(QueueError::OverLimit)),
-        (Step::Set(16384), Answer::At(5)),
+        (Step::Set(131_073), Answer::Refused(QueueError::OverLimit)),
+        (Step::Set(131_072), Answer::At(5)),
         (Step::Set(0), Answer::At(6)),
         (Step::Send(1, 0), Answer::Refused(QueueError::Full)),
     ];
@@ -267,8 +267,8 @@ fn a_queue_over_a_lowered_quota_refuses_an_empty_text(rt: HostRuntime) -> Result
 #[test]
 fn a_quota_is_set_to_what_it_is(rt: HostRuntime) -> Result<(), Fail> {
     let steps = [
-        (Step::Set(16384), Answer::At(1)),
-        (Step::Set(16384), Answer::At(2)),
+        (Step::Set(131_072), Answer::At(1)),
+        (Step::Set(131_072), Answer::At(2)),
         (Step::Send(1, 1), Answer::At(3)),
     ];
     check_new(&rt, rt.alloc(), &steps)?;
@@ -284,13 +284,13 @@ fn handed_back(queue: &mut Queue, message: Message<VecBody>) -> Option<Message<V
 
 #[test]
 fn a_text_that_is_too_long_is_handed_back(rt: HostRuntime) -> Result<(), Fail> {
-    let long = message(rt.alloc(), 5, 8193)?;
+    let long = message(rt.alloc(), 5, 65_537)?;
     let mut queue = Queue::made(rt.alloc(), 7, 2, 50, &mut NoNotice)?;
     let back = handed_back(&mut queue, long);
     close(queue);
     let back = back.ok_or("it was taken")?;
     assert!(rt; back.mtype == 5 && back.sender == 3 && back.tag == 70);
-    assert!(rt; back.body.bytes().len() == 8193);
+    assert!(rt; back.body.bytes().len() == 65_537);
     Ok(())
 }
 

@@ -62,12 +62,12 @@ fn refusals_leave_log_and_figures(rt: HostRuntime) -> Result<(), Fail> {
     let before = queue.figures();
     let steps = [
         (Step::Send(0, 1), Answer::Refused(QueueError::TypeInvalid)),
-        (Step::Send(1, 8193), Answer::Refused(QueueError::TooLong)),
+        (Step::Send(1, 65_537), Answer::Refused(QueueError::TooLong)),
         (
             Step::Receive(9, Selection::Any, true),
             Answer::Refused(QueueError::NoMessage),
         ),
-        (Step::Set(16385), Answer::Refused(QueueError::OverLimit)),
+        (Step::Set(131_073), Answer::Refused(QueueError::OverLimit)),
     ];
     let checked = check(&rt, rt.alloc(), &mut queue, &steps);
     let after = queue.figures();
@@ -75,7 +75,7 @@ fn refusals_leave_log_and_figures(rt: HostRuntime) -> Result<(), Fail> {
     close(queue);
     checked?;
     assert!(rt; (after, count) == (before, 1));
-    assert!(rt; (before.qbytes, before.ctime) == (16384, 50));
+    assert!(rt; (before.qbytes, before.ctime) == (131_072, 50));
     Ok(())
 }
 
@@ -174,22 +174,22 @@ fn fill_and_drain(alloc: Global, queue: &mut Queue, rounds: u64) -> Result<(), F
 #[test]
 fn no_more_messages_wait_than_the_quota_has_bytes(rt: HostRuntime) -> Result<(), Fail> {
     let mut queue = Queue::made(rt.alloc(), 7, 2, 50, &mut NoNotice)?;
-    let last = fill(rt.alloc(), &mut queue, 16_384);
+    let last = fill(rt.alloc(), &mut queue, 131_072);
     let more = [
         (Step::Send(1, 0), Answer::Refused(QueueError::Full)),
         (
             Step::Receive(0, Selection::Any, false),
-            Answer::Got(16_385, 1, 0, 0),
+            Answer::Got(131_073, 1, 0, 0),
         ),
-        (Step::Send(1, 0), Answer::At(16_386)),
+        (Step::Send(1, 0), Answer::At(131_074)),
         (Step::Send(1, 0), Answer::Refused(QueueError::Full)),
     ];
     let checked = match last {
-        Ok(16_384) => check(&rt, rt.alloc(), &mut queue, &more),
+        Ok(131_072) => check(&rt, rt.alloc(), &mut queue, &more),
         _ => Ok(()),
     };
     close(queue);
-    assert!(rt; last? == 16_384);
+    assert!(rt; last? == 131_072);
     checked?;
     Ok(())
 }

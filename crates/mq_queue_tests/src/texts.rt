@@ -21,8 +21,8 @@ fn drafted<L: Ledger>(rt: &impl Abort, arena: &mut ArenaState<L>) -> Text<L>
     ensures { length result.bytes ≡ LEN }
 {
     match arena.take(2) {
-        Some(block) => Text::of(block, LEN),
-        None => panic!(rt; "no block"),
+        Ok(block) => Text::of(block, LEN),
+        Err(_) => panic!(rt; "no block"),
     }
 }
 

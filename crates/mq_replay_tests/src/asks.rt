@@ -1,9 +1,9 @@
 //! Calls of a system, each with the answer that is kept.
 
-use crate::calls::{Answer, Asked, Handed, SLOTS, byte_of};
+use crate::calls::{Answer, Asked, Handed, Kept, SLOTS, byte_of};
 use mq::{
-    BoardRow, Delivered, Event, Figures, GetFlags, Id, MSGMAX, Names, Pledge, RecvFlags, Refused,
-    Removal, Seat, SendFlags, System, TextOf,
+    BoardRow, Delivered, Event, Figures, GetFlags, Id, Names, Pledge, RecvFlags, Refused, Removal,
+    Seat, SendFlags, System, TextOf,
 };
 use std::sync::Wait;
 
@@ -48,26 +48,27 @@ fn get<N: Names, R: Wait>(
     }
 }
 
-/// The text with this tag, or `None` where there are no pages for it.
+/// The text with this tag, or `None` where there are no pages or no memory for it.
 fn drafted<N: Names, R: Wait>(
     rt: &R,
     system: &System<Nothing, N>,
+    room: &mut [u8],
     tag: u64,
     length: u64,
 ) -> Option<TextOf<N>> {
-    let mut all = [0u8; 8192];
-    let bytes = &mut all[..length.min(MSGMAX) as usize];
+    let bytes = room.get_mut(..length as usize)?;
     for (position, byte) in bytes.iter_mut().enumerate() {
         *byte = byte_of(tag, position as u64);
     }
     system.draft_of(rt, bytes).ok()
 }
 
-/// `None` where there are no pages for the text.
+/// `None` where the text is not drafted.
 fn send<N: Names, R: Wait>(
     rt: &R,
     system: &System<Nothing, N>,
     seat: &mut Seat<N>,
+    room: &mut [u8],
     id: u32,
     mtype: i64,
     tag: u64,
@@ -75,7 +76,7 @@ fn send<N: Names, R: Wait>(
     nowait: bool,
     moment: u64,
 ) -> Option<Answer> {
-    let text = drafted(rt, system, tag, length)?;
+    let text = drafted(rt, system, room, tag, length)?;
     let flags = SendFlags { nowait };
     let id = Id::from_number(id);
     match system.msgsnd(rt, seat, id, mtype, tag, text, flags, moment) {
@@ -197,13 +198,13 @@ pub(crate) fn counts<N: Names>(system: &System<Nothing, N>, seat: &Seat<N>) -> [
     [seat.count(0), seat.count(1), seat.count(2)]
 }
 
-/// The answer to this call, with the log of a queue that it removes; `None` where a text found no
-/// pages, and no call was made.
+/// The answer to this call; the log of a queue that it removes is kept. `None` where a text was not
+/// drafted, and no call was made.
 pub(crate) fn answer<N: Names, R: Wait>(
     rt: &R,
     system: &System<Nothing, N>,
     seat: &mut Seat<N>,
-    logs: &mut Vec<Vec<Event>>,
+    kept: &mut Kept,
     asked: Asked,
     moment: u64,
 ) -> Option<Answer> {
@@ -215,7 +216,12 @@ pub(crate) fn answer<N: Names, R: Wait>(
             tag,
             length,
             nowait,
-        } => send(rt, system, seat, id, mtype, tag, length, nowait, moment),
+        } => {
+            let room = kept.text.as_mut_slice();
+            send(
+                rt, system, seat, room, id, mtype, tag, length, nowait, moment,
+            )
+        }
         Asked::Receive {
             id,
             size,
@@ -232,7 +238,7 @@ pub(crate) fn answer<N: Names, R: Wait>(
             Some(receive(rt, system, seat, id, size, msgtyp, flags, moment))
         }
         Asked::Set { id, qbytes } => Some(set(rt, system, seat, id, qbytes, moment)),
-        Asked::Remove { id } => Some(remove(rt, system, seat, logs, id, moment)),
+        Asked::Remove { id } => Some(remove(rt, system, seat, &mut kept.logs, id, moment)),
         Asked::Stat { id } => Some(stat(system, seat, id)),
         Asked::Report => Some(Answer::Rows(report(system, seat)?)),
     }

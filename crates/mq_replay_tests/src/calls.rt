@@ -1,6 +1,6 @@
 //! What a seat keeps of each of its calls.
 
-use mq::{BoardRow, Errno, Event, Figures, GetFlags};
+use mq::{BoardRow, Errno, Event, Figures, GetFlags, MSGMAX};
 use std::alloc::{AllocError, Global};
 
 /// How many slots there are.
@@ -85,14 +85,17 @@ pub(crate) struct Kept {
     pub(crate) calls: Vec<Call>,
     /// The logs of the queues that it removed.
     pub(crate) logs: Vec<Vec<Event>>,
+    /// Where the bytes of a text stand before it is drafted.
+    pub(crate) text: Vec<u8>,
 }
 
 impl Kept {
-    /// Room for so many calls.
+    /// Room for so many calls, and for the greatest text.
     pub(crate) fn with_capacity(alloc: Global, count: usize) -> Result<Kept, AllocError> {
         let calls = Vec::with_capacity(alloc, count)?;
         let logs = Vec::with_capacity(alloc, count)?;
-        Ok(Kept { calls, logs })
+        let text = vec![in alloc; 0; MSGMAX as usize]?;
+        Ok(Kept { calls, logs, text })
     }
 }
 

@@ -98,11 +98,12 @@ impl Chooser {
         Asked::Get { key, flags }
     }
 
+    /// Mostly a short one, which takes a page all the same; a few long ones fill a queue.
     fn length(&mut self) -> u64 {
         match self.below(64) {
-            0 => self.below(8193),
-            1 | 2 => self.below(2048),
-            3..=9 => 0,
+            0 | 1 => self.below(65_537),
+            2 | 3 => self.below(16_384),
+            4..=9 => 0,
             _ => self.below(64),
         }
     }
@@ -134,7 +135,11 @@ impl Chooser {
     }
 
     pub(crate) fn receive(&mut self, nowait: bool) -> Asked {
-        let size = if self.one_of(4) { self.below(64) } else { 8192 };
+        let size = if self.one_of(4) {
+            self.below(64)
+        } else {
+            65_536
+        };
         Asked::Receive {
             id: self.id(),
             size,
@@ -148,9 +153,9 @@ impl Chooser {
     fn set(&mut self) -> Asked {
         let qbytes = match self.below(16) {
             0 => 0,
-            1 | 2 => 16385,
+            1 | 2 => 131_073,
             3 | 4 => self.below(2000),
-            _ => 16384,
+            _ => 131_072,
         };
         Asked::Set {
             id: self.id(),

@@ -65,7 +65,7 @@ const NO_ROW: BoardRow = BoardRow {
 const BOTH: Figures = Figures {
     qnum: 2,
     cbytes: 7,
-    qbytes: 16384,
+    qbytes: 131072,
     stime: 21,
     rtime: 0,
     ctime: 10,
@@ -474,6 +474,7 @@ fn told(
         kept: Kept {
             calls: calls.to_vec(alloc)?,
             logs: Vec::new(alloc),
+            text: Vec::new(alloc),
         },
         counts,
     })

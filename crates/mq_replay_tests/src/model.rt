@@ -6,9 +6,9 @@ use mq::{BoardRow, Errno, Event, Figures, Selection};
 use std::alloc::{AllocError, Global};
 
 /// The limits of texts, queues and ids, as the manual and docs/MODEL.md tell them.
-const GREATEST_TEXT: u64 = 8192;
+const GREATEST_TEXT: u64 = 65536;
 
-const GREATEST_QUOTA: u64 = 16384;
+const GREATEST_QUOTA: u64 = 131072;
 
 const MOST_SLOTS: u32 = 64;
 

@@ -14,7 +14,7 @@ use std::thread::Threads;
 
 const SEATS: u16 = 16;
 
-/// Pages enough for all that can wait and be drafted at a time, and ids enough for all calls.
+/// So many pages that a text seldom finds none, and ids enough for all calls.
 const CONFIG: Config = Config {
     height: 10,
     slots: SLOTS as u8,

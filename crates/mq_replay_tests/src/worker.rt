@@ -47,7 +47,7 @@ fn ask<N: Names, R: Wait>(
     asked: Asked,
     moment: u64,
 ) {
-    let Some(answer) = answer(rt, system, seat, &mut kept.logs, asked, moment) else {
+    let Some(answer) = answer(rt, system, seat, kept, asked, moment) else {
         return;
     };
     chooser.learn(&answer);
@@ -112,7 +112,7 @@ fn remove<N: Names, R: Wait>(
 ) {
     let asked = Asked::Remove { id };
     for _ in rt.forever() {
-        let Some(answer) = answer(rt, system, seat, &mut kept.logs, asked, moment) else {
+        let Some(answer) = answer(rt, system, seat, kept, asked, moment) else {
             return;
         };
         let again = matches!(&answer, Answer::Refused(Errno::ENOMEM, _));

@@ -168,7 +168,7 @@ pub(crate) fn changed<N: Names, R: Abort + Wait>(
     ensures number { slot.new.number ≡ 0 }
 {
     entered(rt, slot, seat);
-    match slot.set(rt, seat, Id::of(0, 0), 16_385, 7) {
+    match slot.set(rt, seat, Id::of(0, 0), 131_073, 7) {
         Ok(_) => panic!(rt; "a quota over the limit was set"),
         Err(Refused { errno, entry }) => holds(
             rt,

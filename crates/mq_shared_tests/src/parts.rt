@@ -39,8 +39,8 @@ pub(crate) fn has<N: Names>(text: &TextOf<N>, bytes: &[u8]) -> bool {
 /// A text of an arena.
 pub(crate) fn drafted<N: Names>(rt: &impl Abort, arena: &mut ArenaState<Pages<N>>) -> TextOf<N> {
     match arena.take_filled(0, b"hi") {
-        Some(block) => Text::of(block, 2),
-        None => panic!(rt; "no page"),
+        Ok(block) => Text::of(block, 2),
+        Err(_) => panic!(rt; "no page"),
     }
 }
 

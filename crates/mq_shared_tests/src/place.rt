@@ -85,7 +85,7 @@ fn found<N: Names, R: Abort + Wait>(
 fn changed<N: Names, R: Abort + Wait>(rt: &R, place: &Place<Anything, N>, seat: &mut Seat<N>)
     requires slots { N.slots ≡ 1 }
 {
-    match place.set(rt, seat, Id::of(0, 0), 16_385, 5) {
+    match place.set(rt, seat, Id::of(0, 0), 131_073, 5) {
         Ok(_) => panic!(rt; "a quota over the limit was set"),
         Err(refused) => holds(rt, is(refused, Errno::EPERM, 1), "EPERM over the limit"),
     }

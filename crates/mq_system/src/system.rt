@@ -11,7 +11,7 @@ use crate::{
 };
 use mq_arena::{Arena, Homecoming, LEDGER_PARTS, Unopened};
 use mq_board::Copies;
-use mq_message::{Text, order_for};
+use mq_message::{INLINE_LEN, Text, order_for};
 use mq_one_thread::ClosedSlot;
 use mq_queue::MSGMAX;
 use mq_shared::{Entries, Tally};
@@ -126,11 +126,12 @@ impl<P: Pledge, N: Names, W> System<P, N, W> {
     }
 
     /// A text of so many zero bytes, to be filled in place. A text over MSGMAX is too long; one of
-    /// some bytes may find no run of free pages.
+    /// some bytes may find no run of free pages, and one over `INLINE_LEN` no memory.
     pub fn draft<R: Wait>(&self, rt: &R, len: u64) -> Result<TextOf<N>, DraftError>
         ensures ok { IfOk result (λ text. text.bytes ≡ replicate len 0) }
         ensures too_long { IsErrOf result DraftError.TooLong ↔ (nat_lt MSGMAX len ≡ true) }
         ensures no_run { IsErrOf result DraftError.NoRun → 0 < len }
+        ensures memory { IsErrOf result DraftError.Memory → INLINE_LEN < len }
     {
         if len > MSGMAX {
             return Err(DraftError::TooLong);
@@ -140,8 +141,8 @@ impl<P: Pledge, N: Names, W> System<P, N, W> {
             return Ok(Text::empty());
         }
         match self.arena.take(rt, order_for(len)) {
-            Some(block) => Ok(Text::of(block, len)),
-            None => Err(DraftError::NoRun),
+            Ok(block) => Ok(Text::of(block, len)),
+            Err(refusal) => Err(DraftError::from(refusal)),
         }
     }
 
@@ -151,6 +152,7 @@ impl<P: Pledge, N: Names, W> System<P, N, W> {
         ensures too_long { IsErrOf result DraftError.TooLong
             ↔ (nat_lt MSGMAX (length bytes.now) ≡ true) }
         ensures no_run { IsErrOf result DraftError.NoRun → 0 < length bytes.now }
+        ensures memory { IsErrOf result DraftError.Memory → INLINE_LEN < length bytes.now }
     {
         if bytes.len() as u64 > MSGMAX {
             return Err(DraftError::TooLong);
@@ -159,8 +161,8 @@ impl<P: Pledge, N: Names, W> System<P, N, W> {
             return Ok(Text::empty());
         }
         match self.arena.take_filled(rt, order_for(bytes.len()), bytes) {
-            Some(block) => Ok(Text::of(block, bytes.len())),
-            None => Err(DraftError::NoRun),
+            Ok(block) => Ok(Text::of(block, bytes.len())),
+            Err(refusal) => Err(DraftError::from(refusal)),
         }
     }
 

@@ -1,10 +1,11 @@
 //! The calls of a system, each made once more where there was no memory. Seat 1 makes, sends, sets
 //! and removes, and seat 2 receives.
+ghost use Rattle.std.specs.Prelude.{◌≡◌, IfOk, replicate};
 
 use crate::day::Anything;
 use mq_system::{
-    Delivered, Errno, GetFlags, Got, Names, RecvFlags, Refused, Removal, Seat, SendFlags,
-    SendRefused, System, TextOf,
+    Delivered, DraftError, Errno, GetFlags, Got, Names, RecvFlags, Refused, Removal, Seat,
+    SendFlags, SendRefused, System, TextOf,
 };
 use mq_table::Id;
 use std::process::Abort;
@@ -76,6 +77,19 @@ pub(crate) fn get<N: Names, R: Abort + Wait>(
     let seat = seat(rt, seats, 0);
     match system.msgget(rt, seat, key, flags, moment) {
         Err(Errno::ENOMEM) => system.msgget(rt, seat, key, flags, moment),
+        answer => answer,
+    }
+}
+
+pub(crate) fn draft<N: Names, R: Wait>(
+    rt: &R,
+    system: &System<Anything, N>,
+    len: u64,
+) -> Result<TextOf<N>, DraftError>
+    ensures { IfOk result (λ text. text.bytes ≡ replicate len 0) }
+{
+    match system.draft(rt, len) {
+        Err(DraftError::Memory) => system.draft(rt, len),
         answer => answer,
     }
 }

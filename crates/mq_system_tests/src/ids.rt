@@ -16,7 +16,7 @@ fn an_id_of_an_earlier_queue_does_not_reach_the_next_one(rt: HostRuntime) {
         (Step::Send(64, 1, b"next"), Answer::At(3)),
         (Step::Send(0, 1, b"late"), gone),
         (Step::Receive(0, first(9), b""), gone),
-        (Step::Set(0, 16_385), gone),
+        (Step::Set(0, 131_073), gone),
         (Step::Remove(0), gone),
         (Step::Stat(0), Answer::Errno(Errno::EIDRM)),
         (Step::Send(128, 1, b"soon"), never),
@@ -44,7 +44,7 @@ fn an_id_past_the_slots_was_never_given(rt: HostRuntime) {
         (Step::Receive(2, first(9), b""), early),
         (Step::Receive(u32::MAX, first(9), b""), early),
         (Step::Set(63, 1), early),
-        (Step::Set(u32::MAX, 16_385), early),
+        (Step::Set(u32::MAX, 131_073), early),
         (Step::Remove(66), early),
         (Step::Remove(u32::MAX), early),
     ];

@@ -17,7 +17,10 @@ fn a_refusal_tells_how_much_had_happened(rt: HostRuntime) {
             Step::Receive(0, first(9), b""),
             Answer::Refused(Errno::ENOMSG, Some(1)),
         ),
-        (Step::Set(0, 16_385), Answer::Refused(Errno::EPERM, Some(1))),
+        (
+            Step::Set(0, 131_073),
+            Answer::Refused(Errno::EPERM, Some(1)),
+        ),
         (Step::Set(0, 2), Answer::At(1)),
         (
             Step::Send(0, 1, b"abc"),
@@ -33,7 +36,7 @@ fn a_refusal_tells_how_much_had_happened(rt: HostRuntime) {
         (Step::Remove(0), Answer::Removed(4, 5)),
         (Step::Send(0, 1, b"ab"), gone),
         (Step::Receive(0, first(2), b""), gone),
-        (Step::Set(0, 16_385), gone),
+        (Step::Set(0, 131_073), gone),
         (Step::Remove(0), gone),
         (Step::Send(64, 1, b"ab"), never),
         (Step::Receive(64, first(2), b""), never),
@@ -74,14 +77,14 @@ fn each_flag_of_msgrcv_does_its_own(rt: HostRuntime) {
             Step::Receive(0, short, b""),
             Answer::Refused(Errno::E2BIG, Some(5)),
         ),
-        (Step::Stat(0), Answer::Shown(2, 7, 16_384)),
+        (Step::Stat(0), Answer::Shown(2, 7, 131_072)),
         (Step::Receive(0, except, b"four"), Answer::Got(5, 2, 4)),
         (
             Step::Receive(0, except, b""),
             Answer::Refused(Errno::ENOMSG, Some(6)),
         ),
         (Step::Receive(0, cut, b"a"), Answer::Got(6, 1, 3)),
-        (Step::Stat(0), Answer::Shown(0, 0, 16_384)),
+        (Step::Stat(0), Answer::Shown(0, 0, 131_072)),
     ];
     plays(&rt, rt.alloc(), config(2, 1, 9), &table);
 }
@@ -90,10 +93,12 @@ fn each_flag_of_msgrcv_does_its_own(rt: HostRuntime) {
 fn a_text_that_is_not_drafted_is_not_sent(rt: HostRuntime) {
     let too_long = Answer::Errno(Errno::EINVAL);
     let no_run = Answer::Errno(Errno::ENOMEM);
-    let table: [(Step, Answer); 11] = [
+    let table: [(Step, Answer); 13] = [
         (Step::Get(0, CREATE), Answer::Id(0, Some(0))),
-        (Step::Draft(8193), too_long),
+        (Step::Draft(65_537), too_long),
         (Step::Draft(u64::MAX), too_long),
+        (Step::Draft(65_536), no_run),
+        (Step::Draft(8193), no_run),
         (Step::Draft(8192), no_run),
         (Step::Draft(1024), Answer::Drafted),
         (Step::Send(0, 1, b"x"), Answer::At(1)),
@@ -101,12 +106,19 @@ fn a_text_that_is_not_drafted_is_not_sent(rt: HostRuntime) {
         (Step::Draft(0), Answer::Drafted),
         (Step::Send(0, 1, b"x"), no_run),
         (Step::Send(0, 1, b""), Answer::At(2)),
-        (Step::Stat(0), Answer::Shown(2, 1, 16_384)),
+        (Step::Stat(0), Answer::Shown(2, 1, 131_072)),
     ];
     plays(&rt, rt.alloc(), config(0, 1, 9), &table);
-    let whole: [(Step, Answer); 2] = [
-        (Step::Draft(8193), too_long),
+    let eight_pages: [(Step, Answer); 3] = [
+        (Step::Draft(65_537), too_long),
+        (Step::Draft(8193), no_run),
         (Step::Draft(8192), Answer::Drafted),
     ];
-    plays(&rt, rt.alloc(), config(3, 1, 9), &whole);
+    plays(&rt, rt.alloc(), config(3, 1, 9), &eight_pages);
+    let whole: [(Step, Answer); 3] = [
+        (Step::Draft(65_537), too_long),
+        (Step::Draft(65_536), Answer::Drafted),
+        (Step::Draft(8193), Answer::Drafted),
+    ];
+    plays(&rt, rt.alloc(), config(6, 1, 9), &whole);
 }

@@ -2,8 +2,9 @@
 //! run with each allocation refused in turn, and must answer as if none had been.
 ghost use Rattle.std.specs.Prelude.{◌≡◌};
 
-use crate::calls::{CREATE, TAG, Wanted, get, holds, receive, remove, seat, send, set};
+use crate::calls::{CREATE, TAG, Wanted, draft, get, holds, receive, remove, seat, send, set};
 use crate::day::{Anything, Day, config, left_by};
+use mq_arena::Homecoming;
 use mq_system::{Config, Delivered, Got, Names, Seat, SendRefused, System};
 use mq_table::Id;
 use std::alloc::Global;
@@ -59,6 +60,18 @@ fn sends<N: Names, R: Abort + Wait>(
             system.spend(rt, text);
             panic!(rt; "{place} is not sent: {refused}");
         }
+    }
+}
+
+/// A text is drafted whose block wants memory, and spent.
+fn drafts<N: Names, R: Abort + Wait>(rt: &R, system: &System<Anything, N>) {
+    match draft(rt, system, 8193) {
+        Ok(text) => holds(
+            rt,
+            system.spend(rt, text) == Homecoming::Home,
+            "a text comes home",
+        ),
+        Err(_refusal) => panic!(rt; "a text is refused twice"),
     }
 }
 
@@ -142,6 +155,7 @@ impl Day<Anything> for Listed {
         for place in 0..MESSAGES {
             sends(rt, system, seats, place);
         }
+        drafts(rt, system);
         for place in 0..MESSAGES {
             receives(rt, system, seats, place);
         }
@@ -152,8 +166,8 @@ impl Day<Anything> for Listed {
 
 #[test]
 fn a_list_of_calls_answers_as_if_memory_had_never_run_out(rt: HostRuntime) {
-    let left = left_by(&rt, rt.alloc(), config(2, 2, 1), &Listed);
-    holds(&rt, left.free_pages == 4, "all pages are free");
+    let left = left_by(&rt, rt.alloc(), config(4, 2, 1), &Listed);
+    holds(&rt, left.free_pages == 16, "all pages are free");
     let mut entries = 0usize;
     for slot in left.slots {
         entries = entries.saturating_add(slot.past.len().saturating_add(slot.last.len()));

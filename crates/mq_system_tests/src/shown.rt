@@ -35,7 +35,7 @@ fn row_of_new(made: u32, key: i32, ctime: u64) -> BoardRow {
         live: true,
         key,
         figures: Figures {
-            qbytes: 16_384,
+            qbytes: 131_072,
             ctime,
             ..NO_FIGURES
         },

@@ -1,7 +1,7 @@
 //! Tables of calls and of what they answer.
 ghost use Rattle.std.specs.Prelude.{◌≡◌};
 
-use crate::calls::{Wanted, get, has, receive, remove, send, set};
+use crate::calls::{Wanted, draft, get, has, receive, remove, send, set};
 use crate::day::{Anything, Day, left_by};
 use mq_arena::Homecoming;
 use mq_system::{
@@ -167,7 +167,7 @@ fn shown<N: Names, R: Abort + Wait>(
 }
 
 fn drafted<N: Names, R: Wait>(rt: &R, system: &System<Anything, N>, len: u64) -> Answer {
-    match system.draft(rt, len) {
+    match draft(rt, system, len) {
         Ok(text) => match system.spend(rt, text) {
             Homecoming::Home => Answer::Drafted,
             Homecoming::Stray => Answer::Astray,

@@ -1,56 +1,86 @@
-//! A text of three pages that goes through two queues.
-ghost use Rattle.std.specs.Prelude.{◌≡◌};
+//! Texts that go through two queues, that are left at the end, and for which there is no memory.
+ghost use Rattle.std.specs.Prelude.{◌≡◌, ◌≤◌, IfOk, length};
+ghost use Rattle.mq_message.specs.Text.{count_of};
 
-use crate::calls::{CREATE, first, get, holds, receive, remove, send};
+use crate::calls::{CREATE, draft, first, get, holds, receive, remove, send};
 use crate::day::{Anything, Day, config, left_by};
-use mq_arena::{Homecoming, Parts};
+use mq_arena::{Homecoming, PAGE_LEN};
 use mq_message::Body;
-use mq_system::{ClosedSlot, Config, Delivered, Names, Seat, System, TextOf};
-use std::alloc::Global;
+use mq_system::{ClosedSlot, Config, Delivered, DraftError, Names, Seat, System, TextOf};
+use std::alloc::{AllocError, Global};
 use std::process::Abort;
 use std::sync::Wait;
+use std::test::Fail;
 use std::thread::Threads;
 
-/// Whether all bytes are this letter.
-fn repeats(bytes: &[u8], letter: u8) -> bool {
-    for byte in bytes {
-        if *byte != letter {
-            return false;
+/// So many bytes, of which no two pages have the same.
+fn letters(alloc: Global, len: usize) -> Result<Vec<u8>, AllocError> {
+    let mut letters = vec![in alloc; 0; len]?;
+    for (place, letter) in letters.iter_mut().enumerate() {
+        *letter = (place % 251) as u8;
+    }
+    Ok(letters)
+}
+
+fn is_zero<N: Names>(text: &TextOf<N>) -> bool {
+    for part in text.parts() {
+        for byte in part {
+            if *byte != 0 {
+                return false;
+            }
         }
     }
     true
 }
 
-/// Whether the next part has this length and no letter but this one.
-fn is_next(parts: &mut Parts<'_>, length: usize, letter: u8) -> bool {
-    match parts.next() {
-        Some(part) => part.len() == length && repeats(part, letter),
-        None => false,
+/// Whether the text has these bytes, in parts of a page but for the last one.
+fn shows<N: Names>(text: &TextOf<N>, bytes: &[u8]) -> bool {
+    let mut rest = bytes;
+    for part in text.parts() {
+        let (own, later) = rest.split_at(rest.len().min(PAGE_LEN));
+        if part != own {
+            return false;
+        }
+        rest = later;
     }
+    rest.is_empty()
 }
 
-/// Whether its parts are of 1,024, 1,024 and 2 bytes, the first of this letter and the others of
-/// that one.
-fn has_letters<N: Names>(text: &TextOf<N>, first: u8, others: u8) -> bool {
-    let mut parts = text.parts();
-    text.count() == 3
-        && is_next(&mut parts, 1024, first)
-        && is_next(&mut parts, 1024, others)
-        && is_next(&mut parts, 2, others)
-        && parts.next().is_none()
+/// What a text is filled with by two threads, one of which takes the pages below `at`.
+#[derive(Clone, Copy)]
+struct Halves<'t> {
+    bytes: &'t [u8],
+    at: usize,
+    /// How many pages the bytes want.
+    count: usize,
 }
 
-/// A text that is filled in halves, each by a thread of its own.
-fn filled<N: Names, R: Abort + Threads + Wait>(rt: &R, system: &System<Anything, N>) -> TextOf<N> {
-    let Ok(mut text) = system.draft(rt, 2050) else {
-        panic!(rt; "no page");
+fn filled<N: Names, R: Abort + Threads + Wait>(
+    rt: &R,
+    system: &System<Anything, N>,
+    halves: Halves<'_>,
+) -> TextOf<N> {
+    let Halves { bytes, at, count } = halves;
+    let Ok(mut text) = draft(rt, system, bytes.len() as u64) else {
+        panic!(rt; "a text is refused twice");
     };
-    holds(rt, has_letters::<N>(&text, 0, 0), "a draft is zero");
-    if text.len() != 2050 {
-        panic!(rt; "a draft has another length");
+    holds(rt, is_zero::<N>(&text), "a draft is zero");
+    holds(rt, text.len() == bytes.len() as u64, "its length");
+    holds(rt, text.count() == count, "its pages");
+    if at > text.count() {
+        panic!(rt; "there are fewer pages");
     }
-    text.fill_halves(rt, 1, &[b'A'; 1024], &[b'B'; 1026]);
+    let (front, back) = bytes.split_at(bytes.len().min(PAGE_LEN * at));
+    text.fill_halves(rt, at, front, back);
     text
+}
+
+fn goes_home<N: Names, R: Abort + Wait>(rt: &R, system: &System<Anything, N>, text: TextOf<N>) {
+    holds(
+        rt,
+        system.spend(rt, text) == Homecoming::Home,
+        "a text comes home",
+    );
 }
 
 /// The text as it was received, after it was sent by seat 1 to this queue.
@@ -60,13 +90,14 @@ fn through<N: Names, R: Abort + Wait>(
     seats: &mut [Seat<N>],
     id: u32,
     text: TextOf<N>,
+    bytes: &[u8],
 ) -> TextOf<N> {
     let start = text.start();
     match send(rt, system, seats, id, 3, text, 5) {
         Ok(entry) => holds(rt, entry == 1, "it is sent by entry 1"),
         Err(_refused) => panic!(rt; "a text was not sent"),
     }
-    match receive(rt, system, seats, id, first(2050), 6) {
+    match receive(rt, system, seats, id, first(bytes.len() as u64), 6) {
         Ok(
             Delivered {
                 entry,
@@ -82,12 +113,12 @@ fn through<N: Names, R: Abort + Wait>(
                 entry == 2 && mtype == 3 && sender == 1,
                 "seat 1 sent it with type 3",
             );
-            holds(rt, tag == 7 && length == 2050, "its tag and its length");
             holds(
                 rt,
-                has_letters::<N>(&text, b'A', b'B'),
-                "its bytes are as they were",
+                tag == 7 && length == bytes.len() as u64,
+                "its tag and its length",
             );
+            holds(rt, shows::<N>(&text, bytes), "its bytes are as they were");
             holds(rt, text.start() == start, "its pages are where they were");
             text
         }
@@ -96,9 +127,11 @@ fn through<N: Names, R: Abort + Wait>(
 }
 
 #[derive(Drop)]
-struct TwoQueues;
+struct TwoQueues<'t> {
+    halves: Halves<'t>,
+}
 
-impl Day<Anything> for TwoQueues {
+impl<'t> Day<Anything> for TwoQueues<'t> {
     fn spend<N: Names, R: Abort + Threads + Wait>(
         &self,
         rt: &R,
@@ -114,20 +147,112 @@ impl Day<Anything> for TwoQueues {
                 "memory for a queue",
             );
         }
-        let text = filled(rt, system);
-        let text = through(rt, system, seats, 0, text);
-        let text = through(rt, system, seats, 1, text);
-        match system.spend(rt, text) {
-            Homecoming::Home => (),
-            Homecoming::Stray => panic!(rt; "the text did not come home"),
+        let text = filled(rt, system, self.halves);
+        let text = through(rt, system, seats, 0, text, self.halves.bytes);
+        let text = through(rt, system, seats, 1, text, self.halves.bytes);
+        goes_home(rt, system, text);
+    }
+}
+
+/// A text of three pages, and the greatest one, of all 64.
+#[test]
+fn a_text_goes_through_two_queues_and_stays_where_it_is(rt: HostRuntime) -> Result<(), Fail> {
+    for (len, at, count) in [(2050usize, 1, 3), (65_536, 32, 64)] {
+        let letters = letters(rt.alloc(), len)?;
+        let bytes = letters.as_slice();
+        let halves = Halves { bytes, at, count };
+        let left = left_by(&rt, rt.alloc(), config(6, 2, 9), &TwoQueues { halves });
+        holds(&rt, left.free_pages == 64, "all pages are home");
+    }
+    Ok(())
+}
+
+/// Texts of more than half of the 16 pages are drafted.
+#[derive(Drop)]
+struct Drafts<'t> {
+    bytes: &'t [u8],
+}
+
+/// Drafts a text of so many bytes, or of these ones.
+fn drafted<N: Names, R: Wait>(
+    rt: &R,
+    system: &System<Anything, N>,
+    bytes: &[u8],
+    of_bytes: bool,
+) -> Result<TextOf<N>, DraftError> {
+    if of_bytes {
+        system.draft_of(rt, bytes)
+    } else {
+        system.draft(rt, bytes.len() as u64)
+    }
+}
+
+/// All 16 pages are free: each half of them is a block that wants no memory. While one is lent,
+/// these bytes find no run, and memory is not asked for.
+fn all_are_free<N: Names, R: Abort + Wait>(
+    rt: &R,
+    system: &System<Anything, N>,
+    bytes: &[u8],
+    of_bytes: bool,
+) {
+    let Ok(one) = system.draft(rt, 8192) else {
+        panic!(rt; "no half is free");
+    };
+    match drafted(rt, system, bytes, of_bytes) {
+        Err(refusal) => holds(rt, refusal == DraftError::NoRun, "no run is free"),
+        Ok(text) => {
+            system.spend(rt, text);
+            panic!(rt; "a lent page is lent again");
+        }
+    }
+    let Ok(other) = system.draft(rt, 8192) else {
+        panic!(rt; "the other half is not free");
+    };
+    goes_home(rt, system, one);
+    goes_home(rt, system, other);
+}
+
+impl<'t> Day<Anything> for Drafts<'t> {
+    fn spend<N: Names, R: Abort + Threads + Wait>(
+        &self,
+        rt: &R,
+        _alloc: Global,
+        _config: Config,
+        system: &System<Anything, N>,
+        _seats: &mut [Seat<N>],
+    ) {
+        for of_bytes in [false, true] {
+            let answer = match drafted(rt, system, self.bytes, of_bytes) {
+                Err(DraftError::Memory) => {
+                    all_are_free(rt, system, self.bytes, of_bytes);
+                    drafted(rt, system, self.bytes, of_bytes)
+                }
+                answer => answer,
+            };
+            let Ok(text) = answer else {
+                panic!(rt; "a text is refused though all pages are free");
+            };
+            let whole = if of_bytes {
+                shows::<N>(&text, self.bytes)
+            } else {
+                is_zero::<N>(&text)
+            };
+            holds(rt, whole && text.count() == 9, "its bytes, in nine pages");
+            goes_home(rt, system, text);
+            all_are_free(rt, system, self.bytes, of_bytes);
         }
     }
 }
 
 #[test]
-fn a_text_goes_through_two_queues_and_stays_where_it_is(rt: HostRuntime) {
-    let left = left_by(&rt, rt.alloc(), config(6, 2, 9), &TwoQueues);
-    holds(&rt, left.free_pages == 64, "all pages are home");
+fn a_draft_that_found_no_memory_took_no_page_and_can_be_made_again(
+    rt: HostRuntime,
+) -> Result<(), Fail> {
+    let letters = letters(rt.alloc(), 8193)?;
+    let bytes = letters.as_slice();
+    let left = left_by(&rt, rt.alloc(), config(4, 1, 9), &Drafts { bytes });
+    holds(&rt, left.free_pages == 16, "all pages are home");
+    Ok(())
 }
 
 /// Texts wait at the removal of a queue and at the end.
@@ -189,11 +314,7 @@ impl Day<Anything> for Leaves {
         let Ok(whole) = system.draft(rt, 8192) else {
             panic!(rt; "what waited at the removal is not home");
         };
-        holds(
-            rt,
-            system.spend(rt, whole) == Homecoming::Home,
-            "a text comes home",
-        );
+        goes_home(rt, system, whole);
         for key in 5..8i32 {
             made(rt, system, seats, key);
         }

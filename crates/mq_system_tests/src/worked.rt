@@ -16,7 +16,7 @@ use std::thread::Threads;
 const FIGURES: Figures = Figures {
     qnum: 1,
     cbytes: 2,
-    qbytes: 16_384,
+    qbytes: 131_072,
     stime: 5,
     rtime: 0,
     ctime: 4,

@@ -119,7 +119,7 @@ fn tells_all(
     let each = tells_each(slot, text, &mut notice)?;
     let removed = removes(keys, slot, &mut notice) == Ok(true) && is_told(slot, &notice);
     let again = makes(keys, slot, &mut notice) == Ok(true) && is_told(slot, &notice);
-    Ok(made && each && removed && again && notice.after.qbytes == 16384)
+    Ok(made && each && removed && again && notice.after.qbytes == 131_072)
 }
 
 #[test]

@@ -231,7 +231,7 @@ fn a_removed_queues_quota_is_not_the_next_ones(rt: HostRuntime) -> Result<(), Fa
             Step::Make(1),
             Step::Set(0),
             Step::Send(1, 0),
-            Step::Set(16385),
+            Step::Set(131_073),
             Step::Remove,
             Step::Make(1),
             Step::Send(0, 1),

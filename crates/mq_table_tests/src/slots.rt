@@ -179,7 +179,7 @@ const EMPTY: BoardRow = BoardRow {
 const FIGURES: Figures = Figures {
     qnum: 1,
     cbytes: 5,
-    qbytes: 16_384,
+    qbytes: 131_072,
     stime: 30,
     ctime: 10,
     lspid: 3,

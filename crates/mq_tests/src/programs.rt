@@ -1,4 +1,4 @@
-ghost use Rattle.std.specs.Prelude.{◌≡◌, ◌≤◌, ◌^◌, IfOk};
+ghost use Rattle.std.specs.Prelude.{◌≡◌, ◌^◌, IfOk};
 
 use mq::{
     Config, DEFAULTS, Delivered, Ended, Errno, GetFlags, Id, Ledger, OneThread, QueueProgram,
@@ -145,7 +145,7 @@ fn pages_of(alloc: Global, config: Config) -> Result<u32, SysError>
 
 #[test]
 fn what_a_program_proves_of_its_answer_reaches_the_caller(rt: HostRuntime) {
-    for (config, pages) in [(DEFAULTS, 64), (SMALL, 8)] {
+    for (config, pages) in [(DEFAULTS, 1024), (SMALL, 8)] {
         match pages_of(rt.alloc(), config) {
             Ok(found) => assert_eq!(rt; found, pages),
             Err(refusal) => assert_eq!(rt; refusal, SysError::Memory),
@@ -156,12 +156,18 @@ fn what_a_program_proves_of_its_answer_reaches_the_caller(rt: HostRuntime) {
 /// An entry or a refusal, and how many pages are free afterwards.
 type Sent = (Result<u64, Errno>, u32);
 
-fn sent<L: Ledger>(queues: &mut OneThread<L>, id: u32, mtype: i64, len: usize) -> Sent
-    requires { len ≤ 8193 }
-{
-    let bytes = [7; 8193];
+fn sent<L: Ledger>(
+    alloc: Global,
+    queues: &mut OneThread<L>,
+    id: u32,
+    mtype: i64,
+    len: usize,
+) -> Sent {
     let id = Id::from_number(id);
-    let answer = send_bytes(queues, 1, id, mtype, 0, &bytes[..len], 2);
+    let answer = match vec![in alloc; 7; len] {
+        Ok(bytes) => send_bytes(queues, 1, id, mtype, 0, bytes.as_slice(), 2),
+        Err(_) => Err(Errno::ENOMEM),
+    };
     (answer, queues.free_pages())
 }
 
@@ -190,22 +196,23 @@ fn received<L: Ledger>(alloc: Global, queues: &mut OneThread<L>, size: u64, cut:
 struct Exchange;
 
 impl QueueProgram for Exchange {
-    type Answer = ([Sent; 6], [Received; 5]);
+    type Answer = ([Sent; 7], [Received; 5]);
 
     fn run<L: Ledger>(
         self,
         alloc: Global,
         _config: Config,
         queues: &mut OneThread<L>,
-    ) -> ([Sent; 6], [Received; 5]) {
+    ) -> ([Sent; 7], [Received; 5]) {
         let _made = queues.msgget(1, 5, NEW, 1);
         let all_sent = [
-            sent(queues, 0, 1, 2050),
-            sent(queues, 0, 0, 1),
-            sent(queues, 1, 1, 1),
-            sent(queues, 0, 1, 8193),
-            sent(queues, 0, 1, 8192),
-            sent(queues, 0, 2, 0),
+            sent(alloc, queues, 0, 1, 2050),
+            sent(alloc, queues, 0, 0, 1),
+            sent(alloc, queues, 1, 1, 1),
+            sent(alloc, queues, 0, 1, 65_537),
+            sent(alloc, queues, 0, 1, 65_536),
+            sent(alloc, queues, 0, 1, 8192),
+            sent(alloc, queues, 0, 2, 0),
         ];
         let all_received = [
             received(alloc, queues, 2049, false),
@@ -220,12 +227,13 @@ impl QueueProgram for Exchange {
 
 #[test]
 fn bytes_come_whole_or_cut_and_a_refusal_leaves_no_page_out(rt: HostRuntime) {
-    let wanted: ([Sent; 6], [Received; 5]) = (
+    let wanted: ([Sent; 7], [Received; 5]) = (
         [
             (Ok(1), 4),
             (Err(Errno::EINVAL), 4),
             (Err(Errno::EINVAL), 4),
             (Err(Errno::EINVAL), 4),
+            (Err(Errno::ENOMEM), 4),
             (Err(Errno::ENOMEM), 4),
             (Ok(2), 4),
         ],
@@ -238,6 +246,38 @@ fn bytes_come_whole_or_cut_and_a_refusal_leaves_no_page_out(rt: HostRuntime) {
         ],
     );
     match with_queues(rt.alloc(), SMALL, Exchange) {
+        Ok(Ended { answer, .. }) => assert!(rt;
+            answer == wanted,
+            "out of memory, or not as wanted"
+        ),
+        Err(refusal) => panic!(rt; "{refusal}"),
+    }
+}
+
+/// Sends a text of the greatest length, and then receives it.
+#[derive(Drop)]
+struct Greatest;
+
+impl QueueProgram for Greatest {
+    type Answer = (Sent, Received);
+
+    fn run<L: Ledger>(
+        self,
+        alloc: Global,
+        _config: Config,
+        queues: &mut OneThread<L>,
+    ) -> (Sent, Received) {
+        let _made = queues.msgget(1, 5, NEW, 1);
+        let answer = sent(alloc, queues, 0, 1, 65_536);
+        (answer, received(alloc, queues, 65_536, false))
+    }
+}
+
+#[test]
+fn the_greatest_text_takes_64_pages_and_comes_whole(rt: HostRuntime) {
+    let wanted: (Sent, Received) = ((Ok(1), 0), (Ok((1, 65_536, 65_536)), 64));
+    let config = Config { height: 6, ..SMALL };
+    match with_queues(rt.alloc(), config, Greatest) {
         Ok(Ended { answer, .. }) => assert!(rt;
             answer == wanted,
             "out of memory, or not as wanted"

@@ -1,7 +1,7 @@
 //! Tests of an arena under its lock, by threads that take blocks and give them back at once.
-ghost use Rattle.std.specs.Prelude.{◌≡◌, ◌^◌, ◌<◌};
+ghost use Rattle.std.specs.Prelude.{◌≡◌, ◌^◌, ◌<◌, ◌≤◌, IfSome};
 
-use mq_arena::{Arena, Block, Homecoming, LEDGER_PARTS, OfHeight, Unopened};
+use mq_arena::{Arena, Block, Homecoming, LEDGER_PARTS, MAX_ORDER, OfHeight, Unopened};
 use std::marker::Brand;
 use std::process::Abort;
 use std::sync::Wait;
@@ -13,15 +13,20 @@ use std::thread::{Threads, join};
 // How often each thread asks for a block.
 const TURNS: u32 = 500;
 
-// Takes a block of two pages with 1,500 of these letters. No more than four pages are ever out.
+// Takes a block with 1,500 of these letters, if there is one. No more than two are ever out.
 fn taken<L: OfHeight, R: Abort + Wait>(
     rt: &R,
     arena: &Arena<L>,
     out: &AtomicU32,
+    order: u8,
     letter: u8,
-) -> Option<Block<L>> {
-    let block = arena.take_filled(rt, 1, &[letter; 1500])?;
-    assert!(rt; out.fetch_add(2, Ordering::SeqCst) <= 2);
+) -> Option<Block<L>>
+    requires order { order ≤ MAX_ORDER }
+    requires two { 2 ≤ 2 ^ order }
+    ensures { IfSome result (λ b. b.order ≡ order) }
+{
+    let block = arena.take_filled(rt, order, &[letter; 1500]).ok()?;
+    assert!(rt; out.fetch_add(1, Ordering::SeqCst) <= 1);
     assert!(rt; block.part(0)[0] == letter);
     assert!(rt; block.part(1)[475] == letter);
     assert!(rt; block.part(1)[476] == 0);
@@ -35,7 +40,7 @@ fn given<L: OfHeight, R: Abort + Wait>(
     block: Option<Block<L>>,
 ) {
     if let Some(block) = block {
-        out.fetch_sub(2, Ordering::SeqCst);
+        out.fetch_sub(1, Ordering::SeqCst);
         assert!(rt; arena.put(rt, block) == Homecoming::Home);
     }
 }
@@ -45,11 +50,15 @@ fn takes_and_gives<L: OfHeight, R: Abort + Wait>(
     rt: &R,
     arena: &Arena<L>,
     out: &AtomicU32,
+    order: u8,
     letter: u8,
-) {
+)
+    requires order { order ≤ MAX_ORDER }
+    requires two { 2 ≤ 2 ^ order }
+{
     for _ in 0..TURNS {
-        let one = taken(rt, arena, out, letter);
-        let other = taken(rt, arena, out, letter);
+        let one = taken(rt, arena, out, order, letter);
+        let other = taken(rt, arena, out, order, letter);
         given(rt, arena, out, one);
         given(rt, arena, out, other);
     }
@@ -59,7 +68,10 @@ fn shared<L: OfHeight + Send + Sync, R: Abort + Threads + Wait + Sync>(
     rt: &R,
     unopened: Unopened,
     ledger: Blank,
+    order: u8,
 )
+    requires order { order ≤ MAX_ORDER }
+    requires two { 2 ≤ 2 ^ order }
     requires name { ledger.name ≡ L.name }
     requires parts { ledger.parts ≡ L.parts }
     requires enough { 2 ^ unopened < ledger.parts }
@@ -69,20 +81,28 @@ fn shared<L: OfHeight + Send + Sync, R: Abort + Threads + Wait + Sync>(
     let out = AtomicU32::new(0);
     join(
         rt,
-        || takes_and_gives(rt, &arena, &out, b'A'),
-        || takes_and_gives(rt, &arena, &out, b'B'),
+        || takes_and_gives(rt, &arena, &out, order, b'A'),
+        || takes_and_gives(rt, &arena, &out, order, b'B'),
     );
-    if let Some(block) = arena.take(rt, 1) {
+    if let Ok(block) = arena.take(rt, order) {
         assert!(rt; block.part(0)[0] == 0);
         assert!(rt; arena.put(rt, block) == Homecoming::Home);
     }
     let state = arena.into_state();
-    assert!(rt; state.free_pages() == 4);
+    assert!(rt; state.free_pages() == state.pages());
 }
 
 #[test]
 fn threads_share_an_arena_and_no_page_is_lost(rt: HostRuntime) -> Result<(), Fail> {
     let unopened = Unopened::new(rt.alloc(), 2)?;
-    shared::<Brand, HostRuntime>(&rt, unopened, Blank::new(LEDGER_PARTS));
+    shared::<Brand, HostRuntime>(&rt, unopened, Blank::new(LEDGER_PARTS), 1);
+    Ok(())
+}
+
+// Each block of 16 pages takes memory while it is out, and gives it back.
+#[test]
+fn threads_share_large_blocks_and_no_page_is_lost(rt: HostRuntime) -> Result<(), Fail> {
+    let unopened = Unopened::new(rt.alloc(), 5)?;
+    shared::<Brand, HostRuntime>(&rt, unopened, Blank::new(LEDGER_PARTS), 4);
     Ok(())
 }

@@ -1,10 +1,13 @@
 //! Tests of what no clause says: that calls succeed, and what a block shows at last.
-ghost use Rattle.std.specs.Prelude.{◌≡◌, ◌^◌, ◌<◌, ◌≤◌, length};
+ghost use Rattle.std.specs.Prelude.{◌≡◌, ◌*◌, ◌^◌, ◌<◌, ◌≤◌, length};
 
+use crate::taking::{asked, taken, taken_filled};
 use mq_arena::{
-    ArenaState, Block, Homecoming, LEDGER_PARTS, MAX_ORDER, PAGE_LEN, Page, Unopened, fill,
+    ArenaState, Block, Homecoming, INLINE_ORDER, LEDGER_PARTS, MAX_ORDER, PAGE_LEN, Page,
+    TakeError, Unopened, fill,
 };
 use mq_tree::TreeError;
+use std::alloc::Global;
 use std::marker::Brand;
 use std::process::Abort;
 use std::slice::from_mut;
@@ -12,25 +15,39 @@ use std::sync::ledger::{Blank, Ledger};
 use std::test::Fail;
 use std::thread::Threads;
 
-fn taken<L: Ledger>(rt: &impl Abort, arena: &mut ArenaState<L>, order: u8, start: u32) -> Block<L>
+fn taken_at<L: Ledger>(
+    rt: &impl Abort,
+    arena: &mut ArenaState<L>,
+    order: u8,
+    start: u32,
+) -> Block<L>
     requires { order ≤ MAX_ORDER }
     ensures { result.order ≡ order }
 {
-    match arena.take(order) {
-        Some(block) => {
-            assert!(rt; block.start() == start);
-            block
-        }
-        None => panic!(rt; "no block"),
-    }
+    let block = taken(rt, arena, order);
+    assert!(rt; block.start() == start);
+    block
 }
 
-fn finds_none<L: Ledger>(rt: &impl Abort, arena: &mut ArenaState<L>, order: u8)
-    requires { order ≤ MAX_ORDER }
-{
-    if let Some(block) = arena.take(order) {
-        arena.put(block);
-        panic!(rt; "a block");
+fn given<L: Ledger>(rt: &impl Abort, arena: &mut ArenaState<L>, block: Block<L>) {
+    assert!(rt; arena.put(block) == Homecoming::Home);
+}
+
+/// Blocks of each order up to that one fit, and none of an order over it; where it is `None`, none
+/// at all.
+fn fits_to<L: Ledger>(rt: &impl Abort, arena: &mut ArenaState<L>, most: Option<u8>) {
+    assert!(rt; arena.largest() == most);
+    for order in 0..=MAX_ORDER {
+        match asked(rt, arena, order) {
+            Ok(block) => {
+                given(rt, arena, block);
+                assert!(rt; Some(order) <= most, "a block of order {order}");
+            }
+            Err(refusal) => {
+                assert!(rt; refusal == TakeError::NoRun);
+                assert!(rt; most < Some(order), "no block of order {order}");
+            }
+        }
     }
 }
 
@@ -45,57 +62,96 @@ fn shows<L: Ledger>(rt: &impl Abort, block: &Block<L>, bytes: &[u8]) {
     assert!(rt; rest.is_empty());
 }
 
-fn written<L: Ledger>(rt: &impl Abort, arena: &mut ArenaState<L>) {
-    let mut block = taken(rt, arena, 1, 0);
-    block.fill(&[7; 2048]);
-    block.part_mut(1)[1023] = 9;
-    block.front_mut(0, 5).fill(8);
-    assert!(rt; block.part(0)[4] == 8);
-    assert!(rt; block.part(0)[5] == 7);
-    assert!(rt; block.part(1)[1023] == 9);
-    assert!(rt; arena.put(block) == Homecoming::Home);
-}
-
-fn zero_again<L: Ledger>(rt: &impl Abort, arena: &mut ArenaState<L>) {
-    let block = taken(rt, arena, 1, 0);
-    shows(rt, &block, &[0; 2048]);
-    assert!(rt; block.parts().count() == 2);
-    assert!(rt; arena.put(block) == Homecoming::Home);
-}
-
 fn are_zero(rt: &impl Abort, bytes: &[u8]) {
     for byte in bytes {
         assert!(rt; *byte == 0);
     }
 }
 
+fn written<L: Ledger>(rt: &impl Abort, arena: &mut ArenaState<L>, order: u8, letters: &[u8])
+    requires order { order ≤ MAX_ORDER }
+    requires letters { length letters.now ≡ PAGE_LEN * 2 ^ order }
+{
+    let mut block = taken_at(rt, arena, order, 0);
+    let last = (1usize << order) - 1;
+    block.fill(letters);
+    shows(rt, &block, letters);
+    block.part_mut(last)[1023] = 9;
+    block.front_mut(0, 5).fill(8);
+    assert!(rt; block.part(0)[4] == 8);
+    assert!(rt; block.part(0)[5] == 7);
+    assert!(rt; block.part(last)[1022] == 7);
+    assert!(rt; block.part(last)[1023] == 9);
+    given(rt, arena, block);
+}
+
+fn zero_again<L: Ledger>(rt: &impl Abort, arena: &mut ArenaState<L>, order: u8)
+    requires { order ≤ MAX_ORDER }
+{
+    let block = taken_at(rt, arena, order, 0);
+    for part in block.parts() {
+        are_zero(rt, part);
+    }
+    assert!(rt; block.parts().count() == 1 << order);
+    given(rt, arena, block);
+}
+
 /// Of 1,500 bytes that a block is taken with, the last is in its second page.
-fn taken_filled<L: Ledger>(rt: &impl Abort, arena: &mut ArenaState<L>) {
-    let Some(block) = arena.take_filled(1, &[5; 1500]) else {
-        panic!(rt; "no block")
-    };
+fn filled_again<L: Ledger>(rt: &impl Abort, arena: &mut ArenaState<L>, order: u8)
+    requires order { order ≤ MAX_ORDER }
+    requires two { 2 ≤ 2 ^ order }
+{
+    let block = taken_filled(rt, arena, order, &[5; 1500]);
+    assert!(rt; block.start() == 0);
     shows(rt, &block, &[5; 1500]);
     assert!(rt; block.part(1)[475] == 5);
     are_zero(rt, &block.part(1)[476..]);
-    assert!(rt; arena.put(block) == Homecoming::Home);
+    for part in block.parts().skip(2) {
+        are_zero(rt, part);
+    }
+    given(rt, arena, block);
 }
 
-fn used_again<L: Ledger>(rt: &impl Abort, unopened: Unopened, ledger: Blank)
+fn used_again<L: Ledger>(
+    rt: &impl Abort,
+    unopened: Unopened,
+    ledger: Blank,
+    order: u8,
+    letters: &[u8],
+)
+    requires order { order ≤ MAX_ORDER }
+    requires two { 2 ≤ 2 ^ order }
+    requires letters { length letters.now ≡ PAGE_LEN * 2 ^ order }
     requires name { ledger.name ≡ L.name }
     requires parts { ledger.parts ≡ L.parts }
     requires enough { 2 ^ unopened < ledger.parts }
 {
     let mut arena = unopened.open::<L>(ledger);
-    written(rt, &mut arena);
-    zero_again(rt, &mut arena);
-    taken_filled(rt, &mut arena);
+    written(rt, &mut arena, order, letters);
+    zero_again(rt, &mut arena, order);
+    written(rt, &mut arena, order, letters);
+    filled_again(rt, &mut arena, order);
+    zero_again(rt, &mut arena, order);
+}
+
+/// An arena that is one block of that order.
+fn whole_used_again(rt: &impl Abort, alloc: Global, order: u8) -> Result<(), Fail>
+    requires order { order ≤ MAX_ORDER }
+    requires two { 2 ≤ 2 ^ order }
+{
+    let unopened = Unopened::new(alloc, order)?;
+    let letters = vec![in alloc; 7; PAGE_LEN << order]?;
+    used_again::<Brand>(rt, unopened, Blank::new(LEDGER_PARTS), order, &letters);
+    Ok(())
 }
 
 #[test]
 fn a_page_is_zero_after_it_was_used(rt: HostRuntime) -> Result<(), Fail> {
-    let unopened = Unopened::new(rt.alloc(), 1)?;
-    used_again::<Brand>(&rt, unopened, Blank::new(LEDGER_PARTS));
-    Ok(())
+    whole_used_again(&rt, rt.alloc(), 1)?;
+    whole_used_again(&rt, rt.alloc(), 3)?;
+    whole_used_again(&rt, rt.alloc(), 4)?;
+    whole_used_again(&rt, rt.alloc(), 5)?;
+    whole_used_again(&rt, rt.alloc(), 6)
 }
 
 fn fills_up<L: Ledger>(rt: &impl Abort, unopened: Unopened, ledger: Blank)
@@ -105,26 +161,132 @@ fn fills_up<L: Ledger>(rt: &impl Abort, unopened: Unopened, ledger: Blank)
 {
     let mut arena = unopened.open::<L>(ledger);
     assert!(rt; arena.pages() == 4);
-    finds_none(rt, &mut arena, 3);
-    let mut pair = taken(rt, &mut arena, 1, 0);
-    let one = taken(rt, &mut arena, 0, 2);
-    finds_none(rt, &mut arena, 1);
-    assert!(rt; arena.largest() == Some(0));
+    fits_to(rt, &mut arena, Some(2));
+    let mut pair = taken_at(rt, &mut arena, 1, 0);
+    let one = taken_at(rt, &mut arena, 0, 2);
+    fits_to(rt, &mut arena, Some(0));
     assert!(rt; arena.free_pages() == 1);
     assert!(rt; arena.lent_pages() == 3);
 
     arena.account(from_mut(&mut pair));
-    assert!(rt; arena.put(pair) == Homecoming::Home);
-    assert!(rt; arena.largest() == Some(1));
-    assert!(rt; arena.put(one) == Homecoming::Home);
-    assert!(rt; arena.largest() == Some(2));
+    given(rt, &mut arena, pair);
+    fits_to(rt, &mut arena, Some(1));
+    given(rt, &mut arena, one);
+    fits_to(rt, &mut arena, Some(2));
     assert!(rt; arena.lent_pages() == 0);
 }
 
 #[test]
-fn take_answers_none_where_nothing_fits(rt: HostRuntime) -> Result<(), Fail> {
+fn take_answers_no_run_where_nothing_fits(rt: HostRuntime) -> Result<(), Fail> {
     let unopened = Unopened::new(rt.alloc(), 2)?;
     fills_up::<Brand>(&rt, unopened, Blank::new(LEDGER_PARTS));
+    Ok(())
+}
+
+/// Blocks that halve what is free, from a whole arena of 64 pages down to four.
+fn halved<L: Ledger>(rt: &impl Abort, unopened: Unopened, ledger: Blank)
+    requires name { ledger.name ≡ L.name }
+    requires parts { ledger.parts ≡ L.parts }
+    requires enough { 2 ^ unopened < ledger.parts }
+{
+    let mut arena = unopened.open::<L>(ledger);
+    fits_to(rt, &mut arena, Some(6));
+    let whole = taken_at(rt, &mut arena, 6, 0);
+    fits_to(rt, &mut arena, None);
+    given(rt, &mut arena, whole);
+    let page = taken_at(rt, &mut arena, 0, 0);
+    fits_to(rt, &mut arena, Some(5));
+    let half = taken_at(rt, &mut arena, 5, 32);
+    fits_to(rt, &mut arena, Some(4));
+    let quarter = taken_at(rt, &mut arena, 4, 16);
+    fits_to(rt, &mut arena, Some(3));
+    let eighth = taken_at(rt, &mut arena, 3, 8);
+    fits_to(rt, &mut arena, Some(2));
+
+    given(rt, &mut arena, quarter);
+    fits_to(rt, &mut arena, Some(4));
+    given(rt, &mut arena, half);
+    fits_to(rt, &mut arena, Some(5));
+    given(rt, &mut arena, page);
+    fits_to(rt, &mut arena, Some(5));
+    given(rt, &mut arena, eighth);
+    fits_to(rt, &mut arena, Some(6));
+}
+
+#[test]
+fn no_run_comes_just_where_no_large_block_fits(rt: HostRuntime) -> Result<(), Fail> {
+    let unopened = Unopened::new(rt.alloc(), 6)?;
+    halved::<Brand>(&rt, unopened, Blank::new(LEDGER_PARTS));
+    Ok(())
+}
+
+/// The whole of an arena fits while nothing is lent, its half beside a page, and nothing beside
+/// all its pages.
+fn fits_within<L: Ledger>(rt: &impl Abort, unopened: Unopened, ledger: Blank, height: u8)
+    requires height { height ≤ MAX_ORDER }
+    requires name { ledger.name ≡ L.name }
+    requires parts { ledger.parts ≡ L.parts }
+    requires enough { 2 ^ unopened < ledger.parts }
+{
+    let mut arena = unopened.open::<L>(ledger);
+    fits_to(rt, &mut arena, Some(height));
+    let page = taken_at(rt, &mut arena, 0, 0);
+    fits_to(rt, &mut arena, height.checked_sub(1));
+    given(rt, &mut arena, page);
+    let whole = taken_at(rt, &mut arena, height, 0);
+    fits_to(rt, &mut arena, None);
+    given(rt, &mut arena, whole);
+}
+
+#[test]
+fn no_block_is_larger_than_its_arena(rt: HostRuntime) -> Result<(), Fail> {
+    for height in 0..=MAX_ORDER {
+        let unopened = Unopened::new(rt.alloc(), height)?;
+        fits_within::<Brand>(&rt, unopened, Blank::new(LEDGER_PARTS), height);
+    }
+    Ok(())
+}
+
+/// A block of that order from an arena of 64 pages, at the second try where its memory was refused.
+fn taken_at_last<L: Ledger>(rt: &impl Abort, arena: &mut ArenaState<L>, order: u8)
+    requires over { INLINE_ORDER < order }
+    requires most { order ≤ MAX_ORDER }
+{
+    match arena.take(order) {
+        Ok(block) => given(rt, arena, block),
+        Err(TakeError::NoRun) => panic!(rt; "no run"),
+        Err(TakeError::Memory) => {
+            assert!(rt; arena.free_pages() == 64);
+            assert!(rt; arena.largest() == Some(6));
+            let Ok(block) = arena.take(order) else {
+                panic!(rt; "refused once more");
+            };
+            assert!(rt; block.start() == 0);
+            assert!(rt; arena.lent_pages() == 1 << order);
+            given(rt, arena, block);
+        }
+    }
+    assert!(rt; arena.free_pages() == 64);
+}
+
+fn each_taken_at_last<L: Ledger>(rt: &impl Abort, unopened: Unopened, ledger: Blank)
+    requires name { ledger.name ≡ L.name }
+    requires parts { ledger.parts ≡ L.parts }
+    requires enough { 2 ^ unopened < ledger.parts }
+{
+    let mut arena = unopened.open::<L>(ledger);
+    for order in INLINE_ORDER + 1..=MAX_ORDER {
+        taken_at_last(rt, &mut arena, order);
+    }
+}
+
+/// Run with each allocation refused in turn, which is where a block's memory is refused.
+#[test]
+fn a_large_block_whose_memory_is_refused_leaves_all_pages_free_and_is_then_taken(
+    rt: HostRuntime,
+) -> Result<(), Fail> {
+    let unopened = Unopened::new(rt.alloc(), 6)?;
+    each_taken_at_last::<Brand>(&rt, unopened, Blank::new(LEDGER_PARTS));
     Ok(())
 }
 
@@ -137,7 +299,7 @@ fn is_cut<L: Ledger>(rt: &impl Abort, block: &Block<L>, i: usize, letters: (u8, 
         }
         k = k.saturating_add(1);
     }
-    assert!(rt; k == 4);
+    assert!(rt; k == 1 << block.order());
 }
 
 fn cut_at<L: Ledger, R: Abort + Threads>(
@@ -147,11 +309,10 @@ fn cut_at<L: Ledger, R: Abort + Threads>(
     first: &[u8],
     second: &[u8],
 )
-    requires order { block.old.order ≡ 2 }
-    requires within { i ≤ 4 }
-    requires first { length first.now ≡ 4096 }
-    requires second { length second.now ≡ 4096 }
-    ensures { block.new.order ≡ 2 }
+    requires within { i ≤ 2 ^ block.old.order }
+    requires first { length first.now ≡ PAGE_LEN * 2 ^ block.old.order }
+    requires second { length second.now ≡ PAGE_LEN * 2 ^ block.old.order }
+    ensures { block.new.order ≡ block.old.order }
 {
     block.fill_halves(rt, i, &first[..PAGE_LEN * i], &second[PAGE_LEN * i..]);
     is_cut(rt, block, i, (b'A', b'B'));
@@ -170,31 +331,52 @@ fn halves<L: Ledger, R: Abort + Threads>(
     rt: &R,
     unopened: Unopened,
     ledger: Blank,
+    order: u8,
     first: &[u8],
     second: &[u8],
 )
-    requires first { length first.now ≡ 4096 }
-    requires second { length second.now ≡ 4096 }
+    requires order { order ≤ MAX_ORDER }
+    requires first { length first.now ≡ PAGE_LEN * 2 ^ order }
+    requires second { length second.now ≡ PAGE_LEN * 2 ^ order }
     requires name { ledger.name ≡ L.name }
     requires parts { ledger.parts ≡ L.parts }
     requires enough { 2 ^ unopened < ledger.parts }
 {
     let mut arena = unopened.open::<L>(ledger);
-    let mut block = taken(rt, &mut arena, 2, 0);
+    let mut block = taken_at(rt, &mut arena, order, 0);
+    let count = 1usize << order;
     cut_at(rt, &mut block, 0, first, second);
     cut_at(rt, &mut block, 1, first, second);
-    cut_at(rt, &mut block, 4, first, second);
-    assert!(rt; block.order() == 2);
-    assert!(rt; arena.put(block) == Homecoming::Home);
+    cut_at(rt, &mut block, count / 2, first, second);
+    cut_at(rt, &mut block, count, first, second);
+    assert!(rt; block.order() == order);
+    given(rt, &mut arena, block);
+}
+
+/// A block of that order from an arena of 64 pages.
+fn halves_written<R: Abort + Threads>(rt: &R, alloc: Global, order: u8) -> Result<(), Fail>
+    requires { order ≤ MAX_ORDER }
+{
+    let unopened = Unopened::new(alloc, 6)?;
+    let first = vec![in alloc; b'A'; PAGE_LEN << order]?;
+    let second = vec![in alloc; b'B'; PAGE_LEN << order]?;
+    halves::<Brand, R>(
+        rt,
+        unopened,
+        Blank::new(LEDGER_PARTS),
+        order,
+        &first,
+        &second,
+    );
+    Ok(())
 }
 
 #[test]
 fn two_threads_write_the_two_halves(rt: HostRuntime) -> Result<(), Fail> {
-    let unopened = Unopened::new(rt.alloc(), 3)?;
-    let first = vec![in rt.alloc(); b'A'; 4096]?;
-    let second = vec![in rt.alloc(); b'B'; 4096]?;
-    halves::<Brand, HostRuntime>(&rt, unopened, Blank::new(LEDGER_PARTS), &first, &second);
-    Ok(())
+    halves_written(&rt, rt.alloc(), 2)?;
+    halves_written(&rt, rt.alloc(), 4)?;
+    halves_written(&rt, rt.alloc(), 5)?;
+    halves_written(&rt, rt.alloc(), 6)
 }
 
 #[test]

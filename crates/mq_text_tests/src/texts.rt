@@ -2,25 +2,14 @@
 ghost use Rattle.std.specs.Prelude.{◌≡◌, ◌^◌, ◌<◌, ◌≤◌, length, replicate};
 ghost use Rattle.mq_message.specs.Text.{count_of, text_part, with_part};
 
-use mq_arena::{
-    ArenaState, Block, Homecoming, LEDGER_PARTS, MAX_ORDER, PAGE_LEN, Page, Unopened, fill,
-};
+use crate::taking::{drafted, taken, text_of};
+use mq_arena::{ArenaState, Homecoming, LEDGER_PARTS, PAGE_LEN, Page, Unopened, fill};
 use mq_message::{Body, TEXT_LEN, Text, VecBody, order_for};
 use std::marker::Brand;
 use std::process::Abort;
 use std::sync::ledger::{Blank, Ledger};
 use std::test::Fail;
 use std::thread::Threads;
-
-fn taken<L: Ledger>(rt: &impl Abort, arena: &mut ArenaState<L>, order: u8) -> Block<L>
-    requires { order ≤ MAX_ORDER }
-    ensures { result.order ≡ order }
-{
-    match arena.take(order) {
-        Some(block) => block,
-        None => panic!(rt; "no block"),
-    }
-}
 
 pub(crate) fn home<L: Ledger>(rt: &impl Abort, arena: &mut ArenaState<L>, text: Text<L>) {
     match text.into_block() {
@@ -56,7 +45,8 @@ fn shows<L: Ledger>(rt: &impl Abort, text: &Text<L>, bytes: &[u8]) {
 fn filled_at<L: Ledger, R: Abort + Threads>(rt: &R, text: &mut Text<L>, i: usize, bytes: &[u8])
     requires bytes { length bytes.now ≡ length text.old.bytes }
     requires within { i ≤ count_of (length text.old.bytes) }
-    ensures { text.new ≡ record { bytes = bytes.now; block = text.old.block } }
+    ensures len { length text.new.bytes ≡ length text.old.bytes }
+    ensures text { text.new ≡ record { bytes = bytes.now; block = text.old.block } }
 {
     let (front, back) = bytes.split_at(bytes.len().min(PAGE_LEN * i));
     text.fill_halves(rt, i, front, back);
@@ -117,6 +107,67 @@ fn two_threads_fill_the_two_halves(rt: HostRuntime) -> Result<(), Fail> {
     Ok(())
 }
 
+// Fills the longest text: its first half with one letter, and the rest with another.
+fn most_filled<L: Ledger, R: Abort + Threads>(rt: &R, text: &mut Text<L>, letters: &[u8])
+    requires len { length text.old.bytes ≡ TEXT_LEN }
+    requires letters { length letters.now ≡ TEXT_LEN }
+    ensures { length text.new.bytes ≡ TEXT_LEN }
+{
+    filled_at(rt, text, 32, letters);
+    holds(rt, text.part(31), 1024, b'A');
+    holds(rt, text.part(32), 1024, b'B');
+    filled_at(rt, text, 0, letters);
+    filled_at(rt, text, 63, letters);
+    filled_at(rt, text, 64, letters);
+}
+
+// Fills the first part and the last one of that text with one letter.
+fn ends_filled<L: Ledger>(rt: &impl Abort, text: &mut Text<L>)
+    requires { length text.old.bytes ≡ TEXT_LEN }
+    ensures { length text.new.bytes ≡ TEXT_LEN }
+{
+    part_filled(text, 0, b'D');
+    part_filled(text, 63, b'D');
+    holds(rt, text.part(0), 1024, b'D');
+    holds(rt, text.part(1), 1024, b'A');
+    holds(rt, text.part(62), 1024, b'B');
+    holds(rt, text.part(63), 1024, b'D');
+}
+
+fn longest_filled<L: Ledger, R: Abort + Threads>(
+    rt: &R,
+    unopened: Unopened,
+    ledger: Blank,
+    letters: &[u8],
+)
+    requires letters { length letters.now ≡ TEXT_LEN }
+    requires name { ledger.name ≡ L.name }
+    requires parts { ledger.parts ≡ L.parts }
+    requires enough { 2 ^ unopened < ledger.parts }
+{
+    let mut arena = unopened.open::<L>(ledger);
+    let before = taken(rt, &mut arena, 6);
+    let mut text = drafted(rt, &mut arena, TEXT_LEN);
+    arena.put(before);
+    assert!(rt; text.count() == 64);
+    assert!(rt; text.start() == Some(64));
+    is_zero(rt, &text);
+    most_filled(rt, &mut text, letters);
+    ends_filled(rt, &mut text);
+    assert!(rt; text.start() == Some(64));
+    assert!(rt; arena.lent_pages() == 64);
+    home(rt, &mut arena, text);
+}
+
+#[test]
+fn two_threads_fill_the_64_parts_of_the_longest_text(rt: HostRuntime) -> Result<(), Fail> {
+    let unopened = Unopened::new(rt.alloc(), 7)?;
+    let mut letters = vec![in rt.alloc(); b'B'; TEXT_LEN]?;
+    letters.as_mut_slice()[..TEXT_LEN / 2].fill(b'A');
+    longest_filled::<Brand, HostRuntime>(&rt, unopened, Blank::new(LEDGER_PARTS), &letters);
+    Ok(())
+}
+
 fn pages_lent<L: Ledger, R: Abort + Threads>(rt: &R, unopened: Unopened, ledger: Blank)
     requires name { ledger.name ≡ L.name }
     requires parts { ledger.parts ≡ L.parts }
@@ -145,6 +196,46 @@ fn two_threads_write_the_pages_of_the_two_halves(rt: HostRuntime) -> Result<(), 
     Ok(())
 }
 
+fn longest_lent<L: Ledger, R: Abort + Threads>(
+    rt: &R,
+    unopened: Unopened,
+    ledger: Blank,
+    front: &[u8],
+    back: &[u8],
+)
+    requires front { length front.now ≡ 32768 }
+    requires back { length back.now ≡ 32768 }
+    requires name { ledger.name ≡ L.name }
+    requires parts { ledger.parts ≡ L.parts }
+    requires enough { 2 ^ unopened < ledger.parts }
+{
+    let mut arena = unopened.open::<L>(ledger);
+    let block = taken(rt, &mut arena, 6);
+    let mut text = Text::of(block, 65_530);
+    assert!(rt; text.len() == 65_530);
+    text.write_halves(
+        rt,
+        32,
+        |pages: &mut [Page]| fill(pages, front),
+        |pages: &mut [Page]| fill(pages, back),
+    );
+    assert!(rt; text.len() == 65_530);
+    holds(rt, text.part(0), 1024, b'A');
+    holds(rt, text.part(31), 1024, b'A');
+    holds(rt, text.part(32), 1024, b'B');
+    holds(rt, text.part(63), 1018, b'B');
+    home(rt, &mut arena, text);
+}
+
+#[test]
+fn two_threads_write_the_pages_of_a_text_of_64_parts(rt: HostRuntime) -> Result<(), Fail> {
+    let unopened = Unopened::new(rt.alloc(), 6)?;
+    let front = vec![in rt.alloc(); b'A'; 32_768]?;
+    let back = vec![in rt.alloc(); b'B'; 32_768]?;
+    longest_lent::<Brand, HostRuntime>(&rt, unopened, Blank::new(LEDGER_PARTS), &front, &back);
+    Ok(())
+}
+
 fn is_zero<L: Ledger>(rt: &impl Abort, text: &Text<L>) {
     for part in text.parts() {
         for byte in part {
@@ -158,8 +249,7 @@ fn filled<L: Ledger>(rt: &impl Abort, arena: &mut ArenaState<L>, letters: &[u8],
     requires some { 0 < length letters.now }
     requires most { length letters.now ≤ TEXT_LEN }
 {
-    let block = taken(rt, arena, order_for(letters.len()));
-    let mut text = Text::of(block, letters.len());
+    let mut text = drafted(rt, arena, letters.len());
     assert!(rt; text.count() == count);
     is_zero(rt, &text);
     assert!(rt; text.len() == letters.len() as u64);
@@ -173,49 +263,59 @@ fn made<L: Ledger>(rt: &impl Abort, arena: &mut ArenaState<L>, letters: &[u8], o
     requires some { 0 < length letters.now }
     requires most { length letters.now ≤ TEXT_LEN }
 {
-    let Some(text) = Text::of_bytes(arena, letters) else {
-        panic!(rt; "no block")
-    };
+    let text = text_of(rt, arena, letters);
     assert!(rt; text.order() == Some(order));
     shows(rt, &text, letters);
     home(rt, arena, text);
 }
 
-fn drafted<L: Ledger>(
+// A text of so many of these letters, of which there are enough for the longest.
+fn size_drafted<L: Ledger>(
     rt: &impl Abort,
     arena: &mut ArenaState<L>,
+    letters: &[u8],
     len: usize,
     order: u8,
     count: usize,
 )
+    requires letters { length letters.now ≡ TEXT_LEN }
     requires some { 0 < len }
     requires most { len ≤ TEXT_LEN }
 {
-    let letters = [b'E'; TEXT_LEN];
+    let letters = &letters[..len];
     assert!(rt; order_for(len) == order);
-    filled(rt, arena, &letters[..len], count);
-    made(rt, arena, &letters[..len], order);
+    filled(rt, arena, letters, count);
+    made(rt, arena, letters, order);
 }
 
-fn each_size<L: Ledger>(rt: &impl Abort, unopened: Unopened, ledger: Blank)
+fn each_size<L: Ledger>(rt: &impl Abort, unopened: Unopened, ledger: Blank, letters: &[u8])
+    requires letters { length letters.now ≡ TEXT_LEN }
     requires name { ledger.name ≡ L.name }
     requires parts { ledger.parts ≡ L.parts }
     requires enough { 2 ^ unopened < ledger.parts }
 {
     let mut arena = unopened.open::<L>(ledger);
-    drafted(rt, &mut arena, 1, 0, 1);
-    drafted(rt, &mut arena, 1023, 0, 1);
-    drafted(rt, &mut arena, 1024, 0, 1);
-    drafted(rt, &mut arena, 1025, 1, 2);
-    drafted(rt, &mut arena, 2049, 2, 3);
-    drafted(rt, &mut arena, 8191, 3, 8);
-    drafted(rt, &mut arena, 8192, 3, 8);
+    size_drafted(rt, &mut arena, letters, 1, 0, 1);
+    size_drafted(rt, &mut arena, letters, 1023, 0, 1);
+    size_drafted(rt, &mut arena, letters, 1024, 0, 1);
+    size_drafted(rt, &mut arena, letters, 1025, 1, 2);
+    size_drafted(rt, &mut arena, letters, 2049, 2, 3);
+    size_drafted(rt, &mut arena, letters, 8191, 3, 8);
+    size_drafted(rt, &mut arena, letters, 8192, 3, 8);
+    size_drafted(rt, &mut arena, letters, 8193, 4, 9);
+    size_drafted(rt, &mut arena, letters, 16_384, 4, 16);
+    size_drafted(rt, &mut arena, letters, 16_385, 5, 17);
+    size_drafted(rt, &mut arena, letters, 32_768, 5, 32);
+    size_drafted(rt, &mut arena, letters, 32_769, 6, 33);
+    size_drafted(rt, &mut arena, letters, 65_535, 6, 64);
+    size_drafted(rt, &mut arena, letters, 65_536, 6, 64);
 }
 
 #[test]
 fn a_drafted_text_is_zero_and_can_be_filled(rt: HostRuntime) -> Result<(), Fail> {
-    let unopened = Unopened::new(rt.alloc(), 3)?;
-    each_size::<Brand>(&rt, unopened, Blank::new(LEDGER_PARTS));
+    let unopened = Unopened::new(rt.alloc(), 6)?;
+    let letters = vec![in rt.alloc(); b'E'; TEXT_LEN]?;
+    each_size::<Brand>(&rt, unopened, Blank::new(LEDGER_PARTS), &letters);
     Ok(())
 }
 
@@ -248,6 +348,40 @@ fn cut_and_spent<L: Ledger>(rt: &impl Abort, unopened: Unopened, ledger: Blank)
 fn a_cut_text_keeps_its_block(rt: HostRuntime) -> Result<(), Fail> {
     let unopened = Unopened::new(rt.alloc(), 2)?;
     cut_and_spent::<Brand>(&rt, unopened, Blank::new(LEDGER_PARTS));
+    Ok(())
+}
+
+fn longest_cut<L: Ledger>(rt: &impl Abort, unopened: Unopened, ledger: Blank)
+    requires name { ledger.name ≡ L.name }
+    requires parts { ledger.parts ≡ L.parts }
+    requires enough { 2 ^ unopened < ledger.parts }
+{
+    let mut arena = unopened.open::<L>(ledger);
+    let mut text = drafted(rt, &mut arena, TEXT_LEN);
+    for (len, count) in [
+        (65_537, 64),
+        (65_535, 64),
+        (64_513, 64),
+        (64_512, 63),
+        (8193, 9),
+        (8192, 8),
+        (1, 1),
+        (0, 0),
+    ] {
+        cut_to(rt, &mut text, len);
+        assert!(rt; text.count() == count);
+        assert!(rt; text.order() == Some(6));
+    }
+    shows(rt, &text, &[]);
+    assert!(rt; text.start() == Some(0));
+    assert!(rt; arena.lent_pages() == 64);
+    home(rt, &mut arena, text);
+}
+
+#[test]
+fn the_longest_text_keeps_its_block_where_it_is_cut(rt: HostRuntime) -> Result<(), Fail> {
+    let unopened = Unopened::new(rt.alloc(), 6)?;
+    longest_cut::<Brand>(&rt, unopened, Blank::new(LEDGER_PARTS));
     Ok(())
 }
 

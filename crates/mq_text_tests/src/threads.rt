@@ -2,9 +2,10 @@
 ghost use Rattle.std.specs.Prelude.{◌≡◌, ◌*◌, ◌^◌, ◌<◌, ◌≤◌, length};
 ghost use Rattle.mq_arena.specs.Bytes.{AreWhole};
 
+use crate::taking::drafted;
 use crate::texts::{holds, home};
-use mq_arena::{ArenaState, LEDGER_PARTS, PAGE_LEN, Page, Unopened, fill};
-use mq_message::{TEXT_LEN, Text, order_for};
+use mq_arena::{LEDGER_PARTS, PAGE_LEN, Page, Unopened, fill};
+use mq_message::Text;
 use std::fs;
 use std::fs::Files;
 use std::marker::Brand;
@@ -31,17 +32,6 @@ fn meets(rt: &impl Abort, own: &AtomicBool, other: &AtomicBool) {
         yield_now();
     }
     panic!(rt; "one half is written after the other, or there is no memory for a thread");
-}
-
-fn drafted<L: Ledger>(rt: &impl Abort, arena: &mut ArenaState<L>, len: usize) -> Text<L>
-    requires some { 0 < len }
-    requires most { len ≤ TEXT_LEN }
-    ensures { length result.bytes ≡ len }
-{
-    match arena.take(order_for(len)) {
-        Some(block) => Text::of(block, len),
-        None => panic!(rt; "no block"),
-    }
 }
 
 // Fills the first page, once the other half is being written too.

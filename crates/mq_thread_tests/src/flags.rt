@@ -1,4 +1,4 @@
-use crate::runs::{Nothing, SMALL, found_no_memory};
+use crate::runs::{Nothing, ROOMY, found_no_memory};
 use mq::{
     Caller, Delivered, Errno, Names, RecvFlags, Seat, SendFlags, System, Worker, with_workers,
 };
@@ -49,13 +49,14 @@ impl Worker<Nothing> for Alone {
         let mut caller = Caller::new(rt, alloc, seat);
         let id = caller.queue(system, 7)?;
         let empty = caller.receive_with(system, id, 1, 0, AT_ONCE).err();
-        let text = [3u8; 8192];
-        caller.send(system, id, 1, 1, &text)?;
-        caller.send(system, id, 1, 2, &text)?;
+        let bytes = vec![in alloc; 3; 65_536].map_err(|_| Errno::ENOMEM)?;
+        let text = bytes.as_slice();
+        caller.send(system, id, 1, 1, text)?;
+        caller.send(system, id, 1, 2, text)?;
         let full = caller
-            .send_with(system, id, 1, 3, &text, SendFlags { nowait: true })
+            .send_with(system, id, 1, 3, text, SendFlags { nowait: true })
             .err();
-        let long = caller.receive(system, id, 8191, 0).err();
+        let long = caller.receive(system, id, 65_535, 0).err();
         let Delivered { length, text, .. } = caller.receive_with(system, id, 10, 0, CUT)?;
         Ok(Met {
             empty,
@@ -74,7 +75,7 @@ fn a_call_with_flags_does_not_wait_and_cuts(rt: HostRuntime) {
         if workers.push(Alone).is_err() {
             continue;
         }
-        let ended = match with_workers(&rt, rt.alloc(), SMALL, workers) {
+        let ended = match with_workers(&rt, rt.alloc(), ROOMY, workers) {
             Ok(ended) => ended,
             Err(error) if found_no_memory(error) => continue,
             Err(error) => panic!(rt; "{error}"),
@@ -84,9 +85,9 @@ fn a_call_with_flags_does_not_wait_and_cuts(rt: HostRuntime) {
                 assert!(rt; met.empty == Some(Errno::ENOMSG));
                 assert!(rt; met.full == Some(Errno::EAGAIN));
                 assert!(rt; met.long == Some(Errno::E2BIG));
-                assert!(rt; met.cut == (10, 8192));
+                assert!(rt; met.cut == (10, 65_536));
                 assert!(rt; ended.slots[0].left == 1);
-                assert!(rt; ended.free_pages == 32);
+                assert!(rt; ended.free_pages == 256);
                 return;
             }
             Err(errno) if *errno != Errno::ENOMEM => panic!(rt; "{errno}"),

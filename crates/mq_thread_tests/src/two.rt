@@ -1,10 +1,12 @@
 ghost use Rattle.std.specs.Prelude.{◌≡◌};
 
-use crate::runs::{Nothing, SMALL, found_no_memory};
+use crate::runs::{Nothing, ROOMY, SMALL, found_no_memory};
 use mq::{Caller, Config, Errno, Id, Names, Seat, System, Worker, WorkersError, with_two};
 use std::alloc::Global;
+use std::process::Abort;
 use std::sync::Wait;
-use std::thread::yield_now;
+use std::test::Fail;
+use std::thread::{Threads, yield_now};
 
 /// The id of the queue with key 5, of a call that is made once more where it found no memory.
 fn queue<N: Names, R: Wait>(
@@ -36,8 +38,8 @@ impl Worker<Nothing> for Receiver {
         let mut tags = 0u64;
         let mut bytes = 0u64;
         for _ in 0..3 {
-            let received = match caller.receive(system, id, 8192, 0) {
-                Err(Errno::ENOMEM) => caller.receive(system, id, 8192, 0)?,
+            let received = match caller.receive(system, id, 65_536, 0) {
+                Err(Errno::ENOMEM) => caller.receive(system, id, 65_536, 0)?,
                 received => received?,
             };
             tags = tags.wrapping_mul(10).wrapping_add(received.tag);
@@ -49,11 +51,13 @@ impl Worker<Nothing> for Receiver {
     }
 }
 
-/// Sends three messages, of which the queue has room for two.
+/// Sends the text three times.
 #[derive(Drop)]
-struct Sender;
+struct Sender<'a> {
+    text: &'a [u8],
+}
 
-impl Worker<Nothing> for Sender {
+impl<'a> Worker<Nothing> for Sender<'a> {
     type Answer = Result<u16, Errno>;
 
     fn work<N: Names, R: Wait>(
@@ -65,10 +69,9 @@ impl Worker<Nothing> for Sender {
     ) -> Result<u16, Errno> {
         let mut caller = Caller::new(rt, alloc, seat);
         let id = queue(&mut caller, system)?;
-        let text = [1u8; 8192];
         for tag in 1..4 {
-            match caller.send(system, id, 1, tag, &text) {
-                Err(Errno::ENOMEM) => caller.send(system, id, 1, tag, &text)?,
+            match caller.send(system, id, 1, tag, self.text) {
+                Err(Errno::ENOMEM) => caller.send(system, id, 1, tag, self.text)?,
                 sent => sent?,
             };
         }
@@ -133,25 +136,32 @@ impl Worker<Nothing> for Remover {
     }
 }
 
-#[test]
-fn a_receiver_first_and_a_sender_second_end(rt: HostRuntime) {
-    let mut ended = with_two(&rt, rt.alloc(), SMALL, Receiver, Sender);
+/// Three messages with this text go from one worker to the other; the queue has room for two.
+fn three_messages_go_through<R: AllocGlobal + Abort + Threads + Wait + Sync>(rt: &R, text: &[u8]) {
+    let mut ended = with_two(rt, rt.alloc(), ROOMY, Receiver, Sender { text });
     if let Err(error) = &ended
         && found_no_memory(*error)
     {
-        ended = with_two(&rt, rt.alloc(), SMALL, Receiver, Sender);
+        ended = with_two(rt, rt.alloc(), ROOMY, Receiver, Sender { text });
     }
     match ended {
         Ok(ended) => {
             let (received, sent) = ended.answer;
-            assert_eq!(rt; received, Ok((123, 24_576)));
+            assert_eq!(rt; received, Ok((123, 196_608)));
             assert_eq!(rt; sent, Ok(2));
-            assert_eq!(rt; ended.free_pages, 32);
+            assert_eq!(rt; ended.free_pages, 256);
             assert_eq!(rt; ended.slots[0].last.len(), 7);
             assert_eq!(rt; ended.slots[0].left, 0);
         }
         Err(error) => panic!(rt; "{error}"),
     }
+}
+
+#[test]
+fn a_receiver_first_and_a_sender_second_end(rt: HostRuntime) -> Result<(), Fail> {
+    let bytes = vec![in rt.alloc(); 1; 65_536]?;
+    three_messages_go_through(&rt, bytes.as_slice());
+    Ok(())
 }
 
 #[test]
@@ -176,7 +186,7 @@ fn who_waits_in_a_queue_that_is_removed_answers_eidrm(rt: HostRuntime) {
 #[test]
 fn two_workers_at_one_seat_are_refused(rt: HostRuntime) {
     let config = Config { seats: 1, ..SMALL };
-    match with_two(&rt, rt.alloc(), config, Receiver, Sender) {
+    match with_two(&rt, rt.alloc(), config, Receiver, Sender { text: b"" }) {
         Err(error) => assert_eq!(rt; error, WorkersError::TooManyWorkers),
         Ok(_) => panic!(rt; "two at one seat"),
     }

@@ -1,17 +1,10 @@
 //! The calls of a worker, each made once more where it found no memory.
 
 use mq::{
-    Config, Delivered, Errno, GetFlags, Id, Names, Pledge, RecvFlags, Seat, SendFlags, SendRefused,
-    System,
+    Delivered, DraftError, Errno, GetFlags, Id, Names, Pledge, RecvFlags, Seat, SendFlags,
+    SendRefused, System, TextOf,
 };
 use std::sync::Wait;
-
-pub(crate) const SMALL: Config = Config {
-    height: 5,
-    slots: 4,
-    seats: 5,
-    last_seq: 9,
-};
 
 /// Nothing is pledged.
 pub(crate) struct Nothing;
@@ -38,6 +31,17 @@ pub(crate) fn queue<N: Names, R: Wait>(
     }
 }
 
+fn draft<N: Names, R: Wait>(
+    rt: &R,
+    system: &System<Nothing, N>,
+    len: u64,
+) -> Result<TextOf<N>, DraftError> {
+    match system.draft(rt, len) {
+        Err(DraftError::Memory) => system.draft(rt, len),
+        drafted => drafted,
+    }
+}
+
 /// Sends so many bytes, and waits for room.
 pub(crate) fn send<N: Names, R: Wait>(
     rt: &R,
@@ -47,7 +51,7 @@ pub(crate) fn send<N: Names, R: Wait>(
     mtype: i64,
     len: u64,
 ) -> Result<(), Errno> {
-    let mut text = match system.draft(rt, len) {
+    let mut text = match draft(rt, system, len) {
         Ok(text) => text,
         Err(error) => return Err(error.errno()),
     };

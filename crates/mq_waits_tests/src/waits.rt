@@ -3,13 +3,22 @@
 //! another go first, and a wake that is lost lets the test run out of its time. Whoever makes room
 //! looks at the queue for some milliseconds first, so that the sender waits by then.
 
-use crate::calls::{Nothing, SMALL, queue, receive, remove, send, set};
-use mq::{Ended, Errno, Id, Names, Seat, System, Worker, WorkersError, with_workers};
+use crate::calls::{Nothing, queue, receive, remove, send, set};
+use mq::{Config, Ended, Errno, Id, Names, Seat, System, Worker, WorkersError, with_workers};
 use std::alloc::Global;
 use std::sync::Wait;
 use std::thread::Threads;
 
-const FULL: u64 = 8192;
+/// The length of a text of which two fill a queue.
+const FULL: u64 = 65_536;
+
+/// Pages for four of these texts.
+const SIZE: Config = Config {
+    height: 8,
+    slots: 4,
+    seats: 5,
+    last_seq: 9,
+};
 
 /// How often a worker looks at the queue before it makes room in it.
 const LOOKS: u32 = 500_000;
@@ -184,7 +193,7 @@ fn played<R: Threads + Wait + Sync>(
         let Ok(copied) = parts.to_vec(alloc) else {
             continue;
         };
-        match with_workers(rt, alloc, SMALL, copied) {
+        match with_workers(rt, alloc, SIZE, copied) {
             Err(WorkersError::Memory | WorkersError::Thread) => (),
             ended => return ended,
         }
@@ -204,7 +213,7 @@ fn wants<R: Threads + Wait + Sync>(
         Ok(ended) => {
             ended.answer.as_slice() == answers
                 && matches!(ended.slots.first(), Some(slot) if slot.left == left)
-                && ended.free_pages == 32
+                && ended.free_pages == 256
         }
         Err(_) => false,
     }

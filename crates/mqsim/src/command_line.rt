@@ -6,7 +6,8 @@ ghost use Rattle.mq_one_thread.specs.Limits.{keeps_limits};
 ghost use Rattle.mqsim.specs.Options.{Means, bare_request};
 
 use clap::{Arg, ArgMatches, Command, Error, value_parser};
-use mq_one_thread::{Config, DEFAULTS, MAX_HEIGHT, MAX_SEATS, MAX_SEQ, MAX_SLOTS};
+use mq_cli::SCRIPT_DEFAULTS;
+use mq_one_thread::{Config, MAX_HEIGHT, MAX_SEATS, MAX_SEQ, MAX_SLOTS};
 use std::alloc::{AllocError, Global};
 
 /// The end of the help.
@@ -45,7 +46,7 @@ pub fn request_of(alloc: Global, words: &[String]) -> Result<Request, Error>
     if words.len() <= 1 {
         return Ok(Request {
             kind: Kind::Serial,
-            config: DEFAULTS,
+            config: SCRIPT_DEFAULTS,
         });
     }
     let matches = command(alloc)?.try_get_matches_from(words)?;
@@ -57,7 +58,7 @@ pub fn request_of(alloc: Global, words: &[String]) -> Result<Request, Error>
     }
     let config = match matches.subcommand_matches("serial") {
         Some(given) => options_of(given),
-        None => DEFAULTS,
+        None => SCRIPT_DEFAULTS,
     };
     Ok(Request {
         kind: Kind::Serial,
@@ -88,7 +89,7 @@ fn height_of(given: &ArgMatches<'_>) -> u8
     ensures value { Means 0 10 6 (one_text (found_of given.now) (codes "height")) result }
     ensures limit { result ≤ MAX_HEIGHT }
 {
-    let height: u8 = given.get_one("height").unwrap_or(DEFAULTS.height);
+    let height: u8 = given.get_one("height").unwrap_or(SCRIPT_DEFAULTS.height);
     height.min(MAX_HEIGHT)
 }
 
@@ -97,7 +98,7 @@ fn slots_of(given: &ArgMatches<'_>) -> u8
     ensures least { 1 ≤ result }
     ensures limit { result ≤ MAX_SLOTS }
 {
-    let slots: u8 = given.get_one("slots").unwrap_or(DEFAULTS.slots);
+    let slots: u8 = given.get_one("slots").unwrap_or(SCRIPT_DEFAULTS.slots);
     slots.clamp(1, MAX_SLOTS)
 }
 
@@ -105,7 +106,9 @@ fn last_seq_of(given: &ArgMatches<'_>) -> u32
     ensures value { Means 0 32767 32767 (one_text (found_of given.now) (codes "last-seq")) result }
     ensures limit { result ≤ MAX_SEQ }
 {
-    let last_seq: u32 = given.get_one("last-seq").unwrap_or(DEFAULTS.last_seq);
+    let last_seq: u32 = given
+        .get_one("last-seq")
+        .unwrap_or(SCRIPT_DEFAULTS.last_seq);
     last_seq.min(MAX_SEQ)
 }
 

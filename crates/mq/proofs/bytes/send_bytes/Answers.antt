@@ -1,4 +1,4 @@
-use Rattle.std.proofs.Common.{rules, ap, ◌∙◌, w64}
+use Rattle.std.proofs.Common.{rules, ap, inl, ◌∙◌, w64}
 use Rattle.std.proofs.lemmas.Int.{to_z-of_z}
 use mir.Val.{SFits}
 use Rattle.mq_message.specs.Text.{PlainText}
@@ -12,9 +12,9 @@ pub returns-in-Err-msgsnd-clause-refused : goal.returns-in-Err-msgsnd-clause-ref
 returns-in-Err-msgsnd-clause-refused g c =
     let fits : SFits w64 c.args.mtype = search rules in
     let is = simp to_z-of_z at c.in-Err-msgsnd.ensures.refused in
-    ap (λ (r : Refused). r.errno)
+    inl (ap (λ (r : Refused). r.errno)
     (refused_whole c.args.queues.now c.draft_of.new.self c.args.seat c.args.id c.args.mtype c.args.tag c.args.bytes.now c.args.moment
-    c.in-Ok.text c.in-Err-msgsnd.refusal.refused c.in-Ok.ensures.ok is)
+    c.in-Ok.text c.in-Err-msgsnd.refusal.refused c.in-Ok.ensures.ok is))
 
 pub returns-in-Err-msgsnd-clause-unchanged : goal.returns-in-Err-msgsnd-clause-unchanged
 returns-in-Err-msgsnd-clause-unchanged g c =

@@ -11,7 +11,6 @@ invariant-loop-page l = record {
   there : (page : ℕ) → l.start + length l.places.value.items ≤ page
       → page < l.start + length l.fn.places.value.items → IsHome l.homes page;
   others : SameOutside l.fn.homes l.homes l.start (length l.fn.places.value.items);
-  room : l.places.value.capacity ≡ l.fn.places.value.capacity;
 }
 
 abbrev pub decreases-loop-page : goal.decreases-loop-page

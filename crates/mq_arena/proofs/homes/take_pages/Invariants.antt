@@ -1,5 +1,4 @@
 use Rattle.std.proofs.Common.{◌≡◌, ◌-◌, length}
-use Rattle.mq_arena.specs.declared.limits.TheConstants.{MAX_PAGES}
 use Rattle.mq_arena.specs.Bytes.{AreWhole}
 use Rattle.mq_arena.specs.Homes.{SameOutside}
 use Rattle.mq_arena.proofs.homes.take_pages.Given as goal
@@ -9,6 +8,6 @@ abbrev pub invariant-loop-i : goal.invariant-loop-i
 invariant-loop-i l = record {
   whole : AreWhole l.places.value.items;
   count : length l.places.value.items ≡ l.i - l.start;
-  room : l.places.value.capacity ≡ MAX_PAGES;
+  room : l.places.value.capacity ≡ l.fn.places.value.capacity;
   others : SameOutside l.fn.homes l.homes l.start (l.i - l.start);
 }

@@ -10,8 +10,8 @@ returns-then-len-2-clause-least c = λ order room.
     let value : order_for c.args.len ≡ 2 = grind (arith, nat_tests) in
     omega arith
 
-pub returns-else-len-2-clause-least : goal.returns-else-len-2-clause-least
-returns-else-len-2-clause-least c = λ order room.
+pub returns-then-len-le-INLINE_LEN-clause-least : goal.returns-then-len-le-INLINE_LEN-clause-least
+returns-then-len-le-INLINE_LEN-clause-least c = λ order room.
     let least : order_for c.args.len ≤ order = order_least c.args.len order room in
     let value : order_for c.args.len ≡ 3 = grind (arith, nat_tests) in
     omega arith

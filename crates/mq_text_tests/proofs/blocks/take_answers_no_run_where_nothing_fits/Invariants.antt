@@ -1,4 +1,4 @@
-use Rattle.mq_text_tests.proofs.blocks.take_answers_none_where_nothing_fits.Given as goal
+use Rattle.mq_text_tests.proofs.blocks.take_answers_no_run_where_nothing_fits.Given as goal
 
 -- the ledger that the test opens
 abbrev pub ghosts-fills_up : goal.ghosts-fills_up
