@@ -3,7 +3,8 @@ use Rattle.std.proofs.Common.{◌≡◌, ℕ, List, ◌++◌, length, map, take,
 use Rattle.std.proofs.lemmas.List.{get_or-map, length-map, take-append-drop}
 use Rattle.std.proofs.lemmas.List.Elements.{All-map}
 use Rattle.mq_message.specs.Text.{PlainText}
-use Rattle.mq_queue.specs.Waiting.{header_of, waiting}
+use Rattle.mq_select.specs.Waiting.{header_of}
+use Rattle.mq_queue.specs.Waiting.{waiting}
 use Rattle.mq_table.specs.Slot.{SlotState, Waits}
 use Rattle.mq_table.specs.SlotList.{IsSlotList, offset}
 use Rattle.mq_table.proofs.Lasts.{drop_offset}

@@ -6,12 +6,12 @@ use Rattle.std.proofs.lemmas.List.{length-map}
 use Rattle.std.proofs.lemmas.List.FromFn.{get_or-map-range_with_len, length-map-range_with_len}
 use Rattle.mq_tree.specs.declared.limits.TheConstants.{MAX_HEIGHT}
 use Rattle.mq_message.specs.Text.{PlainText}
+use Rattle.mq_select.specs.Waiting.{header_of}
 use Rattle.mq_queue.specs.declared.event.Event.{Event}
 use Rattle.mq_queue.specs.declared.figures.Figures.{Figures}
 use Rattle.mq_queue.specs.Figures.{figures, live_figures, no_figures}
 use Rattle.mq_queue.specs.Queue.{Queue, IsSound}
 use Rattle.mq_queue.specs.Row.{is_live, last_log}
-use Rattle.mq_queue.specs.Waiting.{header_of}
 use Rattle.mq_table.specs.Slot.{SlotState, empty_slot}
 use Rattle.mq_table.specs.SlotList.{offset}
 use Rattle.mq_one_thread.specs.Closed.{ends}

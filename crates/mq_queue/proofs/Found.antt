@@ -5,14 +5,15 @@ use Rattle.std.proofs.lemmas.Option.{none-some, same_Some}
 use Rattle.mq_message.specs.declared.message.Message.{Message}
 use Rattle.mq_select.specs.declared.selection.Selection.{Selection}
 use Rattle.mq_select.specs.Selection.{pick, eligible}
-use Rattle.mq_select.specs.Waiting.{message_at, without, Header}
+use Rattle.mq_select.specs.declared.header.Header.{Header}
+use Rattle.mq_select.specs.Waiting.{header_of, headers_of, message_at, without}
 use Rattle.mq_select.proofs.Places.{picked_waits}
 use Rattle.mq_queue.specs.declared.error.QueueError.{QueueError}
 use Rattle.mq_queue.specs.declared.error.QueueError.TheVariants.{NoMessage, TooBig, Memory}
 use Rattle.mq_queue.specs.declared.event.Event.{Event}
 use Rattle.mq_queue.specs.Answer.{receive_answer, receive_refusal, handed_out, refusal_or_memory}
 use Rattle.mq_queue.specs.Queue.{IsSound}
-use Rattle.mq_queue.specs.Waiting.{header_of, headers_of, waiting}
+use Rattle.mq_queue.specs.Waiting.{waiting}
 use Rattle.mq_queue.proofs.Places.{Rises, found_at, whole_at}
 use Rattle.mq_queue.proofs.Sound.{messages_rise}
 

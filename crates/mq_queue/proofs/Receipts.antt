@@ -5,7 +5,8 @@ use Rattle.std.proofs.lemmas.Option.{MatchOption-at_some}
 use Rattle.mq_message.specs.declared.message.Message.{Message}
 use Rattle.mq_select.specs.declared.selection.Selection.{Selection}
 use Rattle.mq_select.specs.Selection.{pick, eligible}
-use Rattle.mq_select.specs.Waiting.{Header, message_at, without}
+use Rattle.mq_select.specs.declared.header.Header.{Header}
+use Rattle.mq_select.specs.Waiting.{headers_of, message_at, without}
 use Rattle.mq_select.proofs.Places.{picked_waits}
 use Rattle.mq_queue.specs.declared.event.Event.{Event}
 use Rattle.mq_queue.specs.declared.event.Event.TheVariants.{Received}
@@ -14,7 +15,7 @@ use Rattle.mq_queue.specs.Answer.{receive_answer}
 use Rattle.mq_queue.specs.Lawful.{CanHappen, Lawful}
 use Rattle.mq_queue.specs.Queue.{AreFigures, IsSound}
 use Rattle.mq_queue.specs.Room.{bytes_of, quota}
-use Rattle.mq_queue.specs.Waiting.{headers_of, waiting}
+use Rattle.mq_queue.specs.Waiting.{waiting}
 use Rattle.mq_queue.proofs.Found.{headers_without, picked_header}
 use Rattle.mq_queue.proofs.Places.{found_at, length-without, sum_by-without}
 use Rattle.mq_queue.proofs.Sound.{figures_more, sound_more}

@@ -3,7 +3,8 @@ use Rattle.std.proofs.Common.{◌≡◌, ℕ, ℤ, pos, ◌+◌, ◌≤◌, ◌�
 use Rattle.std.proofs.lemmas.Bool.{leb-true}
 use Rattle.std.proofs.lemmas.List.Sums.{sum_by_push}
 use Rattle.mq_message.specs.declared.message.Message.{Message}
-use Rattle.mq_select.specs.Waiting.{Header}
+use Rattle.mq_select.specs.declared.header.Header.{Header}
+use Rattle.mq_select.specs.Waiting.{header_of, headers_of}
 use Rattle.mq_queue.specs.declared.error.QueueError.TheVariants.{TypeInvalid, TooLong, Full}
 use Rattle.mq_queue.specs.declared.event.Event.{Event}
 use Rattle.mq_queue.specs.declared.event.Event.TheVariants.{Sent}
@@ -13,7 +14,7 @@ use Rattle.mq_queue.specs.Answer.{send_refusal}
 use Rattle.mq_queue.specs.Lawful.{Lawful}
 use Rattle.mq_queue.specs.Queue.{AreFigures, IsSound}
 use Rattle.mq_queue.specs.Room.{has_room, quota}
-use Rattle.mq_queue.specs.Waiting.{headers_of, header_of, waiting}
+use Rattle.mq_queue.specs.Waiting.{waiting}
 use Rattle.mq_queue.proofs.Sound.{figures_more, sound_more}
 
 -- what the kept figures say of the room is what the log says

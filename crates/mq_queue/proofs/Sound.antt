@@ -2,7 +2,8 @@
 use Rattle.std.proofs.Common.{◌≡◌, ℕ, ◌<◌, List, [], ◌∷◌, ◌++◌, length, Option, unwrap_or, All, Bool, false, refl, sym, subst, ◌∙◌}
 use Rattle.std.proofs.lemmas.Grind.{fold-append}
 use Rattle.mq_message.specs.declared.message.Message.{Message}
-use Rattle.mq_select.specs.Waiting.{Header}
+use Rattle.mq_select.specs.declared.header.Header.{Header}
+use Rattle.mq_select.specs.Waiting.{header_of, headers_of}
 use Rattle.mq_queue.specs.declared.event.Event.{Event}
 use Rattle.mq_queue.specs.declared.figures.Figures.{Figures}
 use Rattle.mq_queue.specs.Figures.{live_figures, sender_told, sending_told, receiver_told, receipt_told, change_told}
@@ -11,7 +12,7 @@ use Rattle.mq_queue.specs.Log.{is_empty, is_made, is_removed, ends_with_removed,
 use Rattle.mq_queue.specs.Queue.{IsSound}
 use Rattle.mq_queue.specs.Replay.{after_event}
 use Rattle.mq_queue.specs.Room.{bytes_of, quota}
-use Rattle.mq_queue.specs.Waiting.{headers_of, header_of, waiting}
+use Rattle.mq_queue.specs.Waiting.{waiting}
 use Rattle.mq_queue.proofs.Logs.{one_more_follows}
 use Rattle.mq_queue.proofs.Places.{Rises, all_unmapped, pairs_unmapped}
 use Rattle.mq_queue.proofs.Steps.{none_ahead, quota_after, state_of, waits_after, waits_rising, waits_within}

@@ -1,13 +1,14 @@
 -- A queue.
 use Rattle.std.specs.Prelude.{◌≡◌, ℕ, ◌≤◌, false, List}
 use Rattle.mq_message.specs.declared.message.Message.{Message}
+use Rattle.mq_select.specs.Waiting.{headers_of}
 use Rattle.mq_queue.specs.declared.event.Event.{Event}
 use Rattle.mq_queue.specs.declared.figures.Figures.{Figures}
 use Rattle.mq_queue.specs.declared.limits.TheConstants.{MSGMNB}
 use Rattle.mq_queue.specs.Figures.{live_figures}
 use Rattle.mq_queue.specs.Lawful.{Lawful}
 use Rattle.mq_queue.specs.Log.{ends_with_removed}
-use Rattle.mq_queue.specs.Waiting.{headers_of, waiting}
+use Rattle.mq_queue.specs.Waiting.{waiting}
 
 -- a queue: its log, and the messages that wait, each with the place of its sending in the log
 pub record Queue (B : Type 0) : Type 0 where

@@ -2,12 +2,12 @@ ghost use Rattle.std.specs.Prelude.{◌≡◌, ◌||◌, ◌++◌, ◌∷◌, []
 ghost use Rattle.std.specs.Prelude.{OnOk, OnErr, IfOk, IfErr, Ok, Err, Some, None, IfSome};
 ghost use Rattle.std.specs.Option.{option_map};
 ghost use Rattle.mq_select.specs.Selection.{pick};
-ghost use Rattle.mq_select.specs.Waiting.{message_at, without};
+ghost use Rattle.mq_select.specs.Waiting.{header_of, message_at, without};
 ghost use Rattle.mq_queue.specs.Answer.{receive_answer, receive_refusal, received_header};
 ghost use Rattle.mq_queue.specs.Answer.{refusal_or_memory};
 ghost use Rattle.mq_queue.specs.Figures.{figures};
 ghost use Rattle.mq_queue.specs.Queue.{IsSound};
-ghost use Rattle.mq_queue.specs.Waiting.{header_of, waiting};
+ghost use Rattle.mq_queue.specs.Waiting.{waiting};
 
 use crate::log::{append, count, reserve};
 use crate::{Event, Figures, Notice, QueueError, QueueState, Received};

@@ -8,13 +8,14 @@ use Rattle.mq_message.specs.Text.{PlainText}
 use Rattle.mq_message.specs.declared.message.Message.{Message}
 use Rattle.mq_select.specs.declared.selection.Selection.{Selection}
 use Rattle.mq_select.specs.Selection.{pick}
-use Rattle.mq_select.specs.Waiting.{Header, message_at}
+use Rattle.mq_select.specs.declared.header.Header.{Header}
+use Rattle.mq_select.specs.Waiting.{header_of, message_at}
 use Rattle.mq_queue.specs.declared.error.QueueError.{QueueError}
 use Rattle.mq_queue.specs.declared.event.Event.TheVariants as event
 use Rattle.mq_queue.specs.declared.received.Received.{Received}
 use Rattle.mq_queue.specs.Answer.{handed_out, received_header}
 use Rattle.mq_queue.specs.Row.{last_log}
-use Rattle.mq_queue.specs.Waiting.{header_of, waiting}
+use Rattle.mq_queue.specs.Waiting.{waiting}
 use Rattle.mq_table.specs.Calls.{Receipt, received, receives}
 use Rattle.mq_table.specs.Slot.{SlotState}
 use Rattle.mq_one_thread.specs.Texts.{bytes_of}

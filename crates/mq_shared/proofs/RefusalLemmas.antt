@@ -6,7 +6,7 @@ use Rattle.std.proofs.lemmas.List.Sums.{fold-append}
 use Rattle.mq_message.specs.Text.{PlainText}
 use Rattle.mq_message.specs.declared.message.Message.{Message}
 use Rattle.mq_select.specs.Selection.{pick}
-use Rattle.mq_select.specs.Waiting.{Header}
+use Rattle.mq_select.specs.declared.header.Header.{Header}
 use Rattle.mq_select.specs.declared.selection.Selection.{Selection}
 use Rattle.mq_queue.specs.Answer.{handed_out, send_refusal}
 use Rattle.mq_queue.specs.Log.{is_removed}

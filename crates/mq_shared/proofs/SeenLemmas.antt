@@ -5,7 +5,8 @@ use Rattle.std.proofs.lemmas.List.{length-append, length_push}
 use mathlib.Core.List.{IsPrefix}
 use Rattle.mq_message.specs.Text.{PlainText}
 use Rattle.mq_message.specs.declared.message.Message.{Message}
-use Rattle.mq_select.specs.Waiting.{Header, without}
+use Rattle.mq_select.specs.declared.header.Header.{Header}
+use Rattle.mq_select.specs.Waiting.{without}
 use Rattle.mq_select.specs.declared.selection.Selection.{Selection}
 use Rattle.mq_queue.specs.Answer.{receive_answer, receive_refusal, send_refusal, set_refusal}
 use Rattle.mq_queue.specs.Room.{quota}

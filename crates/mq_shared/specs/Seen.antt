@@ -2,7 +2,7 @@
 -- a call was refused.
 use Rattle.std.specs.Prelude.{◌≡◌, ℕ, ℤ, ◌≤◌, Bool, List, length, take, slice_get, Option, None, Some, MatchOption, unwrap_or, Result, Ok, Err}
 use Rattle.mq_message.specs.Text.{PlainText}
-use Rattle.mq_select.specs.Waiting.{Header}
+use Rattle.mq_select.specs.declared.header.Header.{Header}
 use Rattle.mq_select.specs.declared.selection.Selection.{Selection}
 use Rattle.mq_queue.specs.Answer.{receive_answer, receive_refusal, send_refusal, set_refusal}
 use Rattle.mq_queue.specs.Room.{quota}

@@ -2,7 +2,8 @@
 use Rattle.std.proofs.Common.{◌≡◌, ℕ, Bool, true, List, [], ◌∷◌, ◌++◌, length, append_assoc, Option, None, Some, Result, Ok, Err, unwrap_or, refl, sym, ◌∙◌, subst, true≢false}
 use Rattle.mq_message.specs.declared.message.Message.{Message}
 use Rattle.mq_select.specs.declared.selection.Selection.{Selection}
-use Rattle.mq_select.specs.Waiting.{Header, without}
+use Rattle.mq_select.specs.declared.header.Header.{Header}
+use Rattle.mq_select.specs.Waiting.{without}
 use Rattle.mq_queue.specs.declared.error.QueueError.{QueueError}
 use Rattle.mq_queue.specs.declared.error.QueueError.TheVariants.{Memory}
 use Rattle.mq_queue.specs.declared.event.Event.{Event}

@@ -1,12 +1,13 @@
 -- A slot.
 use Rattle.std.specs.Prelude.{◌≡◌, ℕ, ◌+◌, ◌-◌, ◌<◌, ◌≤◌, true, Option, None, Some, IfSome, List, [], ◌++◌, All}
 use Rattle.mq_message.specs.declared.message.Message.{Message}
+use Rattle.mq_select.specs.Waiting.{headers_of}
 use Rattle.mq_queue.specs.declared.event.Event.{Event}
 use Rattle.mq_queue.specs.Lawful.{Lawful}
 use Rattle.mq_queue.specs.Log.{ends_with_removed}
 use Rattle.mq_queue.specs.Queue.{Queue, IsSound}
 use Rattle.mq_queue.specs.Row.{made_count}
-use Rattle.mq_queue.specs.Waiting.{headers_of, waiting}
+use Rattle.mq_queue.specs.Waiting.{waiting}
 use Rattle.mq_table.specs.Ids.{id_of}
 use Rattle.mq_table.specs.SlotList.{joined, live_log}
 use Rattle.mq_table.specs.declared.limits.TheConstants.{MAX_SLOTS, MAX_SEQ}

@@ -4,8 +4,8 @@ ghost use Rattle.mq_queue.specs.Answer.{receive_answer, receive_refusal, receive
 ghost use Rattle.mq_queue.specs.Figures.{figures};
 ghost use Rattle.mq_queue.specs.Room.{quota};
 ghost use Rattle.mq_queue.specs.Row.{is_live, last_log, slot_figures};
-ghost use Rattle.mq_queue.specs.Waiting.{header_of, waiting};
-ghost use Rattle.mq_select.specs.Waiting.{message_at};
+ghost use Rattle.mq_queue.specs.Waiting.{waiting};
+ghost use Rattle.mq_select.specs.Waiting.{header_of, message_at};
 ghost use Rattle.mq_table.specs.Calls.{sends, receives, sets, refusal_of, receipt_of};
 ghost use Rattle.mq_table.specs.Slot.{Waits};
 ghost use Rattle.mq_table.specs.SlotList.{IsSlotList};
