@@ -5,6 +5,8 @@
 #[cfg(test)]
 mod bodies;
 #[cfg(test)]
+mod headers;
+#[cfg(test)]
 mod parts;
 #[cfg(test)]
 mod steps;

@@ -1,11 +1,12 @@
-ghost use Rattle.std.specs.Prelude.{◌≡◌, ◌==◌, ◌<◌, ◌++◌, ◌∷◌, [], All, AllPairs};
+ghost use Rattle.std.specs.Prelude.{◌≡◌, ◌==◌, ◌<◌, ◌++◌, ◌∷◌, [], All, AllPairs, IfOk};
 ghost use Rattle.std.specs.Prelude.{find, int_le, length, map, not, pos, position};
 ghost use Rattle.std.specs.Option.{option_map, ForSome};
 ghost use Rattle.std.specs.Ordering.{int_eq};
 ghost use Rattle.std.specs.VecDeque.{deque_len, deque_capacity};
 ghost use Rattle.mq_select.specs.Lowest.{first_lowest, lower_first_of};
+ghost use Rattle.mq_select.specs.Waiting.{headers_of};
 
-use crate::{Selection, Waiting};
+use crate::{Header, Selection, Waiting};
 use mq_message::{Body, Message};
 use std::alloc::{AllocError, Global};
 use std::collections::VecDeque;
@@ -101,6 +102,27 @@ fn index_of<B>(messages: &VecDeque<Placed<B>>, place: u64) -> Option<usize>
     messages.binary_search_by_key(&place, |m| m.0).ok()
 }
 
+/// The headers of the messages, in their order. `Err` means out of memory.
+fn headers_in<B: Body>(
+    alloc: Global,
+    messages: &VecDeque<Placed<B>>,
+) -> Result<Vec<Header>, AllocError>
+    ensures { IfOk result (λ headers. headers.items ≡ headers_of B.bytes messages.now.items) }
+{
+    let mut headers = Vec::with_capacity(alloc, messages.len())?;
+    for i in 0..messages.len() {
+        let (place, message) = &messages[i];
+        headers.push(Header {
+            place: *place,
+            seat: message.sender,
+            tag: message.tag,
+            mtype: message.mtype,
+            length: message.body.len(),
+        })?;
+    }
+    Ok(headers)
+}
+
 impl<B> ListWaiting<B> {
     /// How many messages wait.
     pub fn len(&self) -> usize
@@ -181,6 +203,10 @@ impl<B: Body> Waiting<B> for ListWaiting<B> {
     fn length_of(&self, place: u64) -> u64 {
         let index = index_of(&self.messages, place).unwrap();
         self.messages[index].1.body.len()
+    }
+
+    fn headers(&self, alloc: Global) -> Result<Vec<Header>, AllocError> {
+        headers_in(alloc, &self.messages)
     }
 
     fn pop_any(&mut self) -> Option<Message<B>> {
