@@ -1,4 +1,5 @@
 pub mod Logs
+pub mod Bases
 pub mod Sendings
 pub mod Steps
 pub mod Kept

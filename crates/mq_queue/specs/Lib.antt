@@ -1,6 +1,8 @@
 pub mod Answer
+pub mod Base
 pub mod Figures
 pub mod Lawful
+pub mod LawfulFrom
 pub mod Laws
 pub mod Log
 pub mod Queue

@@ -1,5 +1,6 @@
 //! What holds of each lawful log: each law is the contract of an empty function.
 
+ghost use Rattle.mq_queue.specs.LawfulFrom.{GoesOnFromBase};
 ghost use Rattle.mq_queue.specs.Laws.{ReceivesOnce, ReceivesInOrder, PrefixesAreLawful};
 ghost use Rattle.mq_queue.specs.Laws.{IsReplayed};
 
@@ -21,4 +22,10 @@ pub fn each_prefix_is_lawful()
 /// A replay of the log finds what waits, and what each call was answered.
 pub fn a_log_is_replayed()
     ensures { IsReplayed }
+{}
+
+/// A log whose beginning is cut off is lawful just where the events since then are by the base of
+/// that beginning, and what waits and the figures are found from it.
+pub fn a_cut_log_goes_on()
+    ensures { GoesOnFromBase }
 {}

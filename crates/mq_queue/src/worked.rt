@@ -4,14 +4,15 @@ ghost use Rattle.std.specs.Prelude.{◌≡◌, ◌∷◌, ◌++◌, [], drop, po
 ghost use Rattle.mq_select.specs.declared.selection.Selection.TheVariants.{Any, Exact, Except, UpTo};
 ghost use Rattle.mq_queue.specs.declared.error.QueueError.TheVariants.{TypeInvalid, TooLong, Full, NoMessage, TooBig, OverLimit};
 ghost use Rattle.mq_queue.specs.Answer.{send_refusal, receive_answer, set_refusal};
+ghost use Rattle.mq_queue.specs.Base.{base_of, event_from, figures_from, quota_from, waiting_from};
 ghost use Rattle.mq_queue.specs.Figures.{figures, no_figures};
 ghost use Rattle.mq_queue.specs.Log.{made_key};
 ghost use Rattle.mq_queue.specs.Replay.{state_after};
 ghost use Rattle.mq_queue.specs.Replies.{replayed};
 ghost use Rattle.mq_queue.specs.Room.{quota};
 ghost use Rattle.mq_queue.specs.Waiting.{waiting};
-ghost use Rattle.mq_queue.specs.Worked.{text, ab_and_cd, hello_and_hi, four_types};
-ghost use Rattle.mq_queue.specs.Worked.{quota_of_4, four_texts, over_quota, under_quota, shut};
+ghost use Rattle.mq_queue.specs.Worked.{text, ab_and_cd, hello_and_hi, four_types, received};
+ghost use Rattle.mq_queue.specs.Worked.{quota_of_4, ef_for_ab, four_texts, over_quota, under_quota, shut};
 ghost use Rattle.mq_queue.specs.Worked.{hello_received, two_of_type_1, made, removed};
 
 /// With a quota of 4, the bytes are at most 4, and so are the messages.
@@ -104,4 +105,27 @@ pub fn played_again()
     ensures waits { (state_after two_of_type_1).headers ≡ text 1 3 1 ∷ text 3 2 1 ∷ [] }
     ensures answers { drop 5 (replayed two_of_type_1)
         ≡ Ok (Some (text 2 1 1)) ∷ Ok (Some (text 4 1 1)) ∷ [] }
+{}
+
+/// The log of "ab", "cd" and the quota of 4 is cut off, and then "ef" is sent for "ab".
+pub fn cut_and_gone_on()
+    ensures places { (base_of quota_of_4).places ≡ 4 }
+    ensures figures { (base_of quota_of_4).figures ≡ figures quota_of_4 }
+    ensures waiting { (base_of quota_of_4).waiting ≡ ab_and_cd }
+    ensures waits { waiting_from (base_of quota_of_4) ef_for_ab ≡ text 2 1 2 ∷ text 5 1 2 ∷ [] }
+    ensures quota { quota_from (base_of quota_of_4) ef_for_ab ≡ 4 }
+    ensures shown { figures_from (base_of quota_of_4) ef_for_ab ≡ record {
+      qnum = 2;
+      cbytes = 4;
+      qbytes = 4;
+      stime = 6;
+      rtime = 5;
+      ctime = 4;
+      lspid = 1;
+      lrpid = 2;
+    } }
+    ensures removed { figures_from (base_of quota_of_4) (removed 5 ∷ []) ≡ no_figures }
+    ensures cut_off { event_from 4 ef_for_ab 3 ≡ None }
+    ensures entry { event_from 4 ef_for_ab 4 ≡ Some (received 5 1) }
+    ensures end { event_from 4 ef_for_ab 6 ≡ None }
 {}
