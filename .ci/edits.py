@@ -5,6 +5,7 @@ An edit is a text file. Its lines are `WORD: TEXT`: words of the head, each at m
 stands exactly once in that file as the pairs before it left it.
 """
 import os
+import sys
 from pathlib import Path
 
 WORDS = ("error", "function", "file", "old", "new")
@@ -74,7 +75,11 @@ def read(path, *wanted):
 
 
 def edits_below(top, folder, crates=()):
-    """The files crates/*/FOLDER/*.edit, of these crates or of all."""
+    """The files crates/*/FOLDER/*.edit, of these crates or of all. Ends the program where a crate is
+    not there."""
+    for name in crates:
+        if not (top / "crates" / name).is_dir():
+            sys.exit(f"there is no crate {name}")
     found = sorted(top.glob(f"crates/*/{folder}/*.edit"))
     return [path for path in found if not crates or path.parent.parent.name in crates]
 

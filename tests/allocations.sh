@@ -129,7 +129,7 @@ begin "$folder/types" 'threads --height 4 --slots 1 --last-seq 0'
 begin "$folder/queues" 'threads --slots 64'
 begin "$folder/long" 'threads --height 7'
 
-source tests/serial_tables.sh
+source tests/serial_tables.sh || exit 1
 for words in '' 'serial --height 6 --slots 16 --last-seq 32767' 'serial --height 2 --slots 2' \
     '--help' 'serial --height 11'; do
     for script in crates/mqsim/stdin tests/scripts/* examples/{keys,pages,quota}; do
@@ -144,5 +144,9 @@ for ((job = 1; job <= jobs; job++)); do
     passed=$((passed + right))
     failed=$((failed + wrong))
 done
+if [ $((passed + failed)) -lt 15000 ]; then
+    echo "allocations: of at least 15,000 runs only $((passed + failed)) were made"
+    failed=$((failed + 1))
+fi
 echo "allocations: $passed passed, $failed failed"
 [ "$failed" -eq 0 ]

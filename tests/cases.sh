@@ -11,6 +11,11 @@ chmod +x "$program"
 passed=0
 failed=0
 
+# Fails where fewer than $1 cases were counted, as when a table was not read.
+at_least() {
+    [ $((passed + failed)) -ge "$1" ] || count 1 "of at least $1 cases only $((passed + failed)) were tried"
+}
+
 # Counts a case, which passed if $1 is 0, and else is told by the words from $2 on.
 count() {
     if [ "$1" -eq 0 ]; then

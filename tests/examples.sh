@@ -28,5 +28,6 @@ for pair in 'first stdin' 'first.stdout stdout'; do
     count $? "crates/mqsim/$given is not the README's first script"
 done
 
+at_least 11
 echo "examples: $passed passed, $failed failed"
 [ "$failed" -eq 0 ]

@@ -134,6 +134,9 @@ def main():
                 passed, failed = passed + right, failed + len(others)
                 times[" ".join(tested)] += seconds
                 print(*others[:TOLD], sep="\n", end="\n" if others else "")
+    if passed + failed == 0:
+        failed += 1
+        print("refused_calls: no allocation of any test was refused")
     longest = (f"{test} {seconds:.0f} s" for test, seconds in times.most_common(LONGEST))
     print(f"refused_calls: {times.total():.0f} s in all lanes, longest {', '.join(longest)}")
     print(f"refused_calls: {passed} passed, {failed} failed")

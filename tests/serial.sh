@@ -22,7 +22,7 @@ case_of() {
         "standard error: $(head -c 300 "$seen/err")"
 }
 
-source tests/serial_tables.sh
+source tests/serial_tables.sh || exit 1
 
 table a_text_is_answered_whole
 letters=$(printf 'abcdefghijklmnopqrstuvwxyz%.0s' {1..2521})
@@ -39,5 +39,6 @@ case_of 'serial --slots 1' \
     "$(awk 'BEGIN { for (k = 0; k < 32768; k++) printf "get 0 c\\nrm %d\\n", 64 * k }')get 0 c\n" \
     "$(awk 'BEGIN { for (k = 0; k < 32768; k++) \
         printf "id %d\\nat %d events 2\\n", 64 * k, 2 * k + 1 }')ENOSPC\n"
+at_least 136
 echo "serial: $passed passed, $failed failed"
 [ "$failed" -eq 0 ]

@@ -119,7 +119,7 @@ sums() {
     echo "sent $1 received $2${3+ ${*:3}}" >&8
 }
 
-source tests/threads_tables.sh
+source tests/threads_tables.sh || exit 1
 begin
 wait
 passed=0
@@ -129,5 +129,6 @@ for ((k = 1; k <= cases; k++)); do
     passed=$((passed + right))
     failed=$((failed + wrong))
 done
+at_least 1200
 echo "threads: $passed passed, $failed failed"
 [ "$failed" -eq 0 ]
