@@ -31,7 +31,7 @@ GROUPS = {
                                        "BoardRow"],
     "Refusals": ["Errno", "Refused", "SendRefused", "DraftError", "TakeError"],
     "Texts": ["Text", "Body", "Parts", "Homecoming", "Block", "Page"],
-    "Logs": ["Event", "Selection", "Log", "Received"],
+    "Logs": ["Event", "Selection", "Log", "Received", "Base", "BaseEntries", "BaseEntry"],
     "Limits": ["MSGMAX", "MSGMNB", "PAGE_LEN", "INLINE_LEN", "MAX_HEIGHT", "MAX_ORDER", "MAX_PAGES",
                "INLINE_ORDER", "INLINE_PAGES", "MAX_SLOTS", "MAX_SEATS", "MAX_SEQ", "LEDGER_PARTS"],
     "Without `with_queues`": ["Ledger", "Blank", "Closed", "ArenaState"],
@@ -42,7 +42,7 @@ LEFT_OUT = {("Seat", it) for it in ("new", "into_parts", "holds", "learn", "row"
 # The type of the boards' copies, which nobody names.
 COPIES = re.compile(r", (?:W = )?Copies<N>(?=>)")
 # A line, or lines, that hand on names of another crate.
-HANDED = re.compile(r"pub use ([\w:]+)::(?:(\w+)|\{([^}]*)\});")
+HANDED = re.compile(r"pub use ([\w:]+)::(?:(\w+(?: as \w+)?)|\{([^}]*)\});")
 
 HEAD = """\
 # The public calls
@@ -176,11 +176,21 @@ def parts(lines):
     return found
 
 
+def handings(crate):
+    """Each name that a crate hands on, with where it is from and its name there."""
+    text = (TOP / "crates" / crate / "src" / "lib.rt").read_text()
+    for path, one, several in HANDED.findall(text):
+        for word in (one or several).replace("\n", " ").split(","):
+            if word.strip():
+                there, _, name = word.strip().partition(" as ")
+                yield name or there, path, there
+
+
 def below(name, crate):
-    """The crate of which this one hands on a name."""
-    for path, one, several in HANDED.findall((TOP / "crates" / crate / "src" / "lib.rt").read_text()):
-        if name in re.findall(r"\w+", one or several) and (TOP / "crates" / path).is_dir():
-            return path
+    """The crate of which this one hands on a name, and its name there."""
+    for handed, path, there in handings(crate):
+        if handed == name and (TOP / "crates" / path).is_dir():
+            return there, path
     sys.exit(f"api: nothing is found of {crate}::{name}")
 
 
@@ -205,7 +215,10 @@ def read(name, crate):
                 elif kind in ("struct", "enum"):
                     item.parts = parts(block(lines, at))
     if item is None:
-        return read(name, below(name, crate))
+        there, path = below(name, crate)
+        item = read(there, path)
+        item.head = re.sub(rf"\b{there}\b", name, item.head)
+        return item
     own_first = sorted(texts, key=lambda it: str(it.relative_to(TOP)) != item.path)
     for lines in (texts[it] for it in own_first):
         for at, line in enumerate(lines):
@@ -221,14 +234,11 @@ def read(name, crate):
 
 def handed_on():
     """Each name that `mq` hands on, with its crate."""
-    text = (TOP / "crates" / "mq" / "src" / "lib.rt").read_text()
     names = {}
-    for path, one, several in HANDED.findall(text):
+    for name, path, _ in handings("mq"):
         crate = path.split("::")[0]
         own = crate == "crate" or not (crate == "std" or (TOP / "crates" / crate).is_dir())
-        for name in (one or several).replace("\n", " ").split(","):
-            if name.strip():
-                names[name.strip()] = "mq" if own else path if crate == "std" else crate
+        names[name] = "mq" if own else path if crate == "std" else crate
     return names
 
 

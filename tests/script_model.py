@@ -40,6 +40,10 @@ def key_of(word):
     return number(word, -(2**31), 2**31 - 1)
 
 
+def slot_of(word):
+    return number(word, 0, 63)
+
+
 def seat_of(word):
     return number(word, 1, 16)
 
@@ -58,7 +62,7 @@ FORMS = {
     b"snd": ((id_of, type_of, text_of), ()),
     b"rcv": ((id_of, size_of, type_of), (b"e", b"n", b"en")),
     b"set": ((id_of, size_of), ()), b"rm": ((id_of,), ()), b"stat": ((id_of,), ()),
-    b"ipcs": ((), ()), b"arena": ((), ()),
+    b"cut": ((slot_of,), ()), b"ipcs": ((), ()), b"arena": ((), ()),
 }
 
 
@@ -107,6 +111,7 @@ class Run:
         self.seat = 1
         self.made = [0] * SLOTS
         self.entries = [0] * SLOTS
+        self.cut_off = [0] * SLOTS
         self.live = [None] * SLOTS
         self.page_used = [False] * PAGES
 
@@ -208,6 +213,13 @@ class Run:
         return (f"qnum {len(queue.waiting)} cbytes {queue.cbytes()} qbytes {queue.qbytes} "
                 f"lspid {queue.lspid} lrpid {queue.lrpid} stime {queue.stime} "
                 f"rtime {queue.rtime} ctime {queue.ctime}")
+
+    def do_cut(self, _moment, _flags, slot):
+        if slot >= SLOTS:
+            raise Refused("EINVAL")
+        queue, first = self.live[slot], self.cut_off[slot]
+        self.cut_off[slot] = self.entries[slot] if queue is None else queue.entry + queue.events
+        return f"cut from {first} to {self.cut_off[slot]}"
 
     def do_ipcs(self, _moment, _flags):
         rows = [[name for name, _ in COLUMNS]]

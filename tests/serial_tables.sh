@@ -166,6 +166,24 @@ case_of '' \
     'get 0 c\nsnd 0 1 *65536\nset 0 0' \
     'id 0\nat 1\nat 2\n'
 
+table a_cut_is_told_and_changes_no_other_answer
+# Messages wait at a cut, a removed queue's log is told whole, and no slot 16 is there.
+case_of '' \
+    'get 0 c\nsnd 0 5 =hello\nsnd 0 6 =x\ncut 0\ncut 0\nrcv 0 9 6\nstat 0\ncut 0\nrm 0\ncut 0\nget 0 c\nsnd 64 1 =n\ncut 16\n' \
+    'id 0\nat 1\nat 2\ncut from 0 to 3\ncut from 3 to 3\nmsg 6 seat 1 tag 3 len 1 =x\nqnum 1 cbytes 5 qbytes 131072 lspid 1 lrpid 1 stime 3 rtime 6 ctime 1\ncut from 3 to 4\nat 4 events 5\ncut from 4 to 5\nid 64\nat 6\nEINVAL\n'
+# A slot that was never used has nothing to cut off; the last slot is 63, and slots are cut one by one.
+case_of 'serial --slots 64' \
+    'cut 0\ncut 63\nget 0 c\nget 0 c\ncut 1\ncut 0\nsnd 1 1 =a\ncut 1\ncut 0\n' \
+    'cut from 0 to 0\ncut from 0 to 0\nid 0\nid 1\ncut from 0 to 1\ncut from 0 to 1\nat 1\ncut from 1 to 2\ncut from 1 to 1\n'
+# The key, the quota and the row of a queue stay, and the ids of a slot are counted on.
+case_of 'serial --slots 2 --last-seq 1' \
+    'get -7 c\nset 0 3\nsnd 0 1 =abc\ncut 0\nget -7\nget -7 cx\nsnd 0 1 =d\nipcs\nrm 0\ncut 0\nstat 0\nget -7\nget -7 c\ncut 0\nrm 64\nget 0 c\nget 0 c\nstat 64\n' \
+    'id 0\nat 1\nat 2\ncut from 0 to 3\nid 0\nEEXIST\nEAGAIN\nslot      id         key   qnum  cbytes  qbytes lspid lrpid\n   0       0          -7      1       3       3     1     0\nat 3 events 4\ncut from 3 to 4\nEIDRM\nENOENT\nid 64\ncut from 4 to 5\nat 5 events 2\nid 1\nENOSPC\nEIDRM\n'
+# What waits is received after it as before it, and its pages come home.
+case_of 'serial --height 2' \
+    'get 0 c\nsnd 0 2 =b\nsnd 0 1 =a\nsnd 0 3 *1025\ncut 0\narena\nrcv 0 9 -2\ncut 0\nrcv 0 1 3\nrcv 0 9 3 e\nrm 0\narena\n' \
+    'id 0\nat 1\nat 2\nat 3\ncut from 0 to 4\npages 4 free 0 largest none\nmsg 1 seat 1 tag 3 len 1 =a\ncut from 4 to 5\nE2BIG\nmsg 2 seat 1 tag 2 len 1 =b\nat 6 events 7\npages 4 free 4 largest 2\n'
+
 table each_system_gives_ids_and_keys_as_it_must
 # Keys and their flags; a slot whose queue is removed has the next id.
 case_of 'serial --slots 1 --last-seq 32767' \
@@ -278,6 +296,14 @@ case_of 'serial --height 0' 'rm' '' 'mqsim: line 1: words\n'
 case_of 'serial --height 0' 'rm 0 0' '' 'mqsim: line 1: words\n'
 case_of 'serial --height 0' 'rm 00' '' 'mqsim: line 1: number\n'
 case_of 'serial --height 0' 'rm 4294967296' '' 'mqsim: line 1: number\n'
+case_of 'serial --height 0' 'cut' '' 'mqsim: line 1: words\n'
+case_of 'serial --height 0' 'cut ' '' 'mqsim: line 1: words\n'
+case_of 'serial --height 0' 'cut 0 0' '' 'mqsim: line 1: words\n'
+case_of 'serial --height 0' 'cut  0' '' 'mqsim: line 1: words\n'
+case_of 'serial --height 0' 'cut 64' '' 'mqsim: line 1: number\n'
+case_of 'serial --height 0' 'cut 00' '' 'mqsim: line 1: number\n'
+case_of 'serial --height 0' 'cut -1' '' 'mqsim: line 1: number\n'
+case_of 'serial --height 0' 'cut x' '' 'mqsim: line 1: number\n'
 case_of 'serial --height 0' 'stat' '' 'mqsim: line 1: words\n'
 case_of 'serial --height 0' 'stat 0 0' '' 'mqsim: line 1: words\n'
 case_of 'serial --height 0' 'stat -1' '' 'mqsim: line 1: number\n'

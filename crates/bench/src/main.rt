@@ -1,10 +1,11 @@
-//! What the scripts of bench/ measure, by the first word: `bench tree`, `cycle`, `system`,
+//! What the scripts of bench/ measure, by the first word: `bench tree`, `cycle`, `cut`, `system`,
 //! `stat`, `channel`, `waiting`, `board` or `start`, each with words of its own. Without words it
 //! does a little of each.
 #![tactic(auto)]
 
 mod board;
 mod channel;
+mod cut;
 mod cycle;
 mod start;
 mod stat;
@@ -29,6 +30,7 @@ fn main(rt: HostRuntime) -> Result<()> {
     match words.word(0) {
         "tree" => tree::run(&rt, alloc, &words),
         "cycle" => cycle::run(&rt, alloc, &words),
+        "cut" => cut::run(&rt, alloc, &words),
         "system" => system::run(&rt, alloc, &words),
         "stat" => stat::run(&rt, alloc, &words),
         "channel" => channel::run(&rt, alloc, &words),
@@ -38,6 +40,7 @@ fn main(rt: HostRuntime) -> Result<()> {
         "" => {
             tree::run(&rt, alloc, &words)?;
             cycle::run(&rt, alloc, &words)?;
+            cut::run(&rt, alloc, &words)?;
             system::run(&rt, alloc, &words)?;
             stat::run(&rt, alloc, &words)?;
             channel::run(&rt, alloc, &words)?;

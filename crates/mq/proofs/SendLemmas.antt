@@ -2,7 +2,8 @@ use Rattle.std.proofs.Common.{◌≡◌, ℕ, ℤ, List, length, slice_index_or,
 use Rattle.mq_message.specs.Text.{PlainText}
 use Rattle.mq_message.specs.declared.order.TheConstants.{INLINE_LEN}
 use Rattle.mq_table.specs.Ids.{slot_of}
-use Rattle.mq_table.specs.Slot.{SlotState, empty_slot}
+use Rattle.mq_table.specs.Kept.{KeptSlot, entries_of}
+use Rattle.mq_table.specs.SlotParts.{empty_kept}
 use Rattle.mq_one_thread.proofs.DraftLemmas.{spent_after}
 use Rattle.mq_one_thread.specs.Calls.{msgsnd}
 use Rattle.mq_one_thread.specs.Look.{Answer, refused_early, refused_or_memory}
@@ -50,9 +51,9 @@ refused_draft q seat id mtype tag bytes moment refused is over = by_draft (draft
 -- a refusal counts the events of its slot, and a draft adds none
 refused_before : (q after : State) (id : ℕ) (a : Answer ℕ) → after.slots ≡ q.slots → refused_or_memory after id a ≡ refused_or_memory q id a
 refused_before q after id (Ok turn) e =
-    let refused : List (SlotState PlainText) → Refused = λ slots. record {
+    let refused : List (KeptSlot PlainText) → Refused = λ slots. record {
       errno = ENOMEM;
-      entry = Some (length (slice_index_or slots (slot_of id) (empty_slot (slot_of id))).events);
+      entry = Some (entries_of (slice_index_or slots (slot_of id) (empty_kept (slot_of id))));
     } in
     ap refused e
 refused_before q after id (Err refused) e = refl

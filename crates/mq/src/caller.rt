@@ -1,8 +1,10 @@
 ghost use Rattle.std.specs.Prelude.{◌≡◌, ◌⊎◌, ◌+◌, ◌<◌, ◌≤◌, false, length, slice_index, take};
 ghost use Rattle.std.specs.Prelude.{IfOk, IfErr, OnOk, MatchResult};
+ghost use Rattle.mq_queue.specs.Queue.{rest_of};
 ghost use Rattle.mq_queue.specs.Row.{last_log};
 ghost use Rattle.mq_queue.specs.declared.event.Event.TheVariants.{Removed, Sent};
 ghost use Rattle.mq_select.specs.Selection.{selection_of};
+ghost use Rattle.mq_table.specs.Cut.{IsCutOf, shown};
 ghost use Rattle.mq_table.specs.Ids.{seq_of, slot_of};
 ghost use Rattle.mq_one_thread.specs.declared.errno.Errno.TheVariants.{ENOMEM};
 ghost use Rattle.mq_shared.specs.Refusals.{MayReceive, MayRemove, MaySend, never_sent, out_of_slots};
@@ -15,7 +17,7 @@ ghost use Rattle.mq.specs.Caller.{creating, IsGotId, IsRefusal, MayCount, MayNot
 use crate::bytes::copy_out;
 use mq_one_thread::{Delivered, Errno, GetFlags, Removal, SendRefused};
 use mq_system::{Names, Pledge, RecvFlags, Seat, SendFlags, System};
-use mq_table::Id;
+use mq_table::{Cut, Id};
 use std::alloc::Global;
 use std::sync::Wait;
 
@@ -95,13 +97,32 @@ impl<'a, N: Names, R: Wait> Caller<'a, N, R> {
             (remove_verdict (seq_of id)) r.entry
             (Removed self.old.seat.now.number self.old.moment)) }
         ensures log { IfOk result (λ r. r.log
-            ≡ last_log (take (r.entry + 1) (front_of self.new.seat.now (slot_of id)))) }
+            ≡ rest_of r.log.base.places
+            (last_log (take (r.entry + 1) (front_of self.new.seat.now (slot_of id))))) }
         ensures decided { IfErr result (IsRefusal (out_of_slots N.slots id) MayRemove
             self.old.seat.now self.new.seat.now (slot_of id) (remove_verdict (seq_of id))) }
     {
         match system.rmid(self.rt, self.seat, id, self.moment) {
             Ok(removal) => Ok(removal),
             Err(refused) => Err(refused.errno),
+        }
+    }
+
+    /// Cuts the log of a slot off where it ends now, and hands out the entries since the last cut,
+    /// to be stored or dropped, with what is known of those before. Messages, ids, keys and figures
+    /// stay, and entries count on. `close` tells only what is kept then. ENOMEM alone.
+    pub fn cut_log<P: Pledge>(&mut self, system: &System<P, N>, slot: u8) -> Result<Cut, Errno>
+        requires within { slot < N.slots }
+        ensures cut { IfOk result (λ cut.
+            IsCutOf (front_of self.new.seat.now slot) (shown cut)) }
+        ensures refused { IfErr result (λ errno. errno ≡ ENOMEM) }
+        ensures same { IsSame self.old.seat.now self.new.seat.now }
+        ensures moment { self.new.moment ≡ self.old.moment }
+        ensures later { IsLater self.old.seat.now self.new.seat.now }
+    {
+        match system.cut_log(self.rt, self.seat, slot) {
+            Ok(cut) => Ok(cut),
+            Err(refusal) => Err(refusal.errno),
         }
     }
 

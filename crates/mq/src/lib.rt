@@ -28,10 +28,12 @@ pub use mq_one_thread::{
     Closed, ClosedSlot, Config, DEFAULTS, Delivered, DraftError, Errno, GetFlags, Got, MAX_SEATS,
     OneThread, Refused, Removal, SendRefused, SysError,
 };
-pub use mq_queue::{BoardRow, Event, Figures, Log, MSGMAX, MSGMNB, Received};
+pub use mq_queue::{
+    Base, BaseEntries, BaseEntry, BoardRow, Event, Figures, Log, MSGMAX, MSGMNB, Received,
+};
 pub use mq_select::Selection;
 pub use mq_system::{Blanks, Names, Pages, Pledge, RecvFlags, Seat, SendFlags, System, TextOf};
-pub use mq_table::{Id, MAX_SEQ, MAX_SLOTS};
+pub use mq_table::{Cut, Id, MAX_SEQ, MAX_SLOTS};
 pub use mq_tree::MAX_HEIGHT;
 pub use program::{QueueProgram, with_queues};
 pub use std::sync::ledger::{Blank, Ledger};

@@ -1,7 +1,7 @@
 ghost use Rattle.std.specs.Prelude.{◌≡◌, ◌↔◌, ◌<◌, true, false, length, All, IfOk};
 ghost use Rattle.std.specs.Prelude.{IsErrOf};
+ghost use Rattle.mq_one_thread.specs.Closed.{IsClosed};
 ghost use Rattle.mq_one_thread.specs.Limits.{keeps_limits};
-ghost use Rattle.mq_system.specs.Closed.{IsClosed};
 ghost use Rattle.mq.specs.Workers.{IsAfter};
 
 use crate::either::{Either, apart, both};

@@ -37,7 +37,7 @@ pub(crate) fn make<J: Naming, R: Abort + Wait>(
 ) -> Queue
     requires empty { writer.old.events ≡ [] }
     requires idle { writer.old.pending ≡ [] }
-    ensures { IsShown result.log writer.new }
+    ensures { IsShown result.base result.tail writer.new }
 {
     let row = reader.figures();
     if let Ok(queue) = open(rt, alloc, writer) {
@@ -58,8 +58,8 @@ pub(crate) fn send<J: Naming>(
     message: Message<VecBody>,
     moment: u64,
 ) -> u64
-    requires { IsShown queue.old.log writer.old }
-    ensures { IsPending queue.new.log writer.new }
+    requires { IsShown queue.old.base queue.old.tail writer.old }
+    ensures { IsPending queue.new.base queue.new.tail writer.new }
 {
     let _small = queue.log_len();
     let row = reader.figures();
@@ -83,8 +83,8 @@ pub(crate) fn receive<J: Naming>(
     selection: Selection,
     moment: u64,
 ) -> Received<VecBody>
-    requires { IsShown queue.old.log writer.old }
-    ensures { IsPending queue.new.log writer.new }
+    requires { IsShown queue.old.base queue.old.tail writer.old }
+    ensures { IsPending queue.new.base queue.new.tail writer.new }
 {
     let _small = queue.log_len();
     let row = reader.figures();
@@ -106,8 +106,8 @@ pub(crate) fn set<J: Naming>(
     qbytes: u64,
     moment: u64,
 ) -> u64
-    requires { IsShown queue.old.log writer.old }
-    ensures { IsPending queue.new.log writer.new }
+    requires { IsShown queue.old.base queue.old.tail writer.old }
+    ensures { IsPending queue.new.base queue.new.tail writer.new }
 {
     let _small = queue.log_len();
     let row = reader.figures();
@@ -129,8 +129,8 @@ pub(crate) fn remove<J: Naming>(
     reader: &mut BoardReader<J>,
     moment: u64,
 ) -> (Log, ListWaiting<VecBody>)
-    requires { IsShown queue.log writer.old }
-    ensures { IsPending result.0 writer.new }
+    requires { IsShown queue.base queue.tail writer.old }
+    ensures { IsPending result.0.base result.0.tail writer.new }
 {
     let _small = queue.log_len();
     let row = reader.figures();

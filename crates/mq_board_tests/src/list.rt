@@ -30,8 +30,8 @@ fn sends<J: Naming>(
     reader: &mut BoardReader<J>,
     place: u64,
 )
-    requires { IsShown queue.old.log writer.old }
-    ensures { IsPending queue.new.log writer.new }
+    requires { IsShown queue.old.base queue.old.tail writer.old }
+    ensures { IsPending queue.new.base queue.new.tail writer.new }
 {
     let message = Message {
         mtype: type_of(place),
@@ -50,8 +50,8 @@ fn sets<J: Naming>(
     reader: &mut BoardReader<J>,
     place: u64,
 )
-    requires { IsShown queue.old.log writer.old }
-    ensures { IsPending queue.new.log writer.new }
+    requires { IsShown queue.old.base queue.old.tail writer.old }
+    ensures { IsPending queue.new.base queue.new.tail writer.new }
 {
     let at = set(rt, queue, writer, reader, quota_of(place), place);
     assert!(rt; at == place, "set at {at}");
@@ -64,8 +64,8 @@ fn receives<J: Naming>(
     reader: &mut BoardReader<J>,
     place: u64,
 )
-    requires { IsShown queue.old.log writer.old }
-    ensures { IsPending queue.new.log writer.new }
+    requires { IsShown queue.old.base queue.old.tail writer.old }
+    ensures { IsPending queue.new.base queue.new.tail writer.new }
 {
     let (selection, sent) = wanted_at(place);
     let received = receive(rt, queue, writer, reader, selection, place);
@@ -85,8 +85,8 @@ fn calls<J: Naming>(
     reader: &mut BoardReader<J>,
     place: u64,
 )
-    requires { IsShown queue.old.log writer.old }
-    ensures { IsPending queue.new.log writer.new }
+    requires { IsShown queue.old.base queue.old.tail writer.old }
+    ensures { IsPending queue.new.base queue.new.tail writer.new }
 {
     if place <= SENT {
         sends(rt, alloc, queue, writer, reader, place);

@@ -2,6 +2,7 @@
 
 ghost use Rattle.std.specs.Prelude.{◌≡◌, ◌++◌, ◌∷◌, [], IfOk, OnErr};
 ghost use Rattle.std.specs.List.{All};
+ghost use Rattle.mq_queue.specs.Base.{base_of};
 ghost use Rattle.mq_board.specs.Writers.{IsReady, posting};
 
 use mq_board::{BoardReader, BoardWriter, Copies, Naming, Told};
@@ -40,8 +41,8 @@ pub(crate) fn open<J: Naming, R: Wait>(
 ) -> Result<Queue, AllocError>
     requires empty { writer.old.events ≡ [] }
     requires idle { writer.old.pending ≡ [] }
-    ensures ok { IfOk result (λ queue. (writer.new.events ≡ queue.log)
-        × (writer.new.pending ≡ [])) }
+    ensures ok { IfOk result (λ queue. (queue.base ≡ base_of [])
+        × (writer.new.events ≡ queue.tail) × (writer.new.pending ≡ [])) }
     ensures unchanged { OnErr result (writer.new ≡ writer.old) }
 {
     let queue = Queue::made(alloc, 7, 1, 10, writer)?;
@@ -56,9 +57,11 @@ pub(crate) fn send<J: Naming, R: Wait>(
     queue: &mut Queue,
     writer: &mut BoardWriter<J, Copies<J>>,
 ) -> Result<(), AllocError>
-    requires same { writer.old.events ≡ queue.old.log }
+    requires whole { queue.old.base ≡ base_of [] }
+    requires same { writer.old.events ≡ queue.old.tail }
     requires idle { writer.old.pending ≡ [] }
-    ensures { IfOk result (λ _. (writer.new.events ≡ queue.new.log) × (writer.new.pending ≡ [])) }
+    ensures { IfOk result (λ _. (queue.new.base ≡ base_of [])
+        × (writer.new.events ≡ queue.new.tail) × (writer.new.pending ≡ [])) }
 {
     let message = Message {
         mtype: 1,

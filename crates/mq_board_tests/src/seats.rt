@@ -40,7 +40,7 @@ struct Seen {
 fn has_queue<J: Naming>(slot: &Kept<J>) -> Result<(), AllocError>
     ensures { OnOk result (is_live slot.now.slot.events ≡ true) }
 {
-    if slot.slot().is_live() {
+    if slot.is_live() {
         Ok(())
     } else {
         Err(AllocError)
@@ -154,7 +154,7 @@ fn go_home<J: Naming>(slot: &mut Kept<J>, seat: Fronts<J>) -> u8 {
         let Some(reader) = seat.hand_out() else {
             return home;
         };
-        if reader.board() == slot.slot().number() {
+        if reader.board() == slot.number() {
             slot.take_back(reader);
             home = home.wrapping_add(1);
         }
@@ -184,7 +184,7 @@ fn sit<J: Naming, R: Wait>(
 }
 
 fn end<J: Naming, R: Wait>(rt: &R, slot: Kept<J>) {
-    let (_past, live) = slot.close(rt).into_parts();
+    let (_cut, live) = slot.close(rt).into_parts();
     if let Some(queue) = live {
         close(queue);
     }

@@ -3,7 +3,7 @@ use Rattle.std.proofs.Common.{◌≡◌, ℕ, ◌+◌, ◌<◌, suc, Bool, List,
 use Rattle.std.proofs.Math.ListN.{get_or}
 use Rattle.mq_one_thread.specs.declared.close.ClosedSlot.{ClosedSlot}
 use Rattle.mq_cli.specs.declared.outcome.Outcome.{Outcome}
-use Rattle.mq_cli.specs.Closing.{events_of, slot_line, slot_lines, worker_line, worker_lines}
+use Rattle.mq_cli.specs.Closing.{slot_line, slot_lines, worker_line, worker_lines}
 
 -- the rest begins with this element
 pub rest_begins : {A : Type 0} (xs : List A) (k : ℕ) (x : A) → k < length xs → x ≡ get_or xs k x → drop k xs ≡ x ∷ drop (k + 1) xs
@@ -20,5 +20,5 @@ worker_next outcomes k o within is =
     rw (rest_begins outcomes k o within is) (ap (λ n. worker_line (k + 2) o ++ worker_lines n (drop (k + 1) outcomes)) next)
 
 pub slot_next : (slots : List ClosedSlot) (k : ℕ) (s : ClosedSlot) → k < length slots → s ≡ get_or slots k s
-    → slot_lines k (drop k slots) ≡ slot_line k (events_of s) s.left ++ slot_lines (k + 1) (drop (k + 1) slots)
+    → slot_lines k (drop k slots) ≡ slot_line k s ++ slot_lines (k + 1) (drop (k + 1) slots)
 slot_next slots k s within is = rw (rest_begins slots k s within is) refl

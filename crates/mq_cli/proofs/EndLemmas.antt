@@ -6,7 +6,7 @@ use Rattle.std.specs.Io.KnownBytes.{Appends, Consumes, IsAtEnd, Keeps}
 use Rattle.std.proofs.KnownBytes.{Appends-kept, Appends-trans, Consumes-all, Keeps-trans}
 use Rattle.mq_one_thread.specs.declared.close.ClosedSlot.{ClosedSlot}
 use Rattle.mq_one_thread.specs.declared.config.Config.{Config}
-use Rattle.mq_system.specs.Closed.{IsClosed}
+use Rattle.mq_one_thread.specs.Closed.{IsClosed}
 use Rattle.mq_cli.specs.declared.fault.RunFault.{RunFault}
 use Rattle.mq_cli.specs.declared.fault.RunFault.TheVariants.{Script, Size, Read, Write, Memory, Thread}
 use Rattle.mq_cli.specs.declared.outcome.Outcome.{Outcome}

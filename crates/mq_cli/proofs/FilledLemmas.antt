@@ -1,10 +1,11 @@
 use Rattle.std.proofs.Common.{◌≡◌, ℕ, ℤ, ◌+◌, ◌^◌, Bool, true, false, cond, List, [], ◌∷◌, Some, Result, Ok, Err, codes, refl, arith}
 use Rattle.std.specs.List.{list_all}
 use Rattle.std.specs.Str.{bytes_eq}
+use Rattle.mq_table.specs.declared.limits.TheConstants.{MAX_SLOTS}
 use Rattle.mq_one_thread.specs.declared.limits.TheConstants.{MAX_SEATS}
 use Rattle.mq_cli.specs.declared.fault.Cause.{Cause}
 use Rattle.mq_cli.specs.declared.fault.Cause.TheVariants.{Words}
-use Rattle.mq_cli.specs.Commands.{Call, sit, get, rcv, set, rm, stat, is_filled, flags_of, seat_of, arena_of, get_flags_of, get_of, set_of, remove_of, stat_of, ipcs_of, receive_of, command_of, named}
+use Rattle.mq_cli.specs.Commands.{Call, sit, get, rcv, set, rm, stat, cut, is_filled, flags_of, seat_of, arena_of, get_flags_of, get_of, set_of, remove_of, stat_of, cutting_of, ipcs_of, receive_of, command_of, named}
 use Rattle.mq_cli.specs.Laws.{flag_words, get_flag_words}
 use Rattle.mq_cli.specs.Numbers.{number_of, integer_of, key_of, under, above_zero}
 use Rattle.mq_cli.proofs.NumberLemmas.{number_of-Some}
@@ -16,6 +17,9 @@ number_filled word n e = let is = number_of-Some word n e in rw is.0 (decimal_wo
 
 id_filled : (word : List ℕ) (n : ℕ) → under (2 ^ 32) (number_of word) ≡ Some n → is_filled word ≡ true
 id_filled word n e = let is = under-Some (2 ^ 32) word n e in rw is.0 (decimal_word n (omega (arith, is.1))).filled
+
+slot_filled : (word : List ℕ) (k : ℕ) → under MAX_SLOTS (number_of word) ≡ Some k → is_filled word ≡ true
+slot_filled word k e = let is = under-Some MAX_SLOTS word k e in rw is.0 (decimal_word k (omega (arith, is.1))).filled
 
 seat_filled : (word : List ℕ) (n : ℕ) → above_zero (under (MAX_SEATS + 1) (number_of word)) ≡ Some n → is_filled word ≡ true
 seat_filled word n e = let is = above_zero-Some word n e in rw is.0 (decimal_word n (omega (arith, is.2))).filled
@@ -86,6 +90,11 @@ stat_filled [] call e = refl
 stat_filled (id ∷ []) call e = bind_ok (under (2 ^ 32) (number_of id)) (λ i. Ok (stat i)) call e (λ i read done. rw (id_filled id i read) refl)
 stat_filled (id ∷ more ∷ words) call e = absurd (cc e)
 
+cut_filled : (words : List (List ℕ)) (call : Call) → cutting_of words ≡ Ok call → list_all is_filled words ≡ true
+cut_filled [] call e = refl
+cut_filled (slot ∷ []) call e = bind_ok (under MAX_SLOTS (number_of slot)) (λ k. Ok (cut k)) call e (λ k read done. rw (slot_filled slot k read) refl)
+cut_filled (slot ∷ more ∷ words) call e = absurd (cc e)
+
 ipcs_filled : (words : List (List ℕ)) (call : Call) → ipcs_of words ≡ Ok call → list_all is_filled words ≡ true
 ipcs_filled [] call e = refl
 ipcs_filled (word ∷ words) call e = absurd (cc e)
@@ -103,8 +112,9 @@ named_filled name words call e =
     (either (bytes_eq name (codes "set")) (set_filled words call)
     (either (bytes_eq name (codes "rm")) (remove_filled words call)
     (either (bytes_eq name (codes "stat")) (stat_filled words call)
+    (either (bytes_eq name (codes "cut")) (cut_filled words call)
     (either (bytes_eq name (codes "ipcs")) (ipcs_filled words call)
-    (λ (none : Err Words ≡ Ok call). absurd (cc none)))))))))
+    (λ (none : Err Words ≡ Ok call). absurd (cc none))))))))))
     e
 
 -- a command without a text that is read is the line's

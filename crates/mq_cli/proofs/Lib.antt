@@ -1,3 +1,7 @@
+pub mod AlikeRuns
+pub mod AlikeSlots
+pub mod AlikeSteps
+pub mod AlikeSystems
 pub mod ClosingLemmas
 pub mod DraftLemmas
 pub mod EndLemmas

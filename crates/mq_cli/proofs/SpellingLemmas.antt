@@ -14,12 +14,13 @@ use Rattle.std.proofs.lemmas.List.Sums.{AllPass-from_list_all}
 use Rattle.std.proofs.lemmas.Option.{cond_some, option_and_then_some}
 use Rattle.std.proofs.lemmas.Slice.Eq.{bytes_eq-Decides}
 use Rattle.std.proofs.lemmas.Str.Parse.{digit_from_value, not_in_digits}
+use Rattle.mq_table.specs.declared.limits.TheConstants.{MAX_SLOTS}
 use Rattle.mq_one_thread.specs.declared.limits.TheConstants.{MAX_SEATS}
 use Rattle.mq_one_thread.specs.declared.results.GetFlags.{GetFlags}
 use Rattle.mq_cli.specs.declared.limits.TheConstants.{LINE_LIMIT}
 use Rattle.mq_cli.specs.declared.fault.Cause.{Cause}
 use Rattle.mq_cli.specs.declared.fault.Cause.TheVariants.{Words}
-use Rattle.mq_cli.specs.Commands.{Call, sit, show, get, snd, rcv, set, rm, stat, ipcs, Text, plain, letters, Flags, ok_map, ◌>>=◌, worded, is_filled, is_plain, is_text, text_of, flags_of, seat_of, arena_of, get_flags_of, get_of, set_of, remove_of, stat_of, ipcs_of, send_of, receive_of, command_of, is_skipped, speaks, spoken, reading_by, reading}
+use Rattle.mq_cli.specs.Commands.{Call, sit, show, get, snd, rcv, set, rm, stat, cut, ipcs, Text, plain, letters, Flags, ok_map, ◌>>=◌, worded, is_filled, is_plain, is_text, text_of, flags_of, seat_of, arena_of, get_flags_of, get_of, set_of, remove_of, stat_of, cutting_of, ipcs_of, send_of, receive_of, command_of, is_skipped, speaks, spoken, reading_by, reading}
 use Rattle.mq_cli.specs.Laws.{flag_words, get_flag_words, spelling, text_spelling, CanBeSpelled, Spells, ReadsBack, SpelledOneWay}
 use Rattle.mq_cli.specs.Lines.{is_printable, line_of, words_of}
 use Rattle.mq_cli.specs.Numbers.{number_of, integer_of, is_key, key_of, under, above_zero, below_zero}
@@ -305,6 +306,16 @@ asked line (id ∷ []) call is e =
 asked line [] call is e = absurd (cc e)
 asked line (id ∷ more ∷ words) call is e = absurd (cc e)
 
+-- and cut
+severed : (line : List ℕ) (words : List (List ℕ)) (call : Call) → line ≡ line_of (codes "cut" ∷ words) → cutting_of words ≡ Ok call → Spells line call
+severed line (slot ∷ []) call is e =
+    bind_ok (under MAX_SLOTS (number_of slot)) (λ k. Ok (cut k)) call e (λ k read done.
+    let spelled = under-Some MAX_SLOTS slot k read in
+    let same : cut k ≡ call = cc done in
+    subst (Spells line) same (cc (is, spelled.0), spelled.1))
+severed line [] call is e = absurd (cc e)
+severed line (slot ∷ more ∷ words) call is e = absurd (cc e)
+
 -- what follows from words that say something
 pub worded_ok : {A B P : Type 0} (o : Option A) (f : A → Result B Cause) (y : B) → worded o f ≡ Ok y → ((x : A) → o ≡ Some x → f x ≡ Ok y → P) → P
 worded_ok None f y e then = absurd (cc e)
@@ -493,9 +504,11 @@ commanded line (name ∷ words) call are short printable e =
     (λ is_rm removes. removed line words call (rejoined line name (codes "rm") words are is_rm) removes)
     (λ not_rm rest. chosen _ _ _ _ rest
     (λ is_stat asks. asked line words call (rejoined line name (codes "stat") words are is_stat) asks)
-    (λ not_stat others.
+    (λ not_stat rest. chosen _ _ _ _ rest
+    (λ is_cut cuts. severed line words call (rejoined line name (codes "cut") words are is_cut) cuts)
+    (λ not_cut others.
     let last = needed _ _ _ _ others in
-    reported line words call (rejoined line name (codes "ipcs") words are last.0) last.1))))))))
+    reported line words call (rejoined line name (codes "ipcs") words are last.0) last.1)))))))))
 
 -- a call is read from its spelling alone
 pub spelled_one_way : SpelledOneWay
@@ -574,6 +587,9 @@ remove_again id fits = rw ((decimal_word id (omega arith)).filled, under-decimal
 
 stat_again : (id : ℕ) → id < 2 ^ 32 → command_of (codes "stat" ∷ decimal id ∷ []) ≡ Ok (stat id)
 stat_again id fits = rw ((decimal_word id (omega arith)).filled, under-decimal (2 ^ 32) id (lit≤ tt) fits) refl
+
+cut_again : (slot : ℕ) → slot < MAX_SLOTS → command_of (codes "cut" ∷ decimal slot ∷ []) ≡ Ok (cut slot)
+cut_again slot fits = rw ((decimal_word slot (omega (arith, fits))).filled, under-decimal MAX_SLOTS slot (lit≤ tt) fits) refl
 
 -- the words of rcv are read back
 receive_again : (id size : ℕ) (z : ℤ) (words : List (List ℕ)) (flags : Flags) → id < 2 ^ 32 → size < 2 ^ 64 → FitsSigned w64 z → flags_of words ≡ Some flags
@@ -675,4 +691,6 @@ reads_back (rm id) can =
     reads_words command_of (codes "rm" ∷ []) (decimal id) (rm id) (name_word (codes "rm") refl, tt) (decimal_word id (omega (arith, can))) (lit≤ tt) refl (remove_again id can)
 reads_back (stat id) can =
     reads_words command_of (codes "stat" ∷ []) (decimal id) (stat id) (name_word (codes "stat") refl, tt) (decimal_word id (omega (arith, can))) (lit≤ tt) refl (stat_again id can)
+reads_back (cut slot) can =
+    reads_words command_of (codes "cut" ∷ []) (decimal slot) (cut slot) (name_word (codes "cut") refl, tt) (decimal_word slot (omega (arith, can))) (lit≤ tt) refl (cut_again slot can)
 reads_back ipcs can = refl

@@ -12,7 +12,7 @@ use Rattle.mq_cli.specs.declared.step.Step.TheVariants.{Put, Take, Remove}
 use Rattle.mq_cli.specs.declared.threads_script.MainCall.TheVariants.{Get, Set}
 use Rattle.mq_cli.specs.declared.threads_script.ThreadsLine.{ThreadsLine}
 use Rattle.mq_cli.specs.declared.threads_script.ThreadsLine.TheVariants.{Worker, Main, Section}
-use Rattle.mq_cli.specs.Commands.{Call, sit, show, get, snd, rcv, set, rm, stat, ipcs, get_of, set_of, is_filled, ok_map, ◌>>=◌}
+use Rattle.mq_cli.specs.Commands.{Call, sit, show, get, snd, rcv, set, rm, stat, cut, ipcs, get_of, set_of, is_filled, ok_map, ◌>>=◌}
 use Rattle.mq_cli.specs.Laws.{spelling, Spells}
 use Rattle.mq_cli.specs.Lines.{line_of, words_of}
 use Rattle.mq_cli.specs.Numbers.{number_of, integer_of, under}
@@ -122,6 +122,7 @@ called n text (snd id mtype sent) line spelled e = absurd (cc e)
 called n text (rcv id size mtype except noerror) line spelled e = absurd (cc e)
 called n text (rm id) line spelled e = absurd (cc e)
 called n text (stat id) line spelled e = absurd (cc e)
+called n text (cut slot) line spelled e = absurd (cc e)
 called n text ipcs line spelled e = absurd (cc e)
 
 -- what was asked, before it was a call of the main part

@@ -4,6 +4,7 @@ use Rattle.std.specs.Prelude.{length, codes, count_by, Option, Some, None}
 use Rattle.std.specs.Fmt.{decimal}
 use Rattle.mq_queue.specs.declared.event.Event.{Event}
 use Rattle.mq_queue.specs.declared.event.Event.TheVariants.{Sent, Received}
+use Rattle.mq_one_thread.specs.Closed.{entries_of}
 use Rattle.mq_one_thread.specs.Names.{errno_name}
 use Rattle.mq_one_thread.specs.declared.close.ClosedSlot.{ClosedSlot}
 use Rattle.mq_one_thread.specs.declared.errno.Errno.{Errno}
@@ -43,7 +44,7 @@ abbrev pub is_received : Event → Bool
 is_received (Received seat moment place selection size noerror) = true
 is_received _ = false
 
--- all entries of a slot that was closed
+-- the entries that a slot leaves
 abbrev pub events_of : ClosedSlot → List Event
 events_of slot = slot.past.items ++ slot.last.items
 
@@ -60,17 +61,19 @@ slot_told number events sent received left =
     ++ decimal sent ++ codes " received " ++ decimal received ++ codes " left " ++ decimal left
     ++ 10 ∷ []
 
--- where a queue was ever made in it
-abbrev pub slot_line : ℕ → List Event → ℕ → List ℕ
-slot_line number events left =
-    if length events == 0 then []
-    else slot_told number (length events) (sent_in events) (received_in events) left
+-- where a queue was ever made in it: how many entries it had, and how many messages were sent and
+-- received by those that it leaves
+abbrev pub slot_line : ℕ → ClosedSlot → List ℕ
+slot_line number slot =
+    if entries_of slot == 0 then []
+    else slot_told number (entries_of slot) (sent_in (events_of slot)) (received_in (events_of slot))
+    slot.left
 
 -- the lines of the slots, the first of which has this number
 abbrev pub slot_lines : ℕ → List ClosedSlot → List ℕ
 slot_lines number [] = []
 slot_lines number (slot ∷ slots) =
-    slot_line number (events_of slot) slot.left ++ slot_lines (number + 1) slots
+    slot_line number slot ++ slot_lines (number + 1) slots
 
 -- what is told of the pages
 unfoldable pub page_line : ℕ → ℕ → List ℕ

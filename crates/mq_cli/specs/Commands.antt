@@ -5,6 +5,7 @@ use Rattle.std.specs.Prelude.{Option, Some, None, Result, Ok, Err}
 use Rattle.std.specs.List.{list_all, list_any}
 use Rattle.std.specs.Option.{option_map}
 use Rattle.std.specs.Str.{bytes_eq}
+use Rattle.mq_table.specs.declared.limits.TheConstants.{MAX_SLOTS}
 use Rattle.mq_one_thread.specs.declared.limits.TheConstants.{MAX_SEATS}
 use Rattle.mq_one_thread.specs.declared.results.GetFlags.{GetFlags}
 use Rattle.mq_cli.specs.declared.limits.TheConstants.{LINE_LIMIT}
@@ -28,6 +29,7 @@ pub data Call : Type 0 where
   set : (id qbytes : ℕ) → Call
   rm : (id : ℕ) → Call
   stat : (id : ℕ) → Call
+  cut : (slot : ℕ) → Call
   ipcs : Call
 
 -- what was read, seen by f
@@ -141,6 +143,11 @@ abbrev pub stat_of : List (List ℕ) → Result Call Cause
 stat_of (id ∷ []) = under (2 ^ 32) (number_of id) >>= λ i. Ok (stat i)
 stat_of _ = Err Words
 
+-- the log of a slot is cut off
+abbrev pub cutting_of : List (List ℕ) → Result Call Cause
+cutting_of (slot ∷ []) = under MAX_SLOTS (number_of slot) >>= λ k. Ok (cut k)
+cutting_of _ = Err Words
+
 -- a command without a text, by its name
 abbrev pub named : List ℕ → List (List ℕ) → Result Call Cause
 named name words =
@@ -151,8 +158,9 @@ named name words =
     else (if bytes_eq name (codes "set") then set_of words
     else (if bytes_eq name (codes "rm") then remove_of words
     else (if bytes_eq name (codes "stat") then stat_of words
+    else (if bytes_eq name (codes "cut") then cutting_of words
     else (if bytes_eq name (codes "ipcs") then ipcs_of words
-    else Err Words)))))))
+    else Err Words))))))))
 
 -- a command; the words of all but a text are filled
 abbrev pub command_of : List (List ℕ) → Result Call Cause

@@ -1,14 +1,19 @@
--- The spelling of a command, which is its only line.
+-- The spelling of a command, which is its only line, and that cuts change no other line.
 use Rattle.std.specs.Prelude.{◌≡◌, ◌<◌, ◌≤◌, ◌^◌, ℕ, Bool, true, false, IsTrue, FitsSigned, List}
 use Rattle.std.specs.Prelude.{[], ◌∷◌, length, codes, Some, Ok}
 use Rattle.std.specs.Fmt.{decimal, signed_decimal}
 use Rattle.std.specs.Int.{w32, w64}
-use Rattle.std.specs.List.{list_all}
+use Rattle.std.specs.List.{flat_map, list_all}
+use Rattle.mq_table.specs.declared.limits.TheConstants.{MAX_SLOTS}
+use Rattle.mq_one_thread.specs.declared.config.Config.{Config}
 use Rattle.mq_one_thread.specs.declared.limits.TheConstants.{MAX_SEATS}
 use Rattle.mq_cli.specs.declared.limits.TheConstants.{LINE_LIMIT}
-use Rattle.mq_cli.specs.Commands.{Call, sit, show, get, snd, rcv, set, rm, stat, ipcs, Text, plain}
-use Rattle.mq_cli.specs.Commands.{letters, reading}
+use Rattle.mq_cli.specs.Commands.{Call, sit, show, get, snd, rcv, set, rm, stat, cut, ipcs, Text}
+use Rattle.mq_cli.specs.Commands.{plain, letters, reading}
+use Rattle.mq_cli.specs.Cuts.{texts_from, texts_of_others, without_cuts}
 use Rattle.mq_cli.specs.Lines.{line_of, is_printable}
+use Rattle.mq_cli.specs.Session.{start}
+use Rattle.mq_cli.specs.Transcript.{run_from}
 
 -- a text has `=` before it, a number of letters `*`
 abbrev pub text_spelling : Text → List ℕ
@@ -42,6 +47,7 @@ spelling (rcv id size mtype except noerror) =
 spelling (set id qbytes) = line_of (codes "set" ∷ decimal id ∷ decimal qbytes ∷ [])
 spelling (rm id) = line_of (codes "rm" ∷ decimal id ∷ [])
 spelling (stat id) = line_of (codes "stat" ∷ decimal id ∷ [])
+spelling (cut slot) = line_of (codes "cut" ∷ decimal slot ∷ [])
 spelling ipcs = codes "ipcs"
 
 -- the calls that a line can ask for: each number is in its range, and a text is printable and
@@ -60,6 +66,7 @@ CanBeSpelled (rcv id size mtype except noerror) =
 CanBeSpelled (set id qbytes) = (id < 2 ^ 32) × (qbytes < 2 ^ 64)
 CanBeSpelled (rm id) = id < 2 ^ 32
 CanBeSpelled (stat id) = id < 2 ^ 32
+CanBeSpelled (cut slot) = slot < MAX_SLOTS
 CanBeSpelled ipcs = Unit {0}
 
 -- the line asks for the call, in the one way
@@ -73,3 +80,17 @@ ReadsBack = (call : Call) → CanBeSpelled call → reading (spelling call) ≡ 
 -- a call is read from no other line
 abbrev pub SpelledOneWay : Type 0
 SpelledOneWay = (line : List ℕ) (call : Call) → reading line ≡ Ok (Some call) → Spells line call
+
+-- a run of these lines writes what each of them writes, one after another; and with a comment in
+-- the place of each cut every other line writes the same, and the fault is the same
+pub record CutsChangeNoOther (config : Config) (lines : List (List ℕ)) : Type 0 where
+  pub whole : (run_from 1 (start config) lines).written
+      ≡ flat_map (λ text. text) (texts_from 1 (start config) lines)
+  pub texts : texts_from 1 (start config) (without_cuts lines)
+      ≡ texts_of_others lines (texts_from 1 (start config) lines)
+  pub fault : (run_from 1 (start config) (without_cuts lines)).fault
+      ≡ (run_from 1 (start config) lines).fault
+
+-- and so it is over each system and for all lines
+abbrev pub CutChangesNoOtherLine : Type 0
+CutChangesNoOtherLine = (config : Config) (lines : List (List ℕ)) → CutsChangeNoOther config lines

@@ -1,5 +1,6 @@
 pub mod Closing
 pub mod Commands
+pub mod Cuts
 pub mod Drafts
 pub mod Laws
 pub mod Letters

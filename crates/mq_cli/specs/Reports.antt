@@ -4,7 +4,7 @@ use Rattle.std.specs.Fmt.{decimal, signed_decimal}
 use Rattle.std.specs.List.{flat_map, range_with_len}
 use Rattle.mq_queue.specs.declared.figures.BoardRow.{BoardRow}
 use Rattle.mq_table.specs.Ids.{id_of}
-use Rattle.mq_queue.specs.Row.{row}
+use Rattle.mq_table.specs.KeptShown.{row_now}
 use Rattle.mq_one_thread.specs.State.{State, slot_at}
 
 -- a text at the right end of its column
@@ -37,7 +37,7 @@ line_of_row slot r = if r.live then 10 ∷ named_of slot r ++ filled_of r else [
 
 -- the lines of the first slots
 abbrev pub lines_to : State → ℕ → List ℕ
-lines_to s count = flat_map (λ k. line_of_row k (row (slot_at s k).events)) (range_with_len 0 count)
+lines_to s count = flat_map (λ k. line_of_row k (row_now (slot_at s k))) (range_with_len 0 count)
 
 -- the whole table, but for the end of its last line
 abbrev pub table_of : State → List ℕ

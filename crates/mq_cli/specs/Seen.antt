@@ -4,11 +4,11 @@ use Rattle.std.specs.Option.{option_map}
 use Rattle.mq_cli.specs.declared.fault.Cause.{Cause}
 use Rattle.mq_cli.specs.declared.command.Command.{Command}
 use Rattle.mq_cli.specs.declared.command.Command.TheVariants.{Seat, Arena, Get, Send, Receive, Set}
-use Rattle.mq_cli.specs.declared.command.Command.TheVariants.{Remove, Stat, Report}
+use Rattle.mq_cli.specs.declared.command.Command.TheVariants.{Remove, Stat, Cut, Report}
 use Rattle.mq_cli.specs.declared.command.TextForm.{TextForm}
 use Rattle.mq_cli.specs.declared.command.TextForm.TheVariants.{Plain, Letters}
-use Rattle.mq_cli.specs.Commands.{Call, sit, show, get, snd, rcv, set, rm, stat, ipcs, Text, plain}
-use Rattle.mq_cli.specs.Commands.{letters, Flags, ok_map}
+use Rattle.mq_cli.specs.Commands.{Call, sit, show, get, snd, rcv, set, rm, stat, cut, ipcs, Text}
+use Rattle.mq_cli.specs.Commands.{plain, letters, Flags, ok_map}
 use Rattle.mq_cli.specs.declared.command.ReceiveFlags.{ReceiveFlags}
 use Rattle.mq_cli.specs.declared.reply.ArenaFigures.{ArenaFigures}
 use Rattle.mq_cli.specs.Transcript.{Reply, arena}
@@ -30,6 +30,7 @@ call_of (Receive call) = rcv call.id call.size call.mtype call.flags.except call
 call_of (Set id qbytes) = set id qbytes
 call_of (Remove id) = rm id
 call_of (Stat id) = stat id
+call_of (Cut slot) = cut slot
 call_of Report = ipcs
 
 abbrev pub seen : Result Command Cause → Result Call Cause

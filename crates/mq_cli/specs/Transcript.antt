@@ -1,23 +1,25 @@
 -- What a script writes.
-use Rattle.std.specs.Prelude.{ℕ, ℤ, Bool, ◌+◌, ◌^◌, List, [], ◌∷◌, ◌++◌, length, codes, Option}
-use Rattle.std.specs.Prelude.{Some, None, Result, Ok, Err}
+use Rattle.std.specs.Prelude.{ℕ, ℤ, Bool, nat_lt, if◌then◌else◌, ◌+◌, ◌^◌, List, [], ◌∷◌, ◌++◌}
+use Rattle.std.specs.Prelude.{length, codes, Option, Some, None, Result, Ok, Err}
 use Rattle.std.specs.Fmt.{decimal, signed_decimal}
 use Rattle.mq_tree.specs.Fit.{largest}
 use Rattle.mq_tree.specs.LentSet.{free_pages}
 use Rattle.mq_message.specs.Text.{PlainText}
 use Rattle.mq_queue.specs.declared.figures.Figures.{Figures}
-use Rattle.mq_one_thread.specs.Calls.{msgsnd, msgrcv, rmid}
+use Rattle.mq_table.specs.Kept.{entries_of}
+use Rattle.mq_one_thread.specs.Calls.{msgsnd, msgrcv, rmid, cut_log}
 use Rattle.mq_one_thread.specs.Calls.{set as set_answer, stat as stat_answer}
 use Rattle.mq_one_thread.specs.Get.{msgget}
 use Rattle.mq_one_thread.specs.Names.{errno_name}
-use Rattle.mq_one_thread.specs.State.{State as System}
+use Rattle.mq_one_thread.specs.State.{State as System, slot_at}
 use Rattle.mq_one_thread.specs.declared.config.Config.{Config}
 use Rattle.mq_one_thread.specs.declared.errno.Errno.{Errno}
+use Rattle.mq_one_thread.specs.declared.errno.Errno.TheVariants.{EINVAL}
 use Rattle.mq_one_thread.specs.declared.results.Delivered.{Delivered}
 use Rattle.mq_one_thread.specs.declared.results.GetFlags.{GetFlags}
 use Rattle.mq_cli.specs.declared.fault.Cause.{Cause}
 use Rattle.mq_cli.specs.Lines.{lines_of}
-use Rattle.mq_cli.specs.Commands.{Call, sit, show, get, snd, rcv, set, rm, stat, ipcs, Text}
+use Rattle.mq_cli.specs.Commands.{Call, sit, show, get, snd, rcv, set, rm, stat, cut, ipcs, Text}
 use Rattle.mq_cli.specs.Commands.{reading}
 use Rattle.mq_cli.specs.Drafts.{draft, spent}
 use Rattle.mq_cli.specs.Reports.{table_of}
@@ -33,6 +35,7 @@ pub data Reply : Type 0 where
   arena : (pages free : ℕ) (most : Option ℕ) → Reply
   gone : (entry events : ℕ) → Reply
   figures : (queue : Figures) → Reply
+  cut_off : (first end : ℕ) → Reply
   table : (queues : System) → Reply
 
 -- the answer of msgrcv, up to the text
@@ -73,6 +76,7 @@ text_of (at entry) = codes "at " ++ decimal entry
 text_of (arena pages free most) = pages_of pages free ++ order_name most
 text_of (gone entry events) = codes "at " ++ decimal entry ++ codes " events " ++ decimal events
 text_of (figures queue) = counts_of queue ++ callers_of queue ++ moments_of queue
+text_of (cut_off first end) = codes "cut from " ++ decimal first ++ codes " to " ++ decimal end
 text_of (table queues) = table_of queues
 text_of (message m) = head_of m.mtype m.sender m.tag m.length ++ m.text.bytes
 
@@ -108,7 +112,16 @@ set_step n seat q id qbytes = told q (λ t. (at t.0, t.1)) (by_errno (set_answer
 
 abbrev pub remove_step : ℕ → ℕ → System → ℕ → Reply × System
 remove_step n seat q id =
-    told q (λ t. (gone t.0.entry (length t.0.log), t.1)) (by_errno (rmid q seat id n))
+    told q (λ t. (gone t.0.entry (t.0.log.base.places + length t.0.log.tail), t.1))
+    (by_errno (rmid q seat id n))
+
+-- a slot's log is cut off where it ends: told are how many entries were cut off before, and how
+-- many the slot ever had
+abbrev pub cut_step : System → ℕ → Reply × System
+cut_step q slot =
+    if nat_lt slot (length q.slots)
+    then (cut_off (slot_at q slot).first (entries_of (slot_at q slot)), (cut_log q slot).1)
+    else (refused EINVAL, q)
 
 -- calls that only show change nothing
 abbrev pub stat_reply : Result Figures Errno → Reply
@@ -135,6 +148,7 @@ step n s (rcv id size mtype except noerror) =
 step n s (set id qbytes) = by_seat s (set_step n s.seat s.queues id qbytes)
 step n s (rm id) = by_seat s (remove_step n s.seat s.queues id)
 step n s (stat id) = (stat_reply (stat_answer s.queues id), s)
+step n s (cut slot) = by_seat s (cut_step s.queues slot)
 step n s ipcs = (table s.queues, s)
 
 -- what a line writes and the state after it, or why it is not well formed

@@ -1,23 +1,24 @@
-ghost use Rattle.std.specs.Prelude.{◌≡◌, ◌++◌, OnOk, map};
+ghost use Rattle.std.specs.Prelude.{◌≡◌, ◌+◌, ◌++◌, OnOk, length, map};
 ghost use Rattle.std.specs.List.{range_with_len};
 ghost use Rattle.mq_queue.specs.declared.limits.TheConstants.{MSGMAX};
 ghost use Rattle.mq_cli.specs.Drafts.{letter};
 ghost use Rattle.mq_cli.specs.Seen.{arena_shown, call_of, text_seen};
 ghost use Rattle.mq_cli.specs.Serial.{Answered};
 ghost use Rattle.mq_cli.specs.Transcript.{arena_reply, output, stat_reply, step};
-ghost use Rattle.mq_cli.specs.Transcript.{get_step, receive_step, remove_step, send_step, set_step};
+ghost use Rattle.mq_cli.specs.Transcript.{cut_step, get_step, receive_step, remove_step, send_step};
+ghost use Rattle.mq_cli.specs.Transcript.{set_step};
 ghost use Rattle.mq_one_thread.specs.Calls.{stat as stat_answer};
 
 use crate::command::{Command, GetCall, ReceiveCall, ReceiveFlags, SendCall};
 use crate::draft::draft;
 use crate::reply::{
-    ArenaFigures, write_arena, write_entry, write_errno, write_figures, write_id, write_message,
-    write_refused, write_removal,
+    ArenaFigures, write_arena, write_cut, write_entry, write_errno, write_figures, write_id,
+    write_message, write_refused, write_removal,
 };
 use crate::report::write_report;
 use crate::session::Session;
 use mq_message::Text;
-use mq_one_thread::{Delivered, DraftError, OneThread, Removal, SendRefused};
+use mq_one_thread::{Cut, Delivered, DraftError, Errno, OneThread, Removal, SendRefused};
 use mq_table::Id;
 use std::alloc::AllocError;
 use std::sync::ledger::Ledger;
@@ -46,6 +47,7 @@ pub fn answer<L: Ledger>(
         Command::Set { id, qbytes } => set(&mut session.queues, seat, line, id, qbytes, out),
         Command::Remove { id } => remove(&mut session.queues, seat, line, id, out),
         Command::Stat { id } => stat(&session.queues, id, out),
+        Command::Cut { slot } => cut(&mut session.queues, slot, out),
         Command::Report => write_report(out, &session.queues),
     }
 }
@@ -174,6 +176,26 @@ fn remove<L: Ledger>(
         Ok(Removal { entry, log }) => write_removal(out, entry, log.len()),
         Err(refused) => write_refused(out, refused.errno),
     }
+}
+
+fn cut<L: Ledger>(queues: &mut OneThread<L>, slot: u8, out: &mut Vec<u8>) -> Result<(), AllocError>
+    ensures { OnOk result (Answered (cut_step queues.old slot)
+        out.old.items out.new.items queues.new) }
+{
+    if slot >= queues.slots() {
+        return write_errno(out, Errno::EINVAL);
+    }
+    match queues.cut_log(slot) {
+        Ok(cut) => write_cut(out, cut.first, end_of(&cut)),
+        Err(refused) => write_refused(out, refused.errno),
+    }
+}
+
+/// How many entries the slot's list had: as many as a u64 can tell may be cut off before.
+fn end_of(cut: &Cut) -> u128
+    ensures { result ≡ cut.now.first + length (cut.now.past.items ++ cut.now.last.items) }
+{
+    cut.first as u128 + cut.past.len() as u128 + cut.last.len() as u128
 }
 
 fn stat<L: Ledger>(queues: &OneThread<L>, id: u32, out: &mut Vec<u8>) -> Result<(), AllocError>

@@ -1,8 +1,9 @@
 //! What a run of workers tells at its end.
 
-ghost use Rattle.std.specs.Prelude.{◌≡◌, ◌++◌, IfOk, OnOk, length};
+ghost use Rattle.std.specs.Prelude.{◌≡◌, ◌++◌, IfOk, OnOk};
+ghost use Rattle.mq_one_thread.specs.Closed.{entries_of};
 ghost use Rattle.mq_cli.specs.Closing.{closing, counts_told, end_name as name_of_end, end_told};
-ghost use Rattle.mq_cli.specs.Closing.{events_of, page_line, received_in, sent_in, slot_line};
+ghost use Rattle.mq_cli.specs.Closing.{page_line, received_in, sent_in, slot_line};
 ghost use Rattle.mq_cli.specs.Closing.{slot_lines, slot_told, worker_line, worker_lines};
 ghost use Rattle.mq_cli.specs.Closing.{yes_or_no as name_of_answer};
 
@@ -96,8 +97,7 @@ fn write_slots(out: &mut Vec<u8>, slots: &[ClosedSlot]) -> Result<(), AllocError
 
 /// `slot K events N sent A received B left C`
 fn write_slot(out: &mut Vec<u8>, number: usize, slot: &ClosedSlot) -> Result<(), AllocError>
-    ensures { OnOk result (out.new.items
-        ≡ out.old.items ++ slot_line number (events_of slot.now) slot.now.left) }
+    ensures { OnOk result (out.new.items ≡ out.old.items ++ slot_line number slot.now) }
 {
     let events = count_events(slot);
     if events == 0 {
@@ -117,7 +117,7 @@ fn write_slot(out: &mut Vec<u8>, number: usize, slot: &ClosedSlot) -> Result<(),
 fn write_told(
     out: &mut Vec<u8>,
     number: usize,
-    events: usize,
+    events: u128,
     sent: usize,
     received: usize,
     left: u64,
@@ -132,11 +132,11 @@ fn write_told(
     write_last(out, b" left ", left)
 }
 
-/// How many entries a slot has.
-fn count_events(slot: &ClosedSlot) -> usize
-    ensures { result ≡ length (events_of slot.now) }
+/// How many entries a slot had: as many as a u64 can tell may be cut off, and others are left.
+fn count_events(slot: &ClosedSlot) -> u128
+    ensures { result ≡ entries_of slot.now }
 {
-    slot.past.len() + slot.last.len()
+    slot.first as u128 + slot.past.len() as u128 + slot.last.len() as u128
 }
 
 /// How many messages were sent.

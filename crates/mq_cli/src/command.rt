@@ -2,7 +2,7 @@ ghost use Rattle.std.specs.Prelude.{◌≡◌, ◌+◌, ◌^◌, ◌==◌, lengt
 ghost use Rattle.std.specs.List.{list_any};
 ghost use Rattle.std.specs.Option.{option_map};
 ghost use Rattle.mq_cli.specs.Commands.{arena_of, command_of, flags_of, get_flags_of, get_of};
-ghost use Rattle.mq_cli.specs.Commands.{ipcs_of, named, receive_of, reading};
+ghost use Rattle.mq_cli.specs.Commands.{cutting_of, ipcs_of, named, receive_of, reading};
 ghost use Rattle.mq_cli.specs.Commands.{remove_of, seat_of, send_of, set_of, stat_of, text_of};
 ghost use Rattle.mq_cli.specs.Commands.{is_text as is_text_form};
 ghost use Rattle.mq_cli.specs.Drafts.{bytes_of_text};
@@ -15,7 +15,7 @@ use crate::Cause;
 use crate::form::{are_filled, says_something};
 use crate::number::{integer, key, number};
 use crate::words::Words;
-use mq_one_thread::{GetFlags, MAX_SEATS};
+use mq_one_thread::{GetFlags, MAX_SEATS, MAX_SLOTS};
 
 /// The text of a message as a line spells it.
 #[derive(Clone, Copy, Drop)]
@@ -74,6 +74,8 @@ pub enum Command<'a> {
     Remove { id: u32 },
     /// IPC_STAT.
     Stat { id: u32 },
+    /// The log of a slot is cut off where it ends.
+    Cut { slot: u8 },
     /// A row for each live queue.
     Report,
 }
@@ -143,6 +145,9 @@ fn read_named<'a>(name: &[u8], words: Words<'a>) -> Result<Command<'a>, Cause>
     }
     if name == b"stat".as_slice() {
         return read_stat(words);
+    }
+    if name == b"cut".as_slice() {
+        return read_cut(words);
     }
     if name == b"ipcs".as_slice() {
         return read_report(words);
@@ -318,10 +323,32 @@ fn read_stat(mut words: Words<'_>) -> Result<Command<'_>, Cause>
     }
 }
 
+fn read_cut(mut words: Words<'_>) -> Result<Command<'_>, Cause>
+    ensures { seen result ≡ cutting_of (parts_left 32 words.entry.rest) }
+{
+    match (words.next(), words.next()) {
+        (Some(slot), None) => match slot_number(slot) {
+            Some(slot) => Ok(Command::Cut { slot }),
+            None => Err(Cause::Number),
+        },
+        _ => Err(Cause::Words),
+    }
+}
+
 pub fn id_of(word: &[u8]) -> Option<u32>
     ensures { result ≡ under (2 ^ 32) (number_of word.now) }
 {
     u32::try_from(number(word)?).ok()
+}
+
+/// The number of a slot: below `MAX_SLOTS`.
+fn slot_number(word: &[u8]) -> Option<u8>
+    ensures { result ≡ under MAX_SLOTS (number_of word.now) }
+{
+    match number(word) {
+        Some(number) if number < u64::from(MAX_SLOTS) => Some(number as u8),
+        _ => None,
+    }
 }
 
 /// The number of a seat: 1 to `MAX_SEATS`.

@@ -36,7 +36,7 @@ mod workers;
 
 pub use fault::{Cause, RunFault};
 pub use laws::{
-    a_command_is_spelled_one_way, a_spelled_command_is_read_back,
+    a_command_is_spelled_one_way, a_cut_changes_no_other_line, a_spelled_command_is_read_back,
     a_spelled_threads_line_is_read_back, a_threads_line_is_spelled_one_way,
 };
 pub use limits::{LINE_LIMIT, SCRIPT_DEFAULTS, SCRIPT_LIMIT, the_limits};

@@ -3,6 +3,7 @@ ghost use Rattle.mq_cli.specs.Seen.{arena_shown};
 ghost use Rattle.mq_cli.specs.Transcript.{callers_of, counts_of, head_of, moments_of};
 ghost use Rattle.mq_cli.specs.Transcript.{order_name, pages_of};
 ghost use Rattle.mq_cli.specs.Transcript.{output, refused, given, at, message, gone, figures};
+ghost use Rattle.mq_cli.specs.Transcript.{cut_off};
 
 use itoa::{Buffer, Integer};
 use mq_message::Text;
@@ -90,6 +91,14 @@ pub fn write_removal(out: &mut Vec<u8>, entry: u64, events: u64) -> Result<(), A
 {
     write_field(out, b"at ", entry)?;
     write_last(out, b" events ", events)
+}
+
+/// `cut from A to B`
+pub fn write_cut(out: &mut Vec<u8>, first: u64, end: u128) -> Result<(), AllocError>
+    ensures { OnOk result (out.new.items ≡ out.old.items ++ output (cut_off first end)) }
+{
+    write_field(out, b"cut from ", first)?;
+    write_last(out, b" to ", end)
 }
 
 /// `qnum A cbytes B qbytes C lspid D lrpid E stime F rtime G ctime H`

@@ -1,3 +1,4 @@
 pub mod Gathered
 pub mod Names
 pub mod Seen
+pub mod Turned

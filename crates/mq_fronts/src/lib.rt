@@ -6,6 +6,7 @@
 mod boards;
 mod fronts;
 mod published;
+mod turns;
 
 pub use boards::{next_board, open_boards};
 pub use fronts::Fronts;

@@ -1,47 +1,48 @@
 -- What holds of the slots that a system leaves.
-use Rattle.std.proofs.Common.{◌≡◌, ℕ, List, ◌++◌, length, map, take, drop, get_or, sym, subst, ap, ◌∙◌, All, arith}
-use Rattle.std.proofs.lemmas.List.{get_or-map, length-map, take-append-drop}
-use Rattle.std.proofs.lemmas.List.Elements.{All-map}
+use Rattle.std.proofs.Common.{◌≡◌, ℕ, ◌<◌, List, length, map, get_or, sym, subst, ap, ◌∙◌, All, arith}
+use Rattle.std.proofs.lemmas.List.{get_or-map, length-map}
 use Rattle.mq_message.specs.Text.{PlainText}
 use Rattle.mq_select.specs.Waiting.{header_of}
-use Rattle.mq_queue.specs.Waiting.{waiting}
-use Rattle.mq_table.specs.Slot.{SlotState, Waits}
-use Rattle.mq_table.specs.SlotList.{IsSlotList, offset}
-use Rattle.mq_table.proofs.Lasts.{drop_offset}
-use Rattle.mq_one_thread.specs.Closed.{Ending, ending_of, ends, CountsWaiting, IsWhole}
+use Rattle.mq_queue.specs.declared.event.Event.{Event}
+use Rattle.mq_table.specs.Cut.{IsCutOf}
+use Rattle.mq_table.specs.Kept.{KeptSlot}
+use Rattle.mq_table.specs.KeptPart.{IsKeptPart, IsLawfulSlot, WaitsNow}
+use Rattle.mq_table.specs.SlotList.{IsSlotList}
+use Rattle.mq_table.specs.SlotParts.{empty_kept}
+use Rattle.mq_table.proofs.Cuts.{cut_is}
+use Rattle.mq_table.proofs.Kepts.{waiting_is}
+use Rattle.mq_one_thread.specs.Closed.{Ending, IsClosed, IsEndOf, ending_of, ends}
 use Rattle.mq_one_thread.specs.Texts.{bytes_of}
 use Rattle.mq_one_thread.specs.declared.close.ClosedSlot.{ClosedSlot}
 
--- what holds of how each slot ends, holds of each that was closed
-all_closed : (P : Ending → Type 0) (slots : List (SlotState PlainText)) (closed : List ClosedSlot)
-    → map ending_of closed ≡ map ends slots → All (λ slot. P (ends slot)) slots
-    → All (λ slot. P (ending_of slot)) closed
-all_closed P slots closed same each k d within =
-    let ended : All P (map ending_of closed) = rw same (All-map P ends slots each) in
-    subst P (get_or-map ending_of closed k d (ending_of d) within)
-    (ended k (ending_of d) (omega (arith, within, length-map closed ending_of)))
+-- a slot ends with the list of which it keeps a part
+pub ends_with_list : (last_seq : ℕ) (list : List Event) (slot : KeptSlot PlainText)
+    (closed : ClosedSlot) → ending_of closed ≡ ends slot → IsKeptPart list slot
+    → IsSlotList last_seq list → WaitsNow bytes_of slot → IsEndOf last_seq list closed
+ends_with_list last_seq list slot closed is part lawful waits = record {
+  lawful = lawful;
+  kept = subst (IsCutOf list) (sym (ap (λ (e : Ending). e.cut) is)) (cut_is list slot part);
+  left =
+      ap (λ (e : Ending). e.left) is ∙ sym (length-map slot.messages (header_of bytes_of))
+      ∙ ap length (waits ∙ waiting_is list slot part);
+}
 
-pub all_whole : (last_seq : ℕ) (slots : List (SlotState PlainText)) (closed : List ClosedSlot)
-    → map ending_of closed ≡ map ends slots
-    → All (λ (slot : SlotState PlainText). IsSlotList last_seq slot.events) slots
-    → All (IsWhole last_seq) closed
-all_whole last_seq slots closed same each =
-    all_closed (λ e. IsSlotList last_seq (e.past ++ e.last)) slots closed same
-    (λ k d within. whole (get_or slots k d) (each k d within))
-  where
-    whole : (slot : SlotState PlainText) → IsSlotList last_seq slot.events
-        → IsSlotList last_seq (take (offset slot.events) slot.events
-        ++ drop (offset slot.events) slot.events)
-    whole slot h = rw (take-append-drop (offset slot.events) slot.events) h
-
-pub all_counted : (slots : List (SlotState PlainText)) (closed : List ClosedSlot)
-    → map ending_of closed ≡ map ends slots → All (Waits bytes_of) slots → All CountsWaiting closed
-all_counted slots closed same each =
-    all_closed (λ e. e.left ≡ length (waiting e.last)) slots closed same
-    (λ k d within. counted (get_or slots k d) (each k d within))
-  where
-    counted : (slot : SlotState PlainText) → Waits bytes_of slot
-        → length slot.messages ≡ length (waiting (drop (offset slot.events) slot.events))
-    counted slot h =
-        sym (length-map slot.messages (header_of bytes_of)) ∙ ap length h
-        ∙ ap (λ log. length (waiting log)) (sym (drop_offset slot.events))
+-- each slot that was closed ended with a slot list
+pub all_closed : (last_seq : ℕ) (slots : List (KeptSlot PlainText)) (closed : List ClosedSlot)
+    → map ending_of closed ≡ map ends slots → All (IsLawfulSlot last_seq) slots
+    → All (WaitsNow bytes_of) slots → All (IsClosed last_seq) closed
+all_closed last_seq slots closed same lawful waits k d within =
+    let none : KeptSlot PlainText = empty_kept 0 in
+    let inside : k < length slots =
+    omega (arith, within, length-map closed ending_of, ap length same, length-map slots ends) in
+    let is : ending_of (get_or closed k d) ≡ ends (get_or slots k none) =
+    sym (get_or-map ending_of closed k d (ending_of d) within)
+    ∙ ap (λ (es : List Ending). get_or es k (ending_of d)) same
+    ∙ get_or-map ends slots k none (ending_of d) inside in
+    let h = lawful k none inside in
+    record {
+      list = h.list;
+      is =
+          ends_with_list last_seq h.list (get_or slots k none) (get_or closed k d) is h.part
+          h.lawful (waits k none inside);
+    }

@@ -13,7 +13,7 @@ use Rattle.mq_tree.specs.LentSet.{Lending}
 use Rattle.mq_arena.specs.Lent.{gives_back, with_lent}
 use Rattle.mq_message.specs.Text.{PlainText}
 use Rattle.mq_message.specs.declared.message.Message.{Message}
-use Rattle.mq_table.specs.Slot.{SlotState}
+use Rattle.mq_table.specs.Kept.{KeptSlot}
 use Rattle.mq_one_thread.specs.Closed.{Ending, all_home, ending_of, ends}
 use Rattle.mq_one_thread.specs.Texts.{lies_in, spends, spends_all}
 use Rattle.mq_one_thread.specs.declared.close.ClosedSlot.{ClosedSlot}
@@ -74,15 +74,15 @@ both_home xs ys arena =
     ∙ kept_twice (waits ys) (waits xs) arena.lent)
 
 -- the last slot's come home first
-pub last_home : (slots : List (SlotState PlainText)) (slot : SlotState PlainText) (arena : Lending)
+pub last_home : (slots : List (KeptSlot PlainText)) (slot : KeptSlot PlainText) (arena : Lending)
     → all_home (slots ++ slot ∷ []) arena ≡ all_home slots (spends_all slot.messages arena)
 last_home slots slot arena =
-    let f : SlotState PlainText → List (ℕ × Message PlainText) = λ s. s.messages in
+    let f : KeptSlot PlainText → List (ℕ × Message PlainText) = λ s. s.messages in
     ap (λ ms. spends_all ms arena) (flat_map-append f slots (slot ∷ []) ∙ ap (λ ms. flat_map f slots ++ ms) (append-nil slot.messages))
     ∙ both_home (flat_map f slots) slot.messages arena
 
 -- what is left of the slots, and the endings of the others, are those of all
-pub endings_kept : (slots : List (SlotState PlainText)) (slot : SlotState PlainText) (closed : List ClosedSlot) (c : ClosedSlot) (all : List Ending) → ending_of c ≡ ends slot
+pub endings_kept : (slots : List (KeptSlot PlainText)) (slot : KeptSlot PlainText) (closed : List ClosedSlot) (c : ClosedSlot) (all : List Ending) → ending_of c ≡ ends slot
     → map ends (slots ++ slot ∷ []) ++ reverse (map ending_of closed) ≡ all → map ends slots ++ reverse (map ending_of (closed ++ c ∷ [])) ≡ all
 endings_kept slots slot closed c all is e =
     rw (map-append ending_of closed (c ∷ []), reverse-append (map ending_of closed) (ending_of c ∷ []), is)

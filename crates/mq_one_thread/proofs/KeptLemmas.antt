@@ -1,18 +1,22 @@
 -- What a change of one slot keeps.
-use Rattle.std.proofs.Common.{◌≡◌, ◌≢◌, ◌⊎◌, ◌↔◌, inl, inr, ℕ, ℤ, pos, ◌+◌, ◌*◌, ◌-◌, ◌<◌, ◌≤◌, ◌==◌, Bool, true, false, not, List, [], ◌∷◌, ◌++◌, length, get_or, set, refl, ap, sym, subst, ◌∙◌, true≢false, arith, length-set, get_or-set_same, get_or-set_other, Any, Contains, filter}
+use Rattle.std.proofs.Common.{◌≡◌, ◌≢◌, ◌⊎◌, ◌↔◌, inl, inr, ℕ, ℤ, pos, ◌+◌, ◌*◌, ◌-◌, ◌<◌, ◌≤◌, ◌==◌, Bool, true, false, not, if◌then◌else◌, None, Some, is_some, List, [], ◌∷◌, ◌++◌, length, get_or, set, refl, ap, sym, subst, ◌∙◌, true≢false, arith, length-set, get_or-set_same, get_or-set_other, Any, Contains, filter}
 use Rattle.std.specs.Ordering.{int_eq}
 use Rattle.std.proofs.lemmas.List.{get_or_default}
 use Rattle.std.proofs.lemmas.List.Elements.{All-set, Contains-append_cases, Contains-append_left, Contains-append_right, Contains-push, Contains-push_cases}
 use Rattle.std.proofs.lemmas.List.Quantifiers.{any-set}
 use Rattle.std.proofs.lemmas.Bool.Decides.{Decides-int_eq, eqb_tells}
 use Rattle.mq_message.specs.Text.{PlainText}
-use Rattle.mq_table.specs.Calls.{makes, removes}
+use Rattle.mq_queue.specs.declared.base.Base.{Base}
+use Rattle.mq_queue.specs.Base.{base_after}
+use Rattle.mq_table.specs.Cut.{kept_cuts}
+use Rattle.mq_table.specs.Kept.{KeptSlot, base_now, is_live_kept, made_of}
+use Rattle.mq_table.specs.KeptCalls.{kept_makes, kept_removes}
+use Rattle.mq_table.specs.KeptPart.{IsLawfulSlot, WaitsNow}
+use Rattle.mq_table.specs.KeptShown.{last_id_now, next_id_now}
 use Rattle.mq_table.specs.Keys.{entered, forget}
-use Rattle.mq_table.specs.Slot.{SlotState, Waits, empty_slot, last_id, next_id}
-use Rattle.mq_queue.specs.Row.{made_count, is_live}
-use Rattle.mq_table.specs.SlotList.{IsSlotList}
+use Rattle.mq_table.specs.SlotParts.{empty_kept}
 use Rattle.mq_table.specs.declared.limits.TheConstants.{MAX_SEQ, MAX_SLOTS}
-use Rattle.mq_table.proofs.Stays.{Stays, narrowed, makings_few, makes_one_more, makes_live, makes_key, removes_none, removes_live}
+use Rattle.mq_table.proofs.KeptStays.{KeptStays, kept_makes_live, kept_makes_one_more, kept_makings_few, kept_narrowed, kept_removes_live, kept_removes_none}
 use Rattle.mq_one_thread.specs.Holds.{HasQueue, AreKeysOf}
 use Rattle.mq_one_thread.specs.Kept.{IsKept}
 use Rattle.mq_one_thread.specs.Texts.{bytes_of}
@@ -125,13 +129,26 @@ module _ {X : Type 0} (p : X → Bool) (x : X) where
           on (inr later) = let old = rest later in (after_first y ys old.0, old.1)
       by false is rest = let old = rest (rw is at h) in (after_first y ys old.0, old.1)
 
+-- a cut is no change of the queue
+pub cut_stays : (s : KeptSlot PlainText) → KeptStays s (kept_cuts s)
+cut_stays s = record {
+  number = refl;
+  made = omega arith;
+  live = by (is_live_kept s) (base_after (base_now s) s.last);
+  key = refl;
+}
+  where
+    by : (b : Bool) (base : Base) → is_some (if b then Some base else None) ≡ b
+    by true base = refl
+    by false base = refl
+
 -- ids of queues in different slots differ
 slots_apart : (j k m n : ℕ) → j < MAX_SLOTS → k < MAX_SLOTS
     → m * MAX_SLOTS + j ≡ n * MAX_SLOTS + k → j ≡ k
 slots_apart j k m n low high same = omega arith
 
 -- a queue that goes on has its key and its id
-goes_on : (key : ℤ) (id : ℕ) (s t : SlotState PlainText) → Stays s t → HasQueue key id s
+goes_on : (key : ℤ) (id : ℕ) (s t : KeptSlot PlainText) → KeptStays s t → HasQueue key id s
     → HasQueue key id t
 goes_on key id s t h q = record {
   live = h.live ∙ q.live;
@@ -139,7 +156,7 @@ goes_on key id s t h q = record {
   named = rw (h.number, h.made) q.named;
 }
 
-went_on : (key : ℤ) (id : ℕ) (s t : SlotState PlainText) → Stays s t → HasQueue key id t
+went_on : (key : ℤ) (id : ℕ) (s t : KeptSlot PlainText) → KeptStays s t → HasQueue key id t
     → HasQueue key id s
 went_on key id s t h q = record {
   live = sym h.live ∙ q.live;
@@ -148,49 +165,49 @@ went_on key id s t h q = record {
 }
 
 -- none is where no queue is
-none_there : (key : ℤ) (id : ℕ) (s : SlotState PlainText) → is_live s.events ≡ false
+none_there : (key : ℤ) (id : ℕ) (s : KeptSlot PlainText) → is_live_kept s ≡ false
     → HasQueue key id s → ⊥
 none_there key id s none q = true≢false (sym q.live ∙ none)
 
-module _ (slots : List (SlotState PlainText)) (keys : List (ℤ × ℕ)) (all : AreKeysOf slots keys)
-    (k : ℕ) (within : k < length slots) (old t : SlotState PlainText)
-    (at : get_or slots k (empty_slot k) ≡ old) where
+module _ (slots : List (KeptSlot PlainText)) (keys : List (ℤ × ℕ)) (all : AreKeysOf slots keys)
+    (k : ℕ) (within : k < length slots) (old t : KeptSlot PlainText)
+    (at : get_or slots k (empty_kept k) ≡ old) where
   -- what the key and the id say of some slot, before and after slot k is changed
   still : (key : ℤ) (id : ℕ) → (HasQueue key id old → HasQueue key id t)
       → Any (HasQueue key id) slots → Any (HasQueue key id) (set slots k t)
   still key id keeps some =
-      any_kept (HasQueue key id) slots k t (empty_slot k) within
+      any_kept (HasQueue key id) slots k t (empty_kept k) within
       (λ q. keeps (rw (← at) q)) some
 
   was : (key : ℤ) (id : ℕ) → Any (HasQueue key id) (set slots k t)
       → HasQueue key id t
-      ⊎ ((j : ℕ) × (s : SlotState PlainText) × (j < length slots) × (get_or slots j s ≡ s)
+      ⊎ ((j : ℕ) × (s : KeptSlot PlainText) × (j < length slots) × (get_or slots j s ≡ s)
       × HasQueue key id s × (j ≢ k))
-  was key id some = any_cases (HasQueue key id) slots k t (empty_slot k) within some
+  was key id some = any_cases (HasQueue key id) slots k t (empty_kept k) within some
 
   here : (key : ℤ) (id : ℕ) → HasQueue key id old → Any (HasQueue key id) slots
   here key id q =
-      (k, old, within, get_or_default slots k old (empty_slot k) within ∙ at, q)
+      (k, old, within, get_or_default slots k old (empty_kept k) within ∙ at, q)
 
   now : (key : ℤ) (id : ℕ) → HasQueue key id t → Any (HasQueue key id) (set slots k t)
   now key id q = any-set (HasQueue key id) slots k t within q
 
   -- the keys of a queue that goes on
-  pub keys_stay : Stays old t → AreKeysOf (set slots k t) keys
+  pub keys_stay : KeptStays old t → AreKeysOf (set slots k t) keys
   keys_stay h key id = (
     λ there. let has = (all key id).0 there in (has.0, still key id (goes_on key id old t h) has.1),
     λ has. (all key id).1 (has.0, by (was key id has.1)),
   )
     where
       by : HasQueue key id t
-          ⊎ ((j : ℕ) × (s : SlotState PlainText) × (j < length slots) × (get_or slots j s ≡ s)
+          ⊎ ((j : ℕ) × (s : KeptSlot PlainText) × (j < length slots) × (get_or slots j s ≡ s)
           × HasQueue key id s × (j ≢ k))
           → Any (HasQueue key id) slots
       by (inl q) = here key id (went_on key id old t h q)
       by (inr w) = (w.0, w.1, w.2, w.3, w.4)
 
   -- the keys once a queue is made
-  module _ (none : is_live old.events ≡ false) (key' : ℤ) (id' : ℕ)
+  module _ (none : is_live_kept old ≡ false) (key' : ℤ) (id' : ℕ)
       (new : HasQueue key' id' t) where
     pub keys_made : AreKeysOf (set slots k t) (entered key' id' keys)
     keys_made key id = by (int_eq key' (pos 0)) refl
@@ -205,7 +222,7 @@ module _ (slots : List (SlotState PlainText)) (keys : List (ℤ × ℕ)) (all : 
         before has = on (was key id has.1)
           where
             on : HasQueue key id t
-                ⊎ ((j : ℕ) × (s : SlotState PlainText) × (j < length slots)
+                ⊎ ((j : ℕ) × (s : KeptSlot PlainText) × (j < length slots)
                 × (get_or slots j s ≡ s) × HasQueue key id s × (j ≢ k))
                 → HasQueue key id t ⊎ Contains keys (key, id)
             on (inl q) = inl q
@@ -248,66 +265,71 @@ module _ (slots : List (SlotState PlainText)) (keys : List (ℤ × ℕ)) (all : 
             on (inr there) = Contains-append_left keys ((key', id') ∷ []) (key, id) there
 
   -- the keys once the queue is removed
-  module _ (placed : (j : ℕ) → j < length slots → (get_or slots j (empty_slot j)).number ≡ j)
-      (few : length slots ≤ MAX_SLOTS) (gone : is_live t.events ≡ false) where
-    apart : (j : ℕ) (s : SlotState PlainText) → j < length slots → get_or slots j s ≡ s → j ≢ k
-        → last_id s ≡ last_id old → ⊥
+  module _ (placed : (j : ℕ) → j < length slots → (get_or slots j (empty_kept j)).number ≡ j)
+      (few : length slots ≤ MAX_SLOTS) (gone : is_live_kept t ≡ false) where
+    apart : (j : ℕ) (s : KeptSlot PlainText) → j < length slots → get_or slots j s ≡ s → j ≢ k
+        → last_id_now s ≡ last_id_now old → ⊥
     apart j s low is other same =
         let its : s.number ≡ j =
-        ap (λ (x : SlotState PlainText). x.number)
-        (sym is ∙ get_or_default slots j s (empty_slot j) low) ∙ placed j low in
+        ap (λ (x : KeptSlot PlainText). x.number)
+        (sym is ∙ get_or_default slots j s (empty_kept j) low) ∙ placed j low in
         let olds : old.number ≡ k =
-        ap (λ (x : SlotState PlainText). x.number) (sym at) ∙ placed k within in
+        ap (λ (x : KeptSlot PlainText). x.number) (sym at) ∙ placed k within in
         other
-        (slots_apart j k (made_count s.events - 1) (made_count old.events - 1)
+        (slots_apart j k (made_of s - 1) (made_of old - 1)
         (omega (arith, low, few)) (omega (arith, within, few)) (rw (its, olds) at same))
 
-    pub keys_removed : AreKeysOf (set slots k t) (forget (last_id old) keys)
+    pub keys_removed : AreKeysOf (set slots k t) (forget (last_id_now old) keys)
     keys_removed key id = (come, back)
       where
-        come : Contains (forget (last_id old) keys) (key, id)
+        come : Contains (forget (last_id_now old) keys) (key, id)
             → (key ≢ pos 0) × Any (HasQueue key id) (set slots k t)
         come there =
-            let left = left_contained (λ (p : ℤ × ℕ). not (p.1 == last_id old)) (key, id) keys there in
+            let left =
+            left_contained (λ (p : ℤ × ℕ). not (p.1 == last_id_now old)) (key, id) keys there in
             let has = (all key id).0 left.0 in
-            (has.0, still key id (λ q. absurd (not_same id (last_id old) left.1 q.named)) has.1)
+            (has.0, still key id (λ q. absurd (not_same id (last_id_now old) left.1 q.named)) has.1)
 
         back : (key ≢ pos 0) × Any (HasQueue key id) (set slots k t)
-            → Contains (forget (last_id old) keys) (key, id)
+            → Contains (forget (last_id_now old) keys) (key, id)
         back has = on (was key id has.1)
           where
             on : HasQueue key id t
-                ⊎ ((j : ℕ) × (s : SlotState PlainText) × (j < length slots)
+                ⊎ ((j : ℕ) × (s : KeptSlot PlainText) × (j < length slots)
                 × (get_or slots j s ≡ s) × HasQueue key id s × (j ≢ k))
-                → Contains (forget (last_id old) keys) (key, id)
+                → Contains (forget (last_id_now old) keys) (key, id)
             on (inl q) = absurd (none_there key id t gone q)
             on (inr w) =
-                contains_left (λ (p : ℤ × ℕ). not (p.1 == last_id old)) (key, id) keys
+                contains_left (λ (p : ℤ × ℕ). not (p.1 == last_id_now old)) (key, id) keys
                 ((all key id).1 (has.0, (w.0, w.1, w.2, w.3, w.4)))
-                (differs id (last_id old)
+                (differs id (last_id_now old)
                 (λ same. apart w.0 w.1 w.2 w.3 w.5 (w.4.named ∙ same)))
 
-module _ {C : Type 0} (slots : List (SlotState PlainText)) (keys : List (ℤ × ℕ)) (last_seq : ℕ)
+module _ {C : Type 0} (slots : List (KeptSlot PlainText)) (keys : List (ℤ × ℕ)) (last_seq : ℕ)
     (closed : List C) (room : ℕ) (h : IsKept slots keys last_seq closed room)
-    (k : ℕ) (within : k < length slots) (old t d : SlotState PlainText)
-    (found : old ≡ get_or slots k d) (lawful : IsSlotList MAX_SEQ t.events)
-    (waits : Waits bytes_of t) where
-  at : get_or slots k (empty_slot k) ≡ old
-  at = get_or_default slots k (empty_slot k) d within ∙ sym found
+    (k : ℕ) (within : k < length slots) (old t d : KeptSlot PlainText)
+    (found : old ≡ get_or slots k d) (lawful : IsLawfulSlot MAX_SEQ t)
+    (waits : WaitsNow bytes_of t) where
+  at : get_or slots k (empty_kept k) ≡ old
+  at = get_or_default slots k (empty_kept k) d within ∙ sym found
 
   -- whether a queue is there
-  there : (b : Bool) → is_live (get_or slots k (empty_slot k)).events ≡ b → is_live old.events ≡ b
-  there b is = ap (λ (s : SlotState PlainText). is_live s.events) (sym at) ∙ is
+  there : (b : Bool) → is_live_kept (get_or slots k (empty_kept k)) ≡ b → is_live_kept old ≡ b
+  there b is = ap (λ (s : KeptSlot PlainText). is_live_kept s) (sym at) ∙ is
+
+  -- the old slot is one for the system's last seq
+  was_lawful : IsLawfulSlot last_seq old
+  was_lawful = rw (← at) (h.lawful k (empty_kept k) within)
 
   -- slot k is another one, with its number and few enough makings
-  changed : (keys' : List (ℤ × ℕ)) → t.number ≡ old.number → made_count t.events ≤ last_seq + 1
+  changed : (keys' : List (ℤ × ℕ)) → t.number ≡ old.number → made_of t ≤ last_seq + 1
       → AreKeysOf (set slots k t) keys' → IsKept (set slots k t) keys' last_seq closed room
   changed keys' number few keyed = record {
     placed = placed;
     lawful =
-        All-set (λ (s : SlotState PlainText). IsSlotList last_seq s.events) slots k t
-        (narrowed MAX_SEQ last_seq t.events lawful few) h.lawful;
-    waits = All-set (Waits bytes_of) slots k t waits h.waits;
+        All-set (IsLawfulSlot last_seq) slots k t
+        (kept_narrowed MAX_SEQ last_seq t lawful few) h.lawful;
+    waits = All-set (WaitsNow bytes_of) slots k t waits h.waits;
     keyed = keyed;
     few = omega (arith, length-set slots k t, h.few);
     bounded = h.bounded;
@@ -316,31 +338,25 @@ module _ {C : Type 0} (slots : List (SlotState PlainText)) (keys : List (ℤ × 
   }
     where
       placed : (j : ℕ) → j < length (set slots k t)
-          → (get_or (set slots k t) j (empty_slot j)).number ≡ j
+          → (get_or (set slots k t) j (empty_kept j)).number ≡ j
       placed j low = on (same_or_not j k)
         where
-          on : (j ≡ k) ⊎ (j ≢ k) → (get_or (set slots k t) j (empty_slot j)).number ≡ j
+          on : (j ≡ k) ⊎ (j ≢ k) → (get_or (set slots k t) j (empty_kept j)).number ≡ j
           on (inl same) =
-              rw (same, get_or-set_same slots k t (empty_slot k) within)
-              (number ∙ ap (λ (s : SlotState PlainText). s.number) (sym at) ∙ h.placed k within)
+              rw (same, get_or-set_same slots k t (empty_kept k) within)
+              (number ∙ ap (λ (s : KeptSlot PlainText). s.number) (sym at) ∙ h.placed k within)
           on (inr other) =
-              rw (get_or-set_other slots k j t (empty_slot j) other)
+              rw (get_or-set_other slots k j t (empty_kept j) other)
               (h.placed j (omega (arith, low, length-set slots k t)))
 
-  -- the makings of a slot are few enough
-  makings : made_count old.events ≤ last_seq + 1
-  makings =
-      makings_few last_seq old.events
-      (rw (← at) (h.lawful k (empty_slot k) within))
-
   -- a queue goes on
-  kept_stays : Stays old t → IsKept (set slots k t) keys last_seq closed room
+  pub kept_stays : KeptStays old t → IsKept (set slots k t) keys last_seq closed room
   kept_stays s =
-      changed keys s.number (omega (arith, makings, s.made))
+      changed keys s.number (omega (arith, kept_makings_few last_seq old was_lawful, s.made))
       (keys_stay slots keys h.keyed k within old t at s)
 
-  pub kept_on : is_live (get_or slots k (empty_slot k)).events ≡ true
-      → (is_live old.events ≡ true → Stays old t) → IsKept (set slots k t) keys last_seq closed room
+  pub kept_on : is_live_kept (get_or slots k (empty_kept k)) ≡ true
+      → (is_live_kept old ≡ true → KeptStays old t) → IsKept (set slots k t) keys last_seq closed room
   kept_on live stays = kept_stays (stays (there true live))
 
   -- nothing was changed
@@ -352,35 +368,43 @@ module _ {C : Type 0} (slots : List (SlotState PlainText)) (keys : List (ℤ × 
 
   -- a queue is made
   pub kept_made : (key : ℤ) (seat moment : ℕ)
-      → is_live (get_or slots k (empty_slot k)).events ≡ false
-      → made_count (get_or slots k (empty_slot k)).events ≤ last_seq
-      → t ≡ makes old key seat moment
-      → (keys' : List (ℤ × ℕ)) → keys' ≡ entered key (next_id old) keys
+      → is_live_kept (get_or slots k (empty_kept k)) ≡ false
+      → made_of (get_or slots k (empty_kept k)) ≤ last_seq
+      → t ≡ kept_makes old key seat moment
+      → (keys' : List (ℤ × ℕ)) → keys' ≡ entered key (next_id_now old) keys
       → IsKept (set slots k t) keys' last_seq closed room
   kept_made key seat moment none fits is keys' entering =
-      let few : made_count old.events ≤ last_seq = rw (← at) fits in
-      let one : made_count t.events ≡ made_count old.events + 1 =
-      ap (λ (s : SlotState PlainText). made_count s.events) is ∙ makes_one_more old seat moment key in
-      let number : t.number ≡ old.number = ap (λ (s : SlotState PlainText). s.number) is in
-      let new : HasQueue key (next_id old) t = record {
-        live = rw is (makes_live old seat moment key);
-        made = rw is (makes_key old seat moment key);
-        named = its (made_count old.events) (made_count t.events) t.number old.number number one;
+      let few : made_of old ≤ last_seq = rw (← at) fits in
+      let one : made_of t ≡ made_of old + 1 =
+      ap (λ (s : KeptSlot PlainText). made_of s) is
+      ∙ kept_makes_one_more last_seq old was_lawful seat moment key (there false none) in
+      let number : t.number ≡ old.number = ap (λ (s : KeptSlot PlainText). s.number) is in
+      let new : HasQueue key (next_id_now old) t = record {
+        live =
+            ap (λ (s : KeptSlot PlainText). is_live_kept s) is
+            ∙ kept_makes_live last_seq old was_lawful seat moment key (there false none);
+        made = ap (λ (s : KeptSlot PlainText). s.key) is;
+        named = its (made_of old) (made_of t) t.number old.number number one;
       } in
       changed keys' number (omega (arith, one, few))
-      (rw entering (keys_made slots keys h.keyed k within old t at (there false none) key (next_id old) new))
+      (rw entering
+      (keys_made slots keys h.keyed k within old t at (there false none) key (next_id_now old) new))
     where
       its : (m n a b : ℕ) → a ≡ b → n ≡ m + 1 → (n - 1) * MAX_SLOTS + a ≡ m * MAX_SLOTS + b
       its m n a b same more = let less : n - 1 ≡ m = omega arith in rw (same, less) refl
 
   -- the queue is removed
-  pub kept_removed : (seat moment : ℕ) → t ≡ removes old seat moment
-      → (keys' : List (ℤ × ℕ)) → keys' ≡ forget (last_id old) keys
+  pub kept_removed : (seat moment : ℕ) → is_live_kept (get_or slots k (empty_kept k)) ≡ true
+      → t ≡ kept_removes old seat moment
+      → (keys' : List (ℤ × ℕ)) → keys' ≡ forget (last_id_now old) keys
       → IsKept (set slots k t) keys' last_seq closed room
-  kept_removed seat moment is keys' left =
-      let same : made_count t.events ≡ made_count old.events =
-      ap (λ (s : SlotState PlainText). made_count s.events) is ∙ removes_none old seat moment in
-      let number : t.number ≡ old.number = ap (λ (s : SlotState PlainText). s.number) is in
-      let gone : is_live t.events ≡ false = rw is (removes_live old seat moment) in
-      changed keys' number (omega (arith, same, makings))
+  kept_removed seat moment live is keys' left =
+      let same : made_of t ≡ made_of old =
+      ap (λ (s : KeptSlot PlainText). made_of s) is
+      ∙ kept_removes_none last_seq old was_lawful seat moment (there true live) in
+      let number : t.number ≡ old.number = ap (λ (s : KeptSlot PlainText). s.number) is in
+      let gone : is_live_kept t ≡ false =
+      ap (λ (s : KeptSlot PlainText). is_live_kept s) is
+      ∙ kept_removes_live last_seq old was_lawful seat moment (there true live) in
+      changed keys' number (omega (arith, same, kept_makings_few last_seq old was_lawful))
       (rw left (keys_removed slots keys h.keyed k within old t at h.placed h.few gone))

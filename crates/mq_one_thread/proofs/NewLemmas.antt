@@ -2,19 +2,23 @@
 use Rattle.std.proofs.Common.{◌≡◌, ℕ, ◌<◌, false, [], refl, sym, ◌∙◌, true≢false, arith, All, Any}
 use Rattle.std.proofs.lemmas.List.FromFn.{get_or-map-range_with_len, length-map-range_with_len}
 use Rattle.mq_message.specs.Text.{PlainText}
-use Rattle.mq_table.specs.Slot.{SlotState, Waits, empty_slot}
-use Rattle.mq_queue.specs.Row.{is_live}
+use Rattle.mq_table.specs.Kept.{KeptSlot, is_live_kept}
+use Rattle.mq_table.specs.KeptPart.{IsLawfulSlot, WaitsNow}
 use Rattle.mq_table.specs.SlotList.{IsSlotList}
+use Rattle.mq_table.specs.SlotParts.{empty_kept}
+use Rattle.mq_table.proofs.KeptTurns.{none_kept}
 use Rattle.mq_one_thread.specs.Holds.{HasQueue, AreKeysOf}
 use Rattle.mq_one_thread.specs.Limits.{empty_slots}
 use Rattle.mq_one_thread.specs.Texts.{bytes_of}
 
 -- what holds of each empty slot, holds of all
-all_new : (P : SlotState PlainText → Type 0) → ((k : ℕ) → P (empty_slot k)) → (count : ℕ)
+all_new : (P : KeptSlot PlainText → Type 0) → ((k : ℕ) → P (empty_kept k)) → (count : ℕ)
     → All P (empty_slots count)
 all_new P each count k d within =
-    let low : k < count = omega (arith, within, length-map-range_with_len (empty_slot {B = PlainText}) 0 count) in
-    rw (get_or-map-range_with_len (empty_slot {B = PlainText}) 0 count k k d low (omega arith)) (each k)
+    let low : k < count =
+    omega (arith, within, length-map-range_with_len (empty_kept {B = PlainText}) 0 count) in
+    rw (get_or-map-range_with_len (empty_kept {B = PlainText}) 0 count k k d low (omega arith))
+    (each k)
 
 -- no event is a slot list
 none_is_list : (last_seq : ℕ) → IsSlotList last_seq []
@@ -26,13 +30,18 @@ none_is_list last_seq = record {
   ended = λ k d within. absurd (omega (arith, within));
 }
 
-pub lawful_new : (last_seq count : ℕ)
-    → All (λ (s : SlotState PlainText). IsSlotList last_seq s.events) (empty_slots count)
+pub lawful_new : (last_seq count : ℕ) → All (IsLawfulSlot last_seq) (empty_slots count)
 lawful_new last_seq count =
-    all_new (λ s. IsSlotList last_seq s.events) (λ k. none_is_list last_seq) count
+    all_new (IsLawfulSlot last_seq)
+    (λ k. record {
+      list = [];
+      part = none_kept (empty_kept k) refl refl refl refl refl refl;
+      lawful = none_is_list last_seq;
+    })
+    count
 
-pub waits_new : (count : ℕ) → All (Waits bytes_of) (empty_slots count)
-waits_new count = all_new (Waits bytes_of) (λ k. refl) count
+pub waits_new : (count : ℕ) → All (WaitsNow bytes_of) (empty_slots count)
+waits_new count = all_new (WaitsNow bytes_of) (λ k. refl) count
 
 pub keyed_new : (count : ℕ) → AreKeysOf (empty_slots count) []
 keyed_new count key id = (
@@ -40,8 +49,8 @@ keyed_new count key id = (
   λ has. absurd (none has.1),
 )
   where
-    gone : All (λ (s : SlotState PlainText). is_live s.events ≡ false) (empty_slots count)
-    gone = all_new (λ s. is_live s.events ≡ false) (λ k. refl) count
+    gone : All (λ (s : KeptSlot PlainText). is_live_kept s ≡ false) (empty_slots count)
+    gone = all_new (λ s. is_live_kept s ≡ false) (λ k. refl) count
 
     none : Any (HasQueue key id) (empty_slots count) → ⊥
     none some =

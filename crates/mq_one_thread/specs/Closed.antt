@@ -1,42 +1,55 @@
 -- What a system leaves at its end.
-use Rattle.std.specs.Prelude.{◌≡◌, ℕ, List, ◌++◌, length, take, drop}
+use Rattle.std.specs.Prelude.{◌≡◌, ℕ, ◌+◌, List, length}
 use Rattle.std.specs.List.{flat_map}
 use Rattle.mq_tree.specs.LentSet.{Lending}
 use Rattle.mq_message.specs.Text.{PlainText}
 use Rattle.mq_queue.specs.declared.event.Event.{Event}
-use Rattle.mq_table.specs.Slot.{SlotState}
 use Rattle.mq_queue.specs.Waiting.{waiting}
-use Rattle.mq_table.specs.SlotList.{IsSlotList, offset}
+use Rattle.mq_table.specs.Cut.{CutState, IsCutOf, cut_of}
+use Rattle.mq_table.specs.Kept.{KeptSlot}
+use Rattle.mq_table.specs.SlotList.{IsSlotList, live_log}
 use Rattle.mq_one_thread.specs.Texts.{spends_all}
 use Rattle.mq_one_thread.specs.declared.close.ClosedSlot.{ClosedSlot}
 
--- what a slot leaves: the events of the queues that were removed, the log of the one that is
--- there, and how many messages were waiting in it
+-- what a slot leaves: a cut of its list, and how many messages were waiting
 pub record Ending : Type 0 where
-  pub past : List Event
-  pub last : List Event
+  pub cut : CutState
   pub left : ℕ
 
 -- how a slot ends
-abbrev pub ends : SlotState PlainText → Ending
-ends slot = record {
-  past = take (offset slot.events) slot.events;
-  last = drop (offset slot.events) slot.events;
-  left = length slot.messages;
+abbrev pub ends : KeptSlot PlainText → Ending
+ends slot = record { cut = cut_of slot; left = length slot.messages }
+
+-- what a slot that was closed tells of its list
+abbrev pub cut_in : ClosedSlot → CutState
+cut_in slot = record {
+  first = slot.first;
+  made = slot.made;
+  base = slot.base;
+  past = slot.past.items;
+  last = slot.last.items;
 }
 
--- the same, of a slot that was closed
+-- how a slot that was closed ended
 abbrev pub ending_of : ClosedSlot → Ending
-ending_of slot = record { past = slot.past.items; last = slot.last.items; left = slot.left }
+ending_of slot = record { cut = cut_in slot; left = slot.left }
 
--- the past events and the last queue's log are a slot list
-abbrev pub IsWhole : ℕ → ClosedSlot → Type 0
-IsWhole last_seq slot = IsSlotList last_seq (slot.past.items ++ slot.last.items)
+-- a slot ended with this list: it tells a cut of it, and as many messages were left as wait by it
+pub record IsEndOf (last_seq : ℕ) (list : List Event) (slot : ClosedSlot) : Type 0 where
+  pub lawful : IsSlotList last_seq list
+  pub kept : IsCutOf list (cut_in slot)
+  pub left : slot.left ≡ length (waiting (live_log list))
 
--- as many messages were left as wait by the last queue's log
-abbrev pub CountsWaiting : ClosedSlot → Type 0
-CountsWaiting slot = slot.left ≡ length (waiting slot.last.items)
+-- a slot ended with some slot list
+pub record IsClosed (last_seq : ℕ) (slot : ClosedSlot) : Type 0 where
+  pub list : List Event
+  pub is : IsEndOf last_seq list slot
+
+-- how many entries a slot that was closed had: those that were cut off before, and those that it
+-- leaves
+abbrev pub entries_of : ClosedSlot → ℕ
+entries_of slot = slot.first + length slot.past.items + length slot.last.items
 
 -- the arena once all that waits in any slot is home
-abbrev pub all_home : List (SlotState PlainText) → Lending → Lending
+abbrev pub all_home : List (KeptSlot PlainText) → Lending → Lending
 all_home slots arena = spends_all (flat_map (λ slot. slot.messages) slots) arena

@@ -1,10 +1,10 @@
 -- What msgget answers and leaves (msgget(2)).
-use Rattle.std.specs.Prelude.{ℕ, ℤ, pos, ◌&&◌, if◌then◌else◌, length, Option, Some, None, Result, Ok, Err, position}
+use Rattle.std.specs.Prelude.{ℕ, ℤ, pos, ◌&&◌, if◌then◌else◌, Option, Some, None, Result, Ok, Err, position}
 use Rattle.std.specs.Ordering.{int_eq}
-use Rattle.mq_table.specs.Calls.{makes}
+use Rattle.mq_table.specs.Kept.{entries_of}
+use Rattle.mq_table.specs.KeptCalls.{kept_makes}
+use Rattle.mq_table.specs.KeptShown.{is_free_now, next_id_now}
 use Rattle.mq_table.specs.Keys.{id_of_key, entered}
-use Rattle.mq_table.specs.Slot.{next_id}
-use Rattle.mq_table.specs.SlotList.{is_free}
 use Rattle.mq_one_thread.specs.State.{State, slot_at, with_slot}
 use Rattle.mq_one_thread.specs.declared.errno.Errno.{Errno}
 use Rattle.mq_one_thread.specs.declared.errno.Errno.TheVariants.{EEXIST, ENOENT, ENOMEM, ENOSPC}
@@ -22,15 +22,15 @@ made_in s key seat moment None = Err ENOSPC
 made_in s key seat moment (Some k) =
     let slot = slot_at s k in
     Ok (
-      record { id = next_id slot; made = Some (length slot.events) },
-      record (with_slot s k (makes slot key seat moment)) {
-        keys = entered key (next_id slot) s.keys;
+      record { id = next_id_now slot; made = Some (entries_of slot) },
+      record (with_slot s k (kept_makes slot key seat moment)) {
+        keys = entered key (next_id_now slot) s.keys;
       },
     )
 
 -- the first slot in which no queue is and an id is left
 abbrev pub free_slot : State → Option ℕ
-free_slot s = position (λ slot. is_free s.last_seq slot.events) s.slots
+free_slot s = position (λ slot. is_free_now s.last_seq slot) s.slots
 
 -- a queue is made in that slot
 abbrev pub makes_one : State → ℤ → ℕ → ℕ → GetAnswer

@@ -3,7 +3,8 @@ use Rattle.std.specs.Prelude.{ℕ, nat_le, ◌≤◌, ◌&&◌, Bool, List, [], 
 use Rattle.std.specs.List.{range_with_len}
 use Rattle.mq_tree.specs.declared.limits.TheConstants.{MAX_HEIGHT}
 use Rattle.mq_message.specs.Text.{PlainText}
-use Rattle.mq_table.specs.Slot.{SlotState, empty_slot}
+use Rattle.mq_table.specs.Kept.{KeptSlot}
+use Rattle.mq_table.specs.SlotParts.{empty_kept}
 use Rattle.mq_table.specs.declared.limits.TheConstants.{MAX_SLOTS, MAX_SEQ}
 use Rattle.mq_one_thread.specs.State.{State}
 use Rattle.mq_one_thread.specs.declared.config.Config.{Config}
@@ -25,8 +26,8 @@ pub record IsWithin (c : Config) : Type 0 where
   pub last_seq : c.last_seq ≤ MAX_SEQ
 
 -- slots in which no queue was made
-abbrev pub empty_slots : ℕ → List (SlotState PlainText)
-empty_slots count = map empty_slot (range_with_len 0 count)
+abbrev pub empty_slots : ℕ → List (KeptSlot PlainText)
+empty_slots count = map empty_kept (range_with_len 0 count)
 
 -- no queue is made, and nothing is lent
 abbrev pub start : Config → State

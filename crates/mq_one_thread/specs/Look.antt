@@ -5,11 +5,11 @@ use Rattle.mq_queue.specs.declared.error.QueueError.{QueueError}
 use Rattle.mq_queue.specs.declared.error.QueueError.TheVariants.{TypeInvalid, TooLong, Full, NoMessage, TooBig, OverLimit, Memory}
 use Rattle.mq_table.specs.declared.refusal.IdRefusal.{IdRefusal}
 use Rattle.mq_table.specs.declared.refusal.IdRefusal.TheVariants.{Never, Removed}
-use Rattle.mq_table.specs.Calls.{Turn}
 use Rattle.mq_table.specs.Ids.{slot_of, seq_of}
+use Rattle.mq_table.specs.Kept.{KeptSlot, entries_of}
+use Rattle.mq_table.specs.KeptCalls.{KeptTurn}
+use Rattle.mq_table.specs.KeptShown.{standing_now}
 use Rattle.mq_table.specs.Shown.{by_standing}
-use Rattle.mq_table.specs.Slot.{SlotState}
-use Rattle.mq_table.specs.SlotList.{standing}
 use Rattle.mq_one_thread.specs.State.{State, slot_at, with_slot}
 use Rattle.mq_one_thread.specs.declared.errno.Errno.{Errno}
 use Rattle.mq_one_thread.specs.declared.errno.Errno.TheVariants.{EINVAL, EIDRM, EAGAIN, ENOMEM, ENOMSG, E2BIG, EPERM}
@@ -38,10 +38,13 @@ Answer T = Result (T × State) Refused
 abbrev pub refused_early : Errno → Refused
 refused_early errno = record { errno = errno; entry = None }
 
--- a refusal that all that has happened in the id's slot decides
+-- a refusal that all that has happened in this slot decides
+abbrev pub refused_in : State → ℕ → Errno → Refused
+refused_in s k errno = record { errno = errno; entry = Some (entries_of (slot_at s k)) }
+
+-- the same of an id's slot
 abbrev pub refused_at : State → ℕ → Errno → Refused
-refused_at s id errno =
-    record { errno = errno; entry = Some (length (slot_at s (slot_of id)).events) }
+refused_at s id errno = refused_in s (slot_of id) errno
 
 -- whether the slot has the id's queue, or why not
 abbrev pub by_slot : State → ℕ → Result (Unit {0}) IdRefusal → Result (Unit {0}) Refused
@@ -52,11 +55,11 @@ by_slot s id (Err refusal) = Err (refused_at s id (errno_of_id refusal))
 abbrev pub look : State → ℕ → Result (Unit {0}) Refused
 look s id =
     if nat_lt (slot_of id) (length s.slots)
-    then by_slot s id (by_standing (standing (slot_at s (slot_of id)).events (seq_of id)))
+    then by_slot s id (by_standing (standing_now (slot_at s (slot_of id)) (seq_of id)))
     else Err (refused_early EINVAL)
 
 -- what the system answers and leaves, where one slot answers so
-abbrev pub in_slot : {T : Type 0} → State → ℕ → Turn PlainText T → Answer T
+abbrev pub in_slot : {T : Type 0} → State → ℕ → KeptTurn PlainText T → Answer T
 in_slot s id (Ok turn) = Ok (turn.0, with_slot s (slot_of id) turn.1)
 in_slot s id (Err refusal) = Err (refused_at s id (errno_of refusal))
 
@@ -66,7 +69,8 @@ once (Ok _) answer = answer
 once (Err refused) answer = Err refused
 
 -- a call of the queue that an id names
-abbrev pub in_queue : {T : Type 0} → State → ℕ → (SlotState PlainText → Turn PlainText T) → Answer T
+abbrev pub in_queue : {T : Type 0} → State → ℕ → (KeptSlot PlainText → KeptTurn PlainText T)
+    → Answer T
 in_queue s id call = once (look s id) (in_slot s id (call (slot_at s (slot_of id))))
 
 -- where nothing refuses a call that failed, memory did

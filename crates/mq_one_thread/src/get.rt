@@ -1,6 +1,6 @@
 ghost use Rattle.std.specs.Prelude.{◌≡◌, ◌≢◌, ◌<◌, ◌≤◌, false, pos, Ok, None, IfOk, IfErr, IfSome, OnErr, length};
+ghost use Rattle.mq_table.specs.Kept.{is_live_kept, made_of};
 ghost use Rattle.mq_table.specs.Keys.{id_of_key};
-ghost use Rattle.mq_queue.specs.Row.{made_count, is_live};
 ghost use Rattle.mq_one_thread.specs.Get.{errno_or_memory, free_slot, makes_one};
 ghost use Rattle.mq_one_thread.specs.Get.{msgget as msgget_answer};
 ghost use Rattle.mq_one_thread.specs.State.{slot_at};
@@ -68,10 +68,10 @@ impl<L: Ledger> OneThread<L> {
     fn least_free(&self) -> Option<usize>
         ensures first { result ≡ free_slot self.now }
         ensures within { IfSome result (λ k. k < length self.now.slots) }
-        ensures empty { IfSome result (λ k. is_live (slot_at self.now k).events ≡ false) }
-        ensures unused { IfSome result (λ k. made_count (slot_at self.now k).events ≤ MAX_SEQ) }
+        ensures empty { IfSome result (λ k. is_live_kept (slot_at self.now k) ≡ false) }
+        ensures unused { IfSome result (λ k. made_of (slot_at self.now k) ≤ MAX_SEQ) }
         ensures left { IfSome result (λ k.
-            made_count (slot_at self.now k).events ≤ self.now.last_seq) }
+            made_of (slot_at self.now k) ≤ self.now.last_seq) }
     {
         let last_seq = self.last_seq;
         self.slots.iter().position(|slot| slot.is_free(last_seq))

@@ -5,6 +5,7 @@
 mod close;
 mod config;
 mod control;
+mod cut;
 mod draft_error;
 mod errno;
 mod get;
@@ -21,7 +22,7 @@ pub use config::{Config, DEFAULTS, SysError};
 pub use draft_error::DraftError;
 pub use errno::Errno;
 pub use limits::MAX_SEATS;
-pub use mq_table::{MAX_SEQ, MAX_SLOTS};
+pub use mq_table::{Cut, MAX_SEQ, MAX_SLOTS};
 pub use mq_tree::MAX_HEIGHT;
 pub use one_thread::{OneThread, TextSlot};
 pub use results::{Delivered, GetFlags, Got, Refused, Removal, SendRefused};

@@ -1,8 +1,8 @@
-ghost use Rattle.std.specs.Prelude.{◌≡◌, ◌<◌, true, Ok, Some, IfOk, IfErr, OnErr, length};
+ghost use Rattle.std.specs.Prelude.{◌≡◌, ◌<◌, true, Ok, IfOk, IfErr, OnErr, length};
 ghost use Rattle.mq_table.specs.Ids.{slot_of};
-ghost use Rattle.mq_queue.specs.Row.{is_live};
+ghost use Rattle.mq_table.specs.Kept.{is_live_kept};
 ghost use Rattle.mq_one_thread.specs.Calls.{msgsnd as msgsnd_answer, msgrcv as msgrcv_answer};
-ghost use Rattle.mq_one_thread.specs.Look.{look, refused_or_memory};
+ghost use Rattle.mq_one_thread.specs.Look.{look, refused_in, refused_or_memory};
 ghost use Rattle.mq_one_thread.specs.State.{slot_at};
 
 use crate::{Delivered, Errno, OneThread, Refused, SendRefused};
@@ -88,7 +88,7 @@ impl<L: Ledger> OneThread<L> {
     pub(crate) fn place_of(&self, id: Id) -> Result<usize, Refused>
         ensures ok { IfOk result (λ k. k ≡ slot_of id) }
         ensures within { IfOk result (λ k. k < length self.now.slots) }
-        ensures live { IfOk result (λ k. is_live (slot_at self.now k).events ≡ true) }
+        ensures live { IfOk result (λ k. is_live_kept (slot_at self.now k) ≡ true) }
         ensures found { IfOk result (λ k. look self.now id ≡ Ok tt) }
         ensures refused { IfErr result (λ r. look self.now id ≡ Err r) }
     {
@@ -108,8 +108,7 @@ impl<L: Ledger> OneThread<L> {
     /// The refusal after all that has happened in the slot.
     pub(crate) fn refused(&self, k: usize, errno: Errno) -> Refused
         requires { k < length self.now.slots }
-        ensures { result
-            ≡ record { errno = errno; entry = Some (length (slot_at self.now k).events) } }
+        ensures { result ≡ refused_in self.now k errno }
     {
         Refused {
             errno,

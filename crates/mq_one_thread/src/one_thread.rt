@@ -6,9 +6,8 @@ ghost use Rattle.mq_tree.specs.LentSet.{free_pages};
 ghost use Rattle.mq_arena.specs.Lent.{place};
 ghost use Rattle.mq_arena.specs.declared.page.TheConstants.{PAGE_LEN};
 ghost use Rattle.mq_message.specs.Text.{order_for};
-ghost use Rattle.mq_queue.specs.Row.{row};
-ghost use Rattle.mq_table.specs.Slot.{Waits};
-ghost use Rattle.mq_table.specs.SlotList.{IsSlotList};
+ghost use Rattle.mq_table.specs.KeptPart.{IsLawfulSlot, WaitsNow};
+ghost use Rattle.mq_table.specs.KeptShown.{row_now};
 ghost use Rattle.mq_one_thread.specs.Holds.{AreKeysOf};
 ghost use Rattle.mq_one_thread.specs.Limits.{keeps_limits, start, empty_slots};
 ghost use Rattle.mq_one_thread.specs.State.{slot_at, with_arena};
@@ -109,11 +108,12 @@ impl<L: Ledger> OneThread<L> {
         })
     }
 
-    /// What holds of each system: its slot lists have no more queues than its ids allow, what waits
-    /// is what they leave waiting, and the key table has the keys of the queues in its slots.
+    /// What holds of each system: its slots keep parts of slot lists with no more queues than its
+    /// ids allow, what waits is what these leave waiting, and the key table has the keys of the
+    /// queues in its slots.
     pub fn holds(&self)
-        ensures lawful { All (λ slot. IsSlotList self.now.last_seq slot.events) self.now.slots }
-        ensures waits { All (Waits bytes_of) self.now.slots }
+        ensures lawful { All (IsLawfulSlot self.now.last_seq) self.now.slots }
+        ensures waits { All (WaitsNow bytes_of) self.now.slots }
         ensures keys { AreKeysOf self.now.slots self.now.keys }
     {
         let _ = &self.keys;
@@ -203,7 +203,7 @@ impl<L: Ledger> OneThread<L> {
     /// What a report shows of a slot.
     pub fn row(&self, slot: u8) -> BoardRow
         requires { slot < length self.now.slots }
-        ensures value { result ≡ row (slot_at self.now slot).events }
+        ensures value { result ≡ row_now (slot_at self.now slot) }
         ensures within { result.made ≤ MAX_SEQ + 1 }
     {
         self.slots[slot as usize].row()

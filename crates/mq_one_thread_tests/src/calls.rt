@@ -7,7 +7,7 @@ use mq_one_thread::{
     Closed, Config, Delivered, DraftError, Errno, GetFlags, Got, OneThread, Refused, Removal,
     SendRefused, SysError,
 };
-use mq_table::Id;
+use mq_table::{Cut, Id};
 use std::alloc::Global;
 use std::process::Abort;
 use std::sync::ledger::{Blank, Ledger};
@@ -188,6 +188,31 @@ pub(crate) fn remove<L: Ledger>(
         return system.rmid(1, Id::from_number(id), moment);
     }
     answer
+}
+
+/// How many entries there are up to the end of a cut.
+fn end_of(cut: &Cut) -> u64 {
+    let entries = (cut.past.len() as u64).saturating_add(cut.last.len() as u64);
+    cut.first.saturating_add(entries)
+}
+
+/// What is cut off of a slot. Where that is refused at first, the refusal tells all entries.
+pub(crate) fn cut<L: Ledger>(rt: &impl Abort, system: &mut OneThread<L>, slot: u8) -> Cut {
+    assert!(rt; slot < system.slots());
+    match system.cut_log(slot) {
+        Ok(cut) => cut,
+        Err(refused) => match system.cut_log(slot) {
+            Ok(cut) => {
+                assert!(rt;
+                    refused.errno == Errno::ENOMEM,
+                    "a cut is refused: {refused}"
+                );
+                assert!(rt; refused.entry == Some(end_of(&cut)), "{refused}");
+                cut
+            }
+            Err(refused) => panic!(rt; "a cut is refused twice: {refused}"),
+        },
+    }
 }
 
 /// A text of so many zero bytes.

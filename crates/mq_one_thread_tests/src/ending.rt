@@ -40,11 +40,12 @@ fn used<L: Ledger>(rt: &impl Abort, system: &mut OneThread<L>) -> Text<L> {
     text
 }
 
-/// The slot at this place has so many events of removed queues and of its last one, and left so
-/// many messages.
+/// The slot at this place tells its whole list, has so many events of removed queues and of its last
+/// one, and left so many messages.
 fn left(rt: &impl Abort, slots: &[ClosedSlot], at: usize, past: usize, last: usize, left: u64) {
     match slots.get(at) {
         Some(slot) => {
+            assert!(rt; slot.first == 0 && slot.made == 0 && slot.base.is_none());
             assert!(rt; slot.past.len() == past);
             assert!(rt; slot.last.len() == last);
             assert!(rt; slot.left == left);

@@ -114,7 +114,7 @@ fn removed<L: Ledger>(rt: &impl Abort, system: &mut OneThread<L>) {
     match remove(system, 0, 6) {
         Ok(Removal { entry, log }) => {
             assert!(rt; entry == 2);
-            assert!(rt; log.into_events().as_slice() == LOG.as_slice());
+            assert!(rt; log.into_parts().1.as_slice() == LOG.as_slice());
         }
         Err(_) => panic!(rt; "not removed"),
     }

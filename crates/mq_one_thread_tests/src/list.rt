@@ -3,7 +3,7 @@
 ghost use Rattle.std.specs.Prelude.{◌≡◌, ◌<◌};
 
 use crate::calls::{
-    CREATE, PARTS, Wanted, config, draft, ended, get, made, receive, remove, send, set, spent,
+    CREATE, PARTS, Wanted, config, cut, draft, ended, get, made, receive, remove, send, set, spent,
 };
 use mq_message::Body;
 use mq_one_thread::{Delivered, Got, OneThread, SendRefused};
@@ -19,6 +19,9 @@ const MESSAGES: u64 = 40;
 /// Which of them in the order of sending has a text: one that memory is wanted for, and that takes
 /// all pages.
 const LONG: u64 = 17;
+
+/// After so many receipts the list is cut.
+const HALF: u64 = 20;
 
 /// The type of the message at this place of those that are sent: the types come in turn.
 fn type_of(place: u64) -> i64 {
@@ -101,8 +104,39 @@ fn changes<L: Ledger>(rt: &impl Abort, system: &mut OneThread<L>) {
         Err(errno) => panic!(rt; "{errno}"),
     }
     match remove(system, 0, 91) {
-        Ok(removal) => assert!(rt; removal.entry == 82 && removal.log.len() == 83),
+        Ok(removal) => {
+            assert!(rt; removal.entry == 82 && removal.log.len() == 83);
+            let (base, tail) = removal.log.into_parts();
+            assert!(rt; base.places == 61 && base.waiting.len() == 20);
+            assert!(rt; tail.len() == 22);
+        }
         Err(refused) => panic!(rt; "not removed: {refused}"),
+    }
+}
+
+/// Slot 0 is cut: so many entries were cut off before, of which so many messages were waiting if
+/// they left a queue, and so many are handed out of a removed queue and of the one that is there.
+fn cuts<L: Ledger>(
+    rt: &impl Abort,
+    system: &mut OneThread<L>,
+    first: u64,
+    waiting: Option<u64>,
+    past: usize,
+    last: usize,
+) {
+    let cut = cut(rt, system, 0);
+    let made = if first == 0 { 0 } else { 1 };
+    assert!(rt; cut.first == first && cut.made == made, "{first}");
+    assert!(rt; cut.past.len() == past && cut.last.len() == last, "{first}");
+    match (cut.base, waiting) {
+        (Some(base), Some(waiting)) => {
+            assert!(rt;
+                base.places == first && base.waiting.len() == waiting,
+                "{first}"
+            );
+        }
+        (None, None) => (),
+        _ => panic!(rt; "another base after {first}"),
     }
 }
 
@@ -117,11 +151,18 @@ fn listed<L: Ledger, R: Abort>(rt: &R, alloc: Global, ledger: Blank)
     for place in 0..MESSAGES {
         sends(rt, &mut system, place);
     }
-    for place in 0..MESSAGES {
+    cuts(rt, &mut system, 0, None, 0, 41);
+    for place in 0..HALF {
+        receives(rt, &mut system, place);
+    }
+    cuts(rt, &mut system, 41, Some(40), 0, 20);
+    for place in HALF..MESSAGES {
         receives(rt, &mut system, place);
     }
     changes(rt, &mut system);
+    cuts(rt, &mut system, 61, Some(20), 22, 0);
     makes(rt, &mut system, 9, 64, 83);
+    cuts(rt, &mut system, 83, None, 0, 1);
     ended(rt, system);
 }
 

@@ -1,11 +1,11 @@
 //! Tables of calls and of what they answer.
 ghost use Rattle.std.specs.Prelude.{◌≡◌, ◌<◌};
 
-use crate::calls::{PARTS, Wanted, draft, ended, get, made, receive, remove, send, set};
+use crate::calls::{PARTS, Wanted, cut, draft, ended, get, made, receive, remove, send, set};
 use mq_arena::Homecoming;
 use mq_message::Body;
 use mq_one_thread::{Config, Delivered, Errno, GetFlags, Got, OneThread, Refused, SendRefused};
-use mq_table::Id;
+use mq_table::{Cut, Id};
 use std::alloc::Global;
 use std::marker::Brand;
 use std::process::Abort;
@@ -23,6 +23,8 @@ pub(crate) enum Step {
     Set(u32, u64),
     Remove(u32),
     Stat(u32),
+    /// A slot.
+    Cut(u8),
     /// How many pages are free, and the greatest order that fits.
     Free,
 }
@@ -41,6 +43,9 @@ pub(crate) enum Answer {
     Refused(Errno, Option<u64>),
     /// How many messages and bytes wait, and may wait.
     Shown(u64, u64, u64),
+    /// How many entries were cut off before, and how many of these are makings and are of the queue
+    /// that they leave; how many are handed out of removed queues, and of the one that is there.
+    Cut(u64, u32, Option<u64>, usize, usize),
     Free(u32, Option<u8>),
     /// A text that was spent did not come home.
     Astray,
@@ -120,7 +125,27 @@ fn shown<L: Ledger>(system: &OneThread<L>, id: u32) -> Answer {
     }
 }
 
-fn called<L: Ledger>(system: &mut OneThread<L>, step: Step, moment: u64) -> Answer {
+fn cut_off<L: Ledger>(rt: &impl Abort, system: &mut OneThread<L>, slot: u8) -> Answer {
+    let Cut {
+        first,
+        made,
+        base,
+        past,
+        last,
+    } = cut(rt, system, slot);
+    let places = match base {
+        Some(base) => Some(base.places),
+        None => None,
+    };
+    Answer::Cut(first, made, places, past.len(), last.len())
+}
+
+fn called<L: Ledger>(
+    rt: &impl Abort,
+    system: &mut OneThread<L>,
+    step: Step,
+    moment: u64,
+) -> Answer {
     match step {
         Step::Get(key, flags) => got(system, key, flags, moment),
         Step::Send(id, mtype, length) => sent(system, id, mtype, length, moment),
@@ -128,6 +153,7 @@ fn called<L: Ledger>(system: &mut OneThread<L>, step: Step, moment: u64) -> Answ
         Step::Set(id, qbytes) => changed(system, id, qbytes, moment),
         Step::Remove(id) => removed(system, id, moment),
         Step::Stat(id) => shown(system, id),
+        Step::Cut(slot) => cut_off(rt, system, slot),
         Step::Free => Answer::Free(system.free_pages(), system.largest()),
     }
 }
@@ -147,7 +173,7 @@ fn play<L: Ledger, R: Abort>(
     let mut moment = 0u64;
     for (step, wanted) in table {
         assert!(rt;
-            called(&mut system, *step, moment) == *wanted,
+            called(rt, &mut system, *step, moment) == *wanted,
             "at call {moment}"
         );
         moment = moment.saturating_add(1);

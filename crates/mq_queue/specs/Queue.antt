@@ -1,19 +1,41 @@
 -- A queue.
-use Rattle.std.specs.Prelude.{◌≡◌, ℕ, ◌≤◌, false, List}
+use Rattle.std.specs.Prelude.{◌≡◌, ℕ, ◌+◌, ◌≤◌, ◌<◌, ◌^◌, false, List, ◌++◌, length, take, drop}
 use Rattle.mq_message.specs.declared.message.Message.{Message}
 use Rattle.mq_select.specs.Waiting.{headers_of}
+use Rattle.mq_queue.specs.declared.base.Base.{Base}
 use Rattle.mq_queue.specs.declared.event.Event.{Event}
 use Rattle.mq_queue.specs.declared.figures.Figures.{Figures}
 use Rattle.mq_queue.specs.declared.limits.TheConstants.{MSGMNB}
+use Rattle.mq_queue.specs.Base.{base_of, waiting_from}
 use Rattle.mq_queue.specs.Figures.{live_figures}
 use Rattle.mq_queue.specs.Lawful.{Lawful}
+use Rattle.mq_queue.specs.LawfulFrom.{IsOpen, LawfulFrom}
 use Rattle.mq_queue.specs.Log.{ends_with_removed}
 use Rattle.mq_queue.specs.Waiting.{waiting}
 
--- a queue: its log, and the messages that wait, each with the place of its sending in the log
+-- a queue: what is kept of the events that were cut off, the events since then, and the messages
+-- that wait, each with the place of its sending in the whole log
 pub record Queue (B : Type 0) : Type 0 where
-  pub log : List Event
+  pub base : Base
+  pub tail : List Event
   pub messages : List (ℕ × Message B)
+
+-- a log whose beginning may be cut off: what is kept of it, and the events since then
+pub record CutLog : Type 0 where
+  pub base : Base
+  pub tail : List Event
+
+-- a log of which so many events were cut off
+abbrev pub rest_of : ℕ → List Event → CutLog
+rest_of places log = record { base = base_of (take places log); tail = drop places log }
+
+-- by what is kept of the log, it is that of a queue which is not removed, and the messages are
+-- those that wait
+pub record IsSoundFrom {B : Type 0} (bytes : B → List ℕ) (base : Base)
+    (tail : List Event) (messages : List (ℕ × Message B)) : Type 0 where
+  pub lawful : LawfulFrom base tail
+  pub live : ends_with_removed tail ≡ false
+  pub waits : headers_of bytes messages ≡ waiting_from base tail
 
 -- the log is that of a queue which is not removed, and the messages are those that wait by it
 pub record IsSound {B : Type 0} (bytes : B → List ℕ)
@@ -29,3 +51,14 @@ pub record AreFigures (log : List Event) (kept : Figures) : Type 0 where
   pub count : kept.qnum ≤ MSGMNB
   pub bytes : kept.cbytes ≤ MSGMNB
   pub limit : kept.qbytes ≤ MSGMNB
+
+-- the base is that of some log, with which the queue is sound and the figures are its figures, and
+-- which has a place for each event within u64
+pub record IsKept {B : Type 0} (bytes : B → List ℕ) (base : Base) (tail : List Event)
+    (messages : List (ℕ × Message B)) (kept : Figures) : Type 0 where
+  pub cut : List Event
+  pub opened : IsOpen cut
+  pub known : base ≡ base_of cut
+  pub sound : IsSound bytes (cut ++ tail) messages
+  pub figures : AreFigures (cut ++ tail) kept
+  pub short : base.places + length tail < 2 ^ 64

@@ -1,8 +1,8 @@
-ghost use Rattle.std.specs.Prelude.{◌≡◌, ◌<◌, ◌^◌, [], length, slice_get};
+ghost use Rattle.std.specs.Prelude.{◌≡◌, ◌<◌, ◌^◌, [], length, slice_get, IfOk};
 ghost use Rattle.mq_queue.specs.Base.{base_of};
 
 use crate::{BaseEntry, Figures, NO_FIGURES};
-use std::alloc::Global;
+use std::alloc::{AllocError, Global};
 use std::marker::Model;
 
 /// What waited where a log was cut, in the order of sending.
@@ -43,6 +43,14 @@ impl BaseEntries {
         self.entries.get(i as usize).copied()
     }
 
+    /// A copy of the list. `Err` means out of memory.
+    pub(crate) fn copied(&self, alloc: Global) -> Result<BaseEntries, AllocError>
+        ensures { IfOk result (λ entries. entries ≡ self.now) }
+    {
+        let entries = Vec::from_slice(alloc, &self.entries)?;
+        Ok(BaseEntries { entries })
+    }
+
     /// The entries themselves. This takes no memory.
     pub fn into_entries(self) -> Vec<BaseEntry>
         ensures { result.items ≡ self }
@@ -74,5 +82,16 @@ impl Base {
             figures: NO_FIGURES,
             waiting: BaseEntries::of(Vec::new(alloc)),
         }
+    }
+    /// A copy of it. `Err` means out of memory.
+    pub fn copied(&self, alloc: Global) -> Result<Base, AllocError>
+        ensures { IfOk result (λ base. base ≡ self.now) }
+    {
+        let waiting = self.waiting.copied(alloc)?;
+        Ok(Base {
+            places: self.places,
+            figures: self.figures,
+            waiting,
+        })
     }
 }

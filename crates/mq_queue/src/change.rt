@@ -1,11 +1,11 @@
-ghost use Rattle.std.specs.Prelude.{◌≡◌, ◌++◌, ◌∷◌, [], length, unwrap_or};
+ghost use Rattle.std.specs.Prelude.{◌≡◌, ◌+◌, ◌++◌, ◌∷◌, [], length, unwrap_or};
 ghost use Rattle.std.specs.Prelude.{OnOk, OnErr, IfOk, IfErr};
 ghost use Rattle.mq_queue.specs.Answer.{set_refusal};
-ghost use Rattle.mq_queue.specs.Figures.{figures};
-ghost use Rattle.mq_queue.specs.Lawful.{Lawful};
-ghost use Rattle.mq_queue.specs.Queue.{IsSound};
+ghost use Rattle.mq_queue.specs.Base.{figures_from};
+ghost use Rattle.mq_queue.specs.LawfulFrom.{LawfulFrom};
+ghost use Rattle.mq_queue.specs.Queue.{IsSoundFrom};
 
-use crate::log::{append, count, reserve};
+use crate::log::{append, reserve, whole_count};
 use crate::{Event, Figures, Log, MSGMNB, NO_FIGURES, Notice, QueueError, QueueState};
 use mq_message::Body;
 use mq_select::Waiting;
@@ -25,20 +25,22 @@ impl<B: Body, W: Waiting<B>> QueueState<B, W> {
         ensures unchanged { OnErr result (self.new ≡ self.old) }
 
         ensures accepted { OnOk result (set_refusal qbytes ≡ None) }
-        ensures place { IfOk result (λ place. place ≡ length self.old.log) }
-        ensures log { OnOk result
-            (self.new.log ≡ self.old.log ++ Event.Changed seat moment qbytes ∷ []) }
+        ensures place { IfOk result (λ place.
+            place ≡ self.old.base.places + length self.old.tail) }
+        ensures base { self.new.base ≡ self.old.base }
+        ensures tail { OnOk result
+            (self.new.tail ≡ self.old.tail ++ Event.Changed seat moment qbytes ∷ []) }
         ensures messages { self.new.messages ≡ self.old.messages }
-        ensures sound { IsSound B.bytes self.new.log self.new.messages }
+        ensures sound { IsSoundFrom B.bytes self.new.base self.new.tail self.new.messages }
         ensures noticed { OnOk result (N.takes notice.old (Event.Changed seat moment qbytes)
-            (figures self.new.log) notice.new) }
+            (figures_from self.new.base self.new.tail) notice.new) }
         ensures unnoticed { OnErr result (notice.new ≡ notice.old) }
     {
         let kept = self.kept;
         if qbytes > MSGMNB {
             return Err(QueueError::OverLimit);
         }
-        let place = count(&self.log);
+        let place = whole_count(self.base.places, &self.tail);
         let changed = Event::Changed {
             seat,
             moment,
@@ -49,11 +51,11 @@ impl<B: Body, W: Waiting<B>> QueueState<B, W> {
             ctime: moment,
             ..kept
         };
-        let Ok(()) = reserve(&mut self.log, changed, after, notice) else {
+        let Ok(()) = reserve(self.base.places, &mut self.tail, changed, after, notice) else {
             return Err(QueueError::Memory);
         };
         self.kept = after;
-        append(&mut self.log, changed);
+        append(&mut self.tail, changed);
         Ok(place)
     }
 
@@ -68,25 +70,33 @@ impl<B: Body, W: Waiting<B>> QueueState<B, W> {
     ) -> Result<(Log, W), QueueState<B, W>>
         ensures handed_back { IfErr result (λ q. q ≡ self) }
 
-        ensures log { IfOk result (λ r. r.0 ≡ self.log ++ Event.Removed seat moment ∷ []) }
+        ensures base { IfOk result (λ r. r.0.base ≡ self.base) }
+        ensures tail { IfOk result (λ r. r.0.tail ≡ self.tail ++ Event.Removed seat moment ∷ []) }
         ensures messages { IfOk result (λ r. W.messages r.1 ≡ self.messages) }
-        ensures lawful { IfOk result (λ r. Lawful r.0) }
+        ensures lawful { IfOk result (λ r. LawfulFrom r.0.base r.0.tail) }
         ensures noticed { IfOk result (λ r. N.takes notice.old (Event.Removed seat moment)
-            (figures r.0) notice.new) }
+            (figures_from r.0.base r.0.tail) notice.new) }
         ensures unnoticed { OnErr result (notice.new ≡ notice.old) }
     {
         let mut queue = self;
         let removed = Event::Removed { seat, moment };
-        let Ok(()) = reserve(&mut queue.log, removed, NO_FIGURES, notice) else {
+        let Ok(()) = reserve(
+            queue.base.places,
+            &mut queue.tail,
+            removed,
+            NO_FIGURES,
+            notice,
+        ) else {
             return Err(queue);
         };
         let QueueState {
-            mut log,
+            base,
+            mut tail,
             waiting,
             kept: _,
             body: _,
         } = queue;
-        append(&mut log, removed);
-        Ok((Log::of(log), waiting))
+        append(&mut tail, removed);
+        Ok((Log::of(base, tail), waiting))
     }
 }

@@ -1,80 +1,109 @@
-ghost use Rattle.std.specs.Prelude.{◌≡◌, ◌<◌, ◌^◌, ◌++◌, ◌∷◌, [], length, slice_get, vec_len, vec_capacity};
+ghost use Rattle.std.specs.Prelude.{◌≡◌, ◌<◌, ◌+◌, ◌^◌, ◌++◌, ◌∷◌, [], length, vec_len, vec_capacity};
 ghost use Rattle.std.specs.Prelude.{OnOk, OnErr};
+ghost use Rattle.mq_queue.specs.Base.{event_from};
 
-use crate::{Event, Figures, Notice};
+use crate::{Base, Event, Figures, Notice};
 use std::alloc::AllocError;
 use std::marker::Model;
 
-/// The log of a queue that was taken apart, seen as the list of its events.
+/// The log of a queue that was taken apart, seen as what is kept of the events that were cut off,
+/// and the list of those since then.
 #[derive(Drop)]
 pub struct Log {
-    events: Vec<Event>,
+    base: Base,
+    tail: Vec<Event>,
 }
 
 impl Model for Log {
-    ghost use Rattle.std.specs.Prelude.{List};
-    ghost use Rattle.mq_queue.specs.declared.event.Event.{Event};
+    ghost use Rattle.std.specs.Prelude.{◌<◌, ◌+◌, ◌^◌, length};
+    ghost use Rattle.mq_queue.specs.Queue.{CutLog};
 
-    ghost Value = { List Event };
+    ghost Value = { CutLog };
 
-    ghost view = { λ log. log.events.items };
+    ghost view = { λ log. record { base = log.base; tail = log.tail.items } };
+
+    ghost invariant = { λ log. log.base.places + length log.tail.items < 2 ^ 64 };
 }
 
 impl Log {
-    pub(crate) fn of(events: Vec<Event>) -> Log
-        ensures { result ≡ events.items }
+    pub(crate) fn of(base: Base, tail: Vec<Event>) -> Log
+        requires { base.places + length tail.items < 2 ^ 64 }
+        ensures base { result.base ≡ base }
+        ensures tail { result.tail ≡ tail.items }
     {
-        Log { events }
+        Log { base, tail }
     }
 
+    /// How many events the whole log has.
     pub fn len(&self) -> u64
-        ensures value { result ≡ length self.now }
-        ensures small { result < 2 ^ 63 }
+        ensures { result ≡ self.now.base.places + length self.now.tail }
     {
-        count(&self.events)
+        whole_count(self.base.places, &self.tail)
     }
 
-    /// The event at this place, or `None` where the log has ended.
+    /// How many of them were cut off.
+    pub fn first(&self) -> u64
+        ensures { result ≡ self.now.base.places }
+    {
+        self.base.places
+    }
+
+    /// The event at this place of the whole log, or `None` where it was cut off or the log has
+    /// ended.
     pub fn get(&self, i: u64) -> Option<Event>
-        ensures { result ≡ slice_get self.now i }
+        ensures { result ≡ event_from self.now.base.places self.now.tail i }
     {
-        event_at(&self.events, i)
+        event_at(self.base.places, &self.tail, i)
     }
 
-    /// The events themselves. This takes no memory.
-    pub fn into_events(self) -> Vec<Event>
-        ensures { result.items ≡ self }
+    /// What is kept of the events that were cut off, and the events since then. This takes no
+    /// memory.
+    pub fn into_parts(self) -> (Base, Vec<Event>)
+        ensures base { result.0 ≡ self.base }
+        ensures tail { result.1.items ≡ self.tail }
     {
-        let Log { events } = self;
-        events
+        let Log { base, tail } = self;
+        (base, tail)
     }
 }
 
-pub(crate) fn count(events: &Vec<Event>) -> u64
-    ensures value { result ≡ length events.now.items }
-    ensures small { result < 2 ^ 63 }
+/// How many events there are with those that were cut off.
+pub(crate) fn whole_count(first: u64, events: &Vec<Event>) -> u64
+    requires { first + length events.now.items < 2 ^ 64 }
+    ensures { result ≡ first + length events.now.items }
 {
-    events.len() as u64
+    first + events.len() as u64
 }
 
-pub(crate) fn event_at(events: &Vec<Event>, i: u64) -> Option<Event>
-    ensures { result ≡ slice_get events.now.items i }
+/// The event at this place, where so many were cut off.
+pub(crate) fn event_at(first: u64, events: &Vec<Event>, i: u64) -> Option<Event>
+    ensures { result ≡ event_from first events.now.items i }
 {
-    events.get(i as usize).copied()
+    if i < first {
+        return None;
+    }
+    events.get((i - first) as usize).copied()
 }
 
-/// Makes room for one more event, and then tells the notice of it. `Err` means out of memory.
+/// Makes room for one more event, and then tells the notice of it. `Err` means out of memory, or
+/// that no place within u64 is left.
 pub(crate) fn reserve<N: Notice>(
+    first: u64,
     events: &mut Vec<Event>,
     event: Event,
     after: Figures,
     notice: &mut N,
 ) -> Result<(), AllocError>
+    requires { first + length events.old.items < 2 ^ 64 }
     ensures items { events.new.items ≡ events.old.items }
     ensures room { OnOk result (vec_len events.new < vec_capacity events.new) }
+    ensures place { OnOk result (first + length events.old.items + 1 < 2 ^ 64) }
     ensures noticed { OnOk result (N.takes notice.old event after notice.new) }
     ensures unnoticed { OnErr result (notice.new ≡ notice.old) }
 {
+    if whole_count(first, events) == u64::MAX {
+        return Err(AllocError);
+    }
     events.reserve(1)?;
     notice.prepare(event, after)
 }

@@ -1,15 +1,14 @@
-ghost use Rattle.std.specs.Prelude.{◌≡◌, ◌||◌, ◌++◌, ◌∷◌, [], length, min, take, nat_le, true, IsSomeAnd};
+ghost use Rattle.std.specs.Prelude.{◌≡◌, ◌+◌, ◌||◌, ◌++◌, ◌∷◌, [], length, min, take, nat_le, true, IsSomeAnd};
 ghost use Rattle.std.specs.Prelude.{OnOk, OnErr, IfOk, IfErr, Ok, Err, Some, None, IfSome};
 ghost use Rattle.std.specs.Option.{option_map};
 ghost use Rattle.mq_select.specs.Selection.{pick};
 ghost use Rattle.mq_select.specs.Waiting.{header_of, message_at, without};
 ghost use Rattle.mq_queue.specs.Answer.{receive_answer, receive_refusal, received_header};
 ghost use Rattle.mq_queue.specs.Answer.{refusal_or_memory};
-ghost use Rattle.mq_queue.specs.Figures.{figures};
-ghost use Rattle.mq_queue.specs.Queue.{IsSound};
-ghost use Rattle.mq_queue.specs.Waiting.{waiting};
+ghost use Rattle.mq_queue.specs.Base.{figures_from, waiting_from};
+ghost use Rattle.mq_queue.specs.Queue.{IsSoundFrom};
 
-use crate::log::{append, count, reserve};
+use crate::log::{append, reserve, whole_count};
 use crate::{Event, Figures, Notice, QueueError, QueueState, Received};
 use mq_message::Body;
 use mq_select::{Selection, Waiting};
@@ -32,9 +31,11 @@ impl<B: Body, W: Waiting<B>> QueueState<B, W> {
     /// The message that this receiver is handed, or why it gets none.
     fn choose(&self, size: u64, selection: Selection, noerror: bool) -> Result<Chosen, QueueError>
         ensures refused { IfErr result (λ e.
-            receive_answer (waiting self.now.log) size selection noerror ≡ Err e) }
+            receive_answer (waiting_from self.now.base self.now.tail) size selection noerror
+            ≡ Err e) }
         ensures accepted { OnOk result (receive_refusal
-            (receive_answer (waiting self.now.log) size selection noerror) ≡ None) }
+            (receive_answer (waiting_from self.now.base self.now.tail) size selection noerror)
+            ≡ None) }
         ensures picked { IfOk result (λ c. Some c.place
             ≡ option_map (λ m. m.0) (pick (λ m. m.1.mtype) self.now.messages selection)) }
         ensures length { IfOk result (λ c. IfSome (message_at c.place self.now.messages) (λ m.
@@ -60,7 +61,7 @@ impl<B: Body, W: Waiting<B>> QueueState<B, W> {
         noerror: bool,
     ) -> Option<QueueError>
         ensures { result ≡ receive_refusal
-            (receive_answer (waiting self.now.log) size selection noerror) }
+            (receive_answer (waiting_from self.now.base self.now.tail) size selection noerror) }
     {
         self.choose(size, selection, noerror).err()
     }
@@ -79,31 +80,33 @@ impl<B: Body, W: Waiting<B>> QueueState<B, W> {
         notice: &mut N,
     ) -> Result<Received<B>, QueueError>
         ensures refused { IfErr result (λ e. e ≡ refusal_or_memory
-            (receive_answer (waiting self.old.log) size selection noerror)) }
+            (receive_answer (waiting_from self.old.base self.old.tail) size selection noerror)) }
         ensures unchanged { OnErr result (self.new ≡ self.old) }
 
         ensures accepted { IfOk result (λ r.
-            receive_answer (waiting self.old.log) size selection noerror
+            receive_answer (waiting_from self.old.base self.old.tail) size selection noerror
             ≡ Ok (received_header r)) }
         ensures body { IfOk result (λ r. IsSomeAnd (message_at r.place self.old.messages) (λ m.
             (B.bytes r.body ≡ take size (B.bytes m.body)) × B.keeps m.body r.body)) }
         ensures sent { IfOk result (λ r. IsSomeAnd (message_at r.place self.old.messages) (λ m.
             received_header r ≡ header_of B.bytes (r.place, m))) }
         ensures length { IfOk result (λ r. length (B.bytes r.body) ≡ min r.length size) }
-        ensures entry { IfOk result (λ r. r.entry ≡ length self.old.log) }
-        ensures log { IfOk result (λ r. self.new.log
-            ≡ self.old.log ++ Event.Received seat moment r.place selection size noerror ∷ []) }
+        ensures entry { IfOk result (λ r.
+            r.entry ≡ self.old.base.places + length self.old.tail) }
+        ensures base { self.new.base ≡ self.old.base }
+        ensures tail { IfOk result (λ r. self.new.tail
+            ≡ self.old.tail ++ Event.Received seat moment r.place selection size noerror ∷ []) }
         ensures messages { IfOk result (λ r.
             self.new.messages ≡ without r.place self.old.messages) }
-        ensures sound { IsSound B.bytes self.new.log self.new.messages }
+        ensures sound { IsSoundFrom B.bytes self.new.base self.new.tail self.new.messages }
         ensures noticed { IfOk result (λ r. N.takes notice.old
             (Event.Received seat moment r.place selection size noerror)
-            (figures self.new.log) notice.new) }
+            (figures_from self.new.base self.new.tail) notice.new) }
         ensures unnoticed { OnErr result (notice.new ≡ notice.old) }
     {
         let kept = self.kept;
         let Chosen { place, length } = self.choose(size, selection, noerror)?;
-        let entry = count(&self.log);
+        let entry = whole_count(self.base.places, &self.tail);
         let received = Event::Received {
             seat,
             moment,
@@ -119,12 +122,12 @@ impl<B: Body, W: Waiting<B>> QueueState<B, W> {
             lrpid: seat,
             ..kept
         };
-        let Ok(()) = reserve(&mut self.log, received, after, notice) else {
+        let Ok(()) = reserve(self.base.places, &mut self.tail, received, after, notice) else {
             return Err(QueueError::Memory);
         };
         let mut message = self.waiting.take(place);
         self.kept = after;
-        append(&mut self.log, received);
+        append(&mut self.tail, received);
         message.body.cut(size);
         Ok(Received {
             entry,

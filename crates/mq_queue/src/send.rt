@@ -1,12 +1,10 @@
 ghost use Rattle.std.specs.Prelude.{◌≡◌, ◌+◌, ◌<◌, ◌^◌, ◌&&◌, ◌++◌, ◌∷◌, [], length, nat_le, unwrap_or};
 ghost use Rattle.std.specs.Prelude.{OnOk, OnErr, IfOk, IfErr};
 ghost use Rattle.mq_queue.specs.Answer.{send_refusal};
-ghost use Rattle.mq_queue.specs.Figures.{figures};
-ghost use Rattle.mq_queue.specs.Queue.{IsSound};
-ghost use Rattle.mq_queue.specs.Room.{quota};
-ghost use Rattle.mq_queue.specs.Waiting.{waiting};
+ghost use Rattle.mq_queue.specs.Base.{figures_from, quota_from, waiting_from};
+ghost use Rattle.mq_queue.specs.Queue.{IsSoundFrom};
 
-use crate::log::{append, count, reserve};
+use crate::log::{append, reserve, whole_count};
 use crate::{Event, Figures, MSGMAX, Notice, QueueError, QueueState};
 use mq_message::{Body, Message};
 use mq_select::Waiting;
@@ -23,8 +21,10 @@ fn has_room(count: u64, bytes: u64, length: u64, quota: u64) -> bool
 impl<B: Body, W: Waiting<B>> QueueState<B, W> {
     /// Why a message of this type and length would be refused now (msgop(2), msgsnd with
     /// IPC_NOWAIT), or `None` where at most memory could be wanted.
+    #[tactic(auto, using(crate::proofs::Keeps::room_shown))]
     pub fn refuses_send(&self, mtype: i64, length: u64) -> Option<QueueError>
-        ensures { result ≡ send_refusal (waiting self.now.log) (quota self.now.log) mtype length }
+        ensures { result ≡ send_refusal (waiting_from self.now.base self.now.tail)
+            (quota_from self.now.base self.now.tail) mtype length }
     {
         if mtype < 1 {
             return Some(QueueError::TypeInvalid);
@@ -48,22 +48,25 @@ impl<B: Body, W: Waiting<B>> QueueState<B, W> {
         notice: &mut N,
     ) -> Result<u64, (QueueError, Message<B>)>
         ensures refused { IfErr result (λ r. r.0 ≡ unwrap_or (send_refusal
-            (waiting self.old.log) (quota self.old.log)
+            (waiting_from self.old.base self.old.tail) (quota_from self.old.base self.old.tail)
             message.mtype (length (B.bytes message.body))) QueueError.Memory) }
         ensures handed_back { IfErr result (λ r. r.1 ≡ message) }
         ensures unchanged { OnErr result (self.new ≡ self.old) }
 
-        ensures accepted { OnOk result (send_refusal (waiting self.old.log) (quota self.old.log)
+        ensures accepted { OnOk result (send_refusal
+            (waiting_from self.old.base self.old.tail) (quota_from self.old.base self.old.tail)
             message.mtype (length (B.bytes message.body)) ≡ None) }
-        ensures place { IfOk result (λ place. place ≡ length self.old.log) }
-        ensures log { OnOk result (self.new.log ≡ self.old.log ++ Event.Sent message.sender moment
-            message.tag message.mtype (length (B.bytes message.body)) ∷ []) }
-        ensures messages { OnOk result
-            (self.new.messages ≡ self.old.messages ++ (length self.old.log, message) ∷ []) }
-        ensures sound { IsSound B.bytes self.new.log self.new.messages }
+        ensures place { IfOk result (λ place.
+            place ≡ self.old.base.places + length self.old.tail) }
+        ensures base { self.new.base ≡ self.old.base }
+        ensures tail { OnOk result (self.new.tail ≡ self.old.tail ++ Event.Sent message.sender
+            moment message.tag message.mtype (length (B.bytes message.body)) ∷ []) }
+        ensures messages { OnOk result (self.new.messages ≡ self.old.messages
+            ++ (self.old.base.places + length self.old.tail, message) ∷ []) }
+        ensures sound { IsSoundFrom B.bytes self.new.base self.new.tail self.new.messages }
         ensures noticed { OnOk result (N.takes notice.old (Event.Sent message.sender moment
             message.tag message.mtype (length (B.bytes message.body)))
-            (figures self.new.log) notice.new) }
+            (figures_from self.new.base self.new.tail) notice.new) }
         ensures unnoticed { OnErr result (notice.new ≡ notice.old) }
     {
         let kept = self.kept;
@@ -74,7 +77,7 @@ impl<B: Body, W: Waiting<B>> QueueState<B, W> {
         let Ok(()) = self.waiting.prepare(message.mtype) else {
             return Err((QueueError::Memory, message));
         };
-        let place = count(&self.log);
+        let place = whole_count(self.base.places, &self.tail);
         let sent = Event::Sent {
             seat: message.sender,
             moment,
@@ -89,11 +92,11 @@ impl<B: Body, W: Waiting<B>> QueueState<B, W> {
             lspid: message.sender,
             ..kept
         };
-        let Ok(()) = reserve(&mut self.log, sent, after, notice) else {
+        let Ok(()) = reserve(self.base.places, &mut self.tail, sent, after, notice) else {
             return Err((QueueError::Memory, message));
         };
         self.kept = after;
-        append(&mut self.log, sent);
+        append(&mut self.tail, sent);
         self.waiting.put_prepared(place, message);
         Ok(place)
     }

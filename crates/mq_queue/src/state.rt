@@ -1,38 +1,44 @@
-ghost use Rattle.std.specs.Prelude.{◌≡◌, ◌<◌, ◌^◌, ◌∷◌, [], length, slice_get, IfOk, OnErr};
-ghost use Rattle.mq_queue.specs.Figures.{figures};
-ghost use Rattle.mq_queue.specs.Queue.{IsSound};
+ghost use Rattle.std.specs.Prelude.{◌≡◌, ◌<◌, ◌+◌, ◌^◌, ◌∷◌, [], length, IfOk, OnErr};
+ghost use Rattle.mq_queue.specs.Base.{base_of, event_from, figures_from};
+ghost use Rattle.mq_queue.specs.Queue.{IsSoundFrom};
 
-use crate::log::{append, count, event_at};
-use crate::{Event, Figures, Log, MSGMNB, Notice};
+use crate::log::{append, event_at, whole_count};
+use crate::{Base, Event, Figures, Log, MSGMNB, Notice};
 use mq_message::Body;
 use mq_select::Waiting;
 use std::alloc::{AllocError, Global};
 use std::marker::{Model, PhantomData};
 
-/// A queue, seen as its log and the messages that wait, each with the place of its sending in the
-/// log. A queue can't be dropped: `remove` or `into_parts` takes it.
+/// A queue, seen as what is kept of the events of its log that were cut off, the events since then,
+/// and the messages that wait, each with the place of its sending in the whole log. A queue can't
+/// be dropped: `remove` or `into_parts` takes it.
 pub struct QueueState<B: Body, W: Waiting<B>> {
-    pub(crate) log: Vec<Event>,
+    pub(crate) base: Base,
+    pub(crate) tail: Vec<Event>,
     pub(crate) waiting: W,
-    /// The figures of the log, so that no call goes through it.
+    /// The figures of the whole log, so that no call goes through it.
     pub(crate) kept: Figures,
     pub(crate) body: PhantomData<B>,
 }
 
 impl<B: Body, W: Waiting<B>> Model for QueueState<B, W> {
-    ghost use Rattle.mq_queue.specs.Queue.{Queue, IsSound, AreFigures};
+    ghost use Rattle.mq_queue.specs.Queue.{Queue, IsKept};
 
     ghost Value = { Queue B };
 
-    ghost view = { λ q. record { log = q.log.items; messages = W.messages q.waiting } };
+    ghost view = { λ q. record {
+      base = q.base;
+      tail = q.tail.items;
+      messages = W.messages q.waiting;
+    } };
 
-    ghost invariant = { λ q. IsSound B.bytes q.log.items (W.messages q.waiting)
-        × AreFigures q.log.items q.kept };
+    ghost invariant = { λ q. IsKept B.bytes q.base q.tail.items (W.messages q.waiting) q.kept };
 }
 
 impl<B: Body, W: Waiting<B>> QueueState<B, W> {
     /// A new queue, with no message and the greatest quota (msgget(2)). `Err` means out of memory.
     /// The notice takes the event in, with the figures after it.
+    #[tactic(auto, using(crate::proofs::Keeps::made_kept, crate::proofs::Keeps::sound_kept, crate::proofs::Keeps::shown_kept))]
     pub fn made<N: Notice>(
         alloc: Global,
         key: i32,
@@ -40,14 +46,15 @@ impl<B: Body, W: Waiting<B>> QueueState<B, W> {
         moment: u64,
         notice: &mut N,
     ) -> Result<QueueState<B, W>, AllocError>
-        ensures log { IfOk result (λ q. q.log ≡ Event.Made seat moment key ∷ []) }
+        ensures base { IfOk result (λ q. q.base ≡ base_of []) }
+        ensures tail { IfOk result (λ q. q.tail ≡ Event.Made seat moment key ∷ []) }
         ensures messages { IfOk result (λ q. q.messages ≡ []) }
-        ensures sound { IfOk result (λ q. IsSound B.bytes q.log q.messages) }
+        ensures sound { IfOk result (λ q. IsSoundFrom B.bytes q.base q.tail q.messages) }
         ensures noticed { IfOk result (λ q. N.takes notice.old (Event.Made seat moment key)
-            (figures q.log) notice.new) }
+            (figures_from q.base q.tail) notice.new) }
         ensures unnoticed { OnErr result (notice.new ≡ notice.old) }
     {
-        let mut log = Vec::with_capacity(alloc, 1)?;
+        let mut tail = Vec::with_capacity(alloc, 1)?;
         let made = Event::Made { seat, moment, key };
         let kept = Figures {
             qnum: 0,
@@ -60,9 +67,10 @@ impl<B: Body, W: Waiting<B>> QueueState<B, W> {
             lrpid: 0,
         };
         notice.prepare(made, kept)?;
-        append(&mut log, made);
+        append(&mut tail, made);
         Ok(QueueState {
-            log,
+            base: Base::empty(alloc),
+            tail,
             waiting: W::fresh(alloc),
             kept,
             body: PhantomData,
@@ -71,39 +79,56 @@ impl<B: Body, W: Waiting<B>> QueueState<B, W> {
 
     /// What IPC_STAT shows (msgctl(2)). No call goes through the log for it.
     pub fn figures(&self) -> Figures
-        ensures value { result ≡ figures self.now.log }
-        ensures sound { IsSound B.bytes self.now.log self.now.messages }
+        ensures value { result ≡ figures_from self.now.base self.now.tail }
+        ensures sound { IsSoundFrom B.bytes self.now.base self.now.tail self.now.messages }
     {
         self.kept
     }
 
-    /// How many events the log has.
+    /// How many events the whole log has.
     pub fn log_len(&self) -> u64
-        ensures count { result ≡ length self.now.log }
-        ensures small { result < 2 ^ 63 }
+        ensures value { result ≡ self.now.base.places + length self.now.tail }
+        ensures small { length self.now.tail < 2 ^ 63 }
     {
-        count(&self.log)
+        whole_count(self.base.places, &self.tail)
     }
 
-    /// The event at this place of the log, or `None` where the log has ended.
-    pub fn event(&self, i: u64) -> Option<Event>
-        ensures { result ≡ slice_get self.now.log i }
+    /// How many of them were cut off.
+    pub fn first(&self) -> u64
+        ensures { result ≡ self.now.base.places }
     {
-        event_at(&self.log, i)
+        self.base.places
+    }
+
+    /// What is kept of the events that were cut off.
+    pub fn base(&self) -> &Base
+        ensures { result.now ≡ self.now.base }
+    {
+        &self.base
+    }
+
+    /// The event at this place of the whole log, or `None` where it was cut off or the log has
+    /// ended.
+    pub fn event(&self, i: u64) -> Option<Event>
+        ensures { result ≡ event_from self.now.base.places self.now.tail i }
+    {
+        event_at(self.base.places, &self.tail, i)
     }
 
     /// The log and the messages that wait. It adds no event, and takes no memory.
     pub fn into_parts(self) -> (Log, W)
-        ensures log { result.0 ≡ self.log }
+        ensures base { result.0.base ≡ self.base }
+        ensures tail { result.0.tail ≡ self.tail }
         ensures messages { W.messages result.1 ≡ self.messages }
-        ensures sound { IsSound B.bytes self.log self.messages }
+        ensures sound { IsSoundFrom B.bytes self.base self.tail self.messages }
     {
         let QueueState {
-            log,
+            base,
+            tail,
             waiting,
             kept: _,
             body: _,
         } = self;
-        (Log::of(log), waiting)
+        (Log::of(base, tail), waiting)
     }
 }

@@ -7,6 +7,10 @@ mod bases;
 #[cfg(test)]
 mod calls;
 #[cfg(test)]
+mod cut_often;
+#[cfg(test)]
+mod cuts;
+#[cfg(test)]
 mod lists;
 #[cfg(test)]
 mod logs;

@@ -142,7 +142,7 @@ fn the_log_of_a_removed_queue_tells_all(rt: HostRuntime) -> Result<(), Fail> {
     assert!(rt; beyond == (None, None));
     assert!(rt; log.len() == 6);
     assert!(rt; (log.get(0), log.get(6)) == (Some(events[0]), None));
-    assert!(rt; log.into_events().as_slice() == events.as_slice());
+    assert!(rt; log.into_parts().1.as_slice() == events.as_slice());
     Ok(())
 }
 

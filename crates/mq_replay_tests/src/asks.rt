@@ -1,9 +1,10 @@
 //! Calls of a system, each with the answer that is kept.
 
-use crate::calls::{Answer, Asked, Handed, Kept, SLOTS, byte_of};
+use crate::calls::{Answer, Asked, Handed, Kept, KeptCut, KeptLog, SLOTS, byte_of};
+use crate::parts::Part;
 use mq::{
-    BoardRow, Delivered, Event, Figures, GetFlags, Id, Names, Pledge, RecvFlags, Refused, Removal,
-    Seat, SendFlags, System, TextOf,
+    BoardRow, Delivered, Figures, GetFlags, Id, Names, Pledge, RecvFlags, Refused, Removal, Seat,
+    SendFlags, System, TextOf,
 };
 use std::sync::Wait;
 
@@ -156,17 +157,39 @@ fn remove<N: Names, R: Wait>(
     rt: &R,
     system: &System<Nothing, N>,
     seat: &mut Seat<N>,
-    logs: &mut Vec<Vec<Event>>,
+    logs: &mut Vec<KeptLog>,
     id: u32,
     moment: u64,
 ) -> Answer {
     match system.rmid(rt, seat, Id::from_number(id), moment) {
         Ok(removal) => {
             let Removal { entry, log } = removal;
-            let _ = logs.push(log.into_events());
+            let (base, tail) = log.into_parts();
+            let _ = logs.push(KeptLog { base, tail });
             Answer::Removed(entry)
         }
         Err(why) => refused(why),
+    }
+}
+
+/// `None` where there is no such slot.
+fn cut<N: Names, R: Wait>(
+    rt: &R,
+    system: &System<Nothing, N>,
+    seat: &mut Seat<N>,
+    cuts: &mut Vec<KeptCut>,
+    slot: u8,
+) -> Option<Answer> {
+    if slot >= system.slots() {
+        return None;
+    }
+    match system.cut_log(rt, seat, slot) {
+        Ok(cut) => {
+            let end = Part::of_cut(&cut).end();
+            let _ = cuts.push(KeptCut { slot, cut });
+            Some(Answer::Cut(end))
+        }
+        Err(why) => Some(refused(why)),
     }
 }
 
@@ -198,8 +221,8 @@ pub(crate) fn counts<N: Names>(system: &System<Nothing, N>, seat: &Seat<N>) -> [
     [seat.count(0), seat.count(1), seat.count(2)]
 }
 
-/// The answer to this call; the log of a queue that it removes is kept. `None` where a text was not
-/// drafted, and no call was made.
+/// The answer to this call; the log of a queue that it removes is kept, and what it cuts off. `None`
+/// where a text was not drafted, and no call was made.
 pub(crate) fn answer<N: Names, R: Wait>(
     rt: &R,
     system: &System<Nothing, N>,
@@ -240,6 +263,7 @@ pub(crate) fn answer<N: Names, R: Wait>(
         Asked::Set { id, qbytes } => Some(set(rt, system, seat, id, qbytes, moment)),
         Asked::Remove { id } => Some(remove(rt, system, seat, &mut kept.logs, id, moment)),
         Asked::Stat { id } => Some(stat(system, seat, id)),
+        Asked::Cut { slot } => cut(rt, system, seat, &mut kept.cuts, slot),
         Asked::Report => Some(Answer::Rows(report(system, seat)?)),
     }
 }

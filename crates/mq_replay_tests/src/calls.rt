@@ -1,6 +1,6 @@
 //! What a seat keeps of each of its calls.
 
-use mq::{BoardRow, Errno, Event, Figures, GetFlags, MSGMAX};
+use mq::{Base, BoardRow, Cut, Errno, Event, Figures, GetFlags, MSGMAX};
 use std::alloc::{AllocError, Global};
 
 /// How many slots there are.
@@ -38,6 +38,9 @@ pub(crate) enum Asked {
     Stat {
         id: u32,
     },
+    Cut {
+        slot: u8,
+    },
     Report,
 }
 
@@ -68,6 +71,8 @@ pub(crate) enum Answer {
     Removed(u64),
     Shown(Figures),
     Rows([BoardRow; SLOTS]),
+    /// How many entries the slot had when it was cut.
+    Cut(u64),
     /// Why, and after how many entries, where that is told.
     Refused(Errno, Option<u64>),
 }
@@ -79,12 +84,27 @@ pub(crate) struct Call {
     pub(crate) answer: Answer,
 }
 
+/// The log of a queue that was removed: what was cut off of it, and the rest.
+#[derive(Drop)]
+pub(crate) struct KeptLog {
+    pub(crate) base: Base,
+    pub(crate) tail: Vec<Event>,
+}
+
+#[derive(Drop)]
+pub(crate) struct KeptCut {
+    pub(crate) slot: u8,
+    pub(crate) cut: Cut,
+}
+
 /// All calls of a seat in its order.
 #[derive(Drop)]
 pub(crate) struct Kept {
     pub(crate) calls: Vec<Call>,
     /// The logs of the queues that it removed.
-    pub(crate) logs: Vec<Vec<Event>>,
+    pub(crate) logs: Vec<KeptLog>,
+    /// What it was handed when it cut a slot.
+    pub(crate) cuts: Vec<KeptCut>,
     /// Where the bytes of a text stand before it is drafted.
     pub(crate) text: Vec<u8>,
 }
@@ -94,8 +114,14 @@ impl Kept {
     pub(crate) fn with_capacity(alloc: Global, count: usize) -> Result<Kept, AllocError> {
         let calls = Vec::with_capacity(alloc, count)?;
         let logs = Vec::with_capacity(alloc, count)?;
+        let cuts = Vec::with_capacity(alloc, count)?;
         let text = vec![in alloc; 0; MSGMAX as usize]?;
-        Ok(Kept { calls, logs, text })
+        Ok(Kept {
+            calls,
+            logs,
+            cuts,
+            text,
+        })
     }
 }
 

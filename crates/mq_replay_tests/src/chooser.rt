@@ -16,6 +16,9 @@ const REMOVALS: u64 = 1;
 
 const STATS: u64 = 6;
 
+/// Of how many calls about one cuts a slot's list.
+const TO_A_CUT: u64 = 200;
+
 /// After so many calls a seat that mostly sent mostly receives.
 const TURN: u64 = 64;
 
@@ -74,14 +77,18 @@ impl Chooser {
         seq.wrapping_mul(64).wrapping_add(slot)
     }
 
-    /// An id, in one half of the calls of slot 0.
-    fn id(&mut self) -> u32 {
-        let slot = match self.below(4) {
+    /// A slot, in one half of the calls slot 0.
+    fn slot(&mut self) -> u8 {
+        match self.below(4) {
             0 => 1,
             1 => 2,
             _ => 0,
-        };
-        self.id_in(slot)
+        }
+    }
+
+    fn id(&mut self) -> u32 {
+        let slot = self.slot();
+        self.id_in(u32::from(slot))
     }
 
     fn get(&mut self) -> Asked {
@@ -184,6 +191,9 @@ impl Chooser {
             } else {
                 self.get()
             };
+        }
+        if self.one_of(TO_A_CUT) {
+            return Asked::Cut { slot: self.slot() };
         }
         let sends = if step / TURN % 2 == 0 { 30 } else { 14 };
         let kind = self.below(64);

@@ -52,6 +52,11 @@ pub(crate) enum Flaw {
     Counts(u16, usize),
     /// A slot lists a change of no seat.
     Entries(usize),
+    /// What was cut off of a slot, and what it kept to the end, leave a gap or stand there twice.
+    Gap(usize),
+    /// A cut of a slot, or its end, tells of the entries before it what they do not say, or is
+    /// parted at another entry.
+    Part(usize),
     /// The log of a removed queue is not what the slot lists of it.
     Log(u16),
     /// A message was received twice.

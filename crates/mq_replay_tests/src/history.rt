@@ -1,7 +1,9 @@
 //! All that happened in a slot, with its state after each of the events.
 
+use crate::calls::KeptLog;
 use crate::model::State;
-use mq::{BoardRow, ClosedSlot, Errno, Event, Figures};
+use crate::parts::{Joined, Part};
+use mq::{BoardRow, Errno, Event, Figures};
 use std::alloc::{AllocError, Global};
 
 /// What may be so of a slot at some time.
@@ -42,26 +44,29 @@ pub(crate) struct History {
     events: Vec<Event>,
     /// One more than there are events.
     states: Vec<State>,
+    /// After how many events the slot was cut, each time later.
+    cuts: Vec<u64>,
 }
 
 impl History {
-    /// Of a slot's list: its past, and then its live queue's log.
-    pub(crate) fn of(alloc: Global, slot: &ClosedSlot) -> Result<History, AllocError> {
-        let mut history = History {
-            events: Vec::new(alloc),
-            states: Vec::new(alloc),
-        };
+    /// Of a slot's whole list.
+    pub(crate) fn of(alloc: Global, joined: Joined) -> Result<History, AllocError> {
+        let Joined { events, cuts } = joined;
+        let mut states = Vec::with_capacity(alloc, events.len())?;
         let mut state = State::empty(alloc);
         let mut entry = 0u64;
-        for event in slot.past.iter().chain(slot.last.iter()) {
+        for event in events.iter() {
             let after = state.after(alloc, entry, *event)?;
-            history.events.push(*event)?;
-            history.states.push(state)?;
+            states.push(state)?;
             state = after;
             entry = entry.wrapping_add(1);
         }
-        history.states.push(state)?;
-        Ok(history)
+        states.push(state)?;
+        Ok(History {
+            events,
+            states,
+            cuts,
+        })
     }
 
     /// How many events there are.
@@ -73,18 +78,53 @@ impl History {
         self.events.get(entry as usize).copied()
     }
 
-    /// The last queue's own log up to the event at this entry.
-    pub(crate) fn log_at(&self, entry: u64) -> Option<&[Event]> {
-        let Some(state) = self.state(entry) else {
-            return None;
-        };
-        let from = state.begun();
-        let events = self.events.as_slice();
-        if from <= entry && entry < events.len() as u64 {
-            Some(&events[from as usize..entry as usize + 1])
-        } else {
-            None
+    /// Where the slot was cut last before this entry, 0 where it was not.
+    fn first_at(&self, entry: u64) -> u64 {
+        let mut first = 0u64;
+        for cut in self.cuts.iter() {
+            if *cut <= entry {
+                first = *cut;
+            }
         }
+        first
+    }
+
+    /// Whether this is the log of the queue that the event at this entry removes: what was cut off
+    /// by then is told, and the rest is there.
+    pub(crate) fn is_log(&self, entry: u64, log: &KeptLog) -> bool {
+        let Some(state) = self.state(entry) else {
+            return false;
+        };
+        let begun = state.begun();
+        let from = begun.max(self.first_at(entry));
+        let Some(before) = self.state(from) else {
+            return false;
+        };
+        let to = (entry as usize).wrapping_add(1);
+        let Some(tail) = self.events.as_slice().get(from as usize..to) else {
+            return false;
+        };
+        before.is_base(&log.base, from.wrapping_sub(begun)) && tail == log.tail.as_slice()
+    }
+
+    /// Whether a part of the list tells of the events before it what they say, and is parted where
+    /// the queue begins that it leaves.
+    pub(crate) fn is_told(&self, part: &Part<'_>) -> bool {
+        let end = part.end();
+        let (Some(before), Some(after)) = (self.state(part.first), self.state(end)) else {
+            return false;
+        };
+        let begun = if after.row.live { after.begun() } else { end };
+        let based = match part.base {
+            Some(base) => {
+                let places = part.first.wrapping_sub(before.begun());
+                before.row.live && before.is_base(base, places)
+            }
+            None => !before.row.live,
+        };
+        based
+            && before.row.made == part.made
+            && begun.saturating_sub(part.first) == part.past.len() as u64
     }
 
     /// The state after so many events.

@@ -3,8 +3,9 @@
 use crate::calls::{Answer, Kept, SLOTS};
 use crate::flaws::Flaw;
 use crate::history::History;
+use crate::parts::{Part, cuts_of, join};
 use crate::seen::{Seen, slot_asked};
-use mq::{ClosedSlot, Event};
+use mq::ClosedSlot;
 use std::alloc::{AllocError, Global};
 
 /// What a seat asked and was answered.
@@ -16,10 +17,24 @@ pub(crate) struct Told {
     pub(crate) counts: [u64; SLOTS],
 }
 
-fn histories_of(alloc: Global, slots: &[ClosedSlot]) -> Result<Vec<History>, AllocError> {
+/// All that happened in the slot with this number, of which no entry is missing or stands twice.
+fn history_of(alloc: Global, all: &[Told], number: u8, slot: &ClosedSlot) -> Result<History, Flaw> {
+    let cuts = cuts_of(alloc, all, number)?;
+    match join(alloc, cuts.as_slice(), &Part::of_end(slot))? {
+        Some(joined) => Ok(History::of(alloc, joined)?),
+        None => Err(Flaw::Gap(number as usize)),
+    }
+}
+
+fn histories_of(alloc: Global, slots: &[ClosedSlot], all: &[Told]) -> Result<Vec<History>, Flaw> {
     let mut histories = Vec::new(alloc);
+    let mut number = 0u8;
     for slot in slots {
-        histories.push(History::of(alloc, slot)?)?;
+        let history = history_of(alloc, all, number, slot)?;
+        if histories.push(history).is_err() {
+            return Err(Flaw::Memory);
+        }
+        number = number.wrapping_add(1);
     }
     Ok(histories)
 }
@@ -47,14 +62,11 @@ fn logs_are(histories: &[History], kept: &Kept) -> bool {
     let mut logs = kept.logs.iter();
     for call in kept.calls.iter() {
         if let Answer::Removed(entry) = call.answer {
-            let own = match histories.get(slot_asked(call.asked)) {
-                Some(history) => history.log_at(entry),
-                None => None,
-            };
-            let (Some(own), Some(log)) = (own, logs.next()) else {
+            let history = histories.get(slot_asked(call.asked));
+            let (Some(history), Some(log)) = (history, logs.next()) else {
                 return false;
             };
-            if own != log.as_slice() {
+            if !history.is_log(entry, log) {
                 return false;
             }
         }
@@ -87,20 +99,44 @@ fn counted(histories: &[History], all: &[Told], last_seq: u32) -> Result<(), Fla
     Ok(())
 }
 
-/// Whether what was left in the slot is what waits at the end, and its list is cut where its live
-/// queue begins.
-fn is_left(history: &History, slot: &ClosedSlot) -> bool {
-    let Some(end) = history.state(history.entries()) else {
-        return false;
-    };
-    let live = matches!(slot.last.first(), Some(Event::Made { .. }));
-    let past = slot.past.len() as u64;
-    let begun = if live {
-        end.begun() == past
-    } else {
-        history.entries() == past
-    };
-    begun && end.row.live == live && end.waiting.len() as u64 == slot.left
+/// Whether each cut of a slot tells of the entries before it what they say, and what the slot kept
+/// to the end.
+fn parts_told(history: &History, cuts: &[Part<'_>], end: &Part<'_>) -> bool {
+    for cut in cuts {
+        if !history.is_told(cut) {
+            return false;
+        }
+    }
+    history.is_told(end)
+}
+
+/// Whether so many messages wait at the end.
+fn is_left(history: &History, left: u64) -> bool {
+    match history.state(history.entries()) {
+        Some(end) => end.waiting.len() as u64 == left,
+        None => false,
+    }
+}
+
+/// Each part of each slot's list is right, and what was left in it.
+fn ended(
+    alloc: Global,
+    histories: &[History],
+    slots: &[ClosedSlot],
+    all: &[Told],
+) -> Result<(), Flaw> {
+    let mut number = 0u8;
+    for (history, slot) in histories.iter().zip(slots) {
+        let cuts = cuts_of(alloc, all, number)?;
+        if !parts_told(history, cuts.as_slice(), &Part::of_end(slot)) {
+            return Err(Flaw::Part(number as usize));
+        }
+        if !is_left(history, slot.left) {
+            return Err(Flaw::Left(number as usize));
+        }
+        number = number.wrapping_add(1);
+    }
+    Ok(())
 }
 
 /// The tags of all that was received, in their order.
@@ -136,7 +172,7 @@ pub(crate) fn judge(
     all: &[Told],
     last_seq: u32,
 ) -> Result<(), Flaw> {
-    let histories = histories_of(alloc, slots)?;
+    let histories = histories_of(alloc, slots, all)?;
     if histories.len() != SLOTS {
         return Err(Flaw::Slots);
     }
@@ -145,10 +181,5 @@ pub(crate) fn judge(
         return Err(Flaw::Twice);
     }
     counted(histories.as_slice(), all, last_seq)?;
-    for (place, (history, slot)) in histories.iter().zip(slots).enumerate() {
-        if !is_left(history, slot) {
-            return Err(Flaw::Left(place));
-        }
-    }
-    Ok(())
+    ended(alloc, histories.as_slice(), slots, all)
 }

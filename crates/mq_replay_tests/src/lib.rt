@@ -10,6 +10,8 @@ mod calls;
 #[cfg(test)]
 mod chooser;
 #[cfg(test)]
+mod cut_mistakes;
+#[cfg(test)]
 mod flaws;
 #[cfg(test)]
 mod history;
@@ -19,6 +21,8 @@ mod judge;
 mod mistakes;
 #[cfg(test)]
 mod model;
+#[cfg(test)]
+mod parts;
 #[cfg(test)]
 mod runs;
 #[cfg(test)]

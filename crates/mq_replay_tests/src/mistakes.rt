@@ -10,7 +10,7 @@ use std::process::Abort;
 
 /// What happens in slot 0: a queue is made, two messages are sent, the second is received, and a
 /// quota is set.
-const EVENTS: [Event; 5] = [
+pub(crate) const EVENTS: [Event; 5] = [
     Event::Made {
         seat: 1,
         moment: 10,
@@ -62,7 +62,7 @@ const NO_ROW: BoardRow = BoardRow {
 };
 
 /// What is shown after both messages are sent.
-const BOTH: Figures = Figures {
+pub(crate) const BOTH: Figures = Figures {
     qnum: 2,
     cbytes: 7,
     qbytes: 131072,
@@ -160,7 +160,7 @@ const OLD: Asked = Asked::Get {
 };
 
 /// What seat 1 asked and was answered.
-const FIRST_SEAT: [Call; 4] = [
+pub(crate) const FIRST_SEAT: [Call; 4] = [
     Call {
         moment: 10,
         asked: NEW,
@@ -190,7 +190,7 @@ const FIRST_SEAT: [Call; 4] = [
 ];
 
 /// What seat 2 asked and was answered.
-const SECOND_SEAT: [Call; 6] = [
+pub(crate) const SECOND_SEAT: [Call; 6] = [
     Call {
         moment: 20,
         asked: OLD,
@@ -474,6 +474,7 @@ fn told(
         kept: Kept {
             calls: calls.to_vec(alloc)?,
             logs: Vec::new(alloc),
+            cuts: Vec::new(alloc),
             text: Vec::new(alloc),
         },
         counts,
@@ -481,8 +482,11 @@ fn told(
 }
 
 /// A slot in which this happened, and in which so many messages are left.
-fn closed(alloc: Global, events: &[Event], left: u64) -> Result<ClosedSlot, AllocError> {
+pub(crate) fn closed(alloc: Global, events: &[Event], left: u64) -> Result<ClosedSlot, AllocError> {
     Ok(ClosedSlot {
+        first: 0,
+        made: 0,
+        base: None,
         past: Vec::new(alloc),
         last: events.to_vec(alloc)?,
         left,

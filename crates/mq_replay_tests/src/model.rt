@@ -2,7 +2,7 @@
 //! code of the crates under test is called.
 
 use crate::calls::Asked;
-use mq::{BoardRow, Errno, Event, Figures, Selection};
+use mq::{Base, BaseEntry, BoardRow, Errno, Event, Figures, Selection};
 use std::alloc::{AllocError, Global};
 
 /// The limits of texts, queues and ids, as the manual and docs/MODEL.md tell them.
@@ -31,6 +31,17 @@ pub(crate) struct Message {
     pub(crate) tag: u64,
     pub(crate) mtype: i64,
     pub(crate) length: u64,
+}
+
+impl Message {
+    /// Whether a base tells of it so.
+    fn is_entry(&self, entry: BaseEntry) -> bool {
+        entry.place == self.place
+            && entry.seat == self.sender
+            && entry.tag == self.tag
+            && entry.mtype == self.mtype
+            && entry.length == self.length
+    }
 }
 
 #[derive(Drop)]
@@ -254,6 +265,19 @@ impl State {
         }
     }
 
+    /// Whether this is what is kept of the last queue's log where it is cut here, so many entries
+    /// after its making.
+    pub(crate) fn is_base(&self, base: &Base, places: u64) -> bool {
+        let mut index = 0u64;
+        for message in self.waiting.iter() {
+            match base.waiting.get(index) {
+                Some(entry) if message.is_entry(entry) => index = index.wrapping_add(1),
+                _ => return false,
+            }
+        }
+        base.waiting.len() == index && base.places == places && base.figures == self.row.figures
+    }
+
     fn has_room(&self, length: u64) -> bool {
         let bytes = bytes_of(self.waiting.as_slice()).wrapping_add(length);
         let count = (self.waiting.len() as u64).wrapping_add(1);
@@ -271,7 +295,7 @@ impl State {
     /// Why this call of a queue is refused here, if it is.
     pub(crate) fn refusal(&self, asked: Asked) -> Option<Errno> {
         match asked {
-            Asked::Get { .. } | Asked::Report => None,
+            Asked::Get { .. } | Asked::Cut { .. } | Asked::Report => None,
             Asked::Remove { id } | Asked::Stat { id } => self.id_refusal(id),
             Asked::Set { id, qbytes } => match self.id_refusal(id) {
                 None if qbytes > GREATEST_QUOTA => Some(Errno::EPERM),
@@ -304,7 +328,7 @@ impl State {
     /// The event of this call where it is not refused.
     pub(crate) fn event(&self, seat: u16, moment: u64, asked: Asked) -> Option<Event> {
         match asked {
-            Asked::Stat { .. } | Asked::Report => None,
+            Asked::Stat { .. } | Asked::Cut { .. } | Asked::Report => None,
             Asked::Get { key, .. } => Some(Event::Made { seat, moment, key }),
             Asked::Set { qbytes, .. } => {
                 Some(Event::Changed {

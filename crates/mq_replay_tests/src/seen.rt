@@ -25,6 +25,7 @@ pub(crate) fn slot_asked(asked: Asked) -> usize {
         | Asked::Set { id, .. }
         | Asked::Remove { id }
         | Asked::Stat { id } => slot_of(id) as usize,
+        Asked::Cut { slot } => slot as usize,
     }
 }
 
@@ -348,6 +349,18 @@ impl Seen {
         None
     }
 
+    /// A slot was cut that had so many entries. What was handed out is judged with all cuts.
+    fn cut(&mut self, histories: &[History], slot: usize, end: u64) -> Option<Fault> {
+        if end < self.known(slot) {
+            return Some(Fault::EntryGoesBack);
+        }
+        if state_at(histories, slot, end).is_none() {
+            return Some(Fault::NoEntry);
+        }
+        self.knows(slot, end);
+        None
+    }
+
     /// What is wrong with a refusal of a call of a queue.
     fn refused(
         &mut self,
@@ -383,6 +396,7 @@ impl Seen {
                 self.shown(histories, id, Err(errno))
             }
             (Asked::Report, Answer::Rows(rows)) => self.rows(histories, &rows),
+            (Asked::Cut { .. }, Answer::Cut(end)) => { self.cut(histories, slot_asked(asked), end) }
             (Asked::Receive { .. }, Answer::Handed(handed)) => {
                 self.handed(histories, call, &handed)
             }

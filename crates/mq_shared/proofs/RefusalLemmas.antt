@@ -11,6 +11,7 @@ use Rattle.mq_select.specs.declared.selection.Selection.{Selection}
 use Rattle.mq_queue.specs.Answer.{handed_out, send_refusal}
 use Rattle.mq_queue.specs.Log.{is_removed}
 use Rattle.mq_queue.specs.Room.{has_room, quota}
+use Rattle.mq_queue.specs.Queue.{rest_of}
 use Rattle.mq_queue.specs.Row.{last_log}
 use Rattle.mq_queue.specs.Waiting.{waiting}
 use Rattle.mq_queue.specs.declared.error.QueueError.{QueueError}
@@ -108,7 +109,7 @@ module _ (s : SlotState PlainText) (nowait : Bool) where
   abbrev picked : Result (Unit {0}) IdRefusal → (Header → Event) → ℕ → Bool → Option Header → Refused
   picked looked e size noerror o =
       refused_or_memory s
-      (once (by_id s looked) (answered s (delivers s size (received s e (handed_out size noerror o)))))
+      (once (by_id s looked) (answered s (delivers s.messages size (received s e (handed_out size noerror o)))))
 
   picked_may : (looked : Result (Unit {0}) IdRefusal) (e : Header → Event) (size : ℕ)
       (noerror : Bool) (o : Option Header)
@@ -146,19 +147,19 @@ left (Err refused) other = other
 
 -- what a removal tells
 pub is_removal : (last_seq : ℕ) (s t : SlotState PlainText) (id seat moment : ℕ) (r : Removal)
-    → remove s id seat moment ≡ Ok (r, t) → IsSlotList last_seq t.events → IsRemoval last_seq r
+    → remove s id seat moment r.log.base.places ≡ Ok (r, t) → IsSlotList last_seq t.events → IsRemoval last_seq r
 is_removal last_seq s t id seat moment r is lawful = by (looks s id) is
   where
     by : (looked : Result (Unit {0}) Refused)
         → once {T = Removal × SlotState PlainText} looked
-        (Ok (record { entry = length s.events; log = last_log (removes s seat moment).events }, removes s seat moment))
+        (Ok (record { entry = length s.events; log = rest_of r.log.base.places (last_log (removes s seat moment).events) }, removes s seat moment))
         ≡ Ok (r, t)
         → IsRemoval last_seq r
     by (Err refused) e = cc
     by (Ok _) e =
         let after = removes s seat moment in
         let same : after ≡ t = ap (λ a. left a s) e in
-        let its : record { entry = length s.events; log = last_log after.events } ≡ r =
+        let its : record { entry = length s.events; log = rest_of r.log.base.places (last_log after.events) } ≡ r =
         ap (λ a. told a r) e in
         let removed = event.Removed seat moment in record {
           events = after.events;

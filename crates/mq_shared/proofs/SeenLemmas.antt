@@ -10,6 +10,7 @@ use Rattle.mq_select.specs.Waiting.{without}
 use Rattle.mq_select.specs.declared.selection.Selection.{Selection}
 use Rattle.mq_queue.specs.Answer.{receive_answer, receive_refusal, send_refusal, set_refusal}
 use Rattle.mq_queue.specs.Room.{quota}
+use Rattle.mq_queue.specs.Queue.{rest_of}
 use Rattle.mq_queue.specs.Row.{last_log, made_count}
 use Rattle.mq_queue.specs.Waiting.{waiting}
 use Rattle.mq_queue.specs.declared.error.QueueError.{QueueError}
@@ -261,15 +262,15 @@ module _ (old now new : SeatState) (slot : ℕ) (s : SlotState PlainText) (h : E
 
     pub done_remove : (id moment : ℕ) (r : Removal) (t : SlotState PlainText)
         → new.fronts ≡ slice_set now.fronts s.number t.events
-        → answer.remove s id now.number moment ≡ Ok (r, t)
+        → answer.remove s id now.number moment r.log.base.places ≡ Ok (r, t)
         → IsLater old new
         × IsDone old new slot (remove_verdict (seq_of id)) r.entry (event.Removed old.number moment)
-        × (r.log ≡ last_log (take (r.entry + 1) (front_of new slot)))
+        × (r.log ≡ rest_of r.log.base.places (last_log (take (r.entry + 1) (front_of new slot))))
     done_remove id moment r t learned is =
         let e = event.Removed now.number moment in
         let after : SlotState PlainText = removes s now.number moment in
-        let turn = turn_ok s (standing s.events (seq_of id)) (Ok (answer.removal s after, after)) (r, t) is in
-        let its : answer.removal s after ≡ r = ap (λ turn. (told turn).0) turn.turns in
+        let turn = turn_ok s (standing s.events (seq_of id)) (Ok (answer.removal s after r.log.base.places, after)) (r, t) is in
+        let its : answer.removal s after r.log.base.places ≡ r = ap (λ turn. (told turn).0) turn.turns in
         let left : after ≡ t = ap (λ turn. (told turn).1) turn.turns in
         let grew = grown now.number t (next_is s t now.number e [] refl left) learned in
         let front : front_of new slot ≡ s.events ++ e ∷ [] =
@@ -291,12 +292,12 @@ module _ (old now new : SeatState) (slot : ℕ) (s : SlotState PlainText) (h : E
             ap (λ n. take n (es ++ e ∷ [])) (sym (length_push es e)) ∙ take-length (es ++ e ∷ [])
 
     pub decided_remove : (id seat moment : ℕ) (r : Refused) → front_of new slot ≡ s.events
-        → r ≡ answer.refused_or_memory s (answer.remove s id seat moment)
+        → r ≡ answer.refused_or_memory s (answer.remove s id seat moment 0)
         → IsDecided old new slot (remove_verdict (seq_of id)) r
     decided_remove id seat moment r learned is =
         let after : SlotState PlainText = removes s seat moment in
         decided_at (remove_verdict (seq_of id)) learned r
-        (is ∙ turn_refused s (standing s.events (seq_of id)) (Ok (answer.removal s after, after)))
+        (is ∙ turn_refused s (standing s.events (seq_of id)) (Ok (answer.removal s after 0, after)))
 
     pub done_receive : (id size : ℕ) (selection : Selection) (noerror : Bool) (moment : ℕ)
         (d : Delivered PlainText) (t : SlotState PlainText)
@@ -315,13 +316,13 @@ module _ (old now new : SeatState) (slot : ℕ) (s : SlotState PlainText) (h : E
 
         by : (named : Result Header QueueError)
             → receive_answer (waiting (last_log s.events)) size selection noerror ≡ named
-            → answers s (standing s.events (seq_of id)) (delivers s size (received s e named)) ≡ Ok (d, t)
+            → answers s (standing s.events (seq_of id)) (delivers s.messages size (received s e named)) ≡ Ok (d, t)
             → IsLater old new × IsReceipt old new slot (seq_of id) size selection noerror moment d
         by (Ok m) picked its =
             let after : SlotState PlainText = goes_on s (e m) (without m.place s.messages) in
             let receipt : Receipt = record { entry = length s.events; message = m } in
-            let turn = turn_ok s (standing s.events (seq_of id)) (Ok (delivered s size receipt, after)) (d, t) its in
-            let same : delivered s size receipt ≡ d = ap (λ turn. (told turn).0) turn.turns in
+            let turn = turn_ok s (standing s.events (seq_of id)) (Ok (delivered s.messages size receipt, after)) (d, t) its in
+            let same : delivered s.messages size receipt ≡ d = ap (λ turn. (told turn).0) turn.turns in
             let left : after ≡ t = ap (λ turn. (told turn).1) turn.turns in
             let grew = grown now.number t (next_is s t now.number (e m) (without m.place s.messages) refl left) learned in
             let front : front_of new slot ≡ s.events ++ e m ∷ [] =
@@ -345,9 +346,9 @@ module _ (old now new : SeatState) (slot : ℕ) (s : SlotState PlainText) (h : E
               },
             )
         by (Err refusal) picked its =
-            no (turn_ok s (standing s.events (seq_of id)) (delivers s size (received s e (Err refusal))) (d, t) its).turns
+            no (turn_ok s (standing s.events (seq_of id)) (delivers s.messages size (received s e (Err refusal))) (d, t) its).turns
           where
-            no : delivers s size (received s e (Err refusal)) ≡ Ok (d, t)
+            no : delivers s.messages size (received s e (Err refusal)) ≡ Ok (d, t)
                 → IsLater old new × IsReceipt old new slot (seq_of id) size selection noerror moment d
             no is = cc
 
@@ -358,7 +359,7 @@ module _ (old now new : SeatState) (slot : ℕ) (s : SlotState PlainText) (h : E
     decided_receive id size selection noerror seat moment r learned is =
         let named = receive_answer (waiting (last_log s.events)) size selection noerror in
         decided_at (receive_verdict (seq_of id) size selection noerror) learned r
-        (is ∙ turn_refused s (standing s.events (seq_of id)) (delivers s size (received s e named))
+        (is ∙ turn_refused s (standing s.events (seq_of id)) (delivers s.messages size (received s e named))
         ∙ ap (λ o. answer.refused_here s (unwrap_or (in_queue (standing s.events (seq_of id)) o) ENOMEM))
         (why_received named))
       where
@@ -366,7 +367,7 @@ module _ (old now new : SeatState) (slot : ℕ) (s : SlotState PlainText) (h : E
         e m = event.Received seat moment m.place selection size noerror
 
         why_received : (named : Result Header QueueError)
-            → why (delivers s size (received s e named)) ≡ receive_refusal named
+            → why (delivers s.messages size (received s e named)) ≡ receive_refusal named
         why_received (Ok m) = refl
         why_received (Err refusal) = refl
 

@@ -4,6 +4,7 @@ use Rattle.std.specs.Ordering.{int_eq}
 use Rattle.mq_message.specs.Text.{PlainText}
 use Rattle.mq_message.specs.declared.message.Message.{Message}
 use Rattle.mq_queue.specs.Figures.{figures}
+use Rattle.mq_queue.specs.Queue.{rest_of}
 use Rattle.mq_queue.specs.Row.{is_live, last_log, live_key}
 use Rattle.mq_queue.specs.declared.figures.Figures.{Figures}
 use Rattle.mq_select.specs.declared.selection.Selection.{Selection}
@@ -58,20 +59,21 @@ send s id m moment =
 abbrev pub receive : SlotState PlainText → ℕ → ℕ → Selection → Bool → ℕ → ℕ
     → SlotAnswer (Delivered PlainText)
 receive s id size selection noerror seat moment =
-    in_queue s id (delivers s size (receives s size selection noerror seat moment))
+    in_queue s id (delivers s.messages size (receives s size selection noerror seat moment))
 
 -- IPC_SET (msgctl(2), IPC_SET)
 abbrev pub set : SlotState PlainText → ℕ → ℕ → ℕ → ℕ → SlotAnswer ℕ
 set s id qbytes seat moment = in_queue s id (sets s qbytes seat moment)
 
--- the entry of a removal, and the removed queue's own log
-abbrev pub removal : SlotState PlainText → SlotState PlainText → Removal
-removal s after = record { entry = length s.events; log = last_log after.events }
+-- the entry of a removal, and the removed queue's own log, of which so many events were cut off
+abbrev pub removal : SlotState PlainText → SlotState PlainText → ℕ → Removal
+removal s after places =
+    record { entry = length s.events; log = rest_of places (last_log after.events) }
 
 -- IPC_RMID (msgctl(2), IPC_RMID)
-abbrev pub remove : SlotState PlainText → ℕ → ℕ → ℕ → SlotAnswer Removal
-remove s id seat moment =
-    let after = removes s seat moment in once (looks s id) (Ok (removal s after, after))
+abbrev pub remove : SlotState PlainText → ℕ → ℕ → ℕ → ℕ → SlotAnswer Removal
+remove s id seat moment places =
+    let after = removes s seat moment in once (looks s id) (Ok (removal s after places, after))
 
 -- IPC_STAT (msgctl(2), IPC_STAT)
 abbrev pub stat : SlotState PlainText → ℕ → Result Figures Refused

@@ -72,7 +72,7 @@ impl<P: Pledge, N: Names> SharedSlot<P, N, Copies<N>> {
         };
         match self.slot.send(rt, message, moment) {
             Ok(entry) => {
-                let number = self.slot.slot().number();
+                let number = self.slot.number();
                 seat.note(&mut self.entries, number, self.slot.tell());
                 Ok(entry)
             }
@@ -119,7 +119,7 @@ impl<P: Pledge, N: Names> SharedSlot<P, N, Copies<N>> {
             .receive(rt, size, selection, noerror, seat.number(), moment)
         {
             Ok(received) => {
-                let number = self.slot.slot().number();
+                let number = self.slot.number();
                 seat.note(&mut self.entries, number, self.slot.tell());
                 Ok(Delivered::of(received))
             }
@@ -154,7 +154,7 @@ impl<P: Pledge, N: Names> SharedSlot<P, N, Copies<N>> {
         self.holds();
         match self.slot.set(rt, qbytes, seat.number(), moment) {
             Ok(entry) => {
-                let number = self.slot.slot().number();
+                let number = self.slot.number();
                 seat.note(&mut self.entries, number, self.slot.tell());
                 Ok(entry)
             }
@@ -188,11 +188,11 @@ impl<P: Pledge, N: Names> SharedSlot<P, N, Copies<N>> {
         ensures same { OnErr result (seat.new ≡ seat.old) }
     {
         self.holds();
-        let entry = self.slot.slot().events();
+        let entry = self.slot.events();
         let id = self
             .slot
             .make(rt, &mut keys.table, key, seat.number(), moment)?;
-        let number = self.slot.slot().number();
+        let number = self.slot.number();
         seat.note(&mut self.entries, number, self.slot.tell());
         Ok(Got {
             id,
@@ -213,12 +213,13 @@ impl<P: Pledge, N: Names> SharedSlot<P, N, Copies<N>> {
         requires id { slot_of id ≡ self.old.number }
         requires known { front_of seat.old self.old.number ≡ self.old.events }
         ensures ok { IfOk result (λ r.
-            remove_answer self.old id seat.old.number moment ≡ Ok (r.0, self.new)) }
+            remove_answer self.old id seat.old.number moment r.0.log.base.places
+            ≡ Ok (r.0, self.new)) }
         ensures waited { IfOk result (λ r. r.1.messages ≡ self.old.messages) }
         ensures lawful { IsSlotList N.last_seq self.new.events }
         ensures forgotten { OnOk result (keys.new ≡ forget (last_id self.old) keys.old) }
         ensures refused { IfErr result (λ r. r ≡ refused_or_memory self.old
-            (remove_answer self.old id seat.old.number moment)) }
+            (remove_answer self.old id seat.old.number moment 0)) }
         ensures unchanged { OnErr result ((self.new ≡ self.old) × (keys.new ≡ keys.old)) }
         ensures number { self.new.number ≡ self.old.number }
         ensures counted { OnOk result (IsCounted seat.old seat.new self.old.number) }
@@ -228,11 +229,11 @@ impl<P: Pledge, N: Names> SharedSlot<P, N, Copies<N>> {
     {
         self.look(id)?;
         self.holds();
-        let entry = self.slot.slot().events();
+        let entry = self.slot.events();
         let Ok((log, waiting)) = self.slot.remove(rt, &mut keys.table, seat.number(), moment) else {
             return Err(self.refused(Errno::ENOMEM));
         };
-        let number = self.slot.slot().number();
+        let number = self.slot.number();
         seat.note(&mut self.entries, number, self.slot.tell());
         Ok((Removal { entry, log }, waiting))
     }

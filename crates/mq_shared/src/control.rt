@@ -1,5 +1,6 @@
 //! The calls that set a queue's quota and that remove it, of a slot that is locked for them.
 ghost use Rattle.std.specs.Prelude.{◌≡◌, ◌+◌, ◌<◌, ◌≤◌, false, take, IfOk, IfErr, OnOk, OnErr, MatchResult};
+ghost use Rattle.mq_queue.specs.Queue.{rest_of};
 ghost use Rattle.mq_queue.specs.Row.{last_log};
 ghost use Rattle.mq_queue.specs.declared.event.Event.TheVariants.{Changed, Removed};
 ghost use Rattle.mq_queue.specs.declared.limits.TheConstants.{MSGMNB};
@@ -68,7 +69,8 @@ impl<P: Pledge, N: Names> Place<P, N, Copies<N>> {
         ensures done { IfOk result (λ r. IsDone seat.old seat.new (slot_of id)
             (remove_verdict (seq_of id)) r.0.entry (Removed seat.old.number moment)) }
         ensures log { IfOk result (λ r. r.0.log
-            ≡ last_log (take (r.0.entry + 1) (front_of seat.new (slot_of id)))) }
+            ≡ rest_of r.0.log.base.places
+            (last_log (take (r.0.entry + 1) (front_of seat.new (slot_of id))))) }
         ensures lawful { IfOk result (λ r. IsRemoval N.last_seq r.0) }
         ensures decided { IfErr result (IsDecided seat.old seat.new (slot_of id)
             (remove_verdict (seq_of id))) }

@@ -15,6 +15,7 @@
 mod blanks;
 mod calls;
 mod control;
+mod cut;
 mod flags;
 mod keys;
 mod making;

@@ -63,7 +63,7 @@ impl<P: Pledge, N: Names, W> SharedSlot<P, N, W> {
         ensures numbered { self.now.number < MAX_SLOTS }
         ensures few { length self.now.events < 2 ^ 64 - 1 }
     {
-        let slot = self.slot.slot();
+        let slot = &self.slot;
         slot.holds();
         slot.events();
     }
@@ -72,7 +72,7 @@ impl<P: Pledge, N: Names, W> SharedSlot<P, N, W> {
     pub fn is_number(&self, number: u8) -> bool
         ensures { result ≡ (self.now.number == number) }
     {
-        self.slot.slot().number() == number
+        self.slot.number() == number
     }
 
     /// The seat learns what happened in this slot. Whether this is its number, and the seat did not
@@ -94,7 +94,7 @@ impl<P: Pledge, N: Names, W> SharedSlot<P, N, W> {
         ensures value { result ≡ looks self.now id }
         ensures live { OnOk result (is_live self.now.events ≡ true) }
     {
-        match self.slot.slot().look(id) {
+        match self.slot.look(id) {
             Ok(()) => Ok(()),
             Err(refusal) => Err(self.refused(Errno::from(refusal))),
         }
@@ -106,7 +106,7 @@ impl<P: Pledge, N: Names, W> SharedSlot<P, N, W> {
     {
         Refused {
             errno,
-            entry: Some(self.slot.slot().events()),
+            entry: Some(self.slot.events()),
         }
     }
 
@@ -115,7 +115,7 @@ impl<P: Pledge, N: Names, W> SharedSlot<P, N, W> {
         ensures value { result ≡ id_with_key self.now key }
         ensures within { IfSome result (λ id. slot_of id ≡ self.now.number) }
     {
-        let slot = self.slot.slot();
+        let slot = &self.slot;
         slot.holds();
         if slot.is_live() && slot.key() == key {
             Some(slot.last_id())
@@ -128,7 +128,7 @@ impl<P: Pledge, N: Names, W> SharedSlot<P, N, W> {
     pub fn is_free(&self, last_seq: u32) -> bool
         ensures { result ≡ is_free last_seq self.now.events }
     {
-        self.slot.slot().is_free(last_seq)
+        self.slot.is_free(last_seq)
     }
 
     /// The slot and its part of the entries, at the end.
@@ -145,7 +145,7 @@ impl<P: Pledge, N: Names, W> SharedSlot<P, N, W> {
             entries,
             pledge: _,
         } = self;
-        slot.slot().holds();
+        slot.holds();
         (slot, entries)
     }
 }

@@ -6,9 +6,22 @@ use crate::parts::{Anything, emptied, has, holds};
 use mq_one_thread::{Delivered, Errno, Refused, Removal};
 use mq_select::Selection;
 use mq_shared::{Keys, Names, Seat, SharedSlot, TextOf};
-use mq_table::{Id, IdRefusal, MAX_SEQ};
+use mq_table::{Cut, Id, IdRefusal, MAX_SEQ};
 use std::process::Abort;
 use std::sync::Wait;
+
+/// A cut, made once more where it is refused.
+fn cut_once<N: Names>(rt: &impl Abort, slot: &mut SharedSlot<Anything, N>) -> Cut
+    ensures number { slot.new.number ≡ slot.old.number }
+{
+    if let Ok(cut) = slot.cut() {
+        return cut;
+    }
+    match slot.cut() {
+        Ok(cut) => cut,
+        Err(refused) => panic!(rt; "a cut is refused twice: {refused}"),
+    }
+}
 
 /// The seat learns all that happened in the slot, as it does once it has the slot's lock.
 fn entered<N: Names>(rt: &impl Abort, slot: &SharedSlot<Anything, N>, seat: &mut Seat<N>)
@@ -98,6 +111,38 @@ pub(crate) fn sent<N: Names, R: Abort + Wait>(
     match seat.stat(Id::of(0, 0)) {
         Ok(figures) => holds(rt, figures.qnum == 1 && figures.cbytes == 2, "it waits"),
         Err(_) => panic!(rt; "the queue is there"),
+    }
+}
+
+/// A cut while the text waits hands out the making and the sending, and a second one nothing more.
+pub(crate) fn cut<N: Names>(rt: &impl Abort, slot: &mut SharedSlot<Anything, N>)
+    requires number { slot.old.number ≡ 0 }
+    ensures number { slot.new.number ≡ 0 }
+{
+    let cut = cut_once(rt, slot);
+    holds(
+        rt,
+        cut.first == 0 && cut.made == 0 && cut.base.is_none(),
+        "it is the first cut",
+    );
+    holds(
+        rt,
+        cut.past.is_empty() && cut.last.len() == 2,
+        "what happened in it",
+    );
+    let cut = cut_once(rt, slot);
+    holds(
+        rt,
+        cut.first == 2 && cut.made == 1 && cut.last.is_empty(),
+        "nothing twice",
+    );
+    match &cut.base {
+        Some(base) => holds(
+            rt,
+            base.places == 2 && base.waiting.len() == 1,
+            "what waits",
+        ),
+        None => panic!(rt; "nothing is known of the queue that is there"),
     }
 }
 

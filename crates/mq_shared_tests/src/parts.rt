@@ -133,7 +133,7 @@ pub(crate) fn come_home<N: Names>(
     let Some(reader) = fronts.hand_out() else {
         panic!(rt; "a seat has no reader")
     };
-    if reader.board() != slot.slot().number() {
+    if reader.board() != slot.number() {
         panic!(rt; "a reader of another board");
     }
     slot.take_back(reader);

@@ -7,7 +7,7 @@ use crate::shared::{Day, apart_once};
 use mq_arena::ArenaState;
 use mq_one_thread::{Config, Delivered, Errno, Refused, Removal, SendRefused};
 use mq_shared::{Keys, Names, Pages, Place, RecvFlags, Seat, SendFlags, SharedSlot, TextOf};
-use mq_table::{Id, IdRefusal, MAX_SEQ};
+use mq_table::{Cut, Id, IdRefusal, MAX_SEQ};
 use std::process::Abort;
 use std::sync::Wait;
 
@@ -180,6 +180,58 @@ fn received<N: Names, R: Abort + Wait>(
     }
 }
 
+/// A cut, made once more where it is refused.
+fn cut_once<N: Names, R: Abort + Wait>(
+    rt: &R,
+    place: &Place<Anything, N>,
+    seat: &mut Seat<N>,
+) -> Cut
+    requires slots { N.slots ≡ 1 }
+{
+    match place.cut(rt, seat, 0) {
+        Ok(cut) => cut,
+        Err(first) => match place.cut(rt, seat, 0) {
+            Ok(cut) => {
+                let entries = cut.first.saturating_add(cut.last.len() as u64);
+                holds(rt, is(first, Errno::ENOMEM, entries), "why it is not cut");
+                cut
+            }
+            Err(_) => panic!(rt; "a cut is refused twice"),
+        },
+    }
+}
+
+/// A cut while the text waits hands out all that happened, and a second one nothing more.
+fn cut<N: Names, R: Abort + Wait>(rt: &R, place: &Place<Anything, N>, seat: &mut Seat<N>)
+    requires slots { N.slots ≡ 1 }
+{
+    let cut = cut_once(rt, place, seat);
+    holds(
+        rt,
+        cut.first == 0 && cut.made == 0 && cut.base.is_none(),
+        "it is the first cut",
+    );
+    holds(
+        rt,
+        cut.past.is_empty() && cut.last.len() == 3,
+        "what happened in it",
+    );
+    let cut = cut_once(rt, place, seat);
+    holds(
+        rt,
+        cut.first == 3 && cut.made == 1 && cut.last.is_empty(),
+        "nothing twice",
+    );
+    match &cut.base {
+        Some(base) => holds(
+            rt,
+            base.places == 3 && base.waiting.len() == 1,
+            "what waits",
+        ),
+        None => panic!(rt; "nothing is known of the queue that is there"),
+    }
+}
+
 /// What the seat is shown of the queue, of which it knows all.
 fn shown<N: Names>(rt: &impl Abort, seat: &mut Seat<N>, waiting: u64)
     requires slots { N.slots ≡ 1 }
@@ -274,8 +326,10 @@ pub(crate) fn place_day<N: Names, R: Abort + Wait>(
     let text = handed_back(rt, &place, first, text, Errno::EAGAIN, 3);
     not_received(rt, &place, second, Errno::E2BIG, 3);
     shown(rt, second, 1);
-    let cut = received(rt, &place, second);
-    spent(rt, arena, cut);
+    cut(rt, &place, second);
+    shown(rt, second, 1);
+    let short = received(rt, &place, second);
+    spent(rt, arena, short);
     shown(rt, second, 0);
     removed(rt, &place, keys, first);
     let text = handed_back(rt, &place, second, text, Errno::EIDRM, 5);

@@ -2,7 +2,7 @@
 ghost use Rattle.std.specs.Prelude.{◌≡◌, ◌≤◌};
 ghost use Rattle.mq_shared.specs.Sizes.{AreNames};
 
-use crate::calls::{changed, made, nothing_shown, received, removed, sent, shown};
+use crate::calls::{changed, cut, made, nothing_shown, received, removed, sent, shown};
 use crate::parts::{Anything, come_home, drafted, holds, seated, spent, told};
 use crate::place::place_day;
 use mq_arena::{ArenaState, LEDGER_PARTS, Unopened};
@@ -46,9 +46,13 @@ fn taken_apart<N: Names, R: Abort + Wait>(
     parts.merge(left);
     come_home(rt, &mut slot, fronts);
     total.audit(&mut parts);
-    let (past, live) = slot.close(rt).into_parts();
+    let (cut, live) = slot.close(rt).into_parts();
     match live {
-        None => holds(rt, past.len() == 5, "all that happened in it"),
+        None => holds(
+            rt,
+            cut.first.saturating_add(cut.past.len() as u64) == 5 && cut.made == 1,
+            "all that happened in it",
+        ),
         Some(_queue) => panic!(rt; "a removed queue is there"),
     }
 }
@@ -90,6 +94,7 @@ fn slot_day<N: Names, R: Abort + Wait>(
     let text = drafted(rt, arena);
     sent(rt, &mut slot, first, text);
     shown(rt, &slot, second);
+    cut(rt, &mut slot);
     let text = received(rt, &mut slot, second);
     spent(rt, arena, text);
     changed(rt, &mut slot, first);

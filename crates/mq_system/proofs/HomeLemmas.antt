@@ -6,19 +6,13 @@ use Rattle.std.proofs.Math.Seq.{get_or-append_seam, take-append_seam, take-lengt
 use Rattle.std.proofs.lemmas.Bool.Decides.{eqb_tells}
 use Rattle.std.proofs.lemmas.List.{append-nil, append_assoc, get_or-map, get_or-reverse, get_or-set_other, get_or-set_same, get_or-take, length-map, length-reverse, length-set, length-take-le, reverse-append, take-append-drop, take-append-le}
 use Rattle.std.proofs.lemmas.List.Elements.{All-cons}
-use Rattle.std.proofs.lemmas.List.Sums.{sum_by-cons}
 use Rattle.mq_queue.specs.declared.event.Event.{Event}
 use Rattle.mq_fronts.specs.Fronts.{FrontsState}
-use Rattle.mq_message.specs.Text.{PlainText}
-use Rattle.mq_table.specs.Slot.{SlotState}
-use Rattle.mq_table.specs.SlotList.{offset}
-use Rattle.mq_one_thread.specs.Closed.{Ending, ending_of, ends}
-use Rattle.mq_one_thread.specs.declared.close.ClosedSlot.{ClosedSlot}
 use Rattle.mq_shared.specs.Seat.{SeatState, counted_by, front_of, seat_of}
-use Rattle.mq_system.specs.Closed.{AreCounted, AreDistinct, AreSeen, AreWithout, IsRecorded, IsWithout, entries_in, events_in, known_by}
+use Rattle.mq_system.specs.Closed.{AreCounted, AreDistinct, AreSeen, AreWithout, IsRecorded, IsWithout, known_by}
 use Rattle.mq_system.proofs.StartLemmas.{Each}
 use Rattle.mq_system.proofs.SumLemmas.{add_up}
-use Rattle.mq_system.proofs.TallyLemmas.{entries_of}
+use Rattle.mq_system.proofs.ClosedLemmas.{IsSeen}
 
 -- of some seats the last were taken apart, the last first
 pub record AreApart (slots : ℕ) (all seats : List SeatState) (fronts : List FrontsState)
@@ -253,50 +247,31 @@ all_distinct slots seats fronts h apart j k d less low = λ e.
     apart j k nowhere less (omega (arith, low, h.count))
     (h.places j d nowhere (omega (arith, less, low)) ∙ e ∙ sym (h.places k d nowhere low))
 
--- what each seat knew of the slots that are closed, the last first
-abbrev pub IsSeen : ℕ → List SeatState → ℕ → ClosedSlot → Type 0
-IsSeen slots seats k closed =
-    All (λ s. IsPrefix (front_of s (slots - 1 - k)) (events_in closed)) seats
-
--- and in their order
-pub all_seen : (slots : ℕ) (seats : List SeatState) (closed : List ClosedSlot)
-    → length closed ≡ slots → Each (IsSeen slots seats) closed → AreSeen seats (reverse closed)
-all_seen slots seats closed count each seat slot d e low within =
-    let inside : slot < length closed = omega (arith, within, length-reverse closed) in
-    let back = length closed - 1 - slot in
+-- what each seat knew of the lists, in the order of their slots
+pub all_seen : (slots : ℕ) (seats : List SeatState) (lists : List (List Event))
+    → length lists ≡ slots → Each (IsSeen slots seats) lists → AreSeen seats (reverse lists)
+all_seen slots seats lists count each seat slot d e low within =
+    let inside : slot < length lists = omega (arith, within, length-reverse lists) in
+    let back = length lists - 1 - slot in
     let same : slots - 1 - back ≡ slot = omega (arith, inside, count) in
-    let known : IsPrefix (front_of (slice_index_or seats seat d) (slots - 1 - back)) (events_in (slice_index_or closed back e)) =
+    let known : IsPrefix (front_of (slice_index_or seats seat d) (slots - 1 - back)) (slice_index_or lists back e) =
     each back e (omega (arith, inside)) seat d low in
-    let Prefix : ℕ → Type 0 = λ j. IsPrefix (front_of (slice_index_or seats seat d) j) (events_in (slice_index_or closed back e)) in
-    rw (get_or-reverse closed slot e inside) (subst Prefix same known)
-
--- what happened in a slot is there once it has ended
-pub all_happened : (slot : SlotState PlainText) (closed : ClosedSlot)
-    → ending_of closed ≡ ends slot → events_in closed ≡ slot.events
-all_happened slot closed is =
-    let events = slot.events in
-    let n = offset events in
-    ap (λ (e : Ending). e.past ++ e.last) is ∙ take-append-drop n events
-
--- all events of all slots
-all_events : (slots : List ClosedSlot) → sum_by length (map events_in slots) ≡ entries_in slots
-all_events [] = refl
-all_events (s ∷ ss) =
-    omega (arith, sum_by-cons length (events_in s) (map events_in ss), sum_by-cons entries_of s ss, length-append s.past.items s.last.items, all_events ss)
+    let Prefix : ℕ → Type 0 = λ j. IsPrefix (front_of (slice_index_or seats seat d) j) (slice_index_or lists back e) in
+    rw (get_or-reverse lists slot e inside) (subst Prefix same known)
 
 -- in each slot happened what the seats count there
-pub all_counted : (slots : ℕ) (seats : List SeatState) (closed : List ClosedSlot)
-    → length closed ≡ slots → All (IsRecorded slots) seats → AreDistinct seats
-    → AreSeen seats closed → entries_in closed ≡ counted_by seats → AreCounted seats closed
-all_counted slots seats closed count recorded distinct seen total slot d low =
-    ap length (sym (get_or-map events_in closed slot d [] low))
-    ∙ add_up seat_of (λ s. s.number) (λ s. s.by_slot) (λ s. s.fronts) slots seats (map events_in closed)
-    (length-map closed events_in ∙ count)
+pub all_counted : (slots : ℕ) (seats : List SeatState) (lists : List (List Event))
+    → length lists ≡ slots → All (IsRecorded slots) seats → AreDistinct seats
+    → AreSeen seats lists → sum_by length lists ≡ counted_by seats → AreCounted seats lists
+all_counted slots seats lists count recorded distinct seen total slot d low =
+    ap length (item lists slot d [] low)
+    ∙ add_up seat_of (λ s. s.number) (λ s. s.by_slot) (λ s. s.fronts) slots seats lists
+    count
     (λ k e within. (recorded k e within).each)
     apart
     (λ k e within. (recorded k e within).known)
     prefixes
-    (all_events closed ∙ total)
+    total
     slot (omega (arith, low, count))
   where
     apart : AllPairs (λ p q. p ≢ q) (map (λ (s : SeatState). s.number) seats)
@@ -309,7 +284,5 @@ all_counted slots seats closed count recorded distinct seen total slot d low =
         (distinct i j nobody less inside)
 
     prefixes : All (λ (s : SeatState). (k : ℕ) → k < slots
-        → IsPrefix (slice_index_or s.fronts k []) (slice_index_or (map events_in closed) k [])) seats
-    prefixes i e within k below =
-        let inside : k < length closed = omega (arith, below, count) in
-        rw (get_or-map events_in closed k d [] inside) (seen i k e d within inside)
+        → IsPrefix (slice_index_or s.fronts k []) (slice_index_or lists k [])) seats
+    prefixes i e within k below = seen i k e [] within (omega (arith, below, count))

@@ -1,41 +1,30 @@
 -- What a system leaves at its end.
-use Rattle.std.specs.Prelude.{◌≡◌, ◌≢◌, ◌⊎◌, ℕ, ◌+◌, ◌<◌, false, List, [], ◌∷◌, ◌++◌, length}
+use Rattle.std.specs.Prelude.{◌≡◌, ◌≢◌, ℕ, ◌<◌, List, [], ◌∷◌, ◌++◌, length}
 use Rattle.std.specs.Prelude.{slice_index, slice_index_or}
 use Rattle.std.specs.List.{AllPairs, sum_by}
 use mathlib.Core.List.{IsPrefix}
-use Rattle.mq_queue.specs.Lawful.{Lawful}
-use Rattle.mq_queue.specs.Log.{ends_with_removed}
 use Rattle.mq_queue.specs.declared.event.Event.{Event}
 use Rattle.mq_fronts.specs.Fronts.{FrontsState}
-use Rattle.mq_one_thread.specs.Closed.{CountsWaiting, IsWhole}
+use Rattle.mq_one_thread.specs.Closed.{IsEndOf, entries_of}
 use Rattle.mq_one_thread.specs.declared.close.ClosedSlot.{ClosedSlot}
 use Rattle.mq_shared.specs.Seat.{AreKnown, SeatState, front_of}
 
--- the log of a queue that was not removed
-pub record IsOpen (log : List Event) : Type 0 where
-  pub lawful : Lawful log
-  pub there : ends_with_removed log ≡ false
-
--- the past events and the last log are a slot list, the last log is empty or that of a queue that
--- is there, and as many messages were left as wait by it
-pub record IsClosed (last_seq : ℕ) (slot : ClosedSlot) : Type 0 where
-  pub whole : IsWhole last_seq slot
-  pub last : (slot.last.items ≡ []) ⊎ IsOpen slot.last.items
-  pub left : CountsWaiting slot
+-- each slot ended with the list at its place
+pub record AreEnds (last_seq : ℕ) (lists : List (List Event)) (slots : List ClosedSlot)
+    : Type 0 where
+  pub count : length lists ≡ length slots
+  pub each : (slot : ℕ) (d : List Event) (e : ClosedSlot) → slot < length slots
+      → IsEndOf last_seq (slice_index_or lists slot d) (slice_index_or slots slot e)
 
 -- the entries of all slots together
 abbrev pub entries_in : List ClosedSlot → ℕ
-entries_in slots = sum_by (λ slot. length slot.past.items + length slot.last.items) slots
+entries_in slots = sum_by entries_of slots
 
--- all that happened in a slot
-abbrev pub events_in : ClosedSlot → List Event
-events_in slot = slot.past.items ++ slot.last.items
-
--- each front of each seat is a prefix of what happened in its slot
-abbrev pub AreSeen : List SeatState → List ClosedSlot → Type 0
-AreSeen seats slots = (seat slot : ℕ) (d : SeatState) (e : ClosedSlot)
-    → seat < length seats → slot < length slots
-    → IsPrefix (front_of (slice_index_or seats seat d) slot) (events_in (slice_index_or slots slot e))
+-- each front of each seat is a prefix of its slot's list
+abbrev pub AreSeen : List SeatState → List (List Event) → Type 0
+AreSeen seats lists = (seat slot : ℕ) (d : SeatState) (e : List Event)
+    → seat < length seats → slot < length lists
+    → IsPrefix (front_of (slice_index_or seats seat d) slot) (slice_index_or lists slot e)
 
 -- no two seats have the same number
 abbrev pub AreDistinct : List SeatState → Type 0
@@ -45,10 +34,18 @@ AreDistinct seats = AllPairs (λ p q. p.number ≢ q.number) seats
 abbrev pub counted_in : ℕ → List SeatState → ℕ
 counted_in slot seats = sum_by (λ seat. slice_index seat.by_slot slot) seats
 
--- in each slot happened what the seats count there, and nothing else
-abbrev pub AreCounted : List SeatState → List ClosedSlot → Type 0
-AreCounted seats slots = (slot : ℕ) (d : ClosedSlot) → slot < length slots
-    → length (events_in (slice_index_or slots slot d)) ≡ counted_in slot seats
+-- each list has as many entries as the seats count in its slot
+abbrev pub AreCounted : List SeatState → List (List Event) → Type 0
+AreCounted seats lists = (slot : ℕ) (d : List Event) → slot < length lists
+    → length (slice_index_or lists slot d) ≡ counted_in slot seats
+
+-- there are slot lists with which the slots ended: of each the fronts of all seats are prefixes,
+-- and in each happened what the seats count there, and nothing else
+pub record IsEnd (last_seq : ℕ) (seats : List SeatState) (slots : List ClosedSlot) : Type 0 where
+  pub lists : List (List Event)
+  pub ends : AreEnds last_seq lists slots
+  pub seen : AreSeen seats lists
+  pub counted : AreCounted seats lists
 
 -- what a seat knows, by its place on each board
 abbrev pub known_by : SeatState → FrontsState

@@ -2,8 +2,9 @@ ghost use Rattle.std.specs.Prelude.{◌≡◌, ◌≢◌, ◌+◌, ◌≤◌, Al
 ghost use Rattle.std.specs.List.{AllPairs};
 ghost use Rattle.mq_shared.specs.Seat.{counted_by};
 ghost use Rattle.mq_shared.specs.Sizes.{all_changes};
-ghost use Rattle.mq_system.specs.Closed.{AreCounted, AreDistinct, AreSeen, AreWithout, IsClosed};
-ghost use Rattle.mq_system.specs.Closed.{IsRecorded, entries_in, known_by};
+ghost use Rattle.mq_one_thread.specs.Closed.{IsClosed};
+ghost use Rattle.mq_system.specs.Closed.{AreDistinct, AreWithout, IsEnd, IsRecorded, entries_in};
+ghost use Rattle.mq_system.specs.Closed.{known_by};
 
 use crate::{Closed, Names, Pages, Pledge, Seat, System};
 use mq_board::Copies;
@@ -39,10 +40,9 @@ impl<P: Pledge, N: Names> System<P, N, Copies<N>> {
         requires seats { vec_len seats ≡ N.seats }
         ensures slots { length result.slots.items ≡ N.slots }
         ensures closed { All (IsClosed N.last_seq) result.slots.items }
+        ensures ends { IsEnd N.last_seq seats.items result.slots.items }
         ensures total { entries_in result.slots.items ≡ counted_by seats.items }
-        ensures fronts { AreSeen seats.items result.slots.items }
         ensures numbers { AreDistinct seats.items }
-        ensures counts { AreCounted seats.items result.slots.items }
         ensures height { result.arena.height ≡ N.height }
     {
         let System {
@@ -109,7 +109,7 @@ fn with_number<N: Names, R: Wait>(
     ensures number { result.slot.number ≡ number }
 {
     for _ in rt.forever() {
-        if slot.slot().number() as usize == number {
+        if slot.number() as usize == number {
             return slot;
         }
         spin_loop();

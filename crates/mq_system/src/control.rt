@@ -1,4 +1,5 @@
 ghost use Rattle.std.specs.Prelude.{◌≡◌, ◌+◌, ◌≤◌, false, length, map, take, IfOk, IfErr, OnOk, MatchResult};
+ghost use Rattle.mq_queue.specs.Queue.{rest_of};
 ghost use Rattle.mq_queue.specs.Row.{last_log, row};
 ghost use Rattle.mq_queue.specs.declared.event.Event.TheVariants.{Changed, Removed};
 ghost use Rattle.mq_queue.specs.declared.limits.TheConstants.{MSGMNB};
@@ -66,7 +67,8 @@ impl<P: Pledge, N: Names> System<P, N, Copies<N>> {
         ensures done { IfOk result (λ r. IsDone seat.old seat.new (slot_of id)
             (remove_verdict (seq_of id)) r.entry (Removed seat.old.number moment)) }
         ensures log { IfOk result (λ r. r.log
-            ≡ last_log (take (r.entry + 1) (front_of seat.new (slot_of id)))) }
+            ≡ rest_of r.log.base.places
+            (last_log (take (r.entry + 1) (front_of seat.new (slot_of id))))) }
         ensures decided { IfErr result (IsDecided seat.old seat.new (slot_of id)
             (remove_verdict (seq_of id))) }
     {

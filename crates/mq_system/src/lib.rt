@@ -26,6 +26,7 @@
 
 mod close;
 mod control;
+mod cut;
 mod get;
 mod messages;
 mod parts;
@@ -38,4 +39,5 @@ pub use mq_one_thread::{
 pub use mq_shared::{
     Blanks, Keys, Names, Pages, Place, Pledge, RecvFlags, Seat, SendFlags, TextOf, WaitingOf,
 };
+pub use mq_table::Cut;
 pub use system::System;

@@ -1,5 +1,5 @@
 //! The calls of a system, each made once more where there was no memory. Seat 1 makes, sends, sets
-//! and removes, and seat 2 receives.
+//! and removes, and seat 2 receives and cuts.
 ghost use Rattle.std.specs.Prelude.{◌≡◌, IfOk, replicate};
 
 use crate::day::Anything;
@@ -7,7 +7,7 @@ use mq_system::{
     Delivered, DraftError, Errno, GetFlags, Got, Names, RecvFlags, Refused, Removal, Seat,
     SendFlags, SendRefused, System, TextOf,
 };
-use mq_table::Id;
+use mq_table::{Cut, Id};
 use std::process::Abort;
 use std::sync::Wait;
 
@@ -183,6 +183,40 @@ pub(crate) fn remove<N: Names, R: Abort + Wait>(
             },
         ) => system.rmid(rt, seat, id, moment),
         answer => answer,
+    }
+}
+
+/// How many entries there are up to the end of a cut.
+fn end_of(cut: &Cut) -> u64 {
+    let entries = (cut.past.len() as u64).saturating_add(cut.last.len() as u64);
+    cut.first.saturating_add(entries)
+}
+
+/// What is cut off of a slot. Where that is refused at first, the refusal tells all entries.
+pub(crate) fn cut<N: Names, R: Abort + Wait>(
+    rt: &R,
+    system: &System<Anything, N>,
+    seats: &mut [Seat<N>],
+    slot: u8,
+) -> Cut {
+    let seat = seat(rt, seats, 1);
+    if slot >= system.slots() {
+        panic!(rt; "there is no slot {slot}");
+    }
+    match system.cut_log(rt, seat, slot) {
+        Ok(cut) => cut,
+        Err(refused) => match system.cut_log(rt, seat, slot) {
+            Ok(cut) => {
+                let Refused { errno, entry } = refused;
+                holds(
+                    rt,
+                    errno == Errno::ENOMEM && entry == Some(end_of(&cut)),
+                    "ENOMEM after all entries",
+                );
+                cut
+            }
+            Err(refused) => panic!(rt; "a cut is refused twice: {refused}"),
+        },
     }
 }
 

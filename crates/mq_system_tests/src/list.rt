@@ -2,7 +2,7 @@
 //! run with each allocation refused in turn, and must answer as if none had been.
 ghost use Rattle.std.specs.Prelude.{◌≡◌};
 
-use crate::calls::{CREATE, TAG, Wanted, draft, get, holds, receive, remove, seat, send, set};
+use crate::calls::{CREATE, TAG, Wanted, cut, draft, get, holds, receive, remove, seat, send, set};
 use crate::day::{Anything, Day, config, left_by};
 use mq_arena::Homecoming;
 use mq_system::{Config, Delivered, Got, Names, Seat, SendRefused, System};
@@ -14,6 +14,9 @@ use std::thread::Threads;
 
 /// The messages, eight of each of five types.
 const MESSAGES: u64 = 40;
+
+/// After so many receipts the list is cut.
+const HALF: u64 = 20;
 
 /// The type of the message at this place of those that are sent: the types come in turn.
 fn type_of(place: u64) -> i64 {
@@ -133,8 +136,48 @@ fn changes<N: Names, R: Abort + Wait>(rt: &R, system: &System<Anything, N>, seat
                 removal.entry == 82 && removal.log.len() == 83,
                 "its own log",
             );
+            let (base, tail) = removal.log.into_parts();
+            holds(
+                rt,
+                base.places == 61 && base.waiting.len() == 20 && tail.len() == 22,
+                "what was cut off of it, and the rest",
+            );
         }
         Err(refused) => panic!(rt; "not removed: {refused}"),
+    }
+}
+
+/// Slot 0 is cut: so many entries were cut off before, of which so many messages were waiting if
+/// they left a queue, and so many are handed out of a removed queue and of the one that is there.
+fn cuts<N: Names, R: Abort + Wait>(
+    rt: &R,
+    system: &System<Anything, N>,
+    seats: &mut [Seat<N>],
+    first: u64,
+    waiting: Option<u64>,
+    past: usize,
+    last: usize,
+) {
+    let cut = cut(rt, system, seats, 0);
+    let made = if first == 0 { 0 } else { 1 };
+    holds(
+        rt,
+        cut.first == first && cut.made == made,
+        "as much was cut off before",
+    );
+    holds(
+        rt,
+        cut.past.len() == past && cut.last.len() == last,
+        "as much is handed out",
+    );
+    match (cut.base, waiting) {
+        (Some(base), Some(waiting)) => holds(
+            rt,
+            base.places == first && base.waiting.len() == waiting,
+            "the base of what was cut off",
+        ),
+        (None, None) => (),
+        _ => panic!(rt; "another base after {first} entries"),
     }
 }
 
@@ -156,11 +199,18 @@ impl Day<Anything> for Listed {
             sends(rt, system, seats, place);
         }
         drafts(rt, system);
-        for place in 0..MESSAGES {
+        cuts(rt, system, seats, 0, None, 0, 41);
+        for place in 0..HALF {
+            receives(rt, system, seats, place);
+        }
+        cuts(rt, system, seats, 41, Some(40), 0, 20);
+        for place in HALF..MESSAGES {
             receives(rt, system, seats, place);
         }
         changes(rt, system, seats);
+        cuts(rt, system, seats, 61, Some(20), 22, 0);
         makes(rt, system, seats, 9, 64, 83);
+        cuts(rt, system, seats, 83, None, 0, 1);
     }
 }
 
@@ -168,9 +218,10 @@ impl Day<Anything> for Listed {
 fn a_list_of_calls_answers_as_if_memory_had_never_run_out(rt: HostRuntime) {
     let left = left_by(&rt, rt.alloc(), config(4, 2, 1), &Listed);
     holds(&rt, left.free_pages == 16, "all pages are free");
-    let mut entries = 0usize;
+    let mut entries = 0u64;
     for slot in left.slots {
-        entries = entries.saturating_add(slot.past.len().saturating_add(slot.last.len()));
+        let kept = slot.past.len().saturating_add(slot.last.len());
+        entries = entries.saturating_add(slot.first.saturating_add(kept as u64));
         holds(&rt, slot.left == 0, "nothing waits");
     }
     holds(&rt, entries == 85, "all that was not refused");

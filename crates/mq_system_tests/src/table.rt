@@ -1,14 +1,14 @@
 //! Tables of calls and of what they answer.
 ghost use Rattle.std.specs.Prelude.{◌≡◌};
 
-use crate::calls::{Wanted, draft, get, has, receive, remove, send, set};
+use crate::calls::{Wanted, cut, draft, get, has, receive, remove, send, set};
 use crate::day::{Anything, Day, left_by};
 use mq_arena::Homecoming;
 use mq_system::{
     Config, Delivered, Errno, GetFlags, Got, MAX_HEIGHT, Names, Refused, Seat, SendRefused, System,
     TextOf,
 };
-use mq_table::Id;
+use mq_table::{Cut, Id};
 use std::alloc::Global;
 use std::process::Abort;
 use std::sync::Wait;
@@ -27,6 +27,8 @@ pub(crate) enum Step {
     Set(u32, u64),
     Remove(u32),
     Stat(u32),
+    /// A slot.
+    Cut(u8),
     /// A text of so many bytes, which is spent at once.
     Draft(u64),
 }
@@ -45,6 +47,9 @@ pub(crate) enum Answer {
     Refused(Errno, Option<u64>),
     /// How many messages and bytes wait, and may wait.
     Shown(u64, u64, u64),
+    /// How many entries were cut off before, and how many of these are makings and are of the queue
+    /// that they leave; how many are handed out of removed queues, and of the one that is there.
+    Cut(u64, u32, Option<u64>, usize, usize),
     Drafted,
     /// A text is another one, or did not come home.
     Astray,
@@ -166,6 +171,26 @@ fn shown<N: Names, R: Abort + Wait>(
     }
 }
 
+fn cut_off<N: Names, R: Abort + Wait>(
+    rt: &R,
+    system: &System<Anything, N>,
+    seats: &mut [Seat<N>],
+    slot: u8,
+) -> Answer {
+    let Cut {
+        first,
+        made,
+        base,
+        past,
+        last,
+    } = cut(rt, system, seats, slot);
+    let places = match base {
+        Some(base) => Some(base.places),
+        None => None,
+    };
+    Answer::Cut(first, made, places, past.len(), last.len())
+}
+
 fn drafted<N: Names, R: Wait>(rt: &R, system: &System<Anything, N>, len: u64) -> Answer {
     match draft(rt, system, len) {
         Ok(text) => match system.spend(rt, text) {
@@ -192,6 +217,7 @@ fn called<N: Names, R: Abort + Wait>(
         Step::Set(id, qbytes) => changed(rt, system, seats, id, qbytes, moment),
         Step::Remove(id) => removed(rt, system, seats, id, moment),
         Step::Stat(id) => shown(rt, system, seats, id),
+        Step::Cut(slot) => cut_off(rt, system, seats, slot),
         Step::Draft(len) => drafted(rt, system, len),
     }
 }

@@ -325,8 +325,14 @@ impl Day<Anything> for Leaves {
     }
 }
 
-/// The slot has so many events of removed queues and of its last one, and left so many messages.
+/// The slot tells its whole list, has so many events of removed queues and of its last one, and left
+/// so many messages.
 fn slot_leaves(rt: &impl Abort, slot: &ClosedSlot, past: usize, last: usize, waited: u64) {
+    holds(
+        rt,
+        slot.first == 0 && slot.made == 0 && slot.base.is_none(),
+        "nothing was cut off before",
+    );
     holds(
         rt,
         slot.past.len() == past,

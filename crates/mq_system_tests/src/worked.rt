@@ -97,7 +97,7 @@ fn removed<N: Names, R: Abort + Wait>(rt: &R, system: &System<Anything, N>, seat
             holds(rt, entry == 2, "it is removed by entry 2");
             holds(
                 rt,
-                log.into_events().as_slice() == LOG.as_slice(),
+                log.into_parts().1.as_slice() == LOG.as_slice(),
                 "its own log",
             );
         }

@@ -1,5 +1,5 @@
 -- A slot list ends with the log of the queue that is in the slot.
-use Rattle.std.proofs.Common.{◌≡◌, ◌-◌, Bool, true, false, List, [], ◌∷◌, ◌++◌, length, drop, fold, append_assoc, refl, ap, sym, ◌∙◌, arith}
+use Rattle.std.proofs.Common.{◌≡◌, ◌-◌, ◌≤◌, Bool, true, false, List, [], ◌∷◌, ◌++◌, length, drop, fold, append_assoc, refl, ap, sym, ◌∙◌, arith}
 use Rattle.std.proofs.lemmas.List.{append-nil, length-append}
 use Rattle.std.proofs.lemmas.Grind.{common_steps}
 use Rattle.mq_queue.specs.declared.event.Event.{Event}
@@ -55,3 +55,14 @@ drop_offset events = by (is_live events) refl
     by false none =
         let all : length events - 0 ≡ length events = omega arith in
         rw (none, all) (none_dropped events)
+
+-- that log is within the list
+pub log_within : (events : List Event) → length (live_log events) ≤ length events
+log_within events = by (is_live events) refl
+  where
+    by : (b : Bool) → is_live events ≡ b → length (live_log events) ≤ length events
+    by true live =
+        let ends = split [] [] events in
+        rw live
+        (omega (arith, length-append ends.before (last_log events), ap length ends.same))
+    by false none = rw none (omega arith)

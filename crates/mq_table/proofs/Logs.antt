@@ -67,7 +67,7 @@ ends_as past [] h = absurd (true≢false h)
 ends_as past (e ∷ es) h = fold-append (λ _ event. is_removed event) false past (e ∷ es)
 
 -- they are not empty
-not_empty : (past log : List Event) → is_empty log ≡ false → is_empty (past ++ log) ≡ false
+pub not_empty : (past log : List Event) → is_empty log ≡ false → is_empty (past ++ log) ≡ false
 not_empty [] log h = h
 not_empty (e ∷ es) log h = refl
 

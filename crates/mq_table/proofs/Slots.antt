@@ -1,121 +1,207 @@
--- A slot, by its fields.
-use Rattle.std.proofs.Common.{◌≡◌, ℕ, ◌+◌, true, false, List, [], ◌∷◌, ◌++◌, length, Option, None, Some, refl, ap, sym, subst, ◌≤◌, ◌∙◌, is_some, IfSome, true≢false, arith}
-use Rattle.std.proofs.lemmas.List.{append-nil, length-append}
+-- What the calls of a slot leave is a slot.
+use Rattle.std.proofs.Common.{◌≡◌, ℕ, ℤ, ◌+◌, ◌-◌, ◌^◌, ◌<◌, ◌≤◌, List, [], ◌∷◌, ◌++◌, length, length-append, Option, None, Some, IfSome, is_some, Bool, true, false, not, refl, ap, sym, subst, ◌∙◌, arith, true≢false}
+use Rattle.mq_select.specs.Waiting.{headers_of}
 use Rattle.mq_queue.specs.declared.event.Event.{Event}
 use Rattle.mq_queue.specs.declared.event.Event.TheVariants as event
-use Rattle.mq_queue.specs.Lawful.{Lawful}
-use Rattle.mq_queue.specs.Log.{ends_with_removed}
-use Rattle.mq_queue.specs.Queue.{Queue, IsSound}
-use Rattle.mq_queue.specs.Row.{made_count, is_live, last_log}
-use Rattle.mq_table.specs.Slot.{SlotState, IsSlot, Waits, slot_with, log_of}
+use Rattle.mq_queue.specs.Base.{base_of, waiting_from}
+use Rattle.mq_queue.specs.Lawful.{CanHappen}
+use Rattle.mq_queue.specs.Log.{is_made, is_removed, key_told}
+use Rattle.mq_queue.specs.Queue.{Queue}
+use Rattle.mq_queue.specs.Row.{is_live, made_count}
+use Rattle.mq_table.specs.Cut.{cut_queue, kept_cuts}
+use Rattle.mq_table.specs.Kept.{KeptSlot, base_now, entries_of, is_live_kept, made_of, quota_now, waiting_now}
+use Rattle.mq_table.specs.KeptCalls.{kept_goes_on, kept_makes, kept_removes}
+use Rattle.mq_table.specs.KeptPart.{IsKeptPart}
+use Rattle.mq_table.specs.SlotList.{live_log}
+use Rattle.mq_table.specs.SlotParts.{IsSlot, messages_of, tail_of}
 use Rattle.mq_table.specs.declared.limits.TheConstants.{MAX_SEQ}
-use Rattle.mq_table.specs.SlotList.{offset, IsSlotList}
-use Rattle.mq_table.proofs.Logs.{last_log_is, live_is, made_more, ends_as}
-use Rattle.mq_table.proofs.Pasts.{none_live, past_grows, list_of_past, list_of_live}
+use Rattle.mq_table.proofs.Cuts.{cut_kept}
+use Rattle.mq_table.proofs.Grown.{list_made, list_more}
+use Rattle.mq_table.proofs.Kepts.{entries_is, live_is, live_more, made_is, places_is, waiting_is}
+use Rattle.mq_table.proofs.KeptTurns.{base_behind, kept_more, makes_kept, no_base, quota_last, removes_kept, waits_last}
+use Rattle.mq_table.proofs.Lasts.{log_within}
+use Rattle.mq_table.proofs.Logs.{counted}
 
-module _ {B : Type 0} (bytes : B → List ℕ) (number made : ℕ) (past : List Event) where
-  -- a queue is there exactly where the slot has one
-  pub is_there : (live : Option (Queue B)) → IsSlot bytes number made past live
-      → is_some live ≡ is_live (past ++ log_of live)
-  is_there None h = rw append-nil (sym (none_live past h.ended))
-  is_there (Some q) h = sym (live_is past q.log h.sound.lawful h.sound.live)
+module _ {B : Type 0} (list : List Event) (s : KeptSlot B) (k : IsKeptPart list s)
+    (e : Event) (t : KeptSlot B) (k' : IsKeptPart (list ++ e ∷ []) t) where
+  -- one entry more
+  one_more : entries_of t ≡ entries_of s + 1
+  one_more =
+      omega (
+        arith,
+        entries_is list s k,
+        entries_is (list ++ e ∷ []) t k',
+        length-append list (e ∷ []),
+      )
 
-  -- its log is the last one
-  pub its_log : (q : Queue B) → IsSlot bytes number made past (Some q)
-      → last_log (past ++ q.log) ≡ q.log
-  its_log q h = last_log_is past q.log h.sound.lawful
+  -- its makings, and whether a queue is there
+  made_more : made_of t ≡ made_of s + made_count (e ∷ [])
+  made_more =
+      omega (arith, made_is list s k, made_is (list ++ e ∷ []) t k', counted list (e ∷ []))
 
-  -- all that happened is a slot list
-  pub list_of : (live : Option (Queue B)) → IsSlot bytes number made past live
-      → IsSlotList MAX_SEQ (past ++ log_of live)
-  list_of None h =
-      rw append-nil
-      (list_of_past MAX_SEQ past h.ended
-      (omega (arith, h.few, h.counted, ap made_count (append-nil past))))
-  list_of (Some q) h =
-      list_of_live MAX_SEQ past q.log h.ended h.sound.lawful (omega (arith, h.few, h.counted))
+  there_more : is_live_kept t ≡ not (is_removed e)
+  there_more = live_is (list ++ e ∷ []) t k' ∙ live_more list e
 
-  -- what waits is what the log of the queue in it leaves waiting
-  pub waits_of : (live : Option (Queue B)) → IsSlot bytes number made past live
-      → Waits bytes (slot_with number past live)
-  waits_of None h = rw (append-nil past, none_live past h.ended) refl
-  waits_of (Some q) h =
-      rw (live_is past q.log h.sound.lawful h.sound.live, its_log q h) h.sound.waits
+module _ {B : Type 0} (bytes : B → List ℕ) (made : ℕ) (live : Option (Queue B)) (s : KeptSlot B)
+    (h : IsSlot bytes made live s) where
+  -- the slot's list
+  abbrev list : List Event
+  list = h.lawful.list
 
-  -- a queue that is there has the last log
-  pub logs_agree : (live : Option (Queue B)) → IsSlot bytes number made past live
-      → IfSome live (λ q. q.log ≡ last_log (past ++ log_of live))
-  logs_agree None h = tt
-  logs_agree (Some q) h = sym (its_log q h)
+  abbrev part : IsKeptPart list s
+  part = h.lawful.part
 
-  -- the past events are those before it
-  pub offset_is : (live : Option (Queue B)) → IsSlot bytes number made past live
-      → length past ≡ offset (past ++ log_of live)
-  offset_is None h = rw (append-nil past, none_live past h.ended) (omega arith)
-  offset_is (Some q) h =
-      rw (live_is past q.log h.sound.lawful h.sound.live, its_log q h)
-      (omega (arith, length-append past q.log))
+  live_list : (b : Bool) → is_live_kept s ≡ b → is_live list ≡ b
+  live_list b there = sym (live_is list s part) ∙ there
 
-  -- no queue is there, by the slot list
-  pub none_is : (live : Option (Queue B)) → IsSlot bytes number made past live
-      → is_live (past ++ log_of live) ≡ false → live ≡ None
-  none_is None h none = refl
-  none_is (Some q) h none = absurd (true≢false (is_there (Some q) h ∙ none))
+  -- where no queue is there, no event of it is kept, and nothing waits
+  pub none_is : is_live_kept s ≡ false → live ≡ None
+  none_is off = by live (h.there ∙ off)
+    where
+      by : (o : Option (Queue B)) → is_some o ≡ false → o ≡ None
+      by None none = refl
+      by (Some q) none = absurd (true≢false none)
 
-  -- a queue is put where none was
-  pub put_into : (live : Option (Queue B)) → IsSlot bytes number made past live
-      → (s : SlotState B) → slot_with number past live ≡ s
-      → is_live s.events ≡ false → made_count s.events ≤ MAX_SEQ
-      → (q : Queue B) → IsSound bytes q.log q.messages
-      → (live' : Option (Queue B)) → live' ≡ Some q → IsSlot bytes number (made + 1) past live'
-  put_into live h s view none few q sound live' is =
-      let gone : live ≡ None = none_is live h (rw (← view) at none) in
-      let h' : IsSlot bytes number made past None = subst (IsSlot bytes number made past) gone h in
-      let before = rw (append-nil past) at h'.counted in
-      let few' = rw (← view, ← h.counted) at few in
-      rw is (record {
-        numbered = h.numbered;
-        counted = ap (λ n. n + 1) before ∙ sym (made_more past q.log sound.lawful);
-        few = omega arith;
-        ended = h.ended;
-        sound = sound;
-      })
+  module _ (q : Queue B) (is : live ≡ Some q) where
+    pub there_is : is_live_kept s ≡ true
+    there_is = sym h.there ∙ ap is_some is
 
-  -- the slot's queue goes on
-  pub kept : (q q' : Queue B) → IsSlot bytes number made past (Some q)
-      → IsSound bytes q'.log q'.messages → IsSlot bytes number made past (Some q')
-  kept q q' h sound = record {
-    numbered = h.numbered;
-    counted =
-        h.counted ∙ made_more past q.log h.sound.lawful
-        ∙ sym (made_more past q'.log sound.lawful);
-    few = h.few;
-    ended = h.ended;
-    sound = sound;
-  }
+    pub base_is_its : base_now s ≡ q.base
+    base_is_its =
+        let Has : Option (Queue B) → Type 0 = λ o. IfSome o (λ queue. queue.base ≡ base_now s) in
+        sym (subst Has is h.based)
 
-  module _ (live : Option (Queue B)) (h : IsSlot bytes number made past live)
-      (q : Queue B) (is : live ≡ Some q) (log : List Event) (seat moment : ℕ)
-      (ends : log ≡ q.log ++ event.Removed seat moment ∷ []) (lawful : Lawful log)
-      (past' : List Event) (grown : past' ≡ past ++ log)
-      (live' : Option (Queue B)) (left : live' ≡ None) where
-    -- a queue that was removed is past
-    pub taken_out : IsSlot bytes number made past' live'
-    taken_out =
-        let h' : IsSlot bytes number made past (Some q) =
-        subst (IsSlot bytes number made past) is h in
-        let removed : ends_with_removed log ≡ true =
-        rw ends (ends_as q.log (event.Removed seat moment ∷ []) refl) in
-        rw (left, grown) (record {
+    pub last_is : s.last ≡ q.tail
+    last_is = h.last ∙ ap tail_of is
+
+    -- its log is within the list
+    pub within : q.base.places + length q.tail ≤ entries_of s
+    within =
+        let log : q.base.places + length q.tail ≡ length (live_log list) =
+        rw (← base_is_its, ← last_is) (places_is list s part) in
+        omega (arith, log, log_within list, entries_is list s part)
+
+    pub messages_is : s.messages ≡ q.messages
+    messages_is = h.messages ∙ ap messages_of is
+
+  -- one event more of the queue that is there
+  module _ (there : is_live_kept s ≡ true) (e : Event) (room : entries_of s + 1 < 2 ^ 64 - 1) where
+    pub goes_slot : is_made e ≡ false → is_removed e ≡ false → key_told e ≡ None
+        → CanHappen (waiting_now s) (quota_now s) e
+        → (q : Queue B) → q.base ≡ base_now s → q.tail ≡ s.last ++ e ∷ []
+        → headers_of bytes q.messages ≡ waiting_from q.base q.tail
+        → IsSlot bytes made (Some q) (kept_goes_on s e q.messages)
+    goes_slot unmade stays untold allowed q based tail waits =
+        let live' = live_list true there in
+        let t = kept_goes_on s e q.messages in
+        let k' = kept_more list s part live' e q.messages unmade stays untold in
+        let can =
+        rw (waits_last list s part live', quota_last list s part live') at allowed in
+        let none : made_count (e ∷ []) ≡ 0 = rw unmade refl in
+        record {
           numbered = h.numbered;
-          counted =
-              h'.counted ∙ made_more past q.log h'.sound.lawful ∙ sym (made_more past log lawful)
-              ∙ ap made_count (sym (append-nil (past ++ log)));
+          counted = omega (arith, h.counted, made_more list s part e t k', none);
           few = h.few;
-          ended = past_grows past log h.ended (record { lawful = lawful; removed = removed });
-          sound = tt;
-        })
+          short = omega (arith, room, one_more list s part e t k');
+          lawful = record {
+            list = list ++ e ∷ [];
+            part = k';
+            lawful = list_more MAX_SEQ list h.lawful.lawful e live' unmade can;
+          };
+          there = sym (there_more list s part e t k' ∙ ap not stays);
+          based = based;
+          last = sym tail;
+          messages = refl;
+          waits = waits ∙ rw (based, tail) refl;
+        }
 
-    -- its log is the last one
-    pub log_left : log ≡ last_log (past' ++ log_of live')
-    log_left = rw (left, grown, append-nil (past ++ log)) (sym (last_log_is past log lawful))
+  -- a queue is made where none is
+  pub makes_slot : is_live_kept s ≡ false → made_of s ≤ MAX_SEQ → entries_of s + 1 < 2 ^ 64 - 1
+      → (key : ℤ) (seat moment : ℕ) (q : Queue B) → q.base ≡ base_of []
+      → q.tail ≡ event.Made seat moment key ∷ [] → q.messages ≡ []
+      → IsSlot bytes (made + 1) (Some q) (kept_makes s key seat moment)
+  makes_slot off few room key seat moment q based tail none =
+      let e : Event = event.Made seat moment key in
+      let off' = live_list false off in
+      let t = kept_makes s key seat moment in
+      let k' = makes_kept list s part key seat moment off' in
+      let one : made_count (e ∷ []) ≡ 1 = refl in
+      record {
+        numbered = h.numbered;
+        counted = omega (arith, h.counted, made_more list s part e t k', one);
+        few = omega (arith, h.counted, few);
+        short = omega (arith, room, one_more list s part e t k');
+        lawful = record {
+          list = list ++ e ∷ [];
+          part = k';
+          lawful =
+              list_made MAX_SEQ list h.lawful.lawful seat moment key off'
+              (omega (arith, few, made_is list s part));
+        };
+        there = sym (there_more list s part e t k');
+        based = based ∙ sym (no_base list s part off');
+        last = sym tail;
+        messages = sym none;
+        waits = rw (no_base list s part off') refl;
+      }
+
+  -- the queue that is there is removed
+  pub removes_slot : is_live_kept s ≡ true → entries_of s + 1 < 2 ^ 64 - 1 → (seat moment : ℕ)
+      → IsSlot bytes made None (kept_removes s seat moment)
+  removes_slot there room seat moment =
+      let e : Event = event.Removed seat moment in
+      let live' = live_list true there in
+      let t = kept_removes s seat moment in
+      let k' = removes_kept list s part live' seat moment in
+      let none : made_count (e ∷ []) ≡ 0 = refl in
+      record {
+        numbered = h.numbered;
+        counted = omega (arith, h.counted, made_more list s part e t k', none);
+        few = h.few;
+        short = omega (arith, room, one_more list s part e t k');
+        lawful = record {
+          list = list ++ e ∷ [];
+          part = k';
+          lawful = list_more MAX_SEQ list h.lawful.lawful e live' refl tt;
+        };
+        there = sym (there_more list s part e t k');
+        based = tt;
+        last = refl;
+        messages = refl;
+        waits = rw (base_behind s.base (s.past ++ s.last) e) refl;
+      }
+
+  -- the list is cut
+  pub cuts_slot : IsSlot bytes made (cut_queue live) (kept_cuts s)
+  cuts_slot =
+      let k' = cut_kept list s part MAX_SEQ h.lawful.lawful in
+      let t = kept_cuts s in
+      record {
+        numbered = h.numbered;
+        counted = omega (arith, h.counted, made_is list s part, made_is list t k');
+        few = h.few;
+        short = omega (arith, h.short, entries_is list s part, entries_is list t k');
+        lawful = record { list = list; part = k'; lawful = h.lawful.lawful };
+        there = is_cut live ∙ h.there ∙ live_is list s part ∙ sym (live_is list t k');
+        based = base_cut live refl;
+        last = no_tail live;
+        messages = h.messages ∙ same_messages live;
+        waits = h.waits ∙ waiting_is list s part ∙ sym (waiting_is list t k');
+      }
+    where
+      is_cut : (o : Option (Queue B)) → is_some (cut_queue o) ≡ is_some o
+      is_cut None = refl
+      is_cut (Some q) = refl
+
+      base_cut : (o : Option (Queue B)) → live ≡ o
+          → IfSome (cut_queue o) (λ queue. queue.base ≡ base_now (kept_cuts s))
+      base_cut None is = tt
+      base_cut (Some q) is = rw (there_is q is, base_is_its q is, last_is q is) refl
+
+      no_tail : (o : Option (Queue B)) → [] ≡ tail_of (cut_queue o)
+      no_tail None = refl
+      no_tail (Some q) = refl
+
+      same_messages : (o : Option (Queue B)) → messages_of o ≡ messages_of (cut_queue o)
+      same_messages None = refl
+      same_messages (Some q) = refl

@@ -28,7 +28,7 @@ pub record Stays {B : Type 0} (s t : SlotState B) : Type 0 where
   pub key : made_key (last_log t.events) ≡ made_key (last_log s.events)
 
 -- the last log goes on with an event that is no making
-grows : (events : List Event) (e : Event) → is_made e ≡ false
+pub grows : (events : List Event) (e : Event) → is_made e ≡ false
     → last_log (events ++ e ∷ []) ≡ last_log events ++ e ∷ []
 grows events e none = fold-append log_after [] events (e ∷ []) ∙ rw none refl
 

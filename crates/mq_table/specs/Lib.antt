@@ -1,7 +1,13 @@
 pub mod Calls
+pub mod Cut
 pub mod Ids
+pub mod Kept
+pub mod KeptCalls
+pub mod KeptPart
+pub mod KeptShown
 pub mod Keys
 pub mod Laws
 pub mod Shown
 pub mod Slot
 pub mod SlotList
+pub mod SlotParts

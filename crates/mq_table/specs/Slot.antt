@@ -1,16 +1,14 @@
 -- A slot.
-use Rattle.std.specs.Prelude.{◌≡◌, ℕ, ◌+◌, ◌-◌, ◌<◌, ◌≤◌, true, Option, None, Some, IfSome, List, [], ◌++◌, All}
+use Rattle.std.specs.Prelude.{◌≡◌, ℕ, ◌-◌, true, List, [], All}
 use Rattle.mq_message.specs.declared.message.Message.{Message}
 use Rattle.mq_select.specs.Waiting.{headers_of}
 use Rattle.mq_queue.specs.declared.event.Event.{Event}
 use Rattle.mq_queue.specs.Lawful.{Lawful}
 use Rattle.mq_queue.specs.Log.{ends_with_removed}
-use Rattle.mq_queue.specs.Queue.{Queue, IsSound}
 use Rattle.mq_queue.specs.Row.{made_count}
 use Rattle.mq_queue.specs.Waiting.{waiting}
 use Rattle.mq_table.specs.Ids.{id_of}
 use Rattle.mq_table.specs.SlotList.{joined, live_log}
-use Rattle.mq_table.specs.declared.limits.TheConstants.{MAX_SLOTS, MAX_SEQ}
 
 -- a slot: its number, all that happened in it, and what waits in the queue that is in it now, each
 -- message with the place of its sending in that queue's log
@@ -35,21 +33,6 @@ last_id s = id_of s.number (made_count s.events - 1)
 abbrev pub Waits : {B : Type 0} → (B → List ℕ) → SlotState B → Type 0
 Waits bytes s = headers_of bytes s.messages ≡ waiting (live_log s.events)
 
--- the log of the queue that is there, if one is
-abbrev pub log_of : {B : Type 0} → Option (Queue B) → List Event
-log_of None = []
-log_of (Some queue) = queue.log
-
--- what waits in the queue that is there, if one is
-abbrev pub messages_of : {B : Type 0} → Option (Queue B) → List (ℕ × Message B)
-messages_of None = []
-messages_of (Some queue) = queue.messages
-
--- a slot with these past events and this queue in it
-abbrev pub slot_with : {B : Type 0} → ℕ → List Event → Option (Queue B) → SlotState B
-slot_with number past live =
-    record { number = number; events = past ++ log_of live; messages = messages_of live }
-
 -- the log of a queue that was removed
 pub record IsEnded (log : List Event) : Type 0 where
   pub lawful : Lawful log
@@ -60,13 +43,3 @@ pub record ArePast (events : List Event) : Type 0 where
   pub logs : List (List Event)
   pub whole : events ≡ joined logs
   pub ended : All IsEnded logs
-
--- the slot has a number, the past events are the logs of removed queues, the queue that is there
--- is sound, and the makings are counted, and not too many for ids
-pub record IsSlot {B : Type 0} (bytes : B → List ℕ) (number made : ℕ) (past : List Event)
-    (live : Option (Queue B)) : Type 0 where
-  pub numbered : number < MAX_SLOTS
-  pub counted : made ≡ made_count (past ++ log_of live)
-  pub few : made ≤ MAX_SEQ + 1
-  pub ended : ArePast past
-  pub sound : IfSome live (λ queue. IsSound bytes queue.log queue.messages)

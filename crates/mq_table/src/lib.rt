@@ -2,6 +2,8 @@
 
 #![tactic(auto)]
 
+mod cut;
+mod entries;
 mod id;
 mod key_entry;
 mod keys;
@@ -13,10 +15,11 @@ mod slot;
 mod turnover;
 mod under;
 
+pub use cut::Cut;
 pub use id::Id;
 pub use key_entry::KeyEntry;
 pub use keys::KeyTable;
-pub use limits::{MAX_SEQ, MAX_SLOTS};
+pub use limits::{MAX_ENTRIES, MAX_SEQ, MAX_SLOTS};
 pub use refusal::IdRefusal;
 pub use slot::Slot;
 pub use under::{make_under, remove_under};

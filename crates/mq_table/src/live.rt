@@ -1,27 +1,34 @@
-ghost use Rattle.std.specs.Prelude.{◌≡◌, true, Ok, length, min, take};
+ghost use Rattle.std.specs.Prelude.{◌≡◌, true, Ok, length, min, take, unwrap_or};
 ghost use Rattle.std.specs.Prelude.{OnOk, OnErr, IfOk, IfErr, IsSomeAnd};
-ghost use Rattle.mq_queue.specs.Answer.{receive_answer, receive_refusal, received_header, send_refusal};
-ghost use Rattle.mq_queue.specs.Figures.{figures};
-ghost use Rattle.mq_queue.specs.Room.{quota};
-ghost use Rattle.mq_queue.specs.Row.{is_live, last_log, slot_figures};
-ghost use Rattle.mq_queue.specs.Waiting.{waiting};
+ghost use Rattle.mq_queue.specs.Answer.{receive_answer, receive_refusal, received_header, send_refusal, set_refusal};
 ghost use Rattle.mq_select.specs.Waiting.{header_of, message_at};
-ghost use Rattle.mq_table.specs.Calls.{sends, receives, sets, refusal_of, receipt_of};
-ghost use Rattle.mq_table.specs.Slot.{Waits};
-ghost use Rattle.mq_table.specs.SlotList.{IsSlotList};
+ghost use Rattle.mq_table.specs.Calls.{receipt_of};
+ghost use Rattle.mq_table.specs.Kept.{is_live_kept, kept_figures, quota_now, waiting_now};
+ghost use Rattle.mq_table.specs.KeptCalls.{kept_receives, kept_refusal_of, kept_sends, kept_sets};
+ghost use Rattle.mq_table.specs.KeptPart.{IsLawfulSlot, WaitsNow};
 
-use crate::{MAX_SEQ, Slot};
+use crate::{MAX_ENTRIES, MAX_SEQ, Slot};
 use mq_message::{Body, Message};
-use mq_queue::{Event, Figures, Notice, QueueError, Received};
+use mq_queue::{Event, Figures, MSGMNB, Notice, QueueError, Received};
 use mq_select::{Selection, Waiting};
+
+/// Why this quota is refused where there is no place for one more entry.
+fn refused_set(qbytes: u64) -> QueueError
+    ensures { result ≡ unwrap_or (set_refusal qbytes) QueueError.Memory }
+{
+    if qbytes > MSGMNB {
+        QueueError::OverLimit
+    } else {
+        QueueError::Memory
+    }
+}
 
 impl<B: Body, W: Waiting<B>> Slot<B, W> {
     /// Why a message of this type and length would be refused now (msgop(2), msgsnd with
     /// IPC_NOWAIT), or `None` where at most memory could be wanted.
     pub fn refuses_send(&self, mtype: i64, length: u64) -> Option<QueueError>
-        requires live { is_live self.now.events ≡ true }
-        ensures { result ≡ send_refusal (waiting (last_log self.now.events))
-            (quota (last_log self.now.events)) mtype length }
+        requires live { is_live_kept self.now ≡ true }
+        ensures { result ≡ send_refusal (waiting_now self.now) (quota_now self.now) mtype length }
     {
         match &self.live {
             Some(queue) => queue.refuses_send(mtype, length),
@@ -37,9 +44,9 @@ impl<B: Body, W: Waiting<B>> Slot<B, W> {
         selection: Selection,
         noerror: bool,
     ) -> Option<QueueError>
-        requires live { is_live self.now.events ≡ true }
+        requires live { is_live_kept self.now ≡ true }
         ensures { result ≡ receive_refusal
-            (receive_answer (waiting (last_log self.now.events)) size selection noerror) }
+            (receive_answer (waiting_now self.now) size selection noerror) }
     {
         match &self.live {
             Some(queue) => queue.refuses_receive(size, selection, noerror),
@@ -56,24 +63,28 @@ impl<B: Body, W: Waiting<B>> Slot<B, W> {
         moment: u64,
         notice: &mut N,
     ) -> Result<u64, (QueueError, Message<B>)>
-        requires live { is_live self.old.events ≡ true }
+        requires live { is_live_kept self.old ≡ true }
         ensures ok { IfOk result (λ entry.
-            sends B.bytes self.old message moment ≡ Ok (entry, self.new)) }
+            kept_sends B.bytes self.old message moment ≡ Ok (entry, self.new)) }
         ensures refused { IfErr result (λ r.
-            r.0 ≡ refusal_of (sends B.bytes self.old message moment)) }
+            r.0 ≡ kept_refusal_of (kept_sends B.bytes self.old message moment)) }
         ensures handed_back { IfErr result (λ r. r.1 ≡ message) }
         ensures unchanged { OnErr result (self.new ≡ self.old) }
-        ensures lawful { IsSlotList MAX_SEQ self.new.events }
-        ensures waits { Waits B.bytes self.new }
+        ensures lawful { IsLawfulSlot MAX_SEQ self.new }
+        ensures waits { WaitsNow B.bytes self.new }
         ensures noticed { OnOk result (N.takes notice.old (Event.Sent message.sender moment
             message.tag message.mtype (length (B.bytes message.body)))
-            (slot_figures self.new.events) notice.new) }
+            (kept_figures self.new) notice.new) }
         ensures unnoticed { OnErr result (notice.new ≡ notice.old) }
     {
         let entry = self.events();
         let Some(queue) = &mut self.live else {
             unreachable!()
         };
+        if entry == MAX_ENTRIES {
+            let refusal = queue.refuses_send(message.mtype, message.body.len());
+            return Err((refusal.unwrap_or(QueueError::Memory), message));
+        }
         queue.send(message, moment, notice)?;
         Ok(entry)
     }
@@ -90,28 +101,33 @@ impl<B: Body, W: Waiting<B>> Slot<B, W> {
         moment: u64,
         notice: &mut N,
     ) -> Result<Received<B>, QueueError>
-        requires live { is_live self.old.events ≡ true }
+        requires live { is_live_kept self.old ≡ true }
         ensures ok { IfOk result (λ r.
-            receives self.old size selection noerror seat moment ≡ Ok (receipt_of r, self.new)) }
+            kept_receives self.old size selection noerror seat moment
+            ≡ Ok (receipt_of r, self.new)) }
         ensures body { IfOk result (λ r. IsSomeAnd (message_at r.place self.old.messages) (λ m.
             (B.bytes r.body ≡ take size (B.bytes m.body)) × B.keeps m.body r.body)) }
         ensures sent { IfOk result (λ r. IsSomeAnd (message_at r.place self.old.messages) (λ m.
             received_header r ≡ header_of B.bytes (r.place, m))) }
         ensures length { IfOk result (λ r. length (B.bytes r.body) ≡ min r.length size) }
         ensures refused { IfErr result (λ e.
-            e ≡ refusal_of (receives self.old size selection noerror seat moment)) }
+            e ≡ kept_refusal_of (kept_receives self.old size selection noerror seat moment)) }
         ensures unchanged { OnErr result (self.new ≡ self.old) }
-        ensures lawful { IsSlotList MAX_SEQ self.new.events }
-        ensures waits { Waits B.bytes self.new }
+        ensures lawful { IsLawfulSlot MAX_SEQ self.new }
+        ensures waits { WaitsNow B.bytes self.new }
         ensures noticed { IfOk result (λ r. N.takes notice.old
             (Event.Received seat moment r.place selection size noerror)
-            (slot_figures self.new.events) notice.new) }
+            (kept_figures self.new) notice.new) }
         ensures unnoticed { OnErr result (notice.new ≡ notice.old) }
     {
         let entry = self.events();
         let Some(queue) = &mut self.live else {
             unreachable!()
         };
+        if entry == MAX_ENTRIES {
+            let refusal = queue.refuses_receive(size, selection, noerror);
+            return Err(refusal.unwrap_or(QueueError::Memory));
+        }
         let received = queue.receive(size, selection, noerror, seat, moment, notice)?;
         Ok(Received { entry, ..received })
     }
@@ -125,29 +141,33 @@ impl<B: Body, W: Waiting<B>> Slot<B, W> {
         moment: u64,
         notice: &mut N,
     ) -> Result<u64, QueueError>
-        requires live { is_live self.old.events ≡ true }
+        requires live { is_live_kept self.old ≡ true }
         ensures ok { IfOk result (λ entry.
-            sets self.old qbytes seat moment ≡ Ok (entry, self.new)) }
-        ensures refused { IfErr result (λ e. e ≡ refusal_of (sets self.old qbytes seat moment)) }
+            kept_sets self.old qbytes seat moment ≡ Ok (entry, self.new)) }
+        ensures refused { IfErr result (λ e.
+            e ≡ kept_refusal_of (kept_sets self.old qbytes seat moment)) }
         ensures unchanged { OnErr result (self.new ≡ self.old) }
-        ensures lawful { IsSlotList MAX_SEQ self.new.events }
-        ensures waits { Waits B.bytes self.new }
+        ensures lawful { IsLawfulSlot MAX_SEQ self.new }
+        ensures waits { WaitsNow B.bytes self.new }
         ensures noticed { OnOk result (N.takes notice.old (Event.Changed seat moment qbytes)
-            (slot_figures self.new.events) notice.new) }
+            (kept_figures self.new) notice.new) }
         ensures unnoticed { OnErr result (notice.new ≡ notice.old) }
     {
         let entry = self.events();
         let Some(queue) = &mut self.live else {
             unreachable!()
         };
+        if entry == MAX_ENTRIES {
+            return Err(refused_set(qbytes));
+        }
         queue.set(qbytes, seat, moment, notice)?;
         Ok(entry)
     }
 
     /// What IPC_STAT shows of the queue that is in the slot (msgctl(2)).
     pub fn figures(&self) -> Figures
-        requires live { is_live self.now.events ≡ true }
-        ensures { result ≡ figures (last_log self.now.events) }
+        requires live { is_live_kept self.now ≡ true }
+        ensures { result ≡ kept_figures self.now }
     {
         match &self.live {
             Some(queue) => queue.figures(),

@@ -1,14 +1,14 @@
-ghost use Rattle.std.specs.Prelude.{◌≡◌, ◌+◌, ◌≤◌, ◌++◌, None, Some, true, false, length};
+ghost use Rattle.std.specs.Prelude.{◌≡◌, ◌<◌, ◌+◌, ◌-◌, ◌^◌, ◌≤◌, ◌++◌, ◌∷◌, [], ℕ, None, Some, true, false, length};
 ghost use Rattle.std.specs.Prelude.{OnOk, OnErr, IfOk, vec_len, vec_capacity};
-ghost use Rattle.mq_queue.specs.Queue.{IsSound};
-ghost use Rattle.mq_queue.specs.Row.{made_count, is_live, last_log, slot_figures};
-ghost use Rattle.mq_table.specs.Calls.{removes};
-ghost use Rattle.mq_table.specs.Slot.{Waits};
-ghost use Rattle.mq_table.specs.SlotList.{IsSlotList};
+ghost use Rattle.mq_queue.specs.Base.{base_of};
+ghost use Rattle.mq_table.specs.Kept.{entries_of, is_live_kept, kept_figures, made_of};
+ghost use Rattle.mq_table.specs.KeptCalls.{kept_removes, log_removed};
+ghost use Rattle.mq_table.specs.KeptPart.{IsLawfulSlot, WaitsNow};
+ghost use Rattle.mq_table.specs.SlotParts.{either, some_base};
 
-use crate::{MAX_SEQ, Slot};
+use crate::{MAX_ENTRIES, MAX_SEQ, Slot};
 use mq_message::Body;
-use mq_queue::{Event, Log, Notice, QueueState};
+use mq_queue::{Base, Event, Log, Notice, QueueState};
 use mq_select::Waiting;
 use std::alloc::{AllocError, Global};
 
@@ -23,17 +23,51 @@ fn put_in<B: Body, W: Waiting<B>>(live: &mut Option<QueueState<B, W>>, queue: Qu
     }
 }
 
-/// Adds the events of a log, for which there is room.
+/// Adds the events of a log that were not cut off, for which there is room.
 fn append(past: &mut Vec<Event>, log: &Log)
-    requires { vec_len past.old + length log.now ≤ vec_capacity past.old }
-    ensures { past.new.items ≡ past.old.items ++ log.now }
+    requires { vec_len past.old + length log.now.tail ≤ vec_capacity past.old }
+    ensures { past.new.items ≡ past.old.items ++ log.now.tail }
 {
-    for i in 0..log.len() {
-        let Some(event) = log.get(i) else {
+    let first = log.first();
+    for i in 0..log.len() - first {
+        let Some(event) = log.get(first + i) else {
             unreachable!()
         };
         past.push_reserved(event);
     }
+}
+
+/// The first of two bases that is there.
+pub(crate) fn either(base: Option<Base>, other: Option<Base>) -> Option<Base>
+    ensures { result ≡ either base other }
+{
+    match base {
+        Some(base) => Some(base),
+        None => other,
+    }
+}
+
+/// What the slot keeps of a queue that is removed: makes room for the events of its log, with the
+/// removal, and copies its base, where that is of some event. `Err` means out of memory.
+fn prepare_end<B: Body, W: Waiting<B>>(
+    past: &mut Vec<Event>,
+    queue: &QueueState<B, W>,
+) -> Result<Option<Base>, AllocError>
+    ensures base { IfOk result (λ base. base ≡ some_base queue.now.base) }
+    ensures items { past.new.items ≡ past.old.items }
+    ensures room { OnOk result
+        (vec_len past.new + (length queue.now.tail + 1) ≤ vec_capacity past.new) }
+{
+    let alloc = *past.allocator();
+    let base = queue.base();
+    let kept = if base.places == 0 {
+        None
+    } else {
+        Some(base.copied(alloc)?)
+    };
+    let room = (queue.log_len() - queue.first()) as usize + 1;
+    past.reserve(room)?;
+    Ok(kept)
 }
 
 impl<B: Body, W: Waiting<B>> Slot<B, W> {
@@ -42,49 +76,57 @@ impl<B: Body, W: Waiting<B>> Slot<B, W> {
     }
 
     /// Puts a new queue into the slot.
-    pub(crate) fn put(&mut self, queue: QueueState<B, W>)
-        requires empty { is_live self.old.events ≡ false }
-        requires unused { made_count self.old.events ≤ MAX_SEQ }
-        requires sound { IsSound B.bytes queue.log queue.messages }
-        ensures events { self.new.events ≡ self.old.events ++ queue.log }
-        ensures messages { self.new.messages ≡ queue.messages }
-        ensures number { self.new.number ≡ self.old.number }
-        ensures lawful { IsSlotList MAX_SEQ self.new.events }
-        ensures waits { Waits B.bytes self.new }
+    pub(crate) fn put(&mut self, key: i32, queue: QueueState<B, W>)
+        requires empty { is_live_kept self.old ≡ false }
+        requires unused { made_of self.old ≤ MAX_SEQ }
+        requires room { entries_of self.old < MAX_ENTRIES }
+        requires based { queue.base ≡ base_of [] }
+        requires made { (seat : ℕ) × (moment : ℕ)
+            × (queue.tail ≡ Event.Made seat moment key ∷ []) }
+        requires empty_queue { queue.messages ≡ [] }
+        ensures put { self.new ≡ record self.old { key = key; last = queue.tail; messages = [] } }
+        ensures lawful { IsLawfulSlot MAX_SEQ self.new }
+        ensures waits { WaitsNow B.bytes self.new }
     {
         self.made += 1;
+        self.key = key;
         put_in(&mut self.live, queue);
     }
 
-    /// Takes the queue out of the slot. Its log is kept among the past events, too. The notice
-    /// takes the event in, and no figures with it.
+    /// Takes the queue out of the slot. What was kept of its log is kept among the past events,
+    /// too. The notice takes the event in, and no figures with it.
     pub(crate) fn take_out<N: Notice>(
         &mut self,
         seat: u16,
         moment: u64,
         notice: &mut N,
     ) -> Result<(Log, W), AllocError>
-        requires live { is_live self.old.events ≡ true }
-        ensures removed { OnOk result (self.new ≡ removes self.old seat moment) }
-        ensures log { IfOk result (λ r. r.0 ≡ last_log self.new.events) }
+        requires live { is_live_kept self.old ≡ true }
+        ensures removed { OnOk result (self.new ≡ kept_removes self.old seat moment) }
+        ensures log { IfOk result (λ r. r.0 ≡ log_removed self.old seat moment) }
         ensures messages { IfOk result (λ r. W.messages r.1 ≡ self.old.messages) }
         ensures unchanged { OnErr result (self.new ≡ self.old) }
-        ensures lawful { IsSlotList MAX_SEQ self.new.events }
-        ensures waits { Waits B.bytes self.new }
+        ensures lawful { IsLawfulSlot MAX_SEQ self.new }
+        ensures waits { WaitsNow B.bytes self.new }
         ensures noticed { OnOk result (N.takes notice.old (Event.Removed seat moment)
-            (slot_figures self.new.events) notice.new) }
+            (kept_figures self.new) notice.new) }
         ensures unnoticed { OnErr result (notice.new ≡ notice.old) }
     {
+        let entries = self.events();
+        if entries == MAX_ENTRIES {
+            return Err(AllocError);
+        }
         let Some(queue) = &self.live else {
             unreachable!()
         };
-        let room = queue.log_len() as usize + 1;
-        self.past.reserve(room)?;
+        let kept = prepare_end(&mut self.past, queue)?;
         let Some(queue) = self.live.take() else {
             unreachable!()
         };
         match queue.remove(seat, moment, notice) {
             Ok((log, waiting)) => {
+                self.key = 0;
+                self.base = either(kept, self.base.take());
                 append(&mut self.past, &log);
                 Ok((log, waiting))
             }

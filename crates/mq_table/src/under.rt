@@ -1,12 +1,12 @@
 ghost use Rattle.std.specs.Prelude.{◌≡◌, ◌≢◌, ◌<◌, ◌≤◌, ℕ, ℤ, List, None, pos, true, false, length};
 ghost use Rattle.std.specs.Prelude.{OnOk, OnErr, IfOk};
-ghost use Rattle.mq_table.specs.Calls.{makes, removes};
 ghost use Rattle.mq_table.specs.Keys.{id_of_key, entered, forget};
-ghost use Rattle.mq_table.specs.Slot.{next_id, last_id, Waits};
-ghost use Rattle.mq_queue.specs.Row.{made_count, is_live, last_log, slot_figures};
-ghost use Rattle.mq_table.specs.SlotList.{IsSlotList};
+ghost use Rattle.mq_table.specs.Kept.{is_live_kept, kept_figures, made_of};
+ghost use Rattle.mq_table.specs.KeptCalls.{kept_makes, kept_removes, log_removed};
+ghost use Rattle.mq_table.specs.KeptPart.{IsLawfulSlot, WaitsNow};
+ghost use Rattle.mq_table.specs.KeptShown.{last_id_now, next_id_now};
 
-use crate::{Id, KeyTable, MAX_SEQ, Slot};
+use crate::{Id, KeyTable, MAX_ENTRIES, MAX_SEQ, Slot};
 use mq_message::Body;
 use mq_queue::{Event, Log, Notice, QueueState};
 use mq_select::Waiting;
@@ -22,24 +22,27 @@ pub fn make_under<B: Body, W: Waiting<B>, N: Notice>(
     moment: u64,
     notice: &mut N,
 ) -> Result<Id, AllocError>
-    requires empty { is_live slot.old.events ≡ false }
-    requires unused { made_count slot.old.events ≤ MAX_SEQ }
+    requires empty { is_live_kept slot.old ≡ false }
+    requires unused { made_of slot.old ≤ MAX_SEQ }
     requires absent { key ≢ pos 0 → id_of_key keys.old key ≡ None }
-    ensures id { IfOk result (λ id. id ≡ next_id slot.old) }
-    ensures made { OnOk result (slot.new ≡ makes slot.old key seat moment) }
+    ensures id { IfOk result (λ id. id ≡ next_id_now slot.old) }
+    ensures made { OnOk result (slot.new ≡ kept_makes slot.old key seat moment) }
     ensures entered { IfOk result (λ id. keys.new ≡ entered key id keys.old) }
     ensures unchanged { OnErr result ((slot.new ≡ slot.old) × (keys.new ≡ keys.old)) }
-    ensures lawful { IsSlotList MAX_SEQ slot.new.events }
-    ensures waits { Waits B.bytes slot.new }
+    ensures lawful { IsLawfulSlot MAX_SEQ slot.new }
+    ensures waits { WaitsNow B.bytes slot.new }
     ensures noticed { OnOk result (N.takes notice.old (Event.Made seat moment key)
-        (slot_figures slot.new.events) notice.new) }
+        (kept_figures slot.new) notice.new) }
     ensures unnoticed { OnErr result (notice.new ≡ notice.old) }
 {
     let id = Id::of(slot.number(), slot.made());
+    if slot.events() == MAX_ENTRIES {
+        return Err(AllocError);
+    }
     enter_key(keys, key, id)?;
     match QueueState::made(slot.allocator(), key, seat, moment, notice) {
         Ok(queue) => {
-            slot.put(queue);
+            slot.put(key, queue);
             Ok(id)
         }
         Err(refused) => {
@@ -82,16 +85,16 @@ pub fn remove_under<B: Body, W: Waiting<B>, N: Notice>(
     moment: u64,
     notice: &mut N,
 ) -> Result<(Log, W), AllocError>
-    requires live { is_live slot.old.events ≡ true }
-    ensures removed { OnOk result (slot.new ≡ removes slot.old seat moment) }
-    ensures forgotten { OnOk result (keys.new ≡ forget (last_id slot.old) keys.old) }
-    ensures log { IfOk result (λ r. r.0 ≡ last_log slot.new.events) }
+    requires live { is_live_kept slot.old ≡ true }
+    ensures removed { OnOk result (slot.new ≡ kept_removes slot.old seat moment) }
+    ensures forgotten { OnOk result (keys.new ≡ forget (last_id_now slot.old) keys.old) }
+    ensures log { IfOk result (λ r. r.0 ≡ log_removed slot.old seat moment) }
     ensures messages { IfOk result (λ r. W.messages r.1 ≡ slot.old.messages) }
     ensures unchanged { OnErr result ((slot.new ≡ slot.old) × (keys.new ≡ keys.old)) }
-    ensures lawful { IsSlotList MAX_SEQ slot.new.events }
-    ensures waits { Waits B.bytes slot.new }
+    ensures lawful { IsLawfulSlot MAX_SEQ slot.new }
+    ensures waits { WaitsNow B.bytes slot.new }
     ensures noticed { OnOk result (N.takes notice.old (Event.Removed seat moment)
-        (slot_figures slot.new.events) notice.new) }
+        (kept_figures slot.new) notice.new) }
     ensures unnoticed { OnErr result (notice.new ≡ notice.old) }
 {
     let id = Id::of(slot.number(), slot.made() - 1);

@@ -1,8 +1,8 @@
-use crate::slots::{Place, close, make, message, remove};
+use crate::slots::{Place, close, cut, make, message, remove};
 use mq_message::{Body, Message, VecBody};
 use mq_queue::{NoNotice, QueueError};
 use mq_select::Selection;
-use mq_table::{KeyTable, MAX_SLOTS};
+use mq_table::{Cut, KeyTable, MAX_SLOTS};
 use std::alloc::{AllocError, Global};
 use std::process::Abort;
 use std::test::Fail;
@@ -18,6 +18,18 @@ enum Step {
     /// A quota.
     Set(u64),
     Remove,
+    Cut,
+}
+
+/// What a cut hands out: the base by the number of its events, or 0 where there is none, and how
+/// many entries there are of removed queues and of the live one.
+#[derive(Clone, Copy, PartialEq, Eq)]
+pub(crate) struct CutShown {
+    first: u64,
+    made: u32,
+    base: u64,
+    past: usize,
+    last: usize,
 }
 
 #[derive(Clone, Copy, PartialEq, Eq)]
@@ -30,6 +42,7 @@ pub(crate) enum Answer {
     Got(u64, u64, u64),
     /// How many events the removed queue's log has.
     Events(u64),
+    Cut(CutShown),
     Refused(QueueError),
     /// The call was not refused as the slot had foretold.
     Unforetold,
@@ -91,6 +104,16 @@ fn set(slot: &mut Place, qbytes: u64) -> Answer {
     }
 }
 
+fn counts(cut: &Cut) -> CutShown {
+    CutShown {
+        first: cut.first,
+        made: cut.made,
+        base: cut.base.as_ref().map_or(0, |base| base.places),
+        past: cut.past.len(),
+        last: cut.last.len(),
+    }
+}
+
 /// What a new slot with this number answers to these calls, where the last seq is 2.
 fn played(alloc: Global, number: u8, steps: &[Step]) -> Result<Vec<Answer>, AllocError> {
     let mut answers = match Vec::with_capacity(alloc, steps.len()) {
@@ -126,6 +149,10 @@ fn play(
             Step::Set(qbytes) => set(slot, qbytes),
             Step::Remove => match remove(keys, slot) {
                 Some(log) => Answer::Events(log.len()),
+                None => Answer::Unasked,
+            },
+            Step::Cut => match cut(slot) {
+                Some(cut) => Answer::Cut(counts(&cut)),
                 None => Answer::Unasked,
             },
         };
@@ -246,6 +273,99 @@ fn a_removed_queues_quota_is_not_the_next_ones(rt: HostRuntime) -> Result<(), Fa
             Answer::Id(69),
             Answer::Refused(QueueError::TypeInvalid),
             Answer::At(4),
+        ],
+    )?;
+    Ok(())
+}
+
+fn cut_at(first: u64, made: u32, base: u64, past: usize, last: usize) -> Answer {
+    Answer::Cut(CutShown {
+        first,
+        made,
+        base,
+        past,
+        last,
+    })
+}
+
+/// Entries and places go on over cuts. The base of a queue is handed out with what came after it,
+/// also where the queue was removed since; two cuts hand out nothing twice.
+#[test]
+fn entries_and_places_go_on_over_cuts(rt: HostRuntime) -> Result<(), Fail> {
+    check(
+        &rt,
+        rt.alloc(),
+        0,
+        &[
+            Step::Cut,
+            Step::Make(9),
+            Step::Send(1, 5),
+            Step::Send(1, 4),
+            Step::Cut,
+            Step::Receive(5),
+            Step::Cut,
+            Step::Cut,
+            Step::Send(1, 3),
+            Step::Remove,
+            Step::Cut,
+            Step::Make(9),
+            Step::Send(1, 2),
+            Step::Remove,
+            Step::Make(0),
+            Step::Cut,
+        ],
+        &[
+            cut_at(0, 0, 0, 0, 0),
+            Answer::Id(0),
+            Answer::At(1),
+            Answer::At(2),
+            cut_at(0, 0, 0, 0, 3),
+            Answer::Got(3, 1, 5),
+            cut_at(3, 1, 3, 0, 1),
+            cut_at(4, 1, 4, 0, 0),
+            Answer::At(4),
+            Answer::Events(6),
+            cut_at(4, 1, 4, 2, 0),
+            Answer::Id(64),
+            Answer::At(7),
+            Answer::Events(3),
+            Answer::Id(128),
+            cut_at(6, 1, 0, 3, 1),
+        ],
+    )?;
+    Ok(())
+}
+
+/// A quota that is cut off holds.
+#[test]
+fn a_quota_holds_over_a_cut(rt: HostRuntime) -> Result<(), Fail> {
+    check(
+        &rt,
+        rt.alloc(),
+        5,
+        &[
+            Step::Make(1),
+            Step::Set(7),
+            Step::Send(1, 5),
+            Step::Cut,
+            Step::Send(1, 3),
+            Step::Send(1, 2),
+            Step::Cut,
+            Step::Receive(4),
+            Step::Receive(5),
+            Step::Send(1, 5),
+        ],
+        &[
+            Answer::Id(5),
+            Answer::At(1),
+            Answer::At(2),
+            cut_at(0, 0, 0, 0, 3),
+            Answer::Refused(QueueError::Full),
+            Answer::At(3),
+            cut_at(3, 1, 3, 0, 1),
+            Answer::Refused(QueueError::TooBig),
+            Answer::Got(4, 2, 5),
+            Answer::At(5),
         ],
     )?;
     Ok(())

@@ -2,7 +2,7 @@ use crate::plays::{Answer, sent};
 use mq_message::{Message, VecBody};
 use mq_queue::{BoardRow, Event, Figures, Log, NoNotice};
 use mq_select::{ListWaiting, discard};
-use mq_table::{Id, IdRefusal, KeyEntry, KeyTable, MAX_SEQ, Slot, make_under, remove_under};
+use mq_table::{Cut, Id, IdRefusal, KeyEntry, KeyTable, MAX_SEQ, Slot, make_under, remove_under};
 use std::alloc::{AllocError, Global};
 use std::process::Abort;
 use std::test::Fail;
@@ -75,6 +75,16 @@ pub(crate) fn message(
         tag: 70,
         body: VecBody::from_vec(bytes),
     })
+}
+
+/// Cuts the slot's list.
+pub(crate) fn cut(slot: &mut Place) -> Option<Cut> {
+    let (first, events) = (slot.first(), slot.events());
+    match slot.cut() {
+        Ok(cut) => Some(cut),
+        Err(_) if slot.first() != first || slot.events() != events => None,
+        Err(_) => slot.cut().ok(),
+    }
 }
 
 pub(crate) fn close(slot: Place) {
@@ -227,9 +237,9 @@ fn shows_events(rt: &impl Abort, slot: &Place) {
 
 /// The slot is taken apart into those events.
 fn has_parts(rt: &impl Abort, slot: Place) {
-    let (past, live) = slot.into_parts();
-    assert!(rt; past.len() == 3);
-    assert!(rt; past[2] == REMOVED);
+    let (cut, live) = slot.into_parts();
+    assert!(rt; cut.past.len() == 3);
+    assert!(rt; cut.past[2] == REMOVED);
     assert!(rt; live.is_some());
     if let Some(queue) = live {
         let (log, waiting) = queue.into_parts();
@@ -255,5 +265,59 @@ fn a_slot_shows_the_queue_that_is_in_it(rt: HostRuntime) -> Result<(), Fail> {
     let _ = make(&mut keys, &mut slot, 7, 1);
     shows_events(&rt, &slot);
     has_parts(&rt, slot);
+    Ok(())
+}
+
+/// What was cut off is not read again, and the slot shows its queue as before.
+#[test]
+fn a_slot_shows_its_queue_as_before_a_cut(rt: HostRuntime) -> Result<(), Fail> {
+    let alloc = rt.alloc();
+    let five = message(alloc, 1, 5)?;
+    let mut keys = KeyTable::new(alloc);
+    let mut slot = Place::new(alloc, 8);
+    let _ = make(&mut keys, &mut slot, 9, 1);
+    assert!(rt; sent(&mut slot, five) == Answer::At(1));
+    assert!(rt; cut(&mut slot).is_some());
+    shows_live(&rt, &slot);
+    assert!(rt; slot.first() == 2 && slot.events() == 2);
+    assert!(rt; slot.event(0) == None && slot.event(2) == None);
+    assert!(rt; look(&slot, Id::of(8, 0)) == Some(Ok(())));
+    assert!(rt; remove(&mut keys, &mut slot).is_some());
+    assert!(rt; slot.row() == BoardRow { made: 1, ..EMPTY });
+    assert!(rt; slot.key() == 0 && slot.offset() == 3);
+    assert!(rt; slot.event(1) == None && slot.event(2) == Some(REMOVED));
+    assert!(rt; cut(&mut slot).is_some());
+    assert!(rt; look(&slot, Id::of(8, 0)) == Some(Err(IdRefusal::Removed)));
+    let _ = make(&mut keys, &mut slot, 7, 1);
+    assert!(rt; slot.key() == 7 && slot.offset() == 3);
+    assert!(rt; slot.event(2) == None && slot.event(3) == Some(MADE));
+    close(slot);
+    Ok(())
+}
+
+/// What was known of a removed queue's first events is handed out with the others.
+#[test]
+fn what_a_cut_left_of_a_removed_queue_is_handed_out(rt: HostRuntime) -> Result<(), Fail> {
+    let alloc = rt.alloc();
+    let five = message(alloc, 1, 5)?;
+    let mut keys = KeyTable::new(alloc);
+    let mut slot = Place::new(alloc, 8);
+    let _ = make(&mut keys, &mut slot, 9, 1);
+    assert!(rt; sent(&mut slot, five) == Answer::At(1));
+    assert!(rt; cut(&mut slot).is_some());
+    assert!(rt; remove(&mut keys, &mut slot).is_some());
+    let handed = cut(&mut slot);
+    close(slot);
+    let Some(handed) = handed else {
+        return Err("out of memory".into());
+    };
+    let Cut { base, past, .. } = handed;
+    let Some(base) = base else {
+        return Err("no base is handed out".into());
+    };
+    assert!(rt; past.len() == 1 && past[0] == REMOVED);
+    assert!(rt; base.places == 2 && base.figures == FIGURES);
+    assert!(rt; base.waiting.len() == 1);
+    assert!(rt; base.waiting.get(0).map(|entry| entry.place) == Some(1));
     Ok(())
 }

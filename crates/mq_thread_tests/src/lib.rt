@@ -5,7 +5,11 @@
 #[cfg(test)]
 mod counts;
 #[cfg(test)]
+mod cuts;
+#[cfg(test)]
 mod flags;
+#[cfg(test)]
+mod joined;
 #[cfg(test)]
 mod runs;
 #[cfg(test)]

@@ -6,13 +6,13 @@ use Rattle.mq_board_tests.proofs.calls.remove.Goals as goal
 pub returns-in-Ok : goal.returns-in-Ok
 returns-in-Ok g c =
     let removed = c.in-Ok.ensures in
-    pending _ _ _ _ _ c.requires removed.noticed removed.log removed.lawful (omega arith)
+    pending _ _ _ _ _ _ _ removed.base c.requires removed.noticed removed.tail removed.lawful (omega arith)
 
 pub returns : goal.returns
 returns g c =
     let refused = c.in-Err.ensures in
     let removed = c.in-Ok-remove.ensures in
-    let shown : IsShown c.in-Err.queue.log c.remove.new.notice =
+    let shown : IsShown c.in-Err.queue.base c.in-Err.queue.tail c.remove.new.notice =
     rw (refused.handed_back, refused.unnoticed) c.requires in
-    let short : length c.in-Err.queue.log < 2 ^ 63 = rw refused.handed_back (omega arith) in
-    pending _ _ _ _ _ shown removed.noticed removed.log removed.lawful short
+    let short : length c.in-Err.queue.tail < 2 ^ 63 = rw refused.handed_back (omega arith) in
+    pending _ _ _ _ _ _ _ removed.base shown removed.noticed removed.tail removed.lawful short

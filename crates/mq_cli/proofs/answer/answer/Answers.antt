@@ -9,4 +9,4 @@ returns-in-Receive g c =
     rw c.in-Receive.is
     (seated c.receive.result c.args.session.now
     (receive_step c.args.line c.args.session.now.seat c.args.session.now.queues call.id call.size call.mtype call.flags.except call.flags.noerror)
-    c.args.out.now.items c.receive.new.out.items c.receive.new.queues _ (search (rules, c.receive.ensures)) (search rules))
+    c.args.out.now.items c.receive.new.out.items c.receive.new.queues _ (rw (← c.session.view_is) c.receive.ensures) (search rules))

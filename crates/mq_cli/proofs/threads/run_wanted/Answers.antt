@@ -1,7 +1,7 @@
 use Rattle.std.proofs.Common.{◌≡◌, ℕ, ◌^◌, List, ap, sym, subst, ◌∙◌}
 use Rattle.std.specs.List.{All}
 use Rattle.mq_one_thread.specs.declared.close.ClosedSlot.{ClosedSlot}
-use Rattle.mq_system.specs.Closed.{IsClosed}
+use Rattle.mq_one_thread.specs.Closed.{IsClosed}
 use Rattle.mq_cli.specs.Threads.{RanParts}
 use Rattle.mq_cli.specs.ThreadsParsed.{wanted_seen}
 use Rattle.mq_cli.proofs.EndLemmas.{AreClosed, run_is}

@@ -1,6 +1,6 @@
 use Rattle.std.proofs.Common.{rules, arith}
 use Rattle.std.proofs.lemmas.List.FromFn.{map-range_with_len_more}
-use Rattle.mq_table.specs.Slot.{empty_slot}
+use Rattle.mq_table.specs.SlotParts.{empty_kept}
 use Rattle.mq_one_thread.proofs.SlotLemmas.{length_new}
 use Rattle.mq_one_thread.proofs.one_thread.fill.Goals as goal
 
@@ -12,6 +12,6 @@ push_reserved-requires g c =
 
 pub loop-number-preserved : goal.loop-number-preserved
 loop-number-preserved g c = (
-  rw (map-range_with_len_more empty_slot 0 c.loop-number.number c.loop-number.number (omega arith)) (search rules),
+  rw (map-range_with_len_more empty_kept 0 c.loop-number.number c.loop-number.number (omega arith)) (search rules),
   search rules,
 )

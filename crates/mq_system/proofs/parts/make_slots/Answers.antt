@@ -15,7 +15,7 @@ loop-number-preserved g c =
     let added = c.push_reserved-in-loop-number.ensures in
     let slot = c.new-in-loop-number.result in
     let empty : slot.slot ≡ empty_slot (length slots) =
-    ap (λ p. p.slot) c.new-in-loop-number.ensures ∙ c.new.ensures
+    ap (λ p. p.slot) c.new-in-loop-number.ensures ∙ ap (λ s. empty_slot s.number) c.new.ensures
     ∙ ap (λ n. empty_slot n) (sym had.0) in
     let readers = c.in-Ok-next_board.readers in
     let all : readers.items ≡ seats (length rows) c.args.seats =

@@ -1,8 +1,11 @@
-use Rattle.std.proofs.Common.{arith}
+use Rattle.std.proofs.Common.{arith, ◌∙◌, sym}
+use Rattle.mq_table.proofs.Kepts.{live_is, made_is}
 use Rattle.mq_table.proofs.Pasts.{made_some}
 use Rattle.mq_table.proofs.under.remove_under.Goals as goal
 
 pub overflow_sub-made : goal.overflow_sub-made
 overflow_sub-made g c =
-    let some = made_some _ _ c.number.ensures.lawful c.requires.live in
-    omega (arith, some, c.made.ensures.value)
+    let h = c.number.ensures.lawful in
+    let live = sym (live_is h.list _ h.part) ∙ c.requires.live in
+    let some = made_some _ h.list h.lawful live in
+    omega (arith, some, made_is h.list _ h.part, c.made.ensures.value)

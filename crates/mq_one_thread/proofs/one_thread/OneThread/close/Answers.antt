@@ -2,11 +2,10 @@ use Rattle.std.proofs.Common.{◌∷◌, [], arith, length, map, sym, ap, subst,
 use Rattle.std.proofs.lemmas.List.{nil_from_length}
 use Rattle.mq_tree.specs.LentSet.{Lending}
 use Rattle.mq_one_thread.specs.Closed.{all_home, ends}
-use Rattle.mq_table.specs.Slot.{Waits}
-use Rattle.mq_table.specs.SlotList.{IsSlotList}
+use Rattle.mq_table.specs.KeptPart.{IsLawfulSlot, WaitsNow}
 use Rattle.mq_one_thread.specs.State.{State}
 use Rattle.mq_one_thread.specs.Texts.{bytes_of}
-use Rattle.mq_one_thread.proofs.CloseLemmas.{all_whole, all_counted}
+use Rattle.mq_one_thread.proofs.CloseLemmas.{all_closed}
 use Rattle.mq_one_thread.proofs.HomeLemmas.{last_home, endings_kept, none_left, reversed}
 use Rattle.mq_one_thread.proofs.one_thread.OneThread.close.Goals as goal
 
@@ -38,14 +37,10 @@ returns-clause-arena g c =
     sym (none_left c.loop-slot.arena) ∙ rw none at c.loop-slot.invariant.1
     ∙ ap (λ (s : State). all_home s.slots s.arena) c.self.view_is
 
-pub returns-clause-lawful : goal.returns-clause-lawful
-returns-clause-lawful g c =
-    all_whole c.args.self.last_seq c.args.self.slots c.reverse.new.self.items
+pub returns-clause-closed : goal.returns-clause-closed
+returns-clause-closed g c =
+    all_closed c.args.self.last_seq c.args.self.slots c.reverse.new.self.items
     (returns-clause-slots g c)
-    (subst (λ (s : State). All (λ slot. IsSlotList s.last_seq slot.events) s.slots)
+    (subst (λ (s : State). All (IsLawfulSlot s.last_seq) s.slots)
     c.self.view_is c.self.invariant.lawful)
-
-pub returns-clause-waits : goal.returns-clause-waits
-returns-clause-waits g c =
-    all_counted c.args.self.slots c.reverse.new.self.items (returns-clause-slots g c)
-    (subst (λ (s : State). All (Waits bytes_of) s.slots) c.self.view_is c.self.invariant.waits)
+    (subst (λ (s : State). All (WaitsNow bytes_of) s.slots) c.self.view_is c.self.invariant.waits)

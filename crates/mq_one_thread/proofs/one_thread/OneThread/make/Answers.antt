@@ -3,8 +3,8 @@ use Rattle.std.proofs.lemmas.Grind.{common_steps}
 use mir.Val.{SFits}
 use mir.Syntax.{w32}
 use Rattle.std.proofs.lemmas.Int.{to_z-of_z}
+use Rattle.mq_table.specs.KeptShown.{next_id_now}
 use Rattle.mq_table.specs.Keys.{entered}
-use Rattle.mq_table.specs.Slot.{next_id}
 use Rattle.mq_one_thread.proofs.KeptLemmas.{kept_made, kept_same}
 use Rattle.mq_one_thread.proofs.one_thread.OneThread.make.Goals.{in-Ok, in-Err}
 use Rattle.mq_one_thread.proofs.one_thread.OneThread.make.Goals as goal
@@ -20,7 +20,7 @@ invariant_of-self g c =
           let made = simp to_z-of_z at w.in-Ok.ensures.made in
           let put = simp to_z-of_z at w.in-Ok.ensures.entered in
           let entering : c.make_under.new.keys
-          ≡ entered c.args.key (next_id c.index_mut.result.now) c.self.inside.keys =
+          ≡ entered c.args.key (next_id_now c.index_mut.result.now) c.self.inside.keys =
           rw (← w.in-Ok.ensures.id) put in
           kept_made _ _ _ _ _ c.self.invariant _ within _ c.make_under.new.slot _
           c.index_mut.ensures.value c.make_under.ensures.lawful c.make_under.ensures.waits

@@ -6,7 +6,7 @@ use Rattle.std.proofs.lemmas.Int.{to_z-of_z}
 use Rattle.mq_message.specs.Text.{PlainText}
 use Rattle.mq_message.specs.declared.message.Message.{Message}
 use Rattle.mq_one_thread.specs.Texts.{bytes_of}
-use Rattle.mq_table.proofs.Stays.{sent_stays}
+use Rattle.mq_table.proofs.KeptStays.{kept_sent_stays}
 use Rattle.mq_one_thread.proofs.KeptLemmas.{kept_on, kept_same}
 use Rattle.mq_one_thread.proofs.one_thread.OneThread.msgsnd.Goals as goal
 
@@ -24,7 +24,7 @@ invariant_of-self g c =
     } in
     kept_on _ _ _ _ _ c.self.invariant _ within _ c.send.new.self _ c.index_mut.ensures.value
     c.send.ensures.lawful c.send.ensures.waits live
-    (λ there. sent_stays _ _ there bytes_of message c.args.moment _ told)
+    (λ there. kept_sent_stays _ _ there bytes_of message c.args.moment _ told)
 
 pub invariant_of-self-in-Err-send : goal.invariant_of-self-in-Err-send
 invariant_of-self-in-Err-send g c =

@@ -1,6 +1,6 @@
 use Rattle.std.proofs.Common.{refl, arith}
 use Rattle.std.proofs.lemmas.Grind.{common_steps}
-use Rattle.mq_table.proofs.Stays.{set_stays}
+use Rattle.mq_table.proofs.KeptStays.{kept_set_stays}
 use Rattle.mq_one_thread.proofs.KeptLemmas.{kept_on, kept_same}
 use Rattle.mq_one_thread.proofs.one_thread.OneThread.set.Goals as goal
 
@@ -10,7 +10,7 @@ invariant_of-self g c =
     let live = rw (← c.self.view_is) at c.in_ok-k.ensures.live in
     kept_on _ _ _ _ _ c.self.invariant _ within _ c.set.new.self _ c.index_mut.ensures.value
     c.set.ensures.lawful c.set.ensures.waits live
-    (λ there. set_stays _ _ there c.args.qbytes c.args.seat c.args.moment _ c.in-Ok.ensures.ok)
+    (λ there. kept_set_stays _ _ there c.args.qbytes c.args.seat c.args.moment _ c.in-Ok.ensures.ok)
 
 pub invariant_of-self-in-Err : goal.invariant_of-self-in-Err
 invariant_of-self-in-Err g c =

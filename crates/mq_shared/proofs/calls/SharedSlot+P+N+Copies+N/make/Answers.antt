@@ -16,7 +16,7 @@ note-requires-clause-next g c =
     let t = c.make.new.self.slot in
     (noted s t c.args.seat.now c.number.result c.number-number.result c.tell.result
     (next_make s t c.args.key c.number.result c.args.moment made) c.number.ensures
-    (rw (← c.self.view_is) at c.requires.known) (rw c.slot-2.ensures at c.number-number.ensures.value)
+    (rw (← c.self.view_is) at c.requires.known) c.number-number.ensures.value
     c.tell.ensures).0
 
 pub note-requires-clause-own : goal.note-requires-clause-own
@@ -27,7 +27,7 @@ note-requires-clause-own g c =
     let t = c.make.new.self.slot in
     (noted s t c.args.seat.now c.number.result c.number-number.result c.tell.result
     (next_make s t c.args.key c.number.result c.args.moment made) c.number.ensures
-    (rw (← c.self.view_is) at c.requires.known) (rw c.slot-2.ensures at c.number-number.ensures.value)
+    (rw (← c.self.view_is) at c.requires.known) c.number-number.ensures.value
     c.tell.ensures).1
 
 pub invariant_of-self-2 : goal.invariant_of-self-2
@@ -38,7 +38,7 @@ invariant_of-self-2 g c =
     let few : made_count had.slot.slot.events ≤ g.N.Names.last_seq = search rules in
     shared_make g.P.Pledge.kept g.N.Names.slots g.N.Names.last_seq had.slot.slot
     c.make.new.self.slot had.entries.parts had.entries.amount c.self.invariant
-    (rw c.slot-2.ensures at c.number-number.ensures.lawful) c.note.new.entries.parts
+    c.number-number.ensures.lawful c.note.new.entries.parts
     c.note.new.entries.amount c.note.ensures.part c.note.ensures.entries c.args.key
     c.number.result c.args.moment few made
 

@@ -9,7 +9,7 @@ note-requires-clause-next g c =
     (noted s t c.args.seat.now c.number.result c.number-number.result c.tell.result
     (next_receive s t c.args.size c.args.selection c.args.noerror c.number.result
     c.args.moment _ c.in-Ok.ensures.ok) c.number.ensures
-    (rw (← c.self.view_is) at c.requires.known) (rw c.slot.ensures at c.number-number.ensures.value)
+    (rw (← c.self.view_is) at c.requires.known) c.number-number.ensures.value
     c.tell.ensures).0
 
 pub note-requires-clause-own : goal.note-requires-clause-own
@@ -19,7 +19,7 @@ note-requires-clause-own g c =
     (noted s t c.args.seat.now c.number.result c.number-number.result c.tell.result
     (next_receive s t c.args.size c.args.selection c.args.noerror c.number.result
     c.args.moment _ c.in-Ok.ensures.ok) c.number.ensures
-    (rw (← c.self.view_is) at c.requires.known) (rw c.slot.ensures at c.number-number.ensures.value)
+    (rw (← c.self.view_is) at c.requires.known) c.number-number.ensures.value
     c.tell.ensures).1
 
 pub invariant_of-self : goal.invariant_of-self
@@ -27,7 +27,7 @@ invariant_of-self g c =
     let had = c.self.inside in
     shared_receive g.P.Pledge.kept g.N.Names.slots g.N.Names.last_seq had.slot.slot
     c.receive.new.self.slot had.entries.parts had.entries.amount c.self.invariant
-    (rw c.slot.ensures at c.number-number.ensures.lawful) c.note.new.entries.parts
+    c.number-number.ensures.lawful c.note.new.entries.parts
     c.note.new.entries.amount c.note.ensures.part c.note.ensures.entries c.args.size
     c.args.selection c.args.noerror c.number.result c.args.moment _
     (rw (← c.self.view_is) at c.in_ok-look.ensures.live) c.in-Ok.ensures.ok

@@ -9,7 +9,7 @@ note-requires-clause-next g c =
     let t = c.remove.new.self.slot in
     (noted s t c.args.seat.now c.number.result c.number-number.result c.tell.result
     (next_remove s t c.number.result c.args.moment c.in-Ok.ensures.removed) c.number.ensures
-    (rw (← c.self.view_is) at c.requires.known) (rw c.slot-2.ensures at c.number-number.ensures.value)
+    (rw (← c.self.view_is) at c.requires.known) c.number-number.ensures.value
     c.tell.ensures).0
 
 pub note-requires-clause-own : goal.note-requires-clause-own
@@ -18,7 +18,7 @@ note-requires-clause-own g c =
     let t = c.remove.new.self.slot in
     (noted s t c.args.seat.now c.number.result c.number-number.result c.tell.result
     (next_remove s t c.number.result c.args.moment c.in-Ok.ensures.removed) c.number.ensures
-    (rw (← c.self.view_is) at c.requires.known) (rw c.slot-2.ensures at c.number-number.ensures.value)
+    (rw (← c.self.view_is) at c.requires.known) c.number-number.ensures.value
     c.tell.ensures).1
 
 pub invariant_of-self : goal.invariant_of-self
@@ -36,7 +36,7 @@ invariant_of-self-2 g c =
     let had = c.self.inside in
     shared_remove g.P.Pledge.kept g.N.Names.slots g.N.Names.last_seq had.slot.slot
     c.remove.new.self.slot had.entries.parts had.entries.amount c.self.invariant
-    (rw c.slot-2.ensures at c.number-number.ensures.lawful) c.note.new.entries.parts
+    c.number-number.ensures.lawful c.note.new.entries.parts
     c.note.new.entries.amount c.note.ensures.part c.note.ensures.entries c.number.result
     c.args.moment c.in-Ok.ensures.removed
 

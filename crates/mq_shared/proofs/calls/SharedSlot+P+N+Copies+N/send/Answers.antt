@@ -21,7 +21,7 @@ note-requires-clause-next g c =
     let t = c.send.new.self.slot in
     (noted s t c.args.seat.now c.number.result c.number-number.result c.tell.result
     (next_send s t message c.args.moment _ told) c.number.ensures
-    (rw (← c.self.view_is) at c.requires.known) (rw c.slot.ensures at c.number-number.ensures.value)
+    (rw (← c.self.view_is) at c.requires.known) c.number-number.ensures.value
     c.tell.ensures).0
 
 pub note-requires-clause-own : goal.note-requires-clause-own
@@ -38,7 +38,7 @@ note-requires-clause-own g c =
     let t = c.send.new.self.slot in
     (noted s t c.args.seat.now c.number.result c.number-number.result c.tell.result
     (next_send s t message c.args.moment _ told) c.number.ensures
-    (rw (← c.self.view_is) at c.requires.known) (rw c.slot.ensures at c.number-number.ensures.value)
+    (rw (← c.self.view_is) at c.requires.known) c.number-number.ensures.value
     c.tell.ensures).1
 
 pub invariant_of-self : goal.invariant_of-self
@@ -54,6 +54,6 @@ invariant_of-self g c =
     let had = c.self.inside in
     shared_send g.P.Pledge.kept g.N.Names.slots g.N.Names.last_seq had.slot.slot
     c.send.new.self.slot had.entries.parts had.entries.amount c.self.invariant
-    (rw c.slot.ensures at c.number-number.ensures.lawful) c.note.new.entries.parts
+    c.number-number.ensures.lawful c.note.new.entries.parts
     c.note.new.entries.amount c.note.ensures.part c.note.ensures.entries message c.args.moment _
     (rw c.number.ensures c.requires.pledge) (rw (← c.self.view_is) at c.in-Ok.ensures.live) told

@@ -6,6 +6,5 @@ use Rattle.mq_shared.proofs.slot.SharedSlot.with_key.Goals as goal
 
 pub returns-then-key-clause-within : goal.returns-then-key-clause-within
 returns-then-key-clause-within g c =
-    rw (c.last_id.ensures, c.slot-slot.ensures)
-    (slot_of_last c.self.inside.slot.slot (rw c.slot-slot.ensures at c.holds.ensures.numbered))
+    rw c.last_id.ensures (slot_of_last c.self.inside.slot.slot c.holds.ensures.numbered)
     ∙ ap (λ (s : SlotState PlainText). s.number) c.self.view_is

@@ -1,18 +1,22 @@
-use Rattle.std.proofs.Common.{◌≡◌, ℕ, ◌+◌, ◌-◌, ◌<◌, List, [], ◌∷◌, ◌++◌, arith, length, reverse, take, ap, sym, subst, ◌∙◌, length-append}
-use Rattle.std.specs.List.{All}
+use Rattle.std.proofs.Common.{◌≡◌, ℕ, ◌+◌, ◌-◌, [], ◌∷◌, ◌++◌, arith, length, reverse, slice_index_or, take, ap, sym, subst, ◌∙◌, length-append}
+use Rattle.std.specs.List.{All, sum_by}
 use Rattle.std.proofs.lemmas.List.{length-reverse}
-use Rattle.std.proofs.lemmas.List.Elements.{All-push}
 use mathlib.Core.List.{IsPrefix}
 use Rattle.mq_tree.specs.LentSet.{Lending}
-use Rattle.mq_queue.specs.declared.event.Event.{Event}
-use Rattle.mq_one_thread.specs.Closed.{ends}
-use Rattle.mq_shared.specs.Seat.{SeatState, front_of}
+use Rattle.mq_select.specs.Waiting.{headers_of}
+use Rattle.mq_queue.specs.Waiting.{waiting}
+use Rattle.mq_table.specs.KeptPart.{IsKeptPart}
+use Rattle.mq_table.specs.SlotList.{live_log}
+use Rattle.mq_table.proofs.Kepts.{waiting_is}
+use Rattle.mq_one_thread.specs.Closed.{IsEndOf}
+use Rattle.mq_one_thread.specs.Texts.{bytes_of}
+use Rattle.mq_one_thread.proofs.CloseLemmas.{ends_with_list}
+use Rattle.mq_shared.specs.Seat.{counted_by, front_of}
 use Rattle.mq_shared.specs.Sizes.{all_changes}
-use Rattle.mq_system.specs.Closed.{IsClosed, IsRecorded, entries_in, events_in}
-use Rattle.mq_system.proofs.ClosedLemmas.{closed_slot}
-use Rattle.mq_system.proofs.HomeLemmas.{AreLeft, IsFewer, IsSeen, all_counted, all_distinct, all_happened, all_left, all_seen, left_length, one_fewer}
-use Rattle.mq_system.proofs.StartLemmas.{each_push}
-use Rattle.mq_system.proofs.TallyLemmas.{all_entries, entries_more, entries_reverse}
+use Rattle.mq_system.specs.Closed.{entries_in}
+use Rattle.mq_system.proofs.ClosedLemmas.{IsSeen, in_order, none_ended, one_ended, sums_agree, whole_length}
+use Rattle.mq_system.proofs.HomeLemmas.{AreLeft, IsFewer, all_counted, all_distinct, all_left, all_seen, left_length, one_fewer}
+use Rattle.mq_system.proofs.TallyLemmas.{entries_more, entries_reverse}
 use Rattle.mq_system.proofs.close.System+P+N+Copies+N.close.Goals as goal
 
 pub loop-place-init : goal.loop-place-init
@@ -23,13 +27,12 @@ loop-place-init g c =
     let placed : length c.self.inside.places.items ≡ slots = omega (arith, c.self.invariant.placed) in (
       omega (arith, placed, ap length none),
       c.self.invariant.reserved,
-      (λ k d low. absurd (omega (arith, low, ap length none))),
+      none_ended slots g.N.Names.last_seq seats c.self.inside.closed.items (ap length none),
       c.into_state-arena.ensures,
       omega (arith, ap length none),
       omega (arith, ap entries_in none),
       subst (λ n. AreLeft n seats c.gather.new.fronts.items) (sym placed)
           (all_left slots seats c.gather.new.fronts.items c.gather.ensures.fronts c.gather.ensures.recorded),
-      (λ k d low. absurd (omega (arith, low, ap length none))),
       (λ less. absurd (omega (arith, less, placed))),
     )
 
@@ -59,12 +62,18 @@ loop-place-preserved g c =
     let slot = c.into_slot.result in
     let published = c.with_number-slot.result.slot in
     let had : published ≡ slot = ap (λ p. p.slot) c.with_number-slot.ensures.same ∙ c.into_parts-slot.ensures.slot in
-    let same : c.close.result ≡ slot = c.close.ensures ∙ c.come_home.ensures.same ∙ had in
+    let same : c.come_home.new.slot.slot ≡ slot = c.come_home.ensures.same ∙ had in
     let ended = c.into_parts-slot.ensures in
+    let part : IsKeptPart slot.events c.close.result =
+    subst (λ es. IsKeptPart es c.close.result) (ap (λ s. s.events) same) c.close.ensures.kept in
+    let waits : headers_of bytes_of c.close.result.messages ≡ waiting (live_log slot.events) =
+    ap (headers_of bytes_of) (c.close.ensures.messages ∙ ap (λ s. s.messages) same) ∙ ended.waits in
     let grown = c.push_reserved.ensures in
     let before = c.loop-place.closed.items in
     let closed = c.end_slot.result in
-    let is = c.end_slot.ensures.slot ∙ ap ends same in
+    let is : IsEndOf g.N.Names.last_seq slot.events closed =
+    ends_with_list g.N.Names.last_seq slot.events c.close.result closed c.end_slot.ensures.slot part
+    ended.lawful (waits ∙ sym (waiting_is slot.events c.close.result part)) in
     let kept = c.loop-place.invariant in
     let longer = length-append before (closed ∷ []) in
     let more : length c.loop-place.places.items ≡ m + 1 =
@@ -73,22 +82,17 @@ loop-place-preserved g c =
     subst (λ n. AreLeft n seats c.loop-place.fronts.items) more kept.6 in
     let fewer : IsFewer m published.events seats c.come_home.new.fronts.items =
     one_fewer slots m published.events seats c.loop-place.fronts.items c.come_home.new.fronts.items c.gather.ensures.recorded (omega (arith, kept.0, more)) left c.come_home.ensures.left in
-    let happened : published.events ≡ events_in closed =
-    ap (λ s. s.events) had ∙ sym (all_happened slot closed is) in
     let place : m ≡ slots - 1 - length before = omega (arith, kept.0, more) in
-    let seen : IsSeen slots seats (length before) closed =
-    subst (λ k. All (λ s. IsPrefix (front_of s k) (events_in closed)) seats) place
-    (subst (λ es. All (λ s. IsPrefix (front_of s m) es) seats) happened fewer.seen) in (
+    let seen : IsSeen slots seats (length before) slot.events =
+    subst (λ k. All (λ s. IsPrefix (front_of s k) slot.events) seats) place
+    (subst (λ es. All (λ s. IsPrefix (front_of s m) es) seats) (ap (λ s. s.events) had) fewer.seen) in (
       omega (arith, more, ap length grown.items, longer, kept.0),
       omega (arith, grown.capacity, kept.1),
-      rw grown.items
-          (All-push (IsClosed g.N.Names.last_seq) before closed kept.2
-          (closed_slot g.N.Names.last_seq slot closed is ended.lawful ended.waits)),
+      rw grown.items (one_ended slots g.N.Names.last_seq seats before kept.2 slot.events closed is seen),
       ap (λ (a : Lending). a.height) c.end_slot.ensures.arena ∙ kept.3,
       omega (arith, ap length grown.items, longer, c.merge.ensures.parts, ended.part, kept.4),
-      omega (arith, ap entries_in grown.items, entries_more before closed, all_entries slot closed is, c.merge.ensures.amount, ended.noted, kept.5),
+      omega (arith, ap entries_in grown.items, entries_more before closed, whole_length slot.events closed is.kept, c.merge.ensures.amount, ended.noted, kept.5),
       fewer.left,
-      rw grown.items (each_push (IsSeen slots seats) before closed kept.7 seen),
       (λ less. all_distinct (m + 1) seats c.loop-place.fronts.items left c.come_home.ensures.places),
     )
 
@@ -97,16 +101,6 @@ returns-clause-total g c =
     let kept = c.loop-place.invariant in
     omega (arith, ap entries_in c.reverse.ensures.items, entries_reverse c.loop-place.closed.items, kept.5, c.gather.ensures.amount, c.empty-parts.ensures.amount, c.settle.ensures, c.self.invariant.settled, ap (λ n. all_changes g.N.Names.slots n) c.requires.seats)
 
-pub returns-clause-fronts : goal.returns-clause-fronts
-returns-clause-fronts g c =
-    let kept = c.loop-place.invariant in
-    let last = c.in_default.ensures.rest
-    ∙ ap (λ (n : ℕ). take (n - 1) c.loop-place.places.items) c.in_default.ensures.cases.0 in
-    let none : length c.loop-place.places.items ≡ 0 =
-    ap length (c.in_default.ensures.items ∙ ap (λ rest. rest ++ []) last) in
-    rw c.reverse.ensures.items
-    (all_seen g.N.Names.slots c.args.seats.items c.loop-place.closed.items (omega (arith, kept.0, none)) kept.7)
-
 pub returns-clause-numbers : goal.returns-clause-numbers
 returns-clause-numbers g c =
     let kept = c.loop-place.invariant in
@@ -114,11 +108,12 @@ returns-clause-numbers g c =
     ∙ ap (λ (n : ℕ). take (n - 1) c.loop-place.places.items) c.in_default.ensures.cases.0 in
     let none : length c.loop-place.places.items ≡ 0 =
     ap length (c.in_default.ensures.items ∙ ap (λ rest. rest ++ []) last) in
-    kept.8 (omega (arith, none, c.self.invariant.some))
+    kept.7 (omega (arith, none, c.self.invariant.some))
 
-pub returns-clause-counts : goal.returns-clause-counts
-returns-clause-counts g c =
+pub returns-clause-ends : goal.returns-clause-ends
+returns-clause-ends g c =
     let slots = g.N.Names.slots in
+    let last_seq = g.N.Names.last_seq in
     let seats = c.args.seats.items in
     let closed = c.loop-place.closed.items in
     let kept = c.loop-place.invariant in
@@ -126,9 +121,22 @@ returns-clause-counts g c =
     ∙ ap (λ (n : ℕ). take (n - 1) c.loop-place.places.items) c.in_default.ensures.cases.0 in
     let none : length c.loop-place.places.items ≡ 0 =
     ap length (c.in_default.ensures.items ∙ ap (λ rest. rest ++ []) last) in
-    let all : length closed ≡ slots = omega (arith, kept.0, none) in
-    rw c.reverse.ensures.items
-    (all_counted slots seats (reverse closed) (omega (arith, all, length-reverse closed)) c.gather.ensures.recorded
-    (kept.8 (omega (arith, none, c.self.invariant.some)))
-    (all_seen slots seats closed all kept.7)
-    (omega (arith, entries_reverse closed, kept.5, c.gather.ensures.amount, c.empty-parts.ensures.amount, c.settle.ensures, c.self.invariant.settled, ap (λ n. all_changes slots n) c.requires.seats)))
+    let ended = kept.2 in
+    let all : length ended.lists ≡ slots = omega (arith, ended.ends.count, kept.0, none) in
+    let ends = in_order slots last_seq seats closed ended in
+    let seen = all_seen slots seats ended.lists all ended.seen in
+    let total : sum_by length (reverse ended.lists) ≡ counted_by seats =
+    omega (arith, sums_agree last_seq (reverse ended.lists) (reverse closed) ends, entries_reverse closed, kept.5, c.gather.ensures.amount, c.empty-parts.ensures.amount, c.settle.ensures, c.self.invariant.settled, ap (λ n. all_changes slots n) c.requires.seats) in
+    rw c.reverse.ensures.items (record {
+      lists = reverse ended.lists;
+      ends = ends;
+      seen = seen;
+      counted =
+          all_counted slots seats (reverse ended.lists) (length-reverse ended.lists ∙ all) c.gather.ensures.recorded
+          (kept.7 (omega (arith, none, c.self.invariant.some))) seen total;
+    })
+
+pub returns-clause-closed : goal.returns-clause-closed
+returns-clause-closed g c k d low =
+    let end = returns-clause-ends g c in
+    record { list = slice_index_or end.lists k []; is = end.ends.each k [] d low }

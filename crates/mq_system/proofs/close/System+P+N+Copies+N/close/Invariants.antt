@@ -1,7 +1,7 @@
-use Rattle.std.proofs.Common.{◌≡◌, ◌+◌, ◌<◌, ◌≤◌, length, vec_capacity, All}
-use Rattle.mq_system.specs.Closed.{AreDistinct, IsClosed, entries_in}
-use Rattle.mq_system.proofs.HomeLemmas.{AreLeft, IsSeen}
-use Rattle.mq_system.proofs.StartLemmas.{Each}
+use Rattle.std.proofs.Common.{◌≡◌, ◌+◌, ◌<◌, ◌≤◌, length, vec_capacity}
+use Rattle.mq_system.specs.Closed.{AreDistinct, entries_in}
+use Rattle.mq_system.proofs.ClosedLemmas.{AreEnded}
+use Rattle.mq_system.proofs.HomeLemmas.{AreLeft}
 use Rattle.mq_system.proofs.close.System+P+N+Copies+N.close.Given as goal
 
 abbrev pub decreases-loop-place : goal.decreases-loop-place
@@ -16,10 +16,9 @@ invariant-loop-place g l =
     let seats = l.fn.seats.items in
     (length l.places.items + length l.closed.items ≡ slots)
     × (slots ≤ vec_capacity l.closed)
-    × All (IsClosed g.N.Names.last_seq) l.closed.items
+    × AreEnded slots g.N.Names.last_seq seats l.closed.items
     × (l.arena.height ≡ g.N.Names.height)
     × (l.parts.parts ≡ l.initial.parts.parts + length l.closed.items)
     × (l.parts.amount ≡ l.initial.parts.amount + entries_in l.closed.items)
     × AreLeft (length l.places.items) seats l.fronts.items
-    × Each (IsSeen slots seats) l.closed.items
     × (length l.places.items < slots → AreDistinct seats)

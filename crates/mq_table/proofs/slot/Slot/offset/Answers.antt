@@ -1,8 +1,9 @@
-use Rattle.std.proofs.Common.{rules, ◌≡◌, length, ◌∙◌}
-use Rattle.mq_table.proofs.Slots.{offset_is}
+use Rattle.std.proofs.Common.{arith}
+use Rattle.mq_table.proofs.Slots.{within}
 use Rattle.mq_table.proofs.slot.Slot.offset.Goals as goal
 
-pub returns : goal.returns
-returns g c =
-    let count : c.len.result ≡ length c.self.inside.past.items = search rules in
-    rw (← c.self.view_is) (count ∙ offset_is _ _ _ _ _ c.self.invariant)
+pub overflow_sub-result : goal.overflow_sub-result
+overflow_sub-result g c =
+    let low = within _ _ _ _ c.self.invariant _ c.in-Some.is in
+    let entries = rw (← c.self.view_is) at c.events-entries.ensures.value in
+    omega (arith, low, entries, c.log_len.ensures.value)

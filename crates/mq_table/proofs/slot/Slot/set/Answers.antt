@@ -1,33 +1,15 @@
-use Rattle.std.proofs.Common.{rules}
-use Rattle.mq_table.proofs.Turns.{not_none, next_lawful, next_waits, next_figures}
+use Rattle.std.proofs.Common.{◌+◌, ◌-◌, ◌^◌, ◌<◌, arith}
+use Rattle.mq_table.specs.Kept.{entries_of}
+use Rattle.mq_table.proofs.SlotFields.{changed_slot}
 use Rattle.mq_table.proofs.slot.Slot.set.Goals as goal
 
-pub unreachable-requires : goal.unreachable-requires
-unreachable-requires g c =
-    not_none _ _ _ _ _ _ c.self.invariant c.self.view_is c.requires.live c.in_default.is
-
-pub returns-in_err-set-clause-lawful : goal.returns-in_err-set-clause-lawful
-returns-in_err-set-clause-lawful g c =
-    next_lawful _ _ _ _ _ _ c.self.invariant c.self.view_is _ c.in-Some.is
-    c.set.new.self c.set.ensures.sound
-
-pub returns-in_err-set-clause-waits : goal.returns-in_err-set-clause-waits
-returns-in_err-set-clause-waits g c =
-    next_waits _ _ _ _ _ _ c.self.invariant c.self.view_is _ c.in-Some.is
-    c.set.new.self c.set.ensures.sound
+pub invariant_of-self-2 : goal.invariant_of-self-2
+invariant_of-self-2 g c =
+    let room : entries_of c.args.self.now + 1 < 2 ^ 64 - 1 =
+    omega (arith, c.events-entry.ensures.value, c.events-entry.ensures.small, c.if-entry.false) in
+    changed_slot _ _ _ _ _ _ _ _ _ c.self.invariant _ c.in-Some.is c.set.new.self
+    c.set.ensures.base c.set.ensures.sound.waits (rw (← c.self.view_is) at room)
+    c.args.seat c.args.moment c.args.qbytes c.in_ok-set.ensures.accepted c.in_ok-set.ensures.tail
 
 pub returns-clause-lawful : goal.returns-clause-lawful
-returns-clause-lawful g c =
-    next_lawful _ _ _ _ _ _ c.self.invariant c.self.view_is _ c.in-Some.is
-    c.set.new.self c.set.ensures.sound
-
-pub returns-clause-waits : goal.returns-clause-waits
-returns-clause-waits g c =
-    next_waits _ _ _ _ _ _ c.self.invariant c.self.view_is _ c.in-Some.is
-    c.set.new.self c.set.ensures.sound
-
-pub returns-clause-noticed : goal.returns-clause-noticed
-returns-clause-noticed g c =
-    rw (next_figures _ _ _ _ _ _ c.self.invariant c.self.view_is _ c.in-Some.is
-    c.set.new.self c.set.ensures.sound)
-    (search (rules, c.in_ok-set.ensures.noticed))
+returns-clause-lawful g c = (invariant_of-self-2 g c).lawful

@@ -1,46 +1,33 @@
-use Rattle.std.proofs.Common.{rules, ◌≡◌, ◌++◌, ap, sym, ◌∙◌}
-use Rattle.mq_table.proofs.Slots.{list_of, waits_of, taken_out, log_left}
-use Rattle.mq_table.proofs.Turns.{not_none}
+use Rattle.std.proofs.Common.{arith, ◌≡◌, ◌+◌, ◌-◌, ◌^◌, ◌<◌, ◌++◌, ◌∷◌, [], Some, sym, ◌∙◌}
+use Rattle.std.proofs.lemmas.Option.{same_Some}
+use Rattle.mq_queue.specs.declared.event.Event.{Event}
+use Rattle.mq_queue.specs.declared.event.Event.TheVariants.{Removed}
+use Rattle.mq_table.specs.Kept.{entries_of}
+use Rattle.mq_table.specs.SlotParts.{either, some_base}
+use Rattle.mq_table.proofs.SlotEnds.{removed_slot}
 use Rattle.mq_table.proofs.slot.Slot.take_out.Goals as goal
-
-pub unreachable-requires : goal.unreachable-requires
-unreachable-requires g c =
-    not_none _ _ _ _ _ _ c.self.invariant c.self.view_is c.requires.live c.in_default.is
-
-pub returns-in_err-reserve-clause-lawful : goal.returns-in_err-reserve-clause-lawful
-returns-in_err-reserve-clause-lawful g c =
-    rw c.reserve.ensures.items (list_of _ _ _ _ _ c.self.invariant)
-
-pub returns-in_err-reserve-clause-waits : goal.returns-in_err-reserve-clause-waits
-returns-in_err-reserve-clause-waits g c =
-    rw c.reserve.ensures.items (waits_of _ _ _ _ _ c.self.invariant)
 
 pub invariant_of-self-in-Ok : goal.invariant_of-self-in-Ok
 invariant_of-self-in-Ok g c =
-    let there = sym c.take.ensures.value ∙ c.in-Some-take.is in
-    let grown = c.append.ensures ∙ ap (λ p. p ++ c.in-Ok.log) c.reserve.ensures.items in
-    taken_out _ _ _ _ _ c.self.invariant _ there _ _ _ c.in-Ok.ensures.log c.in-Ok.ensures.lawful
-    _ grown _ c.take.ensures.after
-
-pub returns-in-Ok-clause-log : goal.returns-in-Ok-clause-log
-returns-in-Ok-clause-log g c =
-    let there = sym c.take.ensures.value ∙ c.in-Some-take.is in
-    let grown = c.append.ensures ∙ ap (λ p. p ++ c.in-Ok.log) c.reserve.ensures.items in
-    log_left _ _ _ _ _ c.self.invariant _ there _ _ _ c.in-Ok.ensures.log c.in-Ok.ensures.lawful
-    _ grown _ c.take.ensures.after
+    let room : entries_of c.args.self.now + 1 < 2 ^ 64 - 1 =
+    omega (
+      arith,
+      c.events-entries.ensures.value,
+      c.events-entries.ensures.small,
+      c.if-entries.false,
+    ) in
+    let there : c.self.inside.live ≡ Some c.in-Some-take.queue =
+    sym c.take.ensures.value ∙ c.in-Some-take.is in
+    let same : c.in-Some.queue ≡ c.in-Some-take.queue = same_Some _ _ (sym c.in-Some.is ∙ there) in
+    let kept : c.either.result ≡ either (some_base c.in-Some-take.queue.base) c.self.inside.base =
+    rw (← same) (rw (c.in_ok-kept.ensures.base, c.take-in-Ok.ensures.value) at c.either.ensures) in
+    let e : Event = Removed c.args.seat c.args.moment in
+    let grown : c.append.new.past.items
+    ≡ c.self.inside.past.items ++ (c.in-Some-take.queue.tail ++ e ∷ []) =
+    rw (c.prepare_end.ensures.items, c.in-Ok.ensures.tail) at c.append.ensures in
+    rw c.take.ensures.after
+    (removed_slot _ _ _ _ _ _ _ _ _ c.self.invariant c.in-Some-take.queue there
+    c.args.seat c.args.moment _ kept _ grown (rw (← c.self.view_is) at room))
 
 pub returns-in-Ok-clause-lawful : goal.returns-in-Ok-clause-lawful
-returns-in-Ok-clause-lawful g c = list_of _ _ _ _ _ (invariant_of-self-in-Ok g c)
-
-pub returns-in-Ok-clause-waits : goal.returns-in-Ok-clause-waits
-returns-in-Ok-clause-waits g c = waits_of _ _ _ _ _ (invariant_of-self-in-Ok g c)
-
-pub returns-in-Err-clause-lawful : goal.returns-in-Err-clause-lawful
-returns-in-Err-clause-lawful g c =
-    let same : c.put_in.new.live ≡ c.self.inside.live = search rules in
-    rw (c.reserve.ensures.items, same) (list_of _ _ _ _ _ c.self.invariant)
-
-pub returns-in-Err-clause-waits : goal.returns-in-Err-clause-waits
-returns-in-Err-clause-waits g c =
-    let same : c.put_in.new.live ≡ c.self.inside.live = search rules in
-    rw (c.reserve.ensures.items, same) (waits_of _ _ _ _ _ c.self.invariant)
+returns-in-Ok-clause-lawful g c = (invariant_of-self-in-Ok g c).lawful

@@ -1,0 +1,386 @@
+-- Two runs whose slots keep parts of the same lists write the same.
+use Rattle.std.proofs.Common.{◌≡◌, ℕ, ℤ, pos, int_lt, ◌+◌, ◌^◌, ◌==◌, nat_lt, if◌then◌else◌}
+use Rattle.std.proofs.Common.{List, [], ◌∷◌, ◌++◌, get_or, set as set_at, zero, suc, length}
+use Rattle.std.proofs.Common.{length-append, Option, None, Some, Result, Ok, Err, Bool, true, false}
+use Rattle.std.proofs.Common.{refl, ap, subst, ◌∙◌, arith}
+use Rattle.std.specs.List.{AllZip, flat_map, range_with_len}
+use Rattle.mq_tree.specs.Blocks.{Block}
+use Rattle.mq_tree.specs.LentSet.{Lending}
+use Rattle.mq_arena.specs.Lent.{lend}
+use Rattle.mq_message.specs.Text.{PlainText, no_text, order_for}
+use Rattle.mq_message.specs.declared.message.Message.{Message}
+use Rattle.mq_queue.specs.declared.limits.TheConstants.{MSGMAX}
+use Rattle.mq_queue.specs.declared.event.Event.{Event}
+use Rattle.mq_queue.specs.declared.event.Event.TheVariants as event
+use Rattle.mq_select.specs.Selection.{selection_of}
+use Rattle.mq_table.specs.Calls.{Receipt}
+use Rattle.mq_table.specs.Cut.{kept_cuts}
+use Rattle.mq_table.specs.Ids.{slot_of}
+use Rattle.mq_table.specs.Keys.{forget}
+use Rattle.mq_queue.specs.Row.{is_live}
+use Rattle.mq_tree.specs.Fit.{largest}
+use Rattle.mq_tree.specs.LentSet.{free_pages}
+use Rattle.mq_table.specs.Kept.{KeptSlot, base_now, entries_of}
+use Rattle.mq_table.specs.KeptCalls.{KeptTurn, kept_receives, kept_sends, kept_sets}
+use Rattle.mq_table.specs.KeptShown.{last_id_now, row_now}
+use Rattle.mq_table.specs.SlotParts.{empty_kept}
+use Rattle.mq_one_thread.specs.declared.draft_error.DraftError.{DraftError}
+use Rattle.mq_one_thread.specs.declared.draft_error.DraftError.TheVariants.{TooLong}
+use Rattle.mq_one_thread.specs.declared.errno.Errno.{Errno}
+use Rattle.mq_one_thread.specs.declared.errno.Errno.TheVariants.{EINVAL}
+use Rattle.mq_one_thread.specs.declared.results.Refused.{Refused}
+use Rattle.mq_one_thread.specs.declared.results.GetFlags.{GetFlags}
+use Rattle.mq_one_thread.specs.Calls.{cut_log, delivers, msgrcv, msgsnd, removed}
+use Rattle.mq_one_thread.specs.Calls.{set as set_answer, shown, stat as stat_answer}
+use Rattle.mq_cli.specs.Commands.{Call, sit, show, get, snd, rcv, set, rm, stat, cut, ipcs, Text}
+use Rattle.mq_cli.specs.Drafts.{by_draft_errno, bytes_of_text, draft}
+use Rattle.mq_cli.specs.Cuts.{is_cut}
+use Rattle.mq_one_thread.specs.Look.{in_queue, look, once, refused_early}
+use Rattle.mq_cli.specs.Reports.{line_of_row, table_of}
+use Rattle.mq_cli.specs.Session.{State, by_errno}
+use Rattle.mq_one_thread.specs.State.{State as System, slot_at}
+use Rattle.mq_one_thread.specs.Texts.{bytes_of, drafts, in_block, spends, spends_all}
+use Rattle.mq_one_thread.specs.Texts.{with_bytes}
+use Rattle.mq_cli.specs.Transcript.{Reply, refused, at, gone, cut_off}
+use Rattle.mq_cli.specs.Transcript.{cut_step, arena as arena_told, stat_reply, by_seat, get_step}
+use Rattle.mq_cli.specs.Transcript.{output, receive_step, remove_step, send_step, set_step, step}
+use Rattle.mq_cli.specs.Transcript.{told}
+use Rattle.mq_cli.proofs.AlikeSlots.{AreAlike, TurnAlike, cut_alike, entries_alike, figures_alike}
+use Rattle.mq_cli.proofs.AlikeSlots.{last_id_alike, places_alike, receives_alike, removes_alike}
+use Rattle.mq_cli.proofs.AlikeSlots.{row_alike, sends_alike, sets_alike}
+use Rattle.mq_cli.proofs.AlikeSystems.{AnswerAlike, AreLike, in_queue_like, look_like, look_live}
+use Rattle.mq_cli.proofs.AlikeSystems.{msgget_like, slot_like, slots_like, with_arena_like}
+use Rattle.mq_cli.proofs.AlikeSystems.{with_slot_like}
+
+-- two replies that are written alike, and the systems after them
+pub record SaysAlike (last_seq : ℕ) (x y : Reply × System) : Type 0 where
+  pub line : output x.0 ≡ output y.0
+  pub left : AreLike last_seq x.1 y.1
+
+module _ (last_seq : ℕ) (s t : System) (k : AreLike last_seq s t) where
+  -- what is told of answers that are alike
+  told_like : {T : Type 0} (one other : T × System → Reply × System)
+      (x y : Result (T × System) Errno) → AnswerAlike last_seq x y
+      → ((r : T) (u v : System) → AreLike last_seq u v → SaysAlike last_seq (one (r, u))
+      (other (r, v)))
+      → SaysAlike last_seq (told s one x) (told t other y)
+  told_like one other (Ok x) (Ok y) same by =
+      subst (λ r. SaysAlike last_seq (one x) (other (r, y.1))) same.0 (by x.0 x.1 y.1 same.1)
+  told_like one other (Ok x) (Err e) same by = absurd same
+  told_like one other (Err e) (Ok y) same by = absurd same
+  told_like one other (Err d) (Err e) same by =
+      record { line = ap (λ e. output (refused e)) same; left = k }
+
+  errno_like : {T : Type 0} (x y : Result (T × System) Refused) → AnswerAlike last_seq x y
+      → AnswerAlike last_seq (by_errno x) (by_errno y)
+  errno_like (Ok x) (Ok y) same = same
+  errno_like (Ok x) (Err e) same = absurd same
+  errno_like (Err e) (Ok y) same = absurd same
+  errno_like (Err d) (Err e) same = ap (λ r. r.errno) same
+
+  -- a draft
+  drafts_like : (n : ℕ) → AnswerAlike last_seq (drafts s n) (drafts t n)
+  drafts_like n = long (nat_lt MSGMAX n)
+    where
+      lent : (a : Option (Block × Lending)) → AnswerAlike last_seq (in_block s n a) (in_block t n a)
+      lent None = refl
+      lent (Some block) = (refl, with_arena_like last_seq s t k block.1 block.1 refl)
+
+      empty : (b : Bool) → AnswerAlike last_seq
+          (if b then Ok (no_text, s) else in_block s n (lend s.arena (order_for n)))
+          (if b then Ok (no_text, t) else in_block t n (lend t.arena (order_for n)))
+      empty true = (refl, k)
+      empty false =
+          subst (λ arena. AnswerAlike last_seq (in_block s n (lend s.arena (order_for n)))
+          (in_block t n (lend arena (order_for n)))) k.arena
+          (lent (lend s.arena (order_for n)))
+
+      long : (b : Bool) → AnswerAlike last_seq
+          (if b then Err TooLong else (if n == 0 then Ok (no_text, s) else in_block s n
+          (lend s.arena (order_for n))))
+          (if b then Err TooLong else (if n == 0 then Ok (no_text, t) else in_block t n
+          (lend t.arena (order_for n))))
+      long true = refl
+      long false = empty (n == 0)
+
+  draft_like : (text : Text) → AnswerAlike last_seq (draft s text) (draft t text)
+  draft_like text = named (drafts s (length bytes)) (drafts t (length bytes))
+      (drafts_like (length bytes))
+    where
+      bytes : List ℕ
+      bytes = bytes_of_text text
+
+      named : (x y : Result (PlainText × System) DraftError) → AnswerAlike last_seq x y
+          → AnswerAlike last_seq (by_draft_errno (with_bytes bytes x))
+          (by_draft_errno (with_bytes bytes y))
+      named (Ok x) (Ok y) same =
+          (ap (λ (text : PlainText). record { bytes = bytes; block = text.block }) same.0, same.1)
+      named (Ok x) (Err e) same = absurd same
+      named (Err e) (Ok y) same = absurd same
+      named (Err d) (Err e) same = cc same
+
+  -- msgsnd
+  msgsnd_like : (seat id : ℕ) (mtype : ℤ) (tag : ℕ) (text : PlainText) (moment : ℕ)
+      → AnswerAlike last_seq (msgsnd s seat id mtype tag text moment)
+      (msgsnd t seat id mtype tag text moment)
+  msgsnd_like seat id mtype tag text moment = by (int_lt mtype (pos 1))
+    where
+      call : KeptSlot PlainText → KeptTurn PlainText ℕ
+      call slot = kept_sends bytes_of slot
+          (record { mtype = mtype; sender = seat; tag = tag; body = text }) moment
+
+      by : (b : Bool) → AnswerAlike last_seq
+          (if b then Err (refused_early EINVAL) else in_queue s id
+          (λ slot. kept_sends bytes_of slot
+          (record { mtype = mtype; sender = seat; tag = tag; body = text }) moment))
+          (if b then Err (refused_early EINVAL) else in_queue t id
+          (λ slot. kept_sends bytes_of slot
+          (record { mtype = mtype; sender = seat; tag = tag; body = text }) moment))
+      by true = refl
+      by false = in_queue_like last_seq s t k id
+          (λ slot. kept_sends bytes_of slot
+          (record { mtype = mtype; sender = seat; tag = tag; body = text }) moment)
+          (λ live. sends_alike last_seq _ _ (slot_like last_seq s t k (slot_of id)) live bytes_of
+          (record { mtype = mtype; sender = seat; tag = tag; body = text }) moment)
+
+  -- msgrcv
+  delivers_like : (held other : List (ℕ × Message PlainText)) (size : ℕ) → held ≡ other
+      → (x y : KeptTurn PlainText Receipt) → TurnAlike last_seq x y
+      → TurnAlike last_seq (delivers held size x) (delivers other size y)
+  delivers_like held other size is (Ok x) (Ok y) same = (cc (same.0, is), same.1)
+  delivers_like held other size is (Ok x) (Err e) same = absurd same
+  delivers_like held other size is (Err e) (Ok y) same = absurd same
+  delivers_like held other size is (Err d) (Err e) same = same
+
+  msgrcv_like : (seat id size : ℕ) (mtype : ℤ) (except noerror : Bool) (moment : ℕ)
+      → AnswerAlike last_seq (msgrcv s seat id size mtype except noerror moment)
+      (msgrcv t seat id size mtype except noerror moment)
+  msgrcv_like seat id size mtype except noerror moment =
+      let alike = slot_like last_seq s t k (slot_of id) in
+      in_queue_like last_seq s t k id
+      (λ slot. delivers slot.messages size
+      (kept_receives slot size (selection_of mtype except) noerror seat moment))
+      (λ live. delivers_like _ _ size alike.messages _ _
+      (receives_alike last_seq _ _ alike live size (selection_of mtype except) noerror seat
+      moment))
+
+  -- IPC_SET
+  set_like : (seat id qbytes moment : ℕ) → AnswerAlike last_seq (set_answer s seat id qbytes moment)
+      (set_answer t seat id qbytes moment)
+  set_like seat id qbytes moment =
+      in_queue_like last_seq s t k id (λ slot. kept_sets slot qbytes seat moment)
+      (λ live. sets_alike last_seq _ _ (slot_like last_seq s t k (slot_of id)) live qbytes seat
+      moment)
+
+  -- IPC_RMID: what is handed out tells where it was cut, the line does not
+  removed_like : (n seat id : ℕ) (live : is_live (slot_like last_seq s t k (slot_of id)).list
+      ≡ true)
+      → AreLike last_seq (removed s (slot_of id) seat n).1 (removed t (slot_of id) seat n).1
+  removed_like n seat id live =
+      let alike = slot_like last_seq s t k (slot_of id) in
+      let placed = with_slot_like last_seq s t k (slot_of id) _ _
+      (removes_alike last_seq _ _ alike live seat n) in record {
+        arena = ap (λ messages. spends_all messages s.arena) alike.messages
+            ∙ ap (spends_all (slot_at t (slot_of id)).messages) k.arena;
+        keys = ap (λ id. forget id s.keys) (last_id_alike last_seq _ _ alike)
+            ∙ ap (forget (last_id_now (slot_at t (slot_of id)))) k.keys;
+        one = k.one;
+        other = k.other;
+        slots = placed.slots;
+      }
+
+  gone_like : (a b : KeptSlot PlainText) (e : Event) → AreAlike last_seq a b
+      → output (gone (entries_of a) ((base_now a).places + length (a.last ++ e ∷ []))) ≡ output
+      (gone (entries_of b) ((base_now b).places + length (b.last ++ e ∷ [])))
+  gone_like a b e alike =
+      let events : length (a.last ++ e ∷ []) ≡ length a.last + 1 = length-append a.last (e ∷ []) in
+      let others : length (b.last ++ e ∷ []) ≡ length b.last + 1 = length-append b.last (e ∷ []) in
+      let count : (base_now a).places + length (a.last ++ e ∷ []) ≡ (base_now b).places + length
+      (b.last ++ e ∷ []) =
+      omega (arith, events, others, places_alike last_seq a b alike) in
+      ap (λ entry. output (gone entry ((base_now a).places + length (a.last ++ e ∷ []))))
+      (entries_alike last_seq a b alike)
+      ∙ ap (λ events. output (gone (entries_of b) events)) count
+
+  remove_like : (n seat id : ℕ) → SaysAlike last_seq (remove_step n seat s id)
+      (remove_step n seat t id)
+  remove_like n seat id = rw (← look_like last_seq s t k id) (by (look s id) refl)
+    where
+      Goes : Result (Unit {0}) Refused → Type 0
+      Goes r = SaysAlike last_seq
+          (told s (λ t. (gone t.0.entry (t.0.log.base.places + length t.0.log.tail), t.1))
+          (by_errno (once r (Ok (removed s (slot_of id) seat n)))))
+          (told t (λ t. (gone t.0.entry (t.0.log.base.places + length t.0.log.tail), t.1))
+          (by_errno (once r (Ok (removed t (slot_of id) seat n)))))
+
+      done : look s id ≡ Ok tt → Goes (Ok tt)
+      done is = record {
+        line = gone_like _ _ (event.Removed seat n) (slot_like last_seq s t k (slot_of id));
+        left = removed_like n seat id (look_live last_seq s t k id is);
+      }
+
+      by : (r : Result (Unit {0}) Refused) → look s id ≡ r → Goes r
+      by (Ok u) is = done is
+      by (Err refusal) is = record { line = refl; left = k }
+
+  -- what a report shows
+  rows_like : (counts : List ℕ) → flat_map (λ i. line_of_row i (row_now (slot_at s i))) counts
+      ≡ flat_map (λ i. line_of_row i (row_now (slot_at t i))) counts
+  rows_like [] = refl
+  rows_like (i ∷ counts) =
+      let row = row_alike last_seq _ _ (slot_like last_seq s t k i) in
+      ap (λ r. line_of_row i r ++ flat_map (λ i. line_of_row i (row_now (slot_at s i))) counts) row
+      ∙ ap (λ rest. line_of_row i (row_now (slot_at t i)) ++ rest) (rows_like counts)
+
+  table_like : table_of s ≡ table_of t
+  table_like = rw (slots_like last_seq s t k, rows_like (range_with_len 0 (length t.slots))) refl
+
+  -- IPC_STAT
+  stat_like : (id : ℕ) → stat_answer s id ≡ stat_answer t id
+  stat_like id = ap (shown (slot_at s (slot_of id))) (look_like last_seq s t k id) ∙ by (look t id)
+    where
+      by : (r : Result (Unit {0}) Refused) → shown (slot_at s (slot_of id)) r ≡ shown
+          (slot_at t (slot_of id)) r
+      by (Ok u) = ap Ok (figures_alike last_seq _ _ (slot_like last_seq s t k (slot_of id)))
+      by (Err refusal) = refl
+
+  -- a cut on the one side alone
+  cut_like : (slot : ℕ) → AreLike last_seq (cut_step s slot).1 t
+  cut_like slot = by (nat_lt slot (length s.slots))
+    where
+      put : (xs ys : List (KeptSlot PlainText)) (n : ℕ) (d : KeptSlot PlainText)
+          → AllZip (AreAlike last_seq) xs ys → AllZip (AreAlike last_seq)
+          (set_at xs n (kept_cuts (get_or xs n d))) ys
+      put [] [] n d all = tt
+      put [] (b ∷ ys) n d all = absurd all
+      put (a ∷ xs) [] n d all = absurd all
+      put (a ∷ xs) (b ∷ ys) zero d all = (cut_alike last_seq a b all.0, all.1)
+      put (a ∷ xs) (b ∷ ys) (suc n) d all = (all.0, put xs ys n d all.1)
+
+      left : Bool → Reply × System
+      left b =
+          if b then (
+            cut_off (slot_at s slot).first (entries_of (slot_at s slot)),
+            (cut_log s slot).1,
+          )
+          else (refused EINVAL, s)
+
+      by : (b : Bool) → AreLike last_seq (left b).1 t
+      by true = record {
+        arena = k.arena;
+        keys = k.keys;
+        one = k.one;
+        other = k.other;
+        slots = put s.slots t.slots slot (empty_kept slot) k.slots;
+      }
+      by false = k
+
+module _ (last_seq : ℕ) (s t : System) (k : AreLike last_seq s t) where
+  -- the calls of a line
+  get_like : (n seat : ℕ) (key : ℤ) (flags : GetFlags) → SaysAlike last_seq
+      (get_step n seat s key flags) (get_step n seat t key flags)
+  get_like n seat key flags =
+      told_like last_seq s t k _ _ _ _ (msgget_like last_seq s t k seat key flags n)
+      (λ r u v left. record { line = refl; left = left })
+
+  sent_like : (n seat id : ℕ) (mtype : ℤ) (d e : System) (text : PlainText) → AreLike last_seq d e
+      → SaysAlike last_seq
+      (told s (λ t. (at t.0, t.1)) (by_errno (msgsnd d seat id mtype n text n)))
+      (told t (λ t. (at t.0, t.1)) (by_errno (msgsnd e seat id mtype n text n)))
+  sent_like n seat id mtype d e text like =
+      told_like last_seq s t k _ _ _ _
+      (errno_like last_seq s t k _ _ (msgsnd_like last_seq d e like seat id mtype n text n))
+      (λ r u v left. record { line = refl; left = left })
+
+  send_like : (n seat id : ℕ) (mtype : ℤ) (text : Text) → SaysAlike last_seq
+      (send_step n seat s id mtype text) (send_step n seat t id mtype text)
+  send_like n seat id mtype text =
+      told_like last_seq s t k _ _ _ _ (draft_like last_seq s t k text)
+      (λ r u v left. sent_like n seat id mtype u v r left)
+
+  receive_like : (n seat id size : ℕ) (mtype : ℤ) (except noerror : Bool) → SaysAlike last_seq
+      (receive_step n seat s id size mtype except noerror)
+      (receive_step n seat t id size mtype except noerror)
+  receive_like n seat id size mtype except noerror =
+      told_like last_seq s t k _ _ _ _
+      (errno_like last_seq s t k _ _
+      (msgrcv_like last_seq s t k seat id size mtype except noerror n))
+      (λ r u v left. record {
+        line = refl;
+        left = with_arena_like last_seq u v left _ _
+            (ap (spends r.text) left.arena);
+      })
+
+  sets_like : (n seat id qbytes : ℕ) → SaysAlike last_seq (set_step n seat s id qbytes)
+      (set_step n seat t id qbytes)
+  sets_like n seat id qbytes = told_like last_seq s t k _ _ _ _
+      (errno_like last_seq s t k _ _ (set_like last_seq s t k seat id qbytes n))
+      (λ r u v left. record { line = refl; left = left })
+
+-- the same of whole runs, whose seat is the same
+pub record RunsAlike (last_seq : ℕ) (s t : State) : Type 0 where
+  pub queues : AreLike last_seq s.queues t.queues
+  pub seat : s.seat ≡ t.seat
+
+-- what is told of an arena
+abbrev arena_of : Lending → Reply
+arena_of a = arena_told (2 ^ a.height) (free_pages a.height a.lent) (largest a.height a.lent)
+
+-- two steps that are written alike, and the runs after them
+pub record StepsAlike (last_seq : ℕ) (x y : Reply × State) : Type 0 where
+  pub line : output x.0 ≡ output y.0
+  pub left : RunsAlike last_seq x.1 y.1
+
+module _ (last_seq n : ℕ) (s t : State) (k : RunsAlike last_seq s t) where
+  -- what a seat's call says
+  by_seat_like : (f : ℕ → System → Reply × System)
+      → ((seat : ℕ) → SaysAlike last_seq (f seat s.queues) (f seat t.queues))
+      → StepsAlike last_seq (by_seat s (f s.seat s.queues)) (by_seat t (f t.seat t.queues))
+  by_seat_like f says =
+      let same : f s.seat t.queues ≡ f t.seat t.queues = ap (λ seat. f seat t.queues) k.seat in
+      let its = subst (SaysAlike last_seq (f s.seat s.queues)) same (says s.seat) in
+      record { line = its.line; left = record { queues = its.left; seat = k.seat } }
+
+  -- a line that is no cut is answered alike
+  pub step_like : (call : Call) → is_cut call ≡ false → StepsAlike last_seq (step n s call)
+      (step n t call)
+  step_like (sit number) e =
+      record { line = refl; left = record { queues = k.queues; seat = refl } }
+  step_like show e = record {
+    line = ap (λ arena. output (arena_of arena)) k.queues.arena;
+    left =
+        k;
+  }
+  step_like (get key flags) e = by_seat_like (λ seat q. get_step n seat q key flags)
+      (λ seat. get_like last_seq s.queues t.queues k.queues n seat key flags)
+  step_like (snd id mtype text) e = by_seat_like (λ seat q. send_step n seat q id mtype text)
+      (λ seat. send_like last_seq s.queues t.queues k.queues n seat id mtype text)
+  step_like (rcv id size mtype except noerror) e =
+      by_seat_like (λ seat q. receive_step n seat q id size mtype except noerror)
+      (λ seat. receive_like last_seq s.queues t.queues k.queues n seat id size mtype except
+      noerror)
+  step_like (set id qbytes) e = by_seat_like (λ seat q. set_step n seat q id qbytes)
+      (λ seat. sets_like last_seq s.queues t.queues k.queues n seat id qbytes)
+  step_like (rm id) e = by_seat_like (λ seat q. remove_step n seat q id)
+      (λ seat. remove_like last_seq s.queues t.queues k.queues n seat id)
+  step_like (stat id) e =
+      record {
+        line = ap (λ r. output (stat_reply r))
+            (stat_like last_seq s.queues t.queues k.queues id);
+        left = k;
+      }
+  step_like (cut slot) e = absurd (cc e)
+  step_like ipcs e =
+      record {
+        line = ap (λ text. text ++ 10 ∷ []) (table_like last_seq s.queues t.queues k.queues);
+        left = k;
+      }
+
+  -- a cut on the one side alone
+  pub cut_alone : (call : Call) → is_cut call ≡ true → RunsAlike last_seq (step n s call).1 t
+  cut_alone (cut slot) e = record {
+    queues = cut_like last_seq s.queues t.queues k.queues slot;
+    seat
+        = k.seat;
+  }
+  cut_alone _ e = absurd (cc e)

@@ -1,0 +1,90 @@
+//! The same calls to two queues, of which the log of one is cut again and again.
+
+use crate::calls::{Answer, Queue, close, message, receive, send, set};
+use mq_queue::{Event, NoNotice};
+use mq_select::Selection;
+use std::alloc::{AllocError, Global};
+use std::test::Fail;
+
+/// The next number of a row that looks random.
+fn next(number: u64) -> u64 {
+    number
+        .wrapping_mul(6_364_136_223_846_793_005)
+        .wrapping_add(1_442_695_040_888_963_407)
+}
+
+/// A call that the number decides, and what it is answered.
+fn call(alloc: Global, queue: &mut Queue, number: u64, moment: u64) -> Result<Answer, AllocError> {
+    let mtype = (number >> 40) % 5;
+    Ok(match (number >> 33) % 8 {
+        0 => set(queue, number >> 60, moment),
+        1 => receive(queue, 9, Selection::Any, true, moment),
+        2 => receive(queue, 1, Selection::UpTo(mtype), false, moment),
+        3 => receive(queue, 9, Selection::Exact(mtype as i64), false, moment),
+        _ => {
+            let text = message(alloc, mtype as i64, (number >> 50) as usize % 4)?;
+            send(queue, text, moment)
+        }
+    })
+}
+
+/// Adds the events of a cut to those of the cuts before it.
+fn keep(all: &mut Vec<Event>, tail: Vec<Event>) -> Result<(), AllocError> {
+    for event in tail.as_slice() {
+        all.push(*event)?;
+    }
+    Ok(())
+}
+
+/// Makes so many calls of both queues, cuts the log of one after each so many, and gathers what is
+/// cut off. Answers at which call the two differ, or `None`.
+fn differ(
+    alloc: Global,
+    queues: (&mut Queue, &mut Queue),
+    all: &mut Vec<Event>,
+    every: u64,
+) -> Result<Option<u64>, AllocError> {
+    let (whole, cut) = queues;
+    let mut number = every;
+    for moment in 0..300 {
+        number = next(number);
+        let wanted = call(alloc, whole, number, moment)?;
+        let answer = call(alloc, cut, number, moment)?;
+        if moment.checked_rem(every) == Some(0) {
+            let Ok((base, tail)) = cut.cut() else {
+                return Err(AllocError);
+            };
+            if base.places != all.len() as u64 {
+                return Ok(Some(moment));
+            }
+            keep(all, tail)?;
+        }
+        let same = answer == wanted && cut.figures() == whole.figures();
+        if !same || cut.log_len() != whole.log_len() || cut.first() != all.len() as u64 {
+            return Ok(Some(moment));
+        }
+    }
+    Ok(None)
+}
+
+#[test]
+fn a_queue_that_is_cut_answers_as_one_that_is_not(rt: HostRuntime) -> Result<(), Fail> {
+    for every in [1, 2, 7, 50, 1000] {
+        let mut whole = Queue::made(rt.alloc(), 7, 2, 50, &mut NoNotice)?;
+        let mut cut = match Queue::made(rt.alloc(), 7, 2, 50, &mut NoNotice) {
+            Ok(cut) => cut,
+            Err(refused) => {
+                close(whole);
+                return Err(refused.into());
+            }
+        };
+        let mut all = Vec::new(rt.alloc());
+        let differs = differ(rt.alloc(), (&mut whole, &mut cut), &mut all, every);
+        let (wanted, log) = (close(whole), close(cut));
+        let differs = differs?;
+        assert!(rt; differs == None, "cut after every {every}");
+        keep(&mut all, log.into_parts().1)?;
+        assert!(rt; all.as_slice() == wanted.into_parts().1.as_slice());
+    }
+    Ok(())
+}

@@ -1,0 +1,27 @@
+//! The call that cuts a slot's list off.
+
+ghost use Rattle.std.specs.Prelude.{◌≡◌, ◌<◌, Some, length, IfOk, IfErr};
+ghost use Rattle.mq_table.specs.Cut.{IsCutOf, shown};
+ghost use Rattle.mq_one_thread.specs.declared.errno.Errno.TheVariants.{ENOMEM};
+ghost use Rattle.mq_shared.specs.Seat.{IsLater, IsSame, front_of};
+
+use crate::{Cut, Names, Pledge, Refused, Seat, System};
+use mq_board::Copies;
+use std::sync::Wait;
+
+impl<P: Pledge, N: Names> System<P, N, Copies<N>> {
+    /// Cuts the slot's list off where it ends now, and hands out what was kept of it, to be stored
+    /// or dropped: of the front that the seat then has, the items from the cut's `first` to the end,
+    /// with what is known of the items before. All calls go on as before, and count on from the
+    /// whole list. It is no change, adds to no count and publishes nothing. ENOMEM alone.
+    pub fn cut_log<R: Wait>(&self, rt: &R, seat: &mut Seat<N>, slot: u8) -> Result<Cut, Refused>
+        requires within { slot < N.slots }
+        ensures cut { IfOk result (λ cut. IsCutOf (front_of seat.new slot) (shown cut)) }
+        ensures refused { IfErr result (λ r. r
+            ≡ record { errno = ENOMEM; entry = Some (length (front_of seat.new slot)) }) }
+        ensures same { IsSame seat.old seat.new }
+        ensures later { IsLater seat.old seat.new }
+    {
+        self.places[slot as usize].cut(rt, seat, slot)
+    }
+}

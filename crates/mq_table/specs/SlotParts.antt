@@ -1,0 +1,77 @@
+-- A slot, by its fields.
+use Rattle.std.specs.Prelude.{◌≡◌, ℕ, ℤ, pos, ◌+◌, ◌-◌, ◌^◌, ◌<◌, ◌≤◌, ◌==◌, if◌then◌else◌}
+use Rattle.std.specs.Prelude.{Option, None, Some, IfSome, is_some, List, []}
+use Rattle.mq_message.specs.declared.message.Message.{Message}
+use Rattle.mq_queue.specs.declared.base.Base.{Base}
+use Rattle.mq_queue.specs.declared.event.Event.{Event}
+use Rattle.mq_queue.specs.Queue.{Queue}
+use Rattle.mq_table.specs.Kept.{KeptSlot, base_now, entries_of, is_live_kept, made_of}
+use Rattle.mq_table.specs.KeptPart.{IsLawfulSlot, WaitsNow}
+use Rattle.mq_table.specs.declared.limits.TheConstants.{MAX_SLOTS, MAX_SEQ}
+
+-- a slot in which no queue was made
+abbrev pub empty_kept : {B : Type 0} → ℕ → KeptSlot B
+empty_kept number = record {
+  number = number;
+  first = 0;
+  made = 0;
+  key = pos 0;
+  base = None;
+  past = [];
+  last = [];
+  messages = [];
+}
+
+-- a base, where it is that of some event
+abbrev pub some_base : Base → Option Base
+some_base base = if base.places == 0 then None else Some base
+
+-- the base of the queue that is there, where some event of its log is cut off
+abbrev pub live_base : {B : Type 0} → Option (Queue B) → Option Base
+live_base None = None
+live_base (Some queue) = some_base queue.base
+
+-- the first of two bases that is there
+abbrev pub either : Option Base → Option Base → Option Base
+either None other = other
+either (Some base) other = Some base
+
+-- the events that are kept of the log of the queue that is there, if one is
+abbrev pub tail_of : {B : Type 0} → Option (Queue B) → List Event
+tail_of None = []
+tail_of (Some queue) = queue.tail
+
+-- what waits in the queue that is there, if one is
+abbrev pub messages_of : {B : Type 0} → Option (Queue B) → List (ℕ × Message B)
+messages_of None = []
+messages_of (Some queue) = queue.messages
+
+-- the slot with these fields: its base is that of the queue in it, where some event of that queue's
+-- log is cut off
+abbrev pub slot_with : {B : Type 0} → ℕ → ℕ → ℕ → ℤ → Option Base → List Event → Option (Queue B)
+    → KeptSlot B
+slot_with number first made key base past live = record {
+  number = number;
+  first = first;
+  made = made;
+  key = key;
+  base = either (live_base live) base;
+  past = past;
+  last = tail_of live;
+  messages = messages_of live;
+}
+
+-- the slot has a number; the makings are counted, and not too many for ids; there are fewer entries
+-- than 2 ^ 64 - 1; the slot keeps its part of some slot list; and the queue in it is that list's
+pub record IsSlot {B : Type 0} (bytes : B → List ℕ) (made : ℕ) (live : Option (Queue B))
+    (s : KeptSlot B) : Type 0 where
+  pub numbered : s.number < MAX_SLOTS
+  pub counted : made ≡ made_of s
+  pub few : made ≤ MAX_SEQ + 1
+  pub short : entries_of s < 2 ^ 64 - 1
+  pub lawful : IsLawfulSlot MAX_SEQ s
+  pub there : is_some live ≡ is_live_kept s
+  pub based : IfSome live (λ queue. queue.base ≡ base_now s)
+  pub last : s.last ≡ tail_of live
+  pub messages : s.messages ≡ messages_of live
+  pub waits : WaitsNow bytes s

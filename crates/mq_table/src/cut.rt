@@ -1,0 +1,121 @@
+ghost use Rattle.std.specs.Prelude.{◌≡◌, [], is_some, IfOk, OnErr, OnOk, IfNone, IfSome};
+ghost use Rattle.mq_table.specs.Cut.{cut_of, cut_queue, kept_cuts, shown};
+ghost use Rattle.mq_table.specs.Kept.{base_now, is_live_kept};
+ghost use Rattle.mq_table.specs.KeptPart.{IsLawfulSlot, WaitsNow};
+ghost use Rattle.mq_table.specs.SlotParts.{either, live_base, messages_of, tail_of};
+
+use crate::turnover::either;
+use crate::{MAX_SEQ, Slot};
+use mq_message::Body;
+use mq_queue::{Base, Event, QueueState};
+use mq_select::Waiting;
+use std::alloc::{AllocError, Global};
+use std::mem;
+
+/// What a cut of a slot's list hands out: the entries since the cut before, and what is known of
+/// the entries before them.
+#[derive(Drop)]
+pub struct Cut {
+    /// How many entries were cut off before.
+    pub first: u64,
+    /// How many of these are makings.
+    pub made: u32,
+    /// The base of the queue that they leave, where they leave one.
+    pub base: Option<Base>,
+    /// The entries of queues that were removed since then.
+    pub past: Vec<Event>,
+    /// The entries of the queue that is there.
+    pub last: Vec<Event>,
+}
+
+/// What is cut off of the log of the queue that is there, if one is.
+#[derive(Drop)]
+struct LogCut {
+    /// The base before, where it is that of some event.
+    base: Option<Base>,
+    last: Vec<Event>,
+}
+
+/// Cuts the log of the queue that is there, if one is. `Err` means out of memory.
+fn cut_live<B: Body, W: Waiting<B>>(
+    alloc: Global,
+    live: &mut Option<QueueState<B, W>>,
+) -> Result<LogCut, AllocError>
+    ensures base { IfOk result (λ c. c.base ≡ live_base live.old) }
+    ensures last { IfOk result (λ c. c.last.items ≡ tail_of live.old) }
+    ensures after { OnOk result (live.new ≡ cut_queue live.old) }
+    ensures unchanged { OnErr result (live.new ≡ live.old) }
+{
+    let Some(queue) = live else {
+        return Ok(LogCut {
+            base: None,
+            last: Vec::new(alloc),
+        });
+    };
+    let (base, last) = queue.cut()?;
+    let base = if base.places == 0 { None } else { Some(base) };
+    Ok(LogCut { base, last })
+}
+
+impl<B: Body, W: Waiting<B>> Slot<B, W> {
+    /// Cuts the slot list off where it ends now, and hands out the entries since the last cut, with
+    /// what is known of those before. What waits stays. `Err` means out of memory.
+    pub fn cut(&mut self) -> Result<Cut, AllocError>
+        ensures handed { IfOk result (λ c. shown c ≡ cut_of self.old) }
+        ensures after { OnOk result (self.new ≡ kept_cuts self.old) }
+        ensures unchanged { OnErr result (self.new ≡ self.old) }
+        ensures lawful { IsLawfulSlot MAX_SEQ self.new }
+        ensures waits { WaitsNow B.bytes self.new }
+    {
+        let alloc = self.allocator();
+        let entries = self.events();
+        let LogCut { base, last } = cut_live(alloc, &mut self.live)?;
+        let base = either(base, self.base.take());
+        let past = mem::replace(&mut self.past, Vec::new(alloc));
+        let first = mem::replace(&mut self.first, entries);
+        let made = mem::replace(&mut self.gone, self.made);
+        Ok(Cut {
+            first,
+            made,
+            base,
+            past,
+            last,
+        })
+    }
+
+    /// What a cut would hand out, but for the entries and the base of the queue that is there, and
+    /// that queue. This is no change of the slot, and takes no memory.
+    pub fn into_parts(self) -> (Cut, Option<QueueState<B, W>>)
+        ensures first { result.0.first ≡ self.first }
+        ensures made { result.0.made ≡ self.made }
+        ensures base { either (live_base result.1) result.0.base ≡ self.base }
+        ensures past { result.0.past.items ≡ self.past }
+        ensures last { (result.0.last.items ≡ []) × (tail_of result.1 ≡ self.last) }
+        ensures messages { self.messages ≡ messages_of result.1 }
+        ensures live { is_some result.1 ≡ is_live_kept self }
+        ensures cut { IfNone result.1 (shown result.0 ≡ cut_of self) }
+        ensures based { IfSome result.1 (λ queue. queue.base ≡ base_now self) }
+        ensures lawful { IsLawfulSlot MAX_SEQ self }
+        ensures waits { WaitsNow B.bytes self }
+    {
+        let alloc = self.allocator();
+        let Slot {
+            number: _,
+            first,
+            gone: made,
+            key: _,
+            base,
+            past,
+            made: _,
+            live,
+        } = self;
+        let cut = Cut {
+            first,
+            made,
+            base,
+            past,
+            last: Vec::new(alloc),
+        };
+        (cut, live)
+    }
+}

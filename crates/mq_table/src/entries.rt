@@ -1,0 +1,69 @@
+ghost use Rattle.std.specs.Prelude.{◌≡◌, ◌<◌, ◌-◌, ◌^◌, slice_get};
+ghost use Rattle.mq_table.specs.Kept.{entries_of, offset_now};
+ghost use Rattle.mq_table.specs.KeptShown.{event_now};
+
+use crate::Slot;
+use mq_message::Body;
+use mq_queue::{Event, QueueState};
+use mq_select::Waiting;
+
+/// The event at this place of those that are kept of a queue's log.
+fn kept_event<B: Body, W: Waiting<B>>(queue: &QueueState<B, W>, i: u64) -> Option<Event>
+    ensures { result ≡ slice_get queue.now.tail i }
+{
+    if queue.log_len() - queue.first() <= i {
+        return None;
+    }
+    queue.event(queue.first() + i)
+}
+
+impl<B: Body, W: Waiting<B>> Slot<B, W> {
+    /// How many entries the slot list has, with those that were cut off.
+    pub fn events(&self) -> u64
+        ensures value { result ≡ entries_of self.now }
+        ensures small { result < 2 ^ 64 - 1 }
+    {
+        let past = self.first + self.past.len() as u64;
+        match &self.live {
+            Some(queue) => past + (queue.log_len() - queue.first()),
+            None => past,
+        }
+    }
+
+    /// How many of them were cut off.
+    pub fn first(&self) -> u64
+        ensures { result ≡ self.now.first }
+    {
+        self.first
+    }
+
+    /// The event at this place of the slot list, or `None` where it was cut off or the list has
+    /// ended.
+    pub fn event(&self, i: u64) -> Option<Event>
+        ensures { result ≡ event_now self.now i }
+    {
+        if i < self.first {
+            return None;
+        }
+        let place = i - self.first;
+        let past = self.past.len() as u64;
+        if place < past {
+            return self.past.get(place as usize).copied();
+        }
+        match &self.live {
+            Some(queue) => kept_event(queue, place - past),
+            None => None,
+        }
+    }
+
+    /// How many entries of the slot list are those of removed queues.
+    pub fn offset(&self) -> u64
+        ensures { result ≡ offset_now self.now }
+    {
+        let entries = self.events();
+        match &self.live {
+            Some(queue) => entries - queue.log_len(),
+            None => entries,
+        }
+    }
+}
