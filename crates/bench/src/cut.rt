@@ -91,7 +91,7 @@ impl QueueProgram for Cuts {
     }
 }
 
-/// `cut ENTRIES WAITING ROUNDS CUTS`: counts the entries that were handed out, none where CUTS is 0.
+/// `cut ENTRIES WAITING ROUNDS CUTS`: counts the entries that were handed out, none for CUTS 0.
 pub(crate) fn run(rt: &impl Print, alloc: Global, words: &Words) -> Result<()> {
     let entries = words.number(1, 10)?;
     let waiting = words.number(2, 3)?;
