@@ -1,10 +1,10 @@
 //! One thread whose log is cut again and again, while so many messages wait.
 
+use crate::cycle::{receive, send};
 use crate::words::Words;
 use anyhow::Result;
 use mq::{
-    Config, DEFAULTS, Delivered, Errno, GetFlags, Id, Ledger, MAX_HEIGHT, MSGMAX, OneThread,
-    QueueProgram, SendRefused, with_queues,
+    Config, DEFAULTS, Errno, GetFlags, Ledger, MAX_HEIGHT, OneThread, QueueProgram, with_queues,
 };
 use std::alloc::Global;
 
@@ -16,43 +16,6 @@ struct Cuts {
     rounds: u32,
     /// Whether the log is cut at all.
     cuts: bool,
-}
-
-/// Sends a text of this type.
-fn send<L: Ledger>(
-    queues: &mut OneThread<L>,
-    id: Id,
-    mtype: i64,
-    bytes: &[u8],
-) -> Result<(), Errno> {
-    let text = match queues.draft_of(bytes) {
-        Ok(text) => text,
-        Err(refused) => return Err(refused.errno()),
-    };
-    if let Err(refusal) = queues.msgsnd(1, id, mtype, 0, text, 1) {
-        let SendRefused { refused, text } = refusal;
-        queues.spend(text);
-        return Err(refused.errno);
-    }
-    Ok(())
-}
-
-/// Receives a text of type 1.
-fn receive<L: Ledger>(queues: &mut OneThread<L>, id: Id) -> Result<(), Errno> {
-    let received = match queues.msgrcv(2, id, MSGMAX, 1, false, false, 1) {
-        Ok(received) => received,
-        Err(refused) => return Err(refused.errno),
-    };
-    let Delivered {
-        entry: _,
-        mtype: _,
-        sender: _,
-        tag: _,
-        length: _,
-        text,
-    } = received;
-    queues.spend(text);
-    Ok(())
 }
 
 impl QueueProgram for Cuts {
@@ -78,7 +41,7 @@ impl QueueProgram for Cuts {
         for _ in 0..self.rounds {
             for _ in 0..self.entries / 2 {
                 send(queues, id, 1, b"sixteen letters.")?;
-                receive(queues, id)?;
+                receive(queues, id, 1)?;
             }
             if self.cuts && id.slot() < queues.slots() {
                 match queues.cut_log(id.slot()) {

@@ -1,5 +1,5 @@
 -- A queue whose log may be cut off: it is kept as one with some whole log is.
-use Rattle.std.proofs.Common.{◌≡◌, inl, inr, ℕ, ℤ, pos, ◌+◌, ◌-◌, ◌<◌, ◌≤◌, ◌≤ℤ◌, ◌^◌, nat_le, List, [], ◌∷◌, ◌++◌, length, length-append, Some, None, Ok, Err, IfSome, All, Bool, true, false, if◌then◌else◌, int_lt, ◌&&◌, ◌||◌, refl, ap, sym, subst, ◌∙◌, arith, append_assoc, append-nil}
+use Rattle.std.proofs.Common.{◌≡◌, inl, inr, ℕ, ℤ, pos, ◌+◌, ◌-◌, ◌<◌, ◌≤◌, ◌≤ℤ◌, nat_le, List, [], ◌∷◌, ◌++◌, length, length-append, Some, None, Ok, Err, IfSome, All, Bool, true, false, if◌then◌else◌, int_lt, ◌&&◌, ◌||◌, refl, ap, sym, subst, ◌∙◌, arith, append_assoc, append-nil}
 use Rattle.std.specs.Option.{option_map}
 use Rattle.std.proofs.lemmas.Bool.{le-ltb}
 use Rattle.std.proofs.lemmas.Grind.{fold-append}
@@ -13,7 +13,7 @@ use Rattle.mq_queue.specs.declared.error.QueueError.TheVariants.{Full, NoMessage
 use Rattle.mq_queue.specs.declared.event.Event.{Event}
 use Rattle.mq_queue.specs.declared.event.Event.TheVariants.{Made, Sent, Received, Changed, Removed}
 use Rattle.mq_queue.specs.declared.figures.Figures.{Figures}
-use Rattle.mq_queue.specs.declared.limits.TheConstants.{MSGMAX, MSGMNB}
+use Rattle.mq_queue.specs.declared.limits.TheConstants.{MAX_CUT, MSGMAX, MSGMNB}
 use Rattle.mq_queue.specs.Answer.{receive_answer, receive_refusal, send_refusal}
 use Rattle.mq_queue.specs.Base.{base_after, base_of, figures_from, quota_from, waiting_from}
 use Rattle.mq_queue.specs.LawfulFrom.{IsOpen, LawfulFrom}
@@ -55,9 +55,6 @@ length_at base cut tail known =
 grown_at : (cut tail tail' : List Event) (event : Event) → tail' ≡ tail ++ event ∷ [] → cut ++ tail' ≡ (cut ++ tail) ++ event ∷ []
 grown_at cut tail tail' event grown =
     ap (λ (t : List Event). cut ++ t) grown ∙ sym (append_assoc cut tail (event ∷ []))
-
-longer_at : (tail tail' : List Event) (event : Event) → tail' ≡ tail ++ event ∷ [] → length tail' ≡ length tail + 1
-longer_at tail tail' event grown = ap (λ (t : List Event). length t) grown ∙ length-append tail (event ∷ [])
 
 -- what a queue is kept as, callers see
 pub sound_kept : {B : Type 0} (bytes : B → List ℕ) (base : Base) (tail : List Event) (messages : List (ℕ × Message B)) (kept : Figures) → IsKept bytes base tail messages kept → IsSoundFrom bytes base tail messages
@@ -114,11 +111,10 @@ made_kept bytes base tail messages kept seat moment key known begun none same = 
 })
 
 -- a message is sent
-pub sent_kept : {B : Type 0} (bytes : B → List ℕ) (base : Base) (tail tail' : List Event) (messages messages' : List (ℕ × Message B)) (kept kept' : Figures) (m : Message B) (moment n : ℕ) → IsKept bytes base tail messages kept → pos 1 ≤ℤ m.mtype → n ≤ MSGMAX → true ≡ (nat_le (kept.cbytes + n) kept.qbytes && nat_le (kept.qnum + 1) kept.qbytes) → n ≡ length (bytes m.body) → base.places + length tail + 1 < 2 ^ 64 → tail' ≡ tail ++ Sent m.sender moment m.tag m.mtype n ∷ [] → messages' ≡ messages ++ (base.places + length tail, m) ∷ [] → kept' ≡ record kept { qnum = kept.qnum + 1; cbytes = kept.cbytes + n; stime = moment; lspid = m.sender } → IsKept bytes base tail' messages' kept'
-sent_kept {B} bytes base tail tail' messages messages' kept kept' m moment n k low short room long place grown added same =
+pub sent_kept : {B : Type 0} (bytes : B → List ℕ) (base : Base) (tail tail' : List Event) (messages messages' : List (ℕ × Message B)) (kept kept' : Figures) (m : Message B) (moment n : ℕ) → IsKept bytes base tail messages kept → pos 1 ≤ℤ m.mtype → n ≤ MSGMAX → true ≡ (nat_le (kept.cbytes + n) kept.qbytes && nat_le (kept.qnum + 1) kept.qbytes) → n ≡ length (bytes m.body) → tail' ≡ tail ++ Sent m.sender moment m.tag m.mtype n ∷ [] → messages' ≡ messages ++ (base.places + length tail, m) ∷ [] → kept' ≡ record kept { qnum = kept.qnum + 1; cbytes = kept.cbytes + n; stime = moment; lspid = m.sender } → IsKept bytes base tail' messages' kept'
+sent_kept {B} bytes base tail tail' messages messages' kept kept' m moment n k low short room long grown added same =
     let event : Event = Sent m.sender moment m.tag m.mtype n in
     let more = grown_at k.cut tail tail' event grown in
-    let longer = longer_at tail tail' event grown in
     let at : messages' ≡ messages ++ (length (k.cut ++ tail), m) ∷ [] = added ∙ ap (λ (p : ℕ). messages ++ (p, m) ∷ []) (sym (length_at base k.cut tail k.known)) in
     record {
       cut = k.cut;
@@ -126,37 +122,35 @@ sent_kept {B} bytes base tail tail' messages messages' kept kept' m moment n k l
       known = k.known;
       sound = sent_sound bytes (k.cut ++ tail) (k.cut ++ tail') kept messages messages' m moment n k.sound k.figures low short room long more at;
       figures = subst (λ (f : Figures). AreFigures (k.cut ++ tail') f) (sym same) (sent_figures (k.cut ++ tail) (k.cut ++ tail') kept m.sender moment m.tag m.mtype n k.sound.lawful k.figures room more);
-      short = omega arith;
+      short = k.short;
     }
 
 -- the quota is set
-pub changed_kept : {B : Type 0} (bytes : B → List ℕ) (base : Base) (tail tail' : List Event) (messages : List (ℕ × Message B)) (kept kept' : Figures) (seat moment qbytes : ℕ) → IsKept bytes base tail messages kept → qbytes ≤ MSGMNB → base.places + length tail + 1 < 2 ^ 64 → tail' ≡ tail ++ Changed seat moment qbytes ∷ [] → kept' ≡ record kept { qbytes = qbytes; ctime = moment } → IsKept bytes base tail' messages kept'
-changed_kept bytes base tail tail' messages kept kept' seat moment qbytes k limit place grown same =
+pub changed_kept : {B : Type 0} (bytes : B → List ℕ) (base : Base) (tail tail' : List Event) (messages : List (ℕ × Message B)) (kept kept' : Figures) (seat moment qbytes : ℕ) → IsKept bytes base tail messages kept → qbytes ≤ MSGMNB → tail' ≡ tail ++ Changed seat moment qbytes ∷ [] → kept' ≡ record kept { qbytes = qbytes; ctime = moment } → IsKept bytes base tail' messages kept'
+changed_kept bytes base tail tail' messages kept kept' seat moment qbytes k limit grown same =
     let event : Event = Changed seat moment qbytes in
     let more = grown_at k.cut tail tail' event grown in
-    let longer = longer_at tail tail' event grown in
     record {
       cut = k.cut;
       opened = k.opened;
       known = k.known;
       sound = changed_sound bytes (k.cut ++ tail) (k.cut ++ tail') messages seat moment qbytes k.sound limit more;
       figures = subst (λ (f : Figures). AreFigures (k.cut ++ tail') f) (sym same) (changed_figures (k.cut ++ tail) (k.cut ++ tail') kept seat moment qbytes k.sound.lawful k.figures limit more);
-      short = omega arith;
+      short = k.short;
     }
 
 -- a message is received
-pub taken_kept : {B : Type 0} (bytes : B → List ℕ) (base : Base) (tail tail' : List Event) (messages messages' : List (ℕ × Message B)) (kept kept' : Figures) (selection : Selection) (size : ℕ) (noerror : Bool) (m : Header) (seat moment : ℕ) (k : IsKept bytes base tail messages kept) → IsTaken (k.cut ++ tail) selection size noerror m → base.places + length tail + 1 < 2 ^ 64 → tail' ≡ tail ++ Received seat moment m.place selection size noerror ∷ [] → messages' ≡ without m.place messages → kept' ≡ record kept { qnum = kept.qnum - 1; cbytes = kept.cbytes - m.length; rtime = moment; lrpid = seat } → IsKept bytes base tail' messages' kept'
-taken_kept bytes base tail tail' messages messages' kept kept' selection size noerror m seat moment k taken place grown left same =
+pub taken_kept : {B : Type 0} (bytes : B → List ℕ) (base : Base) (tail tail' : List Event) (messages messages' : List (ℕ × Message B)) (kept kept' : Figures) (selection : Selection) (size : ℕ) (noerror : Bool) (m : Header) (seat moment : ℕ) (k : IsKept bytes base tail messages kept) → IsTaken (k.cut ++ tail) selection size noerror m → tail' ≡ tail ++ Received seat moment m.place selection size noerror ∷ [] → messages' ≡ without m.place messages → kept' ≡ record kept { qnum = kept.qnum - 1; cbytes = kept.cbytes - m.length; rtime = moment; lrpid = seat } → IsKept bytes base tail' messages' kept'
+taken_kept bytes base tail tail' messages messages' kept kept' selection size noerror m seat moment k taken grown left same =
     let event : Event = Received seat moment m.place selection size noerror in
     let more = grown_at k.cut tail tail' event grown in
-    let longer = longer_at tail tail' event grown in
     record {
       cut = k.cut;
       opened = k.opened;
       known = k.known;
       sound = taken_sound bytes (k.cut ++ tail) (k.cut ++ tail') messages messages' selection size noerror m seat moment k.sound taken more left;
       figures = subst (λ (f : Figures). AreFigures (k.cut ++ tail') f) (sym same) (taken_figures (k.cut ++ tail) (k.cut ++ tail') kept selection size noerror m seat moment k.sound.lawful k.figures taken more);
-      short = omega arith;
+      short = k.short;
     }
 
 -- it is the receiver's answer
@@ -200,22 +194,21 @@ unfolding based
 cut_base bytes base base' tail messages kept places waits after counted held =
     after ∙ same_base places (base.places + length tail) kept kept waits (headers_of bytes messages) counted refl held
 
-pub cut_kept : {B : Type 0} (bytes : B → List ℕ) (base base' : Base) (tail tail' : List Event) (messages : List (ℕ × Message B)) (kept : Figures) → IsKept bytes base tail messages kept → base' ≡ record { places = base.places + length tail; figures = kept; waiting = headers_of bytes messages } → tail' ≡ [] → IsKept bytes base' tail' messages kept
+pub cut_kept : {B : Type 0} (bytes : B → List ℕ) (base base' : Base) (tail tail' : List Event) (messages : List (ℕ × Message B)) (kept : Figures) → IsKept bytes base tail messages kept → base' ≡ record { places = base.places + length tail; figures = kept; waiting = headers_of bytes messages } → base.places + length tail ≤ MAX_CUT → tail' ≡ [] → IsKept bytes base' tail' messages kept
 unfolding based
-cut_kept {B} bytes base base' tail tail' messages kept k after none =
+cut_kept {B} bytes base base' tail tail' messages kept k after short none =
     let whole : List Event = k.cut ++ tail in
     let end : whole ≡ whole ++ [] = sym (append-nil whole) in
     let places : base.places + length tail ≡ length whole = sym (length_at base k.cut tail k.known) in
     let shown : kept ≡ figures whole = sym (figures_kept whole kept k.sound.live k.figures) in
     let held : base'.places ≡ base.places + length tail = ap (λ (b : Base). b.places) after in
-    let short : base.places + length tail < 2 ^ 64 = k.short in
     rw none (record {
       cut = whole;
       opened = record { lawful = inr k.sound.lawful; live = k.sound.live };
       known = after ∙ same_base (base.places + length tail) (length whole) kept (figures whole) (headers_of bytes messages) (waiting whole) places shown k.sound.waits;
       sound = subst (λ (log : List Event). IsSound bytes log messages) end k.sound;
       figures = subst (λ (log : List Event). AreFigures log kept) end k.figures;
-      short = omega arith;
+      short = omega (arith, held, short);
     })
 
 pub cut_known : {B : Type 0} (bytes : B → List ℕ) (base base' : Base) (tail : List Event) (messages : List (ℕ × Message B)) (kept : Figures) → IsKept bytes base tail messages kept → base' ≡ record { places = base.places + length tail; figures = kept; waiting = headers_of bytes messages } → base' ≡ base_after base tail

@@ -1,6 +1,6 @@
 -- A queue whose log was never cut off: what is said by its base and its tail is what is said by its
 -- tail alone.
-use Rattle.std.proofs.Common.{◌≡◌, inl, ℕ, ◌+◌, ◌-◌, ◌≤◌, nat_lt, false, slice_get, List, [], refl, ap, subst, arith}
+use Rattle.std.proofs.Common.{◌≡◌, inl, ℕ, ◌+◌, ◌-◌, nat_lt, false, slice_get, List, [], refl, ap, subst, arith}
 use Rattle.std.proofs.lemmas.Bool.{le-ltb}
 use Rattle.mq_message.specs.declared.message.Message.{Message}
 use Rattle.mq_queue.specs.declared.base.Base.{Base}

@@ -1,11 +1,11 @@
 -- A queue.
-use Rattle.std.specs.Prelude.{◌≡◌, ℕ, ◌+◌, ◌≤◌, ◌<◌, ◌^◌, false, List, ◌++◌, length, take, drop}
+use Rattle.std.specs.Prelude.{◌≡◌, ℕ, ◌≤◌, false, List, ◌++◌, take, drop}
 use Rattle.mq_message.specs.declared.message.Message.{Message}
 use Rattle.mq_select.specs.Waiting.{headers_of}
 use Rattle.mq_queue.specs.declared.base.Base.{Base}
 use Rattle.mq_queue.specs.declared.event.Event.{Event}
 use Rattle.mq_queue.specs.declared.figures.Figures.{Figures}
-use Rattle.mq_queue.specs.declared.limits.TheConstants.{MSGMNB}
+use Rattle.mq_queue.specs.declared.limits.TheConstants.{MAX_CUT, MSGMNB}
 use Rattle.mq_queue.specs.Base.{base_of, waiting_from}
 use Rattle.mq_queue.specs.Figures.{live_figures}
 use Rattle.mq_queue.specs.Lawful.{Lawful}
@@ -53,7 +53,7 @@ pub record AreFigures (log : List Event) (kept : Figures) : Type 0 where
   pub limit : kept.qbytes ≤ MSGMNB
 
 -- the base is that of some log, with which the queue is sound and the figures are its figures, and
--- which has a place for each event within u64
+-- not too much of the log is cut off
 pub record IsKept {B : Type 0} (bytes : B → List ℕ) (base : Base) (tail : List Event)
     (messages : List (ℕ × Message B)) (kept : Figures) : Type 0 where
   pub cut : List Event
@@ -61,4 +61,4 @@ pub record IsKept {B : Type 0} (bytes : B → List ℕ) (base : Base) (tail : Li
   pub known : base ≡ base_of cut
   pub sound : IsSound bytes (cut ++ tail) messages
   pub figures : AreFigures (cut ++ tail) kept
-  pub short : base.places + length tail < 2 ^ 64
+  pub short : base.places ≤ MAX_CUT

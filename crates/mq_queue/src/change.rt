@@ -51,7 +51,7 @@ impl<B: Body, W: Waiting<B>> QueueState<B, W> {
             ctime: moment,
             ..kept
         };
-        let Ok(()) = reserve(self.base.places, &mut self.tail, changed, after, notice) else {
+        let Ok(()) = reserve(&mut self.tail, changed, after, notice) else {
             return Err(QueueError::Memory);
         };
         self.kept = after;
@@ -80,13 +80,7 @@ impl<B: Body, W: Waiting<B>> QueueState<B, W> {
     {
         let mut queue = self;
         let removed = Event::Removed { seat, moment };
-        let Ok(()) = reserve(
-            queue.base.places,
-            &mut queue.tail,
-            removed,
-            NO_FIGURES,
-            notice,
-        ) else {
+        let Ok(()) = reserve(&mut queue.tail, removed, NO_FIGURES, notice) else {
             return Err(queue);
         };
         let QueueState {

@@ -1,6 +1,7 @@
-ghost use Rattle.std.specs.Prelude.{◌≡◌, ◌<◌, ◌+◌, ◌^◌, ◌++◌, ◌∷◌, [], length, vec_len, vec_capacity};
+ghost use Rattle.std.specs.Prelude.{◌≡◌, ◌<◌, ◌≤◌, ◌+◌, ◌++◌, ◌∷◌, [], length, vec_len, vec_capacity};
 ghost use Rattle.std.specs.Prelude.{OnOk, OnErr};
 ghost use Rattle.mq_queue.specs.Base.{event_from};
+ghost use Rattle.mq_queue.specs.declared.limits.TheConstants.{MAX_CUT};
 
 use crate::{Base, Event, Figures, Notice};
 use std::alloc::AllocError;
@@ -15,19 +16,20 @@ pub struct Log {
 }
 
 impl Model for Log {
-    ghost use Rattle.std.specs.Prelude.{◌<◌, ◌+◌, ◌^◌, length};
+    ghost use Rattle.std.specs.Prelude.{◌≤◌};
     ghost use Rattle.mq_queue.specs.Queue.{CutLog};
+    ghost use Rattle.mq_queue.specs.declared.limits.TheConstants.{MAX_CUT};
 
     ghost Value = { CutLog };
 
     ghost view = { λ log. record { base = log.base; tail = log.tail.items } };
 
-    ghost invariant = { λ log. log.base.places + length log.tail.items < 2 ^ 64 };
+    ghost invariant = { λ log. log.base.places ≤ MAX_CUT };
 }
 
 impl Log {
     pub(crate) fn of(base: Base, tail: Vec<Event>) -> Log
-        requires { base.places + length tail.items < 2 ^ 64 }
+        requires { base.places ≤ MAX_CUT }
         ensures base { result.base ≡ base }
         ensures tail { result.tail ≡ tail.items }
     {
@@ -69,7 +71,7 @@ impl Log {
 
 /// How many events there are with those that were cut off.
 pub(crate) fn whole_count(first: u64, events: &Vec<Event>) -> u64
-    requires { first + length events.now.items < 2 ^ 64 }
+    requires { first ≤ MAX_CUT }
     ensures { result ≡ first + length events.now.items }
 {
     first + events.len() as u64
@@ -85,25 +87,18 @@ pub(crate) fn event_at(first: u64, events: &Vec<Event>, i: u64) -> Option<Event>
     events.get((i - first) as usize).copied()
 }
 
-/// Makes room for one more event, and then tells the notice of it. `Err` means out of memory, or
-/// that no place within u64 is left.
+/// Makes room for one more event, and then tells the notice of it. `Err` means out of memory.
 pub(crate) fn reserve<N: Notice>(
-    first: u64,
     events: &mut Vec<Event>,
     event: Event,
     after: Figures,
     notice: &mut N,
 ) -> Result<(), AllocError>
-    requires { first + length events.old.items < 2 ^ 64 }
     ensures items { events.new.items ≡ events.old.items }
     ensures room { OnOk result (vec_len events.new < vec_capacity events.new) }
-    ensures place { OnOk result (first + length events.old.items + 1 < 2 ^ 64) }
     ensures noticed { OnOk result (N.takes notice.old event after notice.new) }
     ensures unnoticed { OnErr result (notice.new ≡ notice.old) }
 {
-    if whole_count(first, events) == u64::MAX {
-        return Err(AllocError);
-    }
     events.reserve(1)?;
     notice.prepare(event, after)
 }

@@ -122,7 +122,7 @@ impl<B: Body, W: Waiting<B>> QueueState<B, W> {
             lrpid: seat,
             ..kept
         };
-        let Ok(()) = reserve(self.base.places, &mut self.tail, received, after, notice) else {
+        let Ok(()) = reserve(&mut self.tail, received, after, notice) else {
             return Err(QueueError::Memory);
         };
         let mut message = self.waiting.take(place);

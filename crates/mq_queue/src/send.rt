@@ -92,7 +92,7 @@ impl<B: Body, W: Waiting<B>> QueueState<B, W> {
             lspid: message.sender,
             ..kept
         };
-        let Ok(()) = reserve(self.base.places, &mut self.tail, sent, after, notice) else {
+        let Ok(()) = reserve(&mut self.tail, sent, after, notice) else {
             return Err((QueueError::Memory, message));
         };
         self.kept = after;

@@ -1,6 +1,7 @@
-ghost use Rattle.std.specs.Prelude.{◌≡◌, ◌<◌, ◌+◌, ◌^◌, ◌∷◌, [], length, IfOk, OnErr};
+ghost use Rattle.std.specs.Prelude.{◌≡◌, ◌<◌, ◌≤◌, ◌+◌, ◌^◌, ◌∷◌, [], length, IfOk, OnErr};
 ghost use Rattle.mq_queue.specs.Base.{base_of, event_from, figures_from};
 ghost use Rattle.mq_queue.specs.Queue.{IsSoundFrom};
+ghost use Rattle.mq_queue.specs.declared.limits.TheConstants.{MAX_CUT};
 
 use crate::log::{append, event_at, whole_count};
 use crate::{Base, Event, Figures, Log, MSGMNB, Notice};
@@ -93,9 +94,18 @@ impl<B: Body, W: Waiting<B>> QueueState<B, W> {
         whole_count(self.base.places, &self.tail)
     }
 
+    /// How many of them there are since the last cut.
+    pub fn tail_len(&self) -> u64
+        ensures value { result ≡ length self.now.tail }
+        ensures small { result < 2 ^ 63 }
+    {
+        self.tail.len() as u64
+    }
+
     /// How many of them were cut off.
     pub fn first(&self) -> u64
-        ensures { result ≡ self.now.base.places }
+        ensures value { result ≡ self.now.base.places }
+        ensures few { result ≤ MAX_CUT }
     {
         self.base.places
     }

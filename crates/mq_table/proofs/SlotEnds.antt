@@ -1,5 +1,5 @@
 -- A slot in which a queue is made or removed, or whose list is cut, by its fields.
-use Rattle.std.proofs.Common.{◌≡◌, ℕ, ℤ, pos, ◌+◌, ◌-◌, ◌^◌, ◌<◌, ◌≤◌, ◌≢◌, List, [], ◌∷◌, ◌++◌, append_assoc, length, Option, None, Some, is_some, true, false, refl, sym, ◌∙◌, arith, true≢false}
+use Rattle.std.proofs.Common.{◌≡◌, ℕ, ℤ, pos, ◌+◌, ◌<◌, ◌≤◌, ◌≢◌, List, [], ◌∷◌, ◌++◌, append_assoc, length, Option, None, Some, is_some, true, false, refl, sym, ◌∙◌, arith, true≢false}
 use Rattle.std.proofs.lemmas.Bool.{ne_eqb}
 use Rattle.mq_queue.specs.declared.base.Base.{Base}
 use Rattle.mq_queue.specs.declared.event.Event.{Event}
@@ -12,7 +12,7 @@ use Rattle.mq_table.specs.Kept.{KeptSlot, entries_of, is_live_kept, made_of, pla
 use Rattle.mq_table.specs.KeptCalls.{kept_makes, kept_removes}
 use Rattle.mq_table.specs.SlotList.{live_log}
 use Rattle.mq_table.specs.SlotParts.{IsSlot, either, slot_with, some_base}
-use Rattle.mq_table.specs.declared.limits.TheConstants.{MAX_SEQ}
+use Rattle.mq_table.specs.declared.limits.TheConstants.{MAX_PAST, MAX_SEQ}
 use Rattle.mq_table.proofs.Grown.{log_there}
 use Rattle.mq_table.proofs.Kepts.{live_is, places_is}
 use Rattle.mq_table.proofs.KeptTurns.{its_log}
@@ -34,14 +34,14 @@ module _ {B : Type 0} (bytes : B → List ℕ) (number first gone : ℕ) (key : 
 
   -- a queue is made where none is
   pub made_slot : is_live_kept slot ≡ false → made_of slot ≤ MAX_SEQ
-      → entries_of slot + 1 < 2 ^ 64 - 1 → (new : ℤ) (seat moment : ℕ) (q : Queue B)
+      → (new : ℤ) (seat moment : ℕ) (q : Queue B)
       → q.base ≡ base_of [] → q.tail ≡ event.Made seat moment new ∷ [] → q.messages ≡ []
       → IsSlot bytes (made + 1) (Some q) (slot_with number first gone new base past (Some q))
-  made_slot off few room new seat moment q based tail none =
+  made_slot off few new seat moment q based tail none =
       let with : slot_with number first gone new base past (Some q)
       ≡ kept_makes slot new seat moment =
       rw (none_is bytes made live slot h off, based, tail, none) refl in
-      rw with (makes_slot bytes made live slot h off few room new seat moment q based tail none)
+      rw with (makes_slot bytes made live slot h off few new seat moment q based tail none)
 
   -- the queue that is there is removed
   module _ (q : Queue B) (is : live ≡ Some q) (seat moment : ℕ) (base' : Option Base)
@@ -52,7 +52,7 @@ module _ {B : Type 0} (bytes : B → List ℕ) (number first gone : ℕ) (key : 
     with_removed =
         rw (is, kept, grown, append_assoc past q.tail (event.Removed seat moment ∷ [])) refl
 
-    pub removed_slot : entries_of slot + 1 < 2 ^ 64 - 1
+    pub removed_slot : entries_of slot < MAX_PAST
         → IsSlot bytes made None (slot_with number first gone (pos 0) base' past' None)
     removed_slot room =
         let there = there_is bytes made live slot h q is in
@@ -96,7 +96,9 @@ module _ {B : Type 0} (bytes : B → List ℕ) (number first gone : ℕ) (key : 
         ≡ kept_cuts (slot_with number first gone key base past live)
     with_cut = rw (counts, none, empty, cut, all, h.counted) (with_all_cut live h)
 
-    pub cut_slot : IsSlot bytes made live' (slot_with number first' gone' key base' past' live')
-    cut_slot =
+    pub cut_slot : first' ≤ MAX_PAST
+        → IsSlot bytes made live' (slot_with number first' gone' key base' past' live')
+    cut_slot few =
         rw (with_cut, cut)
-        (cuts_slot bytes made live (slot_with number first gone key base past live) h)
+        (cuts_slot bytes made live (slot_with number first gone key base past live) h
+        (rw counts at few))

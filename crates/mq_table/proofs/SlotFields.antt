@@ -1,5 +1,5 @@
 -- What the calls of a slot leave is a slot, by its fields.
-use Rattle.std.proofs.Common.{◌≡◌, ℕ, ℤ, ◌+◌, ◌-◌, ◌^◌, ◌<◌, List, [], ◌∷◌, ◌++◌, length, Option, None, Some, Result, Ok, Err, unwrap_or, Bool, false, refl, ap, sym, ◌∙◌}
+use Rattle.std.proofs.Common.{◌≡◌, ℕ, ℤ, List, [], ◌∷◌, ◌++◌, length, Option, None, Some, Result, Ok, Err, unwrap_or, Bool, false, refl, ap, sym, ◌∙◌}
 use Rattle.mq_message.specs.declared.message.Message.{Message}
 use Rattle.mq_select.specs.declared.header.Header.{Header}
 use Rattle.mq_select.specs.declared.selection.Selection.{Selection}
@@ -14,7 +14,7 @@ use Rattle.mq_queue.specs.Base.{quota_from, waiting_from}
 use Rattle.mq_queue.specs.Lawful.{CanHappen}
 use Rattle.mq_queue.specs.Log.{is_made, is_removed, key_told}
 use Rattle.mq_queue.specs.Queue.{Queue}
-use Rattle.mq_table.specs.Kept.{KeptSlot, base_now, entries_of, quota_now, waiting_now}
+use Rattle.mq_table.specs.Kept.{KeptSlot, base_now, quota_now, waiting_now}
 use Rattle.mq_table.specs.KeptCalls.{kept_goes_on, kept_received, kept_receives, kept_refusal_of, kept_sends, kept_unless}
 use Rattle.mq_table.specs.SlotParts.{IsSlot, slot_with}
 use Rattle.mq_table.proofs.Can.{received_can, sent_can, set_can}
@@ -78,8 +78,7 @@ module _ {B : Type 0} (bytes : B → List ℕ) (number first gone : ℕ) (key : 
 
   -- the queue goes on
   module _ (q' : Queue B) (based : q'.base ≡ q.base)
-      (waits : headers_of bytes q'.messages ≡ waiting_from q'.base q'.tail)
-      (room : entries_of (slot live) + 1 < 2 ^ 64 - 1) where
+      (waits : headers_of bytes q'.messages ≡ waiting_from q'.base q'.tail) where
     -- with one event more
     gone_on : (e : Event) → q'.tail ≡ q.tail ++ e ∷ [] → is_made e ≡ false → is_removed e ≡ false
         → key_told e ≡ None → CanHappen headers quota e
@@ -89,7 +88,7 @@ module _ {B : Type 0} (bytes : B → List ℕ) (number first gone : ℕ) (key : 
         let with : slot (Some q') ≡ kept_goes_on (slot live) e q'.messages =
         rw (is, based, tail) refl in
         rw with
-        (goes_slot bytes made live (slot live) h there e room unmade stays untold
+        (goes_slot bytes made live (slot live) h there e unmade stays untold
         (rw (waiting_its, quota_its) allowed) q' (based ∙ sym base_its)
         (tail ∙ ap (λ t. t ++ e ∷ []) (sym last_its)) waits)
 

@@ -1,5 +1,5 @@
 -- What the calls of a slot leave is a slot.
-use Rattle.std.proofs.Common.{◌≡◌, ℕ, ℤ, ◌+◌, ◌-◌, ◌^◌, ◌<◌, ◌≤◌, List, [], ◌∷◌, ◌++◌, length, length-append, Option, None, Some, IfSome, is_some, Bool, true, false, not, refl, ap, sym, subst, ◌∙◌, arith, true≢false}
+use Rattle.std.proofs.Common.{◌≡◌, ℕ, ℤ, ◌+◌, ◌<◌, ◌≤◌, List, [], ◌∷◌, ◌++◌, length, length-append, Option, None, Some, IfSome, is_some, Bool, true, false, not, refl, ap, sym, subst, ◌∙◌, arith, true≢false}
 use Rattle.mq_select.specs.Waiting.{headers_of}
 use Rattle.mq_queue.specs.declared.event.Event.{Event}
 use Rattle.mq_queue.specs.declared.event.Event.TheVariants as event
@@ -14,7 +14,7 @@ use Rattle.mq_table.specs.KeptCalls.{kept_goes_on, kept_makes, kept_removes}
 use Rattle.mq_table.specs.KeptPart.{IsKeptPart}
 use Rattle.mq_table.specs.SlotList.{live_log}
 use Rattle.mq_table.specs.SlotParts.{IsSlot, messages_of, tail_of}
-use Rattle.mq_table.specs.declared.limits.TheConstants.{MAX_SEQ}
+use Rattle.mq_table.specs.declared.limits.TheConstants.{MAX_PAST, MAX_SEQ}
 use Rattle.mq_table.proofs.Cuts.{cut_kept}
 use Rattle.mq_table.proofs.Grown.{list_made, list_more}
 use Rattle.mq_table.proofs.Kepts.{entries_is, live_is, live_more, made_is, places_is, waiting_is}
@@ -85,7 +85,7 @@ module _ {B : Type 0} (bytes : B → List ℕ) (made : ℕ) (live : Option (Queu
     messages_is = h.messages ∙ ap messages_of is
 
   -- one event more of the queue that is there
-  module _ (there : is_live_kept s ≡ true) (e : Event) (room : entries_of s + 1 < 2 ^ 64 - 1) where
+  module _ (there : is_live_kept s ≡ true) (e : Event) where
     pub goes_slot : is_made e ≡ false → is_removed e ≡ false → key_told e ≡ None
         → CanHappen (waiting_now s) (quota_now s) e
         → (q : Queue B) → q.base ≡ base_now s → q.tail ≡ s.last ++ e ∷ []
@@ -102,7 +102,7 @@ module _ {B : Type 0} (bytes : B → List ℕ) (made : ℕ) (live : Option (Queu
           numbered = h.numbered;
           counted = omega (arith, h.counted, made_more list s part e t k', none);
           few = h.few;
-          short = omega (arith, room, one_more list s part e t k');
+          short = h.short;
           lawful = record {
             list = list ++ e ∷ [];
             part = k';
@@ -116,11 +116,11 @@ module _ {B : Type 0} (bytes : B → List ℕ) (made : ℕ) (live : Option (Queu
         }
 
   -- a queue is made where none is
-  pub makes_slot : is_live_kept s ≡ false → made_of s ≤ MAX_SEQ → entries_of s + 1 < 2 ^ 64 - 1
+  pub makes_slot : is_live_kept s ≡ false → made_of s ≤ MAX_SEQ
       → (key : ℤ) (seat moment : ℕ) (q : Queue B) → q.base ≡ base_of []
       → q.tail ≡ event.Made seat moment key ∷ [] → q.messages ≡ []
       → IsSlot bytes (made + 1) (Some q) (kept_makes s key seat moment)
-  makes_slot off few room key seat moment q based tail none =
+  makes_slot off few key seat moment q based tail none =
       let e : Event = event.Made seat moment key in
       let off' = live_list false off in
       let t = kept_makes s key seat moment in
@@ -130,7 +130,7 @@ module _ {B : Type 0} (bytes : B → List ℕ) (made : ℕ) (live : Option (Queu
         numbered = h.numbered;
         counted = omega (arith, h.counted, made_more list s part e t k', one);
         few = omega (arith, h.counted, few);
-        short = omega (arith, room, one_more list s part e t k');
+        short = h.short;
         lawful = record {
           list = list ++ e ∷ [];
           part = k';
@@ -146,7 +146,7 @@ module _ {B : Type 0} (bytes : B → List ℕ) (made : ℕ) (live : Option (Queu
       }
 
   -- the queue that is there is removed
-  pub removes_slot : is_live_kept s ≡ true → entries_of s + 1 < 2 ^ 64 - 1 → (seat moment : ℕ)
+  pub removes_slot : is_live_kept s ≡ true → entries_of s < MAX_PAST → (seat moment : ℕ)
       → IsSlot bytes made None (kept_removes s seat moment)
   removes_slot there room seat moment =
       let e : Event = event.Removed seat moment in
@@ -158,7 +158,8 @@ module _ {B : Type 0} (bytes : B → List ℕ) (made : ℕ) (live : Option (Queu
         numbered = h.numbered;
         counted = omega (arith, h.counted, made_more list s part e t k', none);
         few = h.few;
-        short = omega (arith, room, one_more list s part e t k');
+        short =
+            omega (arith, room, one_more list s part e t k', length-append t.past []);
         lawful = record {
           list = list ++ e ∷ [];
           part = k';
@@ -172,15 +173,15 @@ module _ {B : Type 0} (bytes : B → List ℕ) (made : ℕ) (live : Option (Queu
       }
 
   -- the list is cut
-  pub cuts_slot : IsSlot bytes made (cut_queue live) (kept_cuts s)
-  cuts_slot =
+  pub cuts_slot : entries_of s ≤ MAX_PAST → IsSlot bytes made (cut_queue live) (kept_cuts s)
+  cuts_slot few =
       let k' = cut_kept list s part MAX_SEQ h.lawful.lawful in
       let t = kept_cuts s in
       record {
         numbered = h.numbered;
         counted = omega (arith, h.counted, made_is list s part, made_is list t k');
         few = h.few;
-        short = omega (arith, h.short, entries_is list s part, entries_is list t k');
+        short = omega (arith, few);
         lawful = record { list = list; part = k'; lawful = h.lawful.lawful };
         there = is_cut live ∙ h.there ∙ live_is list s part ∙ sym (live_is list t k');
         based = base_cut live refl;

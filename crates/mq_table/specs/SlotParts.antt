@@ -1,13 +1,13 @@
 -- A slot, by its fields.
-use Rattle.std.specs.Prelude.{◌≡◌, ℕ, ℤ, pos, ◌+◌, ◌-◌, ◌^◌, ◌<◌, ◌≤◌, ◌==◌, if◌then◌else◌}
-use Rattle.std.specs.Prelude.{Option, None, Some, IfSome, is_some, List, []}
+use Rattle.std.specs.Prelude.{◌≡◌, ℕ, ℤ, pos, ◌+◌, ◌<◌, ◌≤◌, ◌==◌, if◌then◌else◌}
+use Rattle.std.specs.Prelude.{Option, None, Some, IfSome, is_some, List, [], length}
 use Rattle.mq_message.specs.declared.message.Message.{Message}
 use Rattle.mq_queue.specs.declared.base.Base.{Base}
 use Rattle.mq_queue.specs.declared.event.Event.{Event}
 use Rattle.mq_queue.specs.Queue.{Queue}
-use Rattle.mq_table.specs.Kept.{KeptSlot, base_now, entries_of, is_live_kept, made_of}
+use Rattle.mq_table.specs.Kept.{KeptSlot, base_now, is_live_kept, made_of}
 use Rattle.mq_table.specs.KeptPart.{IsLawfulSlot, WaitsNow}
-use Rattle.mq_table.specs.declared.limits.TheConstants.{MAX_SLOTS, MAX_SEQ}
+use Rattle.mq_table.specs.declared.limits.TheConstants.{MAX_PAST, MAX_SEQ, MAX_SLOTS}
 
 -- a slot in which no queue was made
 abbrev pub empty_kept : {B : Type 0} → ℕ → KeptSlot B
@@ -61,14 +61,15 @@ slot_with number first made key base past live = record {
   messages = messages_of live;
 }
 
--- the slot has a number; the makings are counted, and not too many for ids; there are fewer entries
--- than 2 ^ 64 - 1; the slot keeps its part of some slot list; and the queue in it is that list's
+-- the slot has a number; the makings are counted, and not too many for ids; not too many entries are
+-- before the log of the queue in it; the slot keeps its part of some slot list; and that queue is the
+-- list's
 pub record IsSlot {B : Type 0} (bytes : B → List ℕ) (made : ℕ) (live : Option (Queue B))
     (s : KeptSlot B) : Type 0 where
   pub numbered : s.number < MAX_SLOTS
   pub counted : made ≡ made_of s
   pub few : made ≤ MAX_SEQ + 1
-  pub short : entries_of s < 2 ^ 64 - 1
+  pub short : s.first + length s.past ≤ MAX_PAST
   pub lawful : IsLawfulSlot MAX_SEQ s
   pub there : is_some live ≡ is_live_kept s
   pub based : IfSome live (λ queue. queue.base ≡ base_now s)

@@ -5,7 +5,7 @@ ghost use Rattle.mq_table.specs.KeptPart.{IsLawfulSlot, WaitsNow};
 ghost use Rattle.mq_table.specs.SlotParts.{either, live_base, messages_of, tail_of};
 
 use crate::turnover::either;
-use crate::{MAX_SEQ, Slot};
+use crate::{MAX_PAST, MAX_SEQ, Slot};
 use mq_message::Body;
 use mq_queue::{Base, Event, QueueState};
 use mq_select::Waiting;
@@ -67,8 +67,11 @@ impl<B: Body, W: Waiting<B>> Slot<B, W> {
         ensures lawful { IsLawfulSlot MAX_SEQ self.new }
         ensures waits { WaitsNow B.bytes self.new }
     {
-        let alloc = self.allocator();
         let entries = self.events();
+        if entries > MAX_PAST {
+            return Err(AllocError);
+        }
+        let alloc = self.allocator();
         let LogCut { base, last } = cut_live(alloc, &mut self.live)?;
         let base = either(base, self.base.take());
         let past = mem::replace(&mut self.past, Vec::new(alloc));

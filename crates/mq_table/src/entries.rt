@@ -11,7 +11,7 @@ use mq_select::Waiting;
 fn kept_event<B: Body, W: Waiting<B>>(queue: &QueueState<B, W>, i: u64) -> Option<Event>
     ensures { result ≡ slice_get queue.now.tail i }
 {
-    if queue.log_len() - queue.first() <= i {
+    if queue.tail_len() <= i {
         return None;
     }
     queue.event(queue.first() + i)
@@ -25,7 +25,7 @@ impl<B: Body, W: Waiting<B>> Slot<B, W> {
     {
         let past = self.first + self.past.len() as u64;
         match &self.live {
-            Some(queue) => past + (queue.log_len() - queue.first()),
+            Some(queue) => past + queue.tail_len(),
             None => past,
         }
     }

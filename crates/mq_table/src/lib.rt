@@ -19,7 +19,7 @@ pub use cut::Cut;
 pub use id::Id;
 pub use key_entry::KeyEntry;
 pub use keys::KeyTable;
-pub use limits::{MAX_ENTRIES, MAX_SEQ, MAX_SLOTS};
+pub use limits::{MAX_PAST, MAX_SEQ, MAX_SLOTS};
 pub use refusal::IdRefusal;
 pub use slot::Slot;
 pub use under::{make_under, remove_under};

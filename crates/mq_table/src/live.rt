@@ -1,27 +1,16 @@
-ghost use Rattle.std.specs.Prelude.{◌≡◌, true, Ok, length, min, take, unwrap_or};
+ghost use Rattle.std.specs.Prelude.{◌≡◌, true, Ok, length, min, take};
 ghost use Rattle.std.specs.Prelude.{OnOk, OnErr, IfOk, IfErr, IsSomeAnd};
-ghost use Rattle.mq_queue.specs.Answer.{receive_answer, receive_refusal, received_header, send_refusal, set_refusal};
+ghost use Rattle.mq_queue.specs.Answer.{receive_answer, receive_refusal, received_header, send_refusal};
 ghost use Rattle.mq_select.specs.Waiting.{header_of, message_at};
 ghost use Rattle.mq_table.specs.Calls.{receipt_of};
 ghost use Rattle.mq_table.specs.Kept.{is_live_kept, kept_figures, quota_now, waiting_now};
 ghost use Rattle.mq_table.specs.KeptCalls.{kept_receives, kept_refusal_of, kept_sends, kept_sets};
 ghost use Rattle.mq_table.specs.KeptPart.{IsLawfulSlot, WaitsNow};
 
-use crate::{MAX_ENTRIES, MAX_SEQ, Slot};
+use crate::{MAX_SEQ, Slot};
 use mq_message::{Body, Message};
-use mq_queue::{Event, Figures, MSGMNB, Notice, QueueError, Received};
+use mq_queue::{Event, Figures, Notice, QueueError, Received};
 use mq_select::{Selection, Waiting};
-
-/// Why this quota is refused where there is no place for one more entry.
-fn refused_set(qbytes: u64) -> QueueError
-    ensures { result ≡ unwrap_or (set_refusal qbytes) QueueError.Memory }
-{
-    if qbytes > MSGMNB {
-        QueueError::OverLimit
-    } else {
-        QueueError::Memory
-    }
-}
 
 impl<B: Body, W: Waiting<B>> Slot<B, W> {
     /// Why a message of this type and length would be refused now (msgop(2), msgsnd with
@@ -81,10 +70,6 @@ impl<B: Body, W: Waiting<B>> Slot<B, W> {
         let Some(queue) = &mut self.live else {
             unreachable!()
         };
-        if entry == MAX_ENTRIES {
-            let refusal = queue.refuses_send(message.mtype, message.body.len());
-            return Err((refusal.unwrap_or(QueueError::Memory), message));
-        }
         queue.send(message, moment, notice)?;
         Ok(entry)
     }
@@ -124,10 +109,6 @@ impl<B: Body, W: Waiting<B>> Slot<B, W> {
         let Some(queue) = &mut self.live else {
             unreachable!()
         };
-        if entry == MAX_ENTRIES {
-            let refusal = queue.refuses_receive(size, selection, noerror);
-            return Err(refusal.unwrap_or(QueueError::Memory));
-        }
         let received = queue.receive(size, selection, noerror, seat, moment, notice)?;
         Ok(Received { entry, ..received })
     }
@@ -157,9 +138,6 @@ impl<B: Body, W: Waiting<B>> Slot<B, W> {
         let Some(queue) = &mut self.live else {
             unreachable!()
         };
-        if entry == MAX_ENTRIES {
-            return Err(refused_set(qbytes));
-        }
         queue.set(qbytes, seat, moment, notice)?;
         Ok(entry)
     }

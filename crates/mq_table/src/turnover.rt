@@ -1,12 +1,12 @@
 ghost use Rattle.std.specs.Prelude.{◌≡◌, ◌<◌, ◌+◌, ◌-◌, ◌^◌, ◌≤◌, ◌++◌, ◌∷◌, [], ℕ, None, Some, true, false, length};
 ghost use Rattle.std.specs.Prelude.{OnOk, OnErr, IfOk, vec_len, vec_capacity};
 ghost use Rattle.mq_queue.specs.Base.{base_of};
-ghost use Rattle.mq_table.specs.Kept.{entries_of, is_live_kept, kept_figures, made_of};
+ghost use Rattle.mq_table.specs.Kept.{is_live_kept, kept_figures, made_of};
 ghost use Rattle.mq_table.specs.KeptCalls.{kept_removes, log_removed};
 ghost use Rattle.mq_table.specs.KeptPart.{IsLawfulSlot, WaitsNow};
 ghost use Rattle.mq_table.specs.SlotParts.{either, some_base};
 
-use crate::{MAX_ENTRIES, MAX_SEQ, Slot};
+use crate::{MAX_PAST, MAX_SEQ, Slot};
 use mq_message::Body;
 use mq_queue::{Base, Event, Log, Notice, QueueState};
 use mq_select::Waiting;
@@ -65,7 +65,7 @@ fn prepare_end<B: Body, W: Waiting<B>>(
     } else {
         Some(base.copied(alloc)?)
     };
-    let room = (queue.log_len() - queue.first()) as usize + 1;
+    let room = queue.tail_len() as usize + 1;
     past.reserve(room)?;
     Ok(kept)
 }
@@ -79,7 +79,6 @@ impl<B: Body, W: Waiting<B>> Slot<B, W> {
     pub(crate) fn put(&mut self, key: i32, queue: QueueState<B, W>)
         requires empty { is_live_kept self.old ≡ false }
         requires unused { made_of self.old ≤ MAX_SEQ }
-        requires room { entries_of self.old < MAX_ENTRIES }
         requires based { queue.base ≡ base_of [] }
         requires made { (seat : ℕ) × (moment : ℕ)
             × (queue.tail ≡ Event.Made seat moment key ∷ []) }
@@ -113,7 +112,7 @@ impl<B: Body, W: Waiting<B>> Slot<B, W> {
         ensures unnoticed { OnErr result (notice.new ≡ notice.old) }
     {
         let entries = self.events();
-        if entries == MAX_ENTRIES {
+        if entries >= MAX_PAST {
             return Err(AllocError);
         }
         let Some(queue) = &self.live else {

@@ -6,7 +6,7 @@ ghost use Rattle.mq_table.specs.KeptCalls.{kept_makes, kept_removes, log_removed
 ghost use Rattle.mq_table.specs.KeptPart.{IsLawfulSlot, WaitsNow};
 ghost use Rattle.mq_table.specs.KeptShown.{last_id_now, next_id_now};
 
-use crate::{Id, KeyTable, MAX_ENTRIES, MAX_SEQ, Slot};
+use crate::{Id, KeyTable, MAX_SEQ, Slot};
 use mq_message::Body;
 use mq_queue::{Event, Log, Notice, QueueState};
 use mq_select::Waiting;
@@ -36,9 +36,6 @@ pub fn make_under<B: Body, W: Waiting<B>, N: Notice>(
     ensures unnoticed { OnErr result (notice.new ≡ notice.old) }
 {
     let id = Id::of(slot.number(), slot.made());
-    if slot.events() == MAX_ENTRIES {
-        return Err(AllocError);
-    }
     enter_key(keys, key, id)?;
     match QueueState::made(slot.allocator(), key, seat, moment, notice) {
         Ok(queue) => {

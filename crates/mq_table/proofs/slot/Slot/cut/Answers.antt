@@ -9,6 +9,7 @@ invariant_of-self-2 g c =
     cut_slot _ _ _ _ _ _ _ _ _ c.self.invariant _ _ entries _ c.take.ensures.after _
     (rw c.replace-past.ensures.after c.new.ensures.items) _ c.in_ok-base.ensures.after
     (omega (arith, c.replace-made.ensures.after))
+    (omega arith)
 
 pub returns-clause-after : goal.returns-clause-after
 returns-clause-after g c =

@@ -1,5 +1,4 @@
-use Rattle.std.proofs.Common.{rules, ◌+◌, ◌-◌, ◌^◌, ◌<◌, arith}
-use Rattle.mq_table.specs.Kept.{entries_of}
+use Rattle.std.proofs.Common.{rules}
 use Rattle.mq_table.proofs.SlotFields.{refused_send, sent_slot}
 use Rattle.mq_table.proofs.slot.Slot.send.Goals as goal
 
@@ -11,10 +10,8 @@ returns-in_err-send-clause-refused g c =
 
 pub invariant_of-self-2 : goal.invariant_of-self-2
 invariant_of-self-2 g c =
-    let room : entries_of c.args.self.now + 1 < 2 ^ 64 - 1 =
-    omega (arith, c.events-entry.ensures.value, c.events-entry.ensures.small, c.if-entry.false) in
     sent_slot _ _ _ _ _ _ _ _ _ c.self.invariant _ c.in-Some.is c.send.new.self
-    c.send.ensures.base c.send.ensures.sound.waits (rw (← c.self.view_is) at room)
+    c.send.ensures.base c.send.ensures.sound.waits
     c.args.message c.args.moment c.in_ok-send.ensures.accepted c.in_ok-send.ensures.tail
 
 pub returns-clause-lawful : goal.returns-clause-lawful

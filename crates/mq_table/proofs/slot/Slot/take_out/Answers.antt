@@ -1,21 +1,17 @@
-use Rattle.std.proofs.Common.{arith, ◌≡◌, ◌+◌, ◌-◌, ◌^◌, ◌<◌, ◌++◌, ◌∷◌, [], Some, sym, ◌∙◌}
+use Rattle.std.proofs.Common.{arith, ◌≡◌, ◌<◌, ◌++◌, ◌∷◌, [], Some, sym, ◌∙◌}
 use Rattle.std.proofs.lemmas.Option.{same_Some}
 use Rattle.mq_queue.specs.declared.event.Event.{Event}
 use Rattle.mq_queue.specs.declared.event.Event.TheVariants.{Removed}
 use Rattle.mq_table.specs.Kept.{entries_of}
 use Rattle.mq_table.specs.SlotParts.{either, some_base}
+use Rattle.mq_table.specs.declared.limits.TheConstants.{MAX_PAST}
 use Rattle.mq_table.proofs.SlotEnds.{removed_slot}
 use Rattle.mq_table.proofs.slot.Slot.take_out.Goals as goal
 
 pub invariant_of-self-in-Ok : goal.invariant_of-self-in-Ok
 invariant_of-self-in-Ok g c =
-    let room : entries_of c.args.self.now + 1 < 2 ^ 64 - 1 =
-    omega (
-      arith,
-      c.events-entries.ensures.value,
-      c.events-entries.ensures.small,
-      c.if-entries.false,
-    ) in
+    let room : entries_of c.args.self.now < MAX_PAST =
+    omega arith in
     let there : c.self.inside.live ≡ Some c.in-Some-take.queue =
     sym c.take.ensures.value ∙ c.in-Some-take.is in
     let same : c.in-Some.queue ≡ c.in-Some-take.queue = same_Some _ _ (sym c.in-Some.is ∙ there) in
