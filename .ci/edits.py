@@ -8,7 +8,7 @@ import os
 import sys
 from pathlib import Path
 
-WORDS = ("error", "function", "file", "old", "new")
+WORDS = ("error", "function", "test", "goal", "file", "old", "new")
 
 
 class Refused(Exception):
@@ -72,6 +72,11 @@ def read(path, *wanted):
     if missing:
         raise Refused(f"it has no line '{missing[0]}:'")
     return Edit(path, head, pairs)
+
+
+def is_of_a_test(path):
+    """Whether it is an edit that a test must see, and no clause."""
+    return path.read_text().startswith("test:")
 
 
 def edits_below(top, folder, crates=()):

@@ -71,7 +71,8 @@ def body_of(text, at):
 def owner_of(head):
     """The type that an impl is of."""
     head = re.sub(r"\bwhere\b.*", "", head, flags=re.S)
-    target = head.rpartition(" for ")[2] if " for " in head else re.sub(r"^\s*<[^>]*>+", "", head)
+    of = re.compile(r"^\s*<.*?>(?=\s*\w+\s*(?:<|$))", re.S)
+    target = head.rpartition(" for ")[2] if " for " in head else of.sub("", head)
     found = re.search(r"\w+", target)
     return found[0] if found else ""
 

@@ -13,6 +13,22 @@ import re
 SIGNATURE = re.compile(r"(?m)^(?:abbrev )?(?:pub )?(\S+) : (.*)")
 
 
+# What of the function itself a goal is of, by its name.
+KINDS = {
+    "clause": re.compile(r"returns\b.*-clause-"),
+    "return": re.compile(r"returns(?:-|$)"),
+    "loop": re.compile(r"loop(?:-|$)|.*-(?:init|preserved|smaller)$"),
+    "invariant": re.compile(r"invariant_of-"),
+}
+
+
+def kind_of(goal):
+    """What of the function itself this goal is of: a clause, a return, a loop or an invariant; or
+    None where it is of something else, such as the condition of a call or the range of a number."""
+    kinds = [kind for kind, form in KINDS.items() if form.match(goal)]
+    return kinds[0] if kinds and "-requires" not in goal else None
+
+
 class Recorded:
     """What a crate's planted/goals.txt says."""
 
@@ -30,8 +46,9 @@ class Recorded:
         self.sources, self.toolchains = sources, sorted({*kept, toolchain})
 
     def goal(self, edit):
-        """The goal that fell by an edit, where that is known."""
-        return None if edit.of_constants else self.mistakes.get(edit.name)
+        """The goal that an edit names, or else that fell by it, where that is known."""
+        known = edit.head.get("goal") or self.mistakes.get(edit.name)
+        return None if edit.of_constants else known
 
     def beside(self, edit):
         """The goals of the edit's function."""

@@ -3,6 +3,8 @@ import hashlib
 import subprocess
 from pathlib import Path
 
+from edits import is_of_a_test
+
 
 def said(verb):
     """What the toolchain's command says."""
@@ -35,7 +37,7 @@ class Crates:
 
     def sources(self, name):
         """A sum of all that a trial of this crate's planted mistakes reads beside the toolchain: the
-        texts of the crate and of those that it stands on, and the mistakes."""
+        texts of the crate and of those that it stands on, and the mistakes but those of tests."""
         texts = []
         for it in sorted({name, *self.below(name)}):
             crate = self.top / "crates" / it
@@ -44,7 +46,8 @@ class Crates:
                 for path in sorted(crate.glob(f"{part}/**/*.*t")):
                     texts += [str(path.relative_to(self.top)).encode(), path.read_bytes()]
         for path in sorted((self.top / "crates" / name).glob("planted/*.edit")):
-            texts += [path.name.encode(), path.read_bytes()]
+            if not is_of_a_test(path):
+                texts += [path.name.encode(), path.read_bytes()]
         whole = hashlib.sha256()
         for text in texts:
             whole.update(len(text).to_bytes(8, "big") + text)

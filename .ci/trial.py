@@ -76,6 +76,15 @@ function in_two: returns-clause-first returns-clause-second
 """,
 }
 
+# The goals that some of the mistakes name.
+NAMED_GOALS = {
+    "its_named_goal_falls": "returns-clause-second",
+    "another_goal_than_the_named_falls": "returns-clause-first",
+}
+
+# A mistake that a test alone sees.
+FOR_A_TEST = "test: trial tests::the_most_is_nine\nfile: src/lib.rt\nold: MOST: u8 = 9\nnew: MOST: u8 = 8\n"
+
 # The mistakes: what is wanted of each, its function, and its pairs.
 MISTAKES = {
     "a_mistake_is_refused": (None, "next", [("    n + 1", "    n + 2")]),
@@ -102,6 +111,12 @@ MISTAKES = {
         "no goal of it is named as not proved",
         "in_two",
         [("    m + 2", "    2 + m")],
+    ),
+    "its_named_goal_falls": (None, "in_two", [("    m + 2", "    m + 1")]),
+    "another_goal_than_the_named_falls": (
+        "no goal of it is named as not proved",
+        "in_two",
+        [("    m + 2", "    1 + m")],
     ),
     "a_mistake_of_a_type_of_some_arguments_is_refused": (
         None,
@@ -139,9 +154,10 @@ MISTAKES = {
 
 def write(top):
     """Writes the crate and its mistakes below this folder."""
-    texts = dict(FILES)
+    texts = {**FILES, "crates/trial/planted/it_is_for_a_test.edit": FOR_A_TEST}
     for name, (_, function, pairs) in MISTAKES.items():
         lines = [f"function: {function}", "file: src/lib.rt"]
+        lines += [f"goal: {NAMED_GOALS[name]}"] if name in NAMED_GOALS else []
         for old, new in pairs:
             lines += [f"old: {old}", f"new: {new}"]
         texts[f"crates/trial/planted/{name}.edit"] = "\n".join(lines) + "\n"

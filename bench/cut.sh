@@ -7,7 +7,7 @@
 # Fails nothing. Wants valgrind, and for the times a machine with nothing else to do.
 set -euo pipefail
 cd "$(dirname "$0")/.."
-(cd crates/bench && rt run > /dev/null)
+(cd crates/bench_cut && rt run > /dev/null)
 folder=$(mktemp -d)
 trap 'rm -rf "$folder"' EXIT
 python3 - "${1:-21}" "$folder" <<'PYTHON'
@@ -19,7 +19,7 @@ import sys
 import time
 
 ROUNDS, FOLDER = int(sys.argv[1]), sys.argv[2]
-OURS = ["crates/bench/out/bench", "cut"]
+OURS = ["crates/bench_cut/out/bench_cut"]
 SIZES = [(entries, waiting) for entries in (0, 1_000, 100_000) for waiting in (0, 1_000)]
 
 

@@ -29,13 +29,13 @@ static inline int send_whole(int queue, const struct text *text, long size, long
     return 1;
 }
 
-/* Receives as many messages as a text of that size has pieces, and waits for them. How many bytes
-   came, or -1. */
-static inline long receive_whole(int queue, struct text *text, long size, long most)
+/* Receives as many messages of that type, or of any where it is 0, as a text of that size has pieces,
+   and waits for them. How many bytes came, or -1. */
+static inline long receive_whole(int queue, struct text *text, long type, long size, long most)
 {
     long left = size, came = 0;
     do {
-        ssize_t length = msgrcv(queue, text, TEXT_MOST, 0, 0);
+        ssize_t length = msgrcv(queue, text, TEXT_MOST, type, 0);
         if (length < 0)
             return -1;
         came += length;

@@ -22,7 +22,7 @@ static void *answer(void *unused)
     sent.type = 1;
     memset(sent.bytes, 'x', sizeof sent.bytes);
     for (long i = 0; i < count; i++)
-        if (receive_whole(there, &came, size, most) < 0 || !send_whole(back, &sent, size, most))
+        if (receive_whole(there, &came, 0, size, most) < 0 || !send_whole(back, &sent, size, most))
             return (void *)1;
     return NULL;
 }
@@ -47,7 +47,7 @@ int main(int argc, char **argv)
     int failed = 0;
     for (long i = 0; i < count && !failed; i++) {
         long length = send_whole(there, &sent, size, most)
-                          ? receive_whole(back, &came, size, most) : -1;
+                          ? receive_whole(back, &came, 0, size, most) : -1;
         failed = length < 0;
         if (!failed)
             bytes += length;

@@ -1,9 +1,9 @@
 //! Threads of one process send and receive texts of one length through a bounded channel of Rust's
-//! standard library, and the receivers count the bytes that came: `peer_channel SENDERS RECEIVERS
-//! BYTES COUNT QUOTA`, where each sender sends COUNT texts; or `peer_channel back BYTES COUNT QUOTA`,
-//! in which two threads pass one text there and back, on two channels. A channel of the standard
-//! library has one receiver: several share it by a mutex. As many texts may wait as QUOTA has bytes
-//! for, or that many of no bytes. A program that bench/threads.sh times the queues against.
+//! standard library, and the receivers count the bytes that came: `peer_channel WORD BYTES COUNT
+//! SENDERS RECEIVERS QUOTA`. WORD is `flow`, where each sender sends COUNT texts, or `two`, where two
+//! threads pass one text there and back, on two channels. A channel of the standard library has one
+//! receiver: several share it by a mutex. As many texts may wait as QUOTA has bytes for, or that many
+//! of no bytes. A program that bench/threads.sh times the queues against.
 use std::sync::mpsc::{Receiver, SyncSender, sync_channel};
 use std::sync::{Arc, Mutex};
 use std::thread;
@@ -62,10 +62,11 @@ fn flow(senders: usize, receivers: usize, size: usize, count: usize, quota: usiz
 fn main() {
     let words: Vec<String> = std::env::args().skip(1).collect();
     let number = |k: usize| words[k].parse::<usize>().unwrap();
-    let bytes = if words[0] == "back" {
-        pass_back(number(1), number(2), number(3))
+    let (size, count, quota) = (number(1), number(2), number(5));
+    let bytes = if words[0] == "two" {
+        pass_back(size, count, quota)
     } else {
-        flow(number(0), number(1), number(2), number(3), number(4))
+        flow(number(3), number(4), size, count, quota)
     };
     println!("{bytes} bytes came");
 }

@@ -1,11 +1,13 @@
-/* Threads of one process send and receive texts of one length through a queue, and the receivers
-   count the bytes that came: `peer_threads QUEUE SENDERS RECEIVERS BYTES COUNT`, where each sender
-   sends COUNT texts and each receiver takes its share; or `peer_threads QUEUE back BYTES COUNT`, in
-   which two threads pass one text there and back, on two queues. QUEUE is `kernel`, a System V
-   message queue of the kernel, or `mutex`, a mutex with two condition variables over a ring of heap
-   buffers with the same quota. Two words may follow: the quota, of which the kernel gives no more
-   than its msgmnb, and the most bytes of a text that the kernel takes in one call. The program that
-   bench/threads.sh times the queues against. */
+/* Threads of one process pass texts of one length through queues, and count the bytes that came, by
+   the words of `bench system`: `peer_threads QUEUE WORD BYTES COUNT SENDERS RECEIVERS QUOTA [MOST]`.
+   WORD is `flow`, where each sender sends COUNT texts through one queue and each receiver takes its
+   share; `types`, where each sender sends COUNT texts to each receiver by turns, which takes those of
+   a type of its own; `own`, where each of SENDERS sends and receives by turns, COUNT times, in a
+   queue of its own; or `two`, where two pass one text there and back, on two queues. QUEUE is
+   `kernel`, a System V message queue of the kernel, or `mutex`, a mutex with two condition variables
+   over a ring of heap buffers with the same quota, and for each further type a ring with a condition
+   variable more. The kernel gives no greater quota than its msgmnb, and takes a text of more than
+   MOST bytes in pieces. The program that bench/threads.sh times the queues against. */
 #define _GNU_SOURCE
 #include <pthread.h>
 #include <stdio.h>
@@ -18,19 +20,40 @@
 
 enum { QUOTA_MOST = 131072, THREADS_MOST = 16 };
 
-/* A queue of the kernel or of this program. */
-struct queue {
-    int id;
-    pthread_mutex_t lock;
-    pthread_cond_t room, arrived;
-    char *waiting[QUOTA_MOST];
-    size_t lengths[QUOTA_MOST];
-    size_t first, count, bytes;
+struct letter {
+    char *bytes;
+    size_t length;
 };
 
-static struct queue queues[2];
+/* What waits in a queue of this program, of one type. */
+struct ring {
+    pthread_cond_t arrived;
+    struct letter *waiting;
+    size_t first, count;
+};
+
+/* A queue of the kernel or of this program, on cache lines of its own. */
+struct queue {
+    _Alignas(128) pthread_mutex_t lock;
+    pthread_cond_t room;
+    size_t count, bytes;
+    struct ring rings[THREADS_MOST];
+    int id;
+};
+
+/* What a thread does: so many rounds, in each of which it sends a text of each type from 1 on to the
+   first queue, receives one of the type that it selects from the second, and sends one to the third,
+   where it has such a queue. */
+struct player {
+    struct queue *sends, *receives, *replies;
+    long rounds, types, selects;
+    size_t came;
+};
+
+static struct queue queues[THREADS_MOST];
+static struct player players[2 * THREADS_MOST];
 static int of_kernel;
-static long size, count, shares, quota = QUOTA_MOST, most = TEXT_MOST;
+static long size, quota, most = TEXT_MOST;
 static char source[TEXT_MOST];
 
 static void fail(const char *what)
@@ -39,13 +62,19 @@ static void fail(const char *what)
     exit(1);
 }
 
-static void make(struct queue *queue)
+static void make(struct queue *queue, long types)
 {
-    pthread_mutex_init(&queue->lock, NULL);
-    pthread_cond_init(&queue->room, NULL);
-    pthread_cond_init(&queue->arrived, NULL);
-    if (!of_kernel)
+    if (!of_kernel) {
+        pthread_mutex_init(&queue->lock, NULL);
+        pthread_cond_init(&queue->room, NULL);
+        for (long k = 0; k < types; k++) {
+            pthread_cond_init(&queue->rings[k].arrived, NULL);
+            queue->rings[k].waiting = calloc(quota, sizeof(struct letter));
+            if (queue->rings[k].waiting == NULL)
+                fail("calloc");
+        }
         return;
+    }
     struct msqid_ds values;
     queue->id = msgget(IPC_PRIVATE, 0600);
     if (queue->id < 0 || msgctl(queue->id, IPC_STAT, &values) != 0)
@@ -56,149 +85,160 @@ static void make(struct queue *queue)
         fail("msgctl");
 }
 
-static void send_text(struct queue *queue, struct text *scratch)
+/* The ring of a type. Who selects any type finds the first one: all is of type 1 then. */
+static struct ring *ring_of(struct queue *queue, long type)
+{
+    return &queue->rings[type > 1 ? type - 1 : 0];
+}
+
+static void send_text(struct queue *queue, long type, struct text *scratch)
 {
     if (of_kernel) {
+        scratch->type = type;
         memcpy(scratch->bytes, source, size);
         if (!send_whole(queue->id, scratch, size, most))
             fail("msgsnd");
         return;
     }
-    char *text = malloc(size ? size : 1);
-    if (text == NULL)
+    struct ring *ring = ring_of(queue, type);
+    struct letter letter = {malloc(size ? size : 1), size};
+    if (letter.bytes == NULL)
         fail("malloc");
-    memcpy(text, source, size);
+    memcpy(letter.bytes, source, size);
     pthread_mutex_lock(&queue->lock);
     while (queue->count == (size_t)quota || queue->bytes + size > (size_t)quota)
         pthread_cond_wait(&queue->room, &queue->lock);
-    size_t last = (queue->first + queue->count) % quota;
-    queue->waiting[last] = text;
-    queue->lengths[last] = size;
+    ring->waiting[(ring->first + ring->count) % quota] = letter;
+    ring->count++;
     queue->count++;
     queue->bytes += size;
     pthread_mutex_unlock(&queue->lock);
-    pthread_cond_signal(&queue->arrived);
+    pthread_cond_signal(&ring->arrived);
 }
 
-static size_t receive_text(struct queue *queue, struct text *scratch)
+static size_t receive_text(struct queue *queue, long type, struct text *scratch)
 {
     if (of_kernel) {
-        long length = receive_whole(queue->id, scratch, size, most);
+        long length = receive_whole(queue->id, scratch, type, size, most);
         if (length < 0)
             fail("msgrcv");
         return length;
     }
+    struct ring *ring = ring_of(queue, type);
     pthread_mutex_lock(&queue->lock);
-    while (queue->count == 0)
-        pthread_cond_wait(&queue->arrived, &queue->lock);
-    char *text = queue->waiting[queue->first];
-    size_t length = queue->lengths[queue->first];
-    queue->first = (queue->first + 1) % quota;
+    while (ring->count == 0)
+        pthread_cond_wait(&ring->arrived, &queue->lock);
+    struct letter letter = ring->waiting[ring->first];
+    ring->first = (ring->first + 1) % quota;
+    ring->count--;
     queue->count--;
-    queue->bytes -= length;
+    queue->bytes -= letter.length;
     pthread_mutex_unlock(&queue->lock);
     pthread_cond_signal(&queue->room);
-    free(text);
-    return length;
+    free(letter.bytes);
+    return letter.length;
 }
 
-static void *send_all(void *unused)
+static void *play(void *given)
 {
-    (void)unused;
+    struct player *player = given;
     struct text *scratch = malloc(sizeof *scratch);
-    scratch->type = 1;
-    for (long i = 0; i < count; i++)
-        send_text(&queues[0], scratch);
-    free(scratch);
-    return NULL;
-}
-
-static void *receive_all(void *bytes)
-{
-    struct text *scratch = malloc(sizeof *scratch);
-    for (long i = 0; i < shares; i++)
-        *(size_t *)bytes += receive_text(&queues[0], scratch);
-    free(scratch);
-    return NULL;
-}
-
-/* Receives from the first queue and sends to the second. */
-static void *answer_all(void *bytes)
-{
-    struct text *scratch = malloc(sizeof *scratch);
-    scratch->type = 1;
-    for (long i = 0; i < count; i++) {
-        *(size_t *)bytes += receive_text(&queues[0], scratch);
-        send_text(&queues[1], scratch);
+    size_t came = 0;
+    if (scratch == NULL)
+        fail("malloc");
+    for (long i = 0; i < player->rounds; i++) {
+        for (long type = 1; player->sends && type <= player->types; type++)
+            send_text(player->sends, type, scratch);
+        if (player->receives)
+            came += receive_text(player->receives, player->selects, scratch);
+        if (player->replies)
+            send_text(player->replies, 1, scratch);
     }
     free(scratch);
+    player->came = came;
     return NULL;
 }
 
-static size_t pass_back(void)
+/* Those that send through the first queue, and those that receive; how many there are. */
+static long deal_flow(long senders, long receivers, long count, int by_type)
 {
-    pthread_t other;
-    size_t bytes = 0, unused = 0;
-    if (pthread_create(&other, NULL, answer_all, &unused) != 0)
-        fail("pthread_create");
-    struct text *scratch = malloc(sizeof *scratch);
-    scratch->type = 1;
-    for (long i = 0; i < count; i++) {
-        send_text(&queues[0], scratch);
-        bytes += receive_text(&queues[1], scratch);
-    }
-    free(scratch);
-    pthread_join(other, NULL);
-    return bytes;
-}
-
-static size_t flow(long senders, long receivers)
-{
-    pthread_t threads[2 * THREADS_MOST];
-    size_t bytes[THREADS_MOST] = {0}, all = 0;
-    shares = senders * count / receivers;
+    long share = by_type ? senders * count : senders * count / receivers;
     for (long k = 0; k < senders; k++)
-        if (pthread_create(&threads[k], NULL, send_all, NULL) != 0)
-            fail("pthread_create");
+        players[k] = (struct player){
+            .sends = &queues[0], .rounds = count, .types = by_type ? receivers : 1};
     for (long k = 0; k < receivers; k++)
-        if (pthread_create(&threads[senders + k], NULL, receive_all, &bytes[k]) != 0)
+        players[senders + k] = (struct player){
+            .receives = &queues[0], .rounds = share, .selects = by_type ? k + 1 : 0};
+    return senders + receivers;
+}
+
+static long deal_own(long threads, long count)
+{
+    for (long k = 0; k < threads; k++)
+        players[k] = (struct player){
+            .sends = &queues[k], .receives = &queues[k], .rounds = count, .types = 1};
+    return threads;
+}
+
+static long deal_two(long count)
+{
+    players[0] = (struct player){
+        .sends = &queues[0], .receives = &queues[1], .rounds = count, .types = 1};
+    players[1] = (struct player){
+        .receives = &queues[0], .replies = &queues[1], .rounds = count};
+    return 2;
+}
+
+static size_t play_all(long threads)
+{
+    pthread_t made[2 * THREADS_MOST];
+    size_t came = 0;
+    for (long k = 0; k < threads; k++)
+        if (pthread_create(&made[k], NULL, play, &players[k]) != 0)
             fail("pthread_create");
-    for (long k = 0; k < senders + receivers; k++)
-        pthread_join(threads[k], NULL);
-    for (long k = 0; k < receivers; k++)
-        all += bytes[k];
-    return all;
+    for (long k = 0; k < threads; k++) {
+        pthread_join(made[k], NULL);
+        came += players[k].came;
+    }
+    return came;
+}
+
+static long number(const char *word)
+{
+    return strtol(word, NULL, 10);
 }
 
 int main(int argc, char **argv)
 {
-    int goes_back = argc > 2 && strcmp(argv[2], "back") == 0, words = goes_back ? 5 : 6;
-    if (argc < words || argc > words + 2) {
-        fprintf(stderr, "peer_threads kernel|mutex SENDERS RECEIVERS BYTES COUNT [QUOTA [MOST]], or "
-                        "back BYTES COUNT [QUOTA [MOST]]\n");
+    if (argc < 8 || argc > 9) {
+        fprintf(stderr, "peer_threads kernel|mutex flow|types|own|two BYTES COUNT SENDERS RECEIVERS "
+                        "QUOTA [MOST]\n");
         return 2;
     }
+    const char *word = argv[2];
+    long count = number(argv[4]), senders = number(argv[5]), receivers = number(argv[6]);
+    int by_type = strcmp(word, "types") == 0, is_own = strcmp(word, "own") == 0;
     of_kernel = strcmp(argv[1], "kernel") == 0;
-    size = strtol(argv[goes_back ? 3 : 4], NULL, 10);
-    count = strtol(argv[goes_back ? 4 : 5], NULL, 10);
-    long senders = strtol(argv[2], NULL, 10), receivers = goes_back ? 0 : strtol(argv[3], NULL, 10);
-    if (argc > words)
-        quota = strtol(argv[words], NULL, 10);
-    if (argc > words + 1)
-        most = strtol(argv[words + 1], NULL, 10);
+    size = number(argv[3]);
+    quota = number(argv[7]);
+    if (argc > 8)
+        most = number(argv[8]);
     if (size < 0 || size > TEXT_MOST || count < 0 || quota < 1 || quota > QUOTA_MOST || size > quota
-        || most < 1
-        || (!goes_back && (senders < 1 || senders > THREADS_MOST || receivers < 1
-                           || receivers > THREADS_MOST || senders * count % receivers != 0))) {
+        || most < 1 || senders < 1 || senders > THREADS_MOST || receivers < 1
+        || receivers > THREADS_MOST || (!by_type && senders * count % receivers != 0)) {
         fprintf(stderr, "peer_threads: out of range\n");
         return 2;
     }
     memset(source, 'x', sizeof source);
-    make(&queues[0]);
-    make(&queues[1]);
-    size_t bytes = goes_back ? pass_back() : flow(senders, receivers);
-    for (int k = 0; of_kernel && k < 2; k++)
+    long made = is_own ? senders : 2;
+    for (long k = 0; k < made; k++)
+        make(&queues[k], by_type ? receivers : 1);
+    long threads = is_own ? deal_own(senders, count)
+                   : strcmp(word, "two") == 0 ? deal_two(count)
+                   : deal_flow(senders, receivers, count, by_type);
+    size_t came = play_all(threads);
+    for (long k = 0; of_kernel && k < made; k++)
         msgctl(queues[k].id, IPC_RMID, NULL);
-    printf("%zu bytes came\n", bytes);
+    printf("%zu bytes came\n", came);
     return 0;
 }

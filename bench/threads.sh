@@ -1,12 +1,15 @@
 #!/bin/bash
-# Times threads that send and receive texts of one length through one queue of quota 16,384, or of
-# twice a longer text, and two that pass one text there and back: `mqsim threads` and the library
-# alone, beside the kernel's queues, a mutex with two condition variables over heap buffers, a bounded
-# channel of Rust's standard library, and crossbeam_channel: `bench/threads.sh [TEXTS] [ROUNDS]
-# [PICTURE]`, at least 9 rounds. Medians of rounds in which the programs take turns; what a run of no
-# texts takes is left out. Each ratio is printed beside what is wanted, and the status is 1 where one
-# is missed. Draws the picture by gnuplot; without a name it draws none. Raises the kernel's limits
-# while it runs, where it may.
+# Times threads that pass texts through queues, by the library alone, beside the kernel's queues and a
+# mutex with two condition variables over a ring of heap buffers: `bench/threads.sh [TEXTS] [ROUNDS]
+# [PICTURE]`, at least 9 rounds. Rows: so many that send and so many that receive through one queue;
+# threads each of which sends and receives by turns in a queue of its own; one that sends to four by
+# types of their own; two that pass one text there and back; and 16 threads in one queue. Where they
+# can, `mqsim threads`, a bounded channel of Rust's standard library and crossbeam_channel are timed
+# beside them. A queue has the quota 16,384, or twice a longer text.
+# Medians of rounds in each of which all programs do all rows; what a run of no texts takes is left
+# out. The library's ratios are printed beside what is wanted of them, with ! where one is missed, and
+# the status is 1 then. Draws the picture by gnuplot; without a name it draws none. Raises the kernel's
+# limits while it runs, where it may.
 # Wants cc, rustc, and a machine with nothing else to do.
 set -euo pipefail
 cd "$(dirname "$0")/.."
@@ -21,35 +24,60 @@ rustc -O -o "$folder/peer_channel" bench/peer_channel.rs
 raise_limits
 PYTHONPATH=bench PYTHONDONTWRITEBYTECODE=1 python3 - "${1:-40000}" "${2:-9}" "$folder" \
     "${3:-}" <<'PYTHON'
-import itertools
-import os
-import statistics
-import subprocess
 import sys
-import time
+from typing import NamedTuple
 
 import picture
+from timing import medians, most_of_a_call, ratio, say_load, seconds
 
 TEXTS, ROUNDS, FOLDER, PICTURE = int(sys.argv[1]), int(sys.argv[2]), sys.argv[3], sys.argv[4]
-PEERS = ["kernel", "mutex", "channel", "crossbeam"]
-OURS = ["mqsim", "library"]
-# The most of each peer's time, at (threads a side, bytes): none where nothing is wanted.
-WANTED = {
-    (1, 0): (1.2,), (2, 0): (1.2,), (4, 0): (),
-    (1, 1000): (1.0, 1.0), (2, 1000): (1.2,), (4, 1000): (),
-    (1, 8192): (0.6, 0.5, 0.5, 0.5), (2, 8192): (0.8, 0.3, 0.7, 0.7), (4, 8192): (),
-    (1, 65536): (), (2, 65536): (), (4, 65536): (),
-}
-BACK = {0: 0.35, 8192: 0.35, 65536: None}
+BENCH, MQSIM = "crates/bench/out/bench", "crates/mqsim/out/mqsim"
+PROGRAMS = {"mqsim": "mqsim", "library": "library", "kernel": "Linux", "mutex": "a mutex and a ring",
+            "channel": "a channel of Rust", "crossbeam": "a channel of crossbeam"}
+PEERS = ("kernel", "mutex")
+MOST = most_of_a_call()
 MOST_A_LINE = 100_000
-# The longest text that the kernel takes in one call.
-with open("/proc/sys/kernel/msgmax") as file:
-    KERNEL_MOST = file.read().strip()
+# The most of a peer's time by the bytes of a text: of the kernel's through one queue, and of a ring's.
+# 16 threads are more than there are processors.
+ONE_QUEUE = {0: 0.9, 1000: 0.9, 8192: 0.8, 65536: 0.6}
+OWN_QUEUES, BACK, MANY_THREADS = 0.8, 0.35, 1.0
+OF_RING = {0: 2.0, 8192: 1.0, 65536: 1.0}
+# How many times the texts a second of one own queue four must make.
+FOUR_QUEUES = 3.0
 
 
-def quota(length):
-    """How many bytes may wait in a queue, the same for all."""
-    return max(16384, 2 * length)
+class Row(NamedTuple):
+    """Threads that do what a word of `bench system` says, with texts of one length, of which a count
+    is so many in all."""
+    head: str
+    word: str
+    senders: int
+    receivers: int
+    length: int
+    count: int
+    texts: int
+    of_kernel: float
+
+    def quota(self):
+        return max(16384, 2 * self.length)
+
+    def words(self, count):
+        return [self.word, self.length, count, self.senders, self.receivers, self.quota()]
+
+
+def rows():
+    def flow(side, length, wanted):
+        return Row(f"{side}x{side}", "flow", side, side, length, TEXTS // side, side, wanted)
+
+    made = [flow(side, *it) for side in (1, 2, 4) for it in ONE_QUEUE.items()]
+    made += [flow(8, length, MANY_THREADS) for length in (0, 1000)]
+    made += [Row("1x4 by types", "types", 1, 4, length, TEXTS // 4, 4, ONE_QUEUE[length])
+             for length in (0, 1000)]
+    made += [Row(f"own queues {threads}", "own", threads, threads, length, 4 * TEXTS, threads,
+                 OWN_QUEUES)
+             for threads in (1, 2, 4) for length in (0, 1000)]
+    made += [Row("back", "two", 1, 1, length, TEXTS // 10, 1, BACK) for length in (0, 1000, 8192)]
+    return made
 
 
 def lines(word, count, length=None):
@@ -62,101 +90,82 @@ def lines(word, count, length=None):
     return made
 
 
-def flow_script(side, length, texts):
-    sections = [["worker", *lines("put 0 1", texts, length)] for _ in range(side)]
-    sections += [["worker", *lines("take 0 0", texts)] for _ in range(side)]
-    head = ["get 0 c", f"set 0 {quota(length)}"]
-    return "\n".join([*head, *(line for section in sections for line in section)]) + "\n"
+def script(row, count):
+    """What `mqsim threads` reads for a row."""
+    if row.word == "two":
+        here = ["worker"] + [f"put 0 1 1 {row.length}", "take 1 0 1"] * count
+        there = ["worker"] + ["take 0 0 1", f"put 1 1 1 {row.length}"] * count
+        return "\n".join(["get 0 c", "get 0 c", *here, *there]) + "\n"
+    puts = ["worker", *lines("put 0 1", count, row.length)] * row.senders
+    takes = ["worker", *lines("take 0 0", count)] * row.receivers
+    return "\n".join(["get 0 c", f"set 0 {row.quota()}", *puts, *takes]) + "\n"
 
 
-def back_script(length, texts):
-    here = ["worker"] + [f"put 0 1 1 {length}", "take 1 0 1"] * texts
-    there = ["worker"] + ["take 0 0 1", f"put 1 1 1 {length}"] * texts
-    return "\n".join(["get 0 c", "get 0 c", *here, *there]) + "\n"
-
-
-def flow(name, side, length, texts):
-    """The command and the standard input of a run."""
-    numbers = [str(side), str(side), str(length), str(texts), str(quota(length))]
-    words = ["flow", str(length), str(texts), str(side), str(side), str(quota(length))]
-    return {
-        "mqsim": (["crates/mqsim/out/mqsim", "threads", "--height", "10"],
-                  flow_script(side, length, texts)),
-        "library": (["crates/bench/out/bench", "system", *words], ""),
-        "kernel": ([f"{FOLDER}/peer_threads", "kernel", *numbers, KERNEL_MOST], ""),
-        "mutex": ([f"{FOLDER}/peer_threads", "mutex", *numbers], ""),
-        "channel": ([f"{FOLDER}/peer_channel", *numbers], ""),
-        "crossbeam": (["crates/bench/out/bench", "channel", *words], ""),
+def run_of(name, row, count):
+    """The seconds of a run of so many texts."""
+    words = row.words(count)
+    if name == "mqsim":
+        return seconds([MQSIM, "threads", "--height", "10"], script=script(row, count))
+    command = {
+        "library": [BENCH, "system", *words],
+        "kernel": [f"{FOLDER}/peer_threads", "kernel", *words, MOST],
+        "mutex": [f"{FOLDER}/peer_threads", "mutex", *words],
+        "channel": [f"{FOLDER}/peer_channel", *words],
+        "crossbeam": [BENCH, "channel", *words],
     }[name]
+    return seconds(command, count)
 
 
-def back(name, length, texts):
-    numbers = [str(length), str(texts)]
-    bound = str(quota(length))
-    return {
-        "mqsim": (["crates/mqsim/out/mqsim", "threads", "--height", "10"],
-                  back_script(length, texts)),
-        "library": (["crates/bench/out/bench", "system", "two", *numbers], ""),
-        "kernel": ([f"{FOLDER}/peer_threads", "kernel", "back", *numbers, bound, KERNEL_MOST], ""),
-        "mutex": ([f"{FOLDER}/peer_threads", "mutex", "back", *numbers, bound], ""),
-        "channel": ([f"{FOLDER}/peer_channel", "back", *numbers, bound], ""),
-        "crossbeam": (["crates/bench/out/bench", "channel", "two", *numbers], ""),
-    }[name]
+def names_of(row):
+    """The programs that can do a row: `mqsim` has at most 15 workers, and a channel no types."""
+    return list(PROGRAMS) if row.word in ("flow", "two") and row.senders <= 4 else ["library", *PEERS]
 
 
-def seconds(run):
-    command, script = run
-    begin = time.perf_counter()
-    subprocess.run(command, input=script.encode(), check=True, stdout=subprocess.DEVNULL)
-    return time.perf_counter() - begin
+def measured(all_rows):
+    """The nanoseconds of each row's programs for one text, at least one."""
+    runs = {(row, name): (row.count, lambda count, row=row, name=name: run_of(name, row, count))
+            for row in all_rows for name in names_of(row)}
+    found = medians(runs, ROUNDS)
+    return {row: {name: max(1, found[row, name] / row.texts) for name in names_of(row)}
+            for row in all_rows}
 
 
-def nanoseconds(run_of, texts, count):
-    """The median of each program for one text, of `count` in all."""
-    names = OURS + PEERS
-    times = {name: [] for name in names}
-    for turn in range(ROUNDS):
-        for name in names if turn % 2 == 0 else reversed(names):
-            empty = seconds(run_of(name, 0))
-            times[name].append((seconds(run_of(name, texts)) - empty) / count * 1e9)
-    return {name: statistics.median(each) for name, each in times.items()}
-
-
-def row(head, found, wanted):
+def show(row, found):
     """Prints a row; how many of its ratios are missed."""
-    missed, cells = 0, []
-    for ours in OURS:
-        for peer, most in itertools.zip_longest(PEERS, wanted):
-            ratio = found[ours] / found[peer]
-            is_missed = most is not None and ratio > most
-            missed += is_missed
-            cells.append(f"{ratio:6.2f}{'!' if is_missed else ' '}({most if most else '-'})")
-    print(f"{head:14}" + "".join(f"{found[name]:9.0f}" for name in OURS + PEERS), *cells, flush=True)
+    head = f"{row.head}, {row.length}"
+    wanted = (row.of_kernel, OF_RING.get(row.length))
+    cells = [ratio(found["library"] / found[peer], most) for peer, most in zip(PEERS, wanted)]
+    print(f"{head:20}" + "".join(f"{found[name]:10.0f}" if name in found else f"{'-':>10}"
+                                 for name in PROGRAMS)
+          + "".join(f"  {text:13}" for text, _ in cells), flush=True)
+    return sum(is_missed for _, is_missed in cells)
+
+
+def show_growth(found):
+    """Prints how many texts a second four own queues make beside one; how many ratios are missed."""
+    missed = 0
+    a_second = {(row.senders, row.length): 1e9 / times["library"]
+                for row, times in found.items() if row.word == "own"}
+    for length in (0, 1000):
+        one, four = a_second[1, length], a_second[4, length]
+        text, is_missed = ratio(four / one, FOUR_QUEUES, least=True)
+        print(f"texts a second of {length} bytes in own queues: one {one:,.0f}, four {four:,.0f},{text}")
+        missed += is_missed
     return missed
 
 
 def main():
     if ROUNDS < 9:
         sys.exit("at least 9 rounds")
-    print("load average at the start:", *(f"{load:.2f}" for load in os.getloadavg()),
-          f"on {os.cpu_count()} processors; nanoseconds a text, and ratios (wanted)")
-    print(f"{'':14}" + "".join(f"{name:>9}" for name in OURS + PEERS)
-          + "  mqsim / each peer; library / each peer", flush=True)
-    missed, table = 0, []
-    for (side, length), wanted in WANTED.items():
-        texts = TEXTS // side
-        found = nanoseconds(lambda name, n: flow(name, side, length, n), texts, texts * side)
-        missed += row(f"{side}x{side} {length}", found, wanted)
-        table.append((f"{side}x{side}, {length} bytes", found))
-    for length, most in BACK.items():
-        texts = TEXTS // 10
-        found = nanoseconds(lambda name, n: back(name, length, n), texts, texts)
-        missed += row(f"back {length}", found, [most] * len(PEERS))
-        table.append((f"there and back, {length} bytes", found))
+    say_load("nanoseconds a text, and the library's ratios (wanted)")
+    found = measured(rows())
+    print(f"{'':20}" + "".join(f"{name:>10}" for name in PROGRAMS)
+          + "".join(f"  of {name:10}" for name in PEERS))
+    missed = sum(show(row, times) for row, times in found.items()) + show_growth(found)
     if PICTURE:
-        names = OURS + ["Linux", "a mutex and a ring", "a channel of Rust", "a channel of crossbeam"]
-        picture.bars(PICTURE, names, [(head, *(max(1, found[it]) for it in OURS + PEERS))
-                                      for head, found in table], "ns a text")
+        picture.bars(PICTURE, list(PROGRAMS.values()),
+                     [(f"{row.head}, {row.length} bytes", *times.values())
+                      for row, times in found.items() if len(times) == len(PROGRAMS)])
     sys.exit(f"{missed} missed" if missed else 0)
 
 

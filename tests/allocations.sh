@@ -12,7 +12,8 @@
 #   status 0, and of just one worker it is told that it ended with ENOMEM: it has then sent and
 #   received no more than it should, the others have done all, the slots have as many entries as
 #   that, and all pages are free.
-# Such a run that does not end within a minute is stopped, and fails. Wants mqsim to be built, and `cc`.
+# Such a run that does not end within a minute is stopped, and fails. So does a script of which no
+# allocation is refused, or whose answers are others where none is. Wants mqsim to be built, and `cc`.
 # Prints the runs that fail; the last line counts.
 set -uo pipefail
 cd "$(dirname "$0")/.."
@@ -62,6 +63,7 @@ is_right() {
 }
 
 # All runs of the script $2 with the words $3, in the folder $1: writes `PASSED FAILED` to `counts`.
+# Where a file $4 is given, it has the answers of the run in which none is refused.
 try() {
     seen=$1
     local list usual=0 status n passed=0 failed=0
@@ -85,6 +87,14 @@ try() {
         fi
         [ -e "$seen/mark" ] || break
     done
+    if [ "$n" -eq 1 ] && [ ! -e "$seen/mark" ]; then
+        failed=$((failed + 1))
+        echo "allocations: mqsim $3 < $2: no allocation was refused"
+    fi
+    if [ -n "${4-}" ] && ! cmp -s "$4" "$seen/whole"; then
+        failed=$((failed + 1))
+        echo "allocations: mqsim $3 < $2: other answers where none is refused"
+    fi
     echo "$passed $failed" > "$seen/counts"
 }
 
@@ -94,14 +104,15 @@ shim=$folder/refuse.so
 cc -shared -fPIC -O1 -o "$shim" tests/refuse_nth.c -ldl || exit 1
 jobs=0
 
-# Tries the script $1 with the words $2 beside the others, as many as there are processors.
+# Tries the script $1 with the words $2 beside the others, as many as there are processors. Its
+# answers are in the file $3, where one is given.
 begin() {
     jobs=$((jobs + 1))
     mkdir "$folder/$jobs"
     while [ "$(jobs -rp | wc -l)" -ge "$(nproc)" ]; do
         wait -n
     done
-    try "$folder/$jobs" "$1" "$2" &
+    try "$folder/$jobs" "$1" "$2" "${3-}" &
 }
 
 table() {
@@ -110,7 +121,8 @@ table() {
 
 case_of() {
     printf "$2" > "$folder/script-$jobs"
-    begin "$folder/script-$jobs" "$1"
+    printf "$3" > "$folder/answers-$jobs"
+    begin "$folder/script-$jobs" "$1" "$folder/answers-$jobs"
 }
 
 # Workers that each take what they have put: a type each, a queue each, and more than one type each.

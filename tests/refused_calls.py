@@ -4,25 +4,42 @@ makes more than 600, or takes long, and so repeats what it does, some of the lat
 
 `tests/refused_calls.py [CRATE ..]`, or without a name for every crate that has tests. A test makes
 a call that found no memory once more, so each run must end in one of these ways: all its checks
-passed, which says that the call made again answered as if nothing had happened; or the test ends by
-its own word that memory was wanted, where it does not make the call twice. A run that does not end
-fails. Tests whose threads wait for what another thread does are left out where that thread may end
-for want of memory without having done it: they wait for good then, as they must. Wants the tests to
-be built, as crates/CRATE/out/CRATE_tests, and `cc`. Prints the runs that fail, and which tests took
-longest; the last line counts.
+passed, which says that the call made again answered as if nothing had happened; or, where it does
+not make the call twice, the test says in a line of its own that memory ran out, which it does only
+where a call has answered so. A run that does not end fails, and so does a test that fails where
+nothing is refused, and one that makes no allocation and is not listed here as such. Tests whose
+threads wait for what another thread does are left out where that thread may end for want of memory
+without having done it: they wait for good then, as they must. Wants the tests to be built, as
+crates/CRATE/out/CRATE_tests, and `cc`. Prints the runs that fail, and which tests took longest; the
+last line counts.
 """
 import collections
 import concurrent.futures
 import glob
 import itertools
 import os
+import re
 import subprocess
 import sys
 import tempfile
 import time
 
 TOP = os.path.dirname(os.path.dirname(os.path.abspath(__file__)))
-NO_MEMORY = ("memory", "allocerror", "allocfailed", "no page", "no queue", "not sent")
+# The lines of which a test that found no memory has one: what the error of such a call prints, by
+# itself, behind the words of an `expect`, or as the test's result.
+NO_MEMORY = re.compile(
+    r"(?m)^(?:out of memory|ENOMEM|(?:[\w ]+: )?(?:Err\()?"
+    r"(?:AllocError|Memory|Kind\(OutOfMemory\)|(?:AllocFailed|SpawnError) \{ \.\. \})\)?)$"
+)
+# The lines that a test says where what wanted memory does not tell it so: a thread that was not made.
+UNTOLD = {
+    "mq_text_tests threads::each_half_is_filled_by_a_thread_of_its_own": (
+        r"no memory for the count of threads"
+    ),
+    "mq_text_tests threads::each_half_is_written_while_the_other_is": (
+        r"one half is written after the other, or there is no memory for a thread"
+    ),
+}
 # The failures of a test that are told; the others are only counted.
 TOLD = 3
 # The allocations that are refused one by one, as far as a lane comes in so many seconds; beyond
@@ -41,6 +58,21 @@ HANGS = 124
 WAIT_FOR_OTHERS = {
     "mq_cli_thread_tests worked::two_pairs_of_workers_hand_on_all",
     "mq_cli_thread_tests worked::a_removal_ends_who_waits",
+}
+# The tests that may make no allocation.
+MAKE_NONE = {
+    "mq_one_thread_tests limits::a_configuration_past_a_bound_is_refused",
+    "mq_one_thread_tests names::a_refusal_is_named_as_in_the_manual",
+    "mq_one_thread_tests names::each_layers_refusal_has_its_errno",
+    "mq_queue_tests lists::a_msgtyp_is_read_as_the_manual_says",
+    "mq_shared_tests shared::no_parts_are_opened_for_no_slot",
+    "mq_system_tests worked::a_size_out_of_its_limits_is_refused",
+    "mq_table_tests cuts::a_slot_without_a_queue_hands_out_an_empty_cut",
+    "mq_table_tests keys::an_id_is_told_by_slot_and_seq_up_to_the_bounds",
+    "mq_tests programs::a_size_out_of_its_limits_is_refused_before_the_program_runs",
+    "mq_thread_tests seats::a_system_out_of_its_limits_is_not_made",
+    "mq_thread_tests two::two_workers_at_one_seat_are_refused",
+    "mq_worker_tests refusals::an_empty_plan_makes_no_call",
 }
 
 
@@ -65,8 +97,8 @@ def tests_of(crate):
     return [name for name in names if f"{crate} {name}" not in WAIT_FOR_OTHERS]
 
 
-def refused_run(command, shim, mark, nth):
-    """The run whose Nth allocation is refused, or None where it makes fewer."""
+def run_of(command, shim, mark, nth):
+    """The run whose Nth allocation is refused, and whether it made as many."""
     if os.path.exists(mark):
         os.unlink(mark)
     refusal = {"REFUSE_NTH": str(nth), "REFUSE_MARK": mark, "LD_PRELOAD": shim}
@@ -74,13 +106,8 @@ def refused_run(command, shim, mark, nth):
     try:
         run = subprocess.run(command, capture_output=True, text=True, **limits)
     except subprocess.TimeoutExpired:
-        return subprocess.CompletedProcess(command, HANGS, "", f"not ended after {SECONDS} s")
-    return run if os.path.exists(mark) else None
-
-
-def says_no_memory(run):
-    said = (run.stdout + run.stderr).lower()
-    return any(word in said for word in NO_MEMORY)
+        return subprocess.CompletedProcess(command, HANGS, "", f"not ended after {SECONDS} s"), True
+    return run, os.path.exists(mark)
 
 
 def allocations(lane, begun):
@@ -92,22 +119,37 @@ def allocations(lane, begun):
         nth += LANES if each else max(LANES, LANES * nth // 32)
 
 
+def is_untold(test, run):
+    """Whether a test that can't tell says what it says then."""
+    said = UNTOLD.get(test)
+    return said is not None and any(re.fullmatch(said, it) for it in run.stderr.splitlines())
+
+
+def flaw(test, run, nth, was_refused):
+    """What is wrong with a run, or None."""
+    said = " ".join((run.stdout + run.stderr).split())[:300]
+    if not was_refused and run.returncode != 0:
+        return f"nothing refused: status {run.returncode}: {said}"
+    if nth == 1 and not was_refused and test not in MAKE_NONE:
+        return "it makes no allocation"
+    if run.returncode == 0 or NO_MEMORY.search(run.stderr) or is_untold(test, run):
+        return None
+    return f"allocation {nth}: status {run.returncode}: {said}"
+
+
 def judge(crate, test, lane, shim, mark):
     """How many of the runs of a lane ended well, what is to be said of the others, and the time."""
     begun = time.monotonic()
     passed = 0
     wrong = []
     for nth in allocations(lane, begun):
-        run = refused_run([program_of(crate), test], shim, mark, nth)
-        if run is None:
-            break
-        if run.returncode == 0 or says_no_memory(run):
-            passed += 1
-            continue
-        said = " ".join((run.stdout + run.stderr).split())[:300]
-        wrong.append(f"refused_calls: {crate} {test}, allocation {nth}: "
-                     f"status {run.returncode}: {said}")
-        if run.returncode == HANGS:
+        run, was_refused = run_of([program_of(crate), test], shim, mark, nth)
+        found = flaw(f"{crate} {test}", run, nth, was_refused)
+        if found:
+            wrong.append(f"refused_calls: {crate} {test}, {found}")
+        else:
+            passed += was_refused
+        if not was_refused or run.returncode == HANGS:
             break
     return passed, wrong, time.monotonic() - begun
 

@@ -30,39 +30,24 @@ impl QueueProgram for Cycles {
         let id = queues.msgget(1, 1, flags, 0)?.id;
         let mut came = 0u64;
         for _ in 0..self.count {
-            send(queues, id, 1, &self.bytes)?;
-            came = came.wrapping_add(receive(queues, id, 0)?);
+            came = came.wrapping_add(cycle(queues, id, &self.bytes)?);
         }
         Ok(came)
     }
 }
 
-/// Sends a text of this type.
-pub(crate) fn send<L: Ledger>(
-    queues: &mut OneThread<L>,
-    id: Id,
-    mtype: i64,
-    bytes: &[u8],
-) -> Result<(), Errno> {
+// One text there and back; how many bytes came.
+fn cycle<L: Ledger>(queues: &mut OneThread<L>, id: Id, bytes: &[u8]) -> Result<u64, Errno> {
     let text = match queues.draft_of(bytes) {
         Ok(text) => text,
         Err(refused) => return Err(refused.errno()),
     };
-    if let Err(refusal) = queues.msgsnd(1, id, mtype, 0, text, 1) {
+    if let Err(refusal) = queues.msgsnd(1, id, 1, 0, text, 1) {
         let SendRefused { refused, text } = refusal;
         queues.spend(text);
         return Err(refused.errno);
     }
-    Ok(())
-}
-
-/// Receives the first text of this type, or of all for 0, and tells its length.
-pub(crate) fn receive<L: Ledger>(
-    queues: &mut OneThread<L>,
-    id: Id,
-    msgtyp: i64,
-) -> Result<u64, Errno> {
-    let received = match queues.msgrcv(2, id, MSGMAX, msgtyp, false, false, 1) {
+    let received = match queues.msgrcv(2, id, MSGMAX, 0, false, false, 1) {
         Ok(received) => received,
         Err(refused) => return Err(refused.errno),
     };

@@ -1,11 +1,10 @@
-//! What the scripts of bench/ measure, by the first word: `bench tree`, `cycle`, `cut`, `system`,
-//! `stat`, `channel`, `waiting`, `board` or `start`, each with words of its own. Without words it
-//! does a little of each.
+//! What the scripts of bench/ measure, by the first word: `bench tree`, `cycle`, `system`, `stat`,
+//! `channel`, `waiting`, `board` or `start`, each with words of its own. Without words it does a
+//! little of each.
 #![tactic(auto)]
 
 mod board;
 mod channel;
-mod cut;
 mod cycle;
 mod start;
 mod stat;
@@ -30,7 +29,6 @@ fn main(rt: HostRuntime) -> Result<()> {
     match words.word(0) {
         "tree" => tree::run(&rt, alloc, &words),
         "cycle" => cycle::run(&rt, alloc, &words),
-        "cut" => cut::run(&rt, alloc, &words),
         "system" => system::run(&rt, alloc, &words),
         "stat" => stat::run(&rt, alloc, &words),
         "channel" => channel::run(&rt, alloc, &words),
@@ -40,7 +38,6 @@ fn main(rt: HostRuntime) -> Result<()> {
         "" => {
             tree::run(&rt, alloc, &words)?;
             cycle::run(&rt, alloc, &words)?;
-            cut::run(&rt, alloc, &words)?;
             system::run(&rt, alloc, &words)?;
             stat::run(&rt, alloc, &words)?;
             channel::run(&rt, alloc, &words)?;

@@ -47,8 +47,8 @@ fn send_until<N: Names, R: Wait>(
             if done.load(Ordering::SeqCst) {
                 break;
             }
-            send(rt, system, seat, id, bytes)?;
-            receive(rt, system, seat, id)?;
+            send(rt, system, seat, id, 1, bytes)?;
+            receive(rt, system, seat, id, 0)?;
         }
     }
     Ok(0)

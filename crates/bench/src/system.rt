@@ -17,12 +17,17 @@ impl Pledge for Anything {
     ghost kept = { λ _ _ _ _. Unit {0} };
 }
 
-/// Does so many rounds, in each of which it sends to the queue of the first key, receives from that
-/// of the second one, and sends to that of the third one, where it has such a key.
+/// Does so many rounds, in each of which it sends a text of each type to the queue of the first key,
+/// receives one from that of the second one, and sends one to that of the third one, where it has
+/// such a key.
 #[derive(Drop)]
 struct Player {
     bytes: Vec<u8>,
     rounds: u32,
+    /// How many types it sends, from 1 on.
+    types: u32,
+    /// The type that it receives, or 0 for any.
+    selects: u32,
     /// The quota of the queue that it sends to first.
     quota: u64,
     sends: Option<i32>,
@@ -51,13 +56,13 @@ impl Worker<Anything> for Player {
         let mut came = 0u64;
         for _ in 0..self.rounds {
             if let Some(id) = sends {
-                send(rt, system, seat, id, &self.bytes)?;
+                send_each(rt, system, seat, id, self.types, &self.bytes)?;
             }
             if let Some(id) = receives {
-                came = came.wrapping_add(receive(rt, system, seat, id)?);
+                came = came.wrapping_add(receive(rt, system, seat, id, self.selects)?);
             }
             if let Some(id) = replies {
-                send(rt, system, seat, id, &self.bytes)?;
+                send(rt, system, seat, id, 1, &self.bytes)?;
             }
         }
         Ok(came)
@@ -81,19 +86,36 @@ pub(crate) fn queue<N: Names, R: Wait>(
     }
 }
 
-/// Sends a text of these bytes.
+/// Sends a text of these bytes of each type from 1 to the last.
+fn send_each<N: Names, R: Wait>(
+    rt: &R,
+    system: &System<Anything, N>,
+    seat: &mut Seat<N>,
+    id: Id,
+    last: u32,
+    bytes: &[u8],
+) -> Result<(), Errno> {
+    for mtype in 1..=last {
+        send(rt, system, seat, id, mtype, bytes)?;
+    }
+    Ok(())
+}
+
+/// Sends a text of this type and these bytes.
 pub(crate) fn send<N: Names, R: Wait>(
     rt: &R,
     system: &System<Anything, N>,
     seat: &mut Seat<N>,
     id: Id,
+    mtype: u32,
     bytes: &[u8],
 ) -> Result<(), Errno> {
     let text = match system.draft_of(rt, bytes) {
         Ok(text) => text,
         Err(refused) => return Err(refused.errno()),
     };
-    match system.msgsnd(rt, seat, id, 1, 0, text, SendFlags { nowait: false }, 1) {
+    let mtype = i64::from(mtype);
+    match system.msgsnd(rt, seat, id, mtype, 0, text, SendFlags { nowait: false }, 1) {
         Ok(_) => Ok(()),
         Err(refusal) => {
             let SendRefused { refused, text } = refusal;
@@ -103,19 +125,20 @@ pub(crate) fn send<N: Names, R: Wait>(
     }
 }
 
-/// Receives the first message; how many bytes it has.
+/// Receives the first message of this type, or of any where it is 0; how many bytes it has.
 pub(crate) fn receive<N: Names, R: Wait>(
     rt: &R,
     system: &System<Anything, N>,
     seat: &mut Seat<N>,
     id: Id,
+    msgtyp: u32,
 ) -> Result<u64, Errno> {
     let flags = RecvFlags {
         nowait: false,
         noerror: false,
         except: false,
     };
-    let received = match system.msgrcv(rt, seat, id, MSGMAX, 0, flags, 1) {
+    let received = match system.msgrcv(rt, seat, id, MSGMAX, i64::from(msgtyp), flags, 1) {
         Ok(received) => received,
         Err(refused) => return Err(refused.errno),
     };
@@ -151,6 +174,8 @@ impl Sizes {
         Ok(Player {
             bytes: vec![in self.alloc; b'x'; self.bytes]?,
             rounds,
+            types: 1,
+            selects: 0,
             quota: self.quota,
             sends,
             receives,
@@ -164,6 +189,33 @@ impl Sizes {
         players.push(self.player(self.rounds, Some(1), Some(1), None)?)?;
         for _ in 1..seats {
             players.push(self.player(0, None, None, None)?)?;
+        }
+        Ok(players)
+    }
+
+    /// So many, each of which sends and receives by turns in a queue of its own.
+    fn own(&self, threads: u32) -> Result<Vec<Player>, AllocError> {
+        let mut players = Vec::new(self.alloc);
+        let mut key = 0i32;
+        for _ in 0..threads {
+            key = key.saturating_add(1);
+            players.push(self.player(self.rounds, Some(key), Some(key), None)?)?;
+        }
+        Ok(players)
+    }
+
+    /// So many that send a text to each of those that receive by turns, by its type.
+    fn types(&self, senders: u32, receivers: u32, share: u32) -> Result<Vec<Player>, AllocError> {
+        let mut players = Vec::new(self.alloc);
+        for _ in 0..senders {
+            let mut player = self.player(self.rounds, Some(1), None, None)?;
+            player.types = receivers;
+            players.push(player)?;
+        }
+        for mtype in 1..=receivers {
+            let mut player = self.player(share, None, Some(1), None)?;
+            player.selects = mtype;
+            players.push(player)?;
         }
         Ok(players)
     }
@@ -182,9 +234,11 @@ impl Sizes {
 }
 
 /// `system alone BYTES CYCLES SEATS`, where one of so many seats sends and receives by turns;
-/// `system two BYTES CYCLES`, where two pass one text there and back; `system flow BYTES COUNT
-/// SENDERS RECEIVERS QUOTA`, where each sender sends COUNT texts through one queue of that quota
-/// and each receiver takes its share of them: counts the bytes that came.
+/// `system own BYTES CYCLES SEATS`, where each of them does, in a queue of its own; `system two
+/// BYTES CYCLES`, where two pass one text there and back; `system flow BYTES COUNT SENDERS RECEIVERS
+/// QUOTA`, where each sender sends COUNT texts through one queue of that quota and each receiver
+/// takes its share of them; `system types`, of the same words, where each sender sends COUNT texts
+/// to each receiver, which takes those of a type of its own: counts the bytes that came.
 pub(crate) fn run(
     rt: &(impl Print + Threads + Wait + Sync),
     alloc: Global,
@@ -214,6 +268,11 @@ pub(crate) fn run(
             };
             sizes.flow(senders, receivers, share)?
         }
+        "types" => {
+            let (senders, receivers) = (words.number(4, 1)?, words.number(5, 4)?);
+            sizes.types(senders, receivers, senders.saturating_mul(rounds))?
+        }
+        "own" => sizes.own(words.number(4, 4)?)?,
         _ => sizes.alone(words.number(4, 16)?)?,
     };
     let ended = with_workers(rt, alloc, config, players)?;

@@ -2,7 +2,7 @@
 use Rattle.std.proofs.Common.{◌≡◌, List, [], ◌∷◌, ◌++◌, ap, refl}
 use Rattle.mq_shared.specs.Seat.{SeatState}
 use Rattle.mq.specs.Either.{after_either}
-use Rattle.mq.specs.Workers.{AreAfter, IsAfter}
+use Rattle.mq.specs.Workers.{AreAfter}
 use Rattle.mq.specs.declared.either.Either.{Either}
 use Rattle.mq.specs.declared.either.Either.TheVariants.{One, Other}
 
@@ -21,39 +21,56 @@ last_two a b es (p ∷ q ∷ []) rest x y e f g = absurd (cc (e, f))
 last_two a b es (p ∷ q ∷ r ∷ more) rest x y e f g = absurd (cc (e, f))
 
 module _ {A B X Y : Type 0} (one : A → SeatState → X → Type 0) (other : B → SeatState → Y → Type 0) where
-  lone : (b : B) (answers : List (Either X Y)) → AreAfter (after_either one other) (Other b ∷ []) answers
-      → (y : Y) × (answers ≡ Other y ∷ []) × IsAfter other b y
-  lone b [] all = absurd all
-  lone b (One x ∷ answers) all = absurd all.0.1
-  lone b (Other y ∷ []) all = (y, refl, all.0)
-  lone b (Other y ∷ a ∷ answers) all = absurd all.1
+  -- two seats and two answers, each of its worker
+  pub record AreTheirs (a : A) (b : B) (seats : List SeatState) (answers : List (Either X Y)) : Type 0 where
+    pub x : X
+    pub y : Y
+    pub seat : SeatState
+    pub next : SeatState
+    pub answers_are : answers ≡ One x ∷ Other y ∷ []
+    pub seats_are : seats ≡ seat ∷ next ∷ []
+    pub one_is : one a seat x
+    pub other_is : other b next y
 
-  -- the answers of two workers, of which each is after its own
-  pub two_after : (a : A) (b : B) (workers : List (Either A B)) (answers : List (Either X Y)) → workers ≡ One a ∷ Other b ∷ []
-      → AreAfter (after_either one other) workers answers
-      → (x : X) × (y : Y) × (answers ≡ One x ∷ Other y ∷ []) × IsAfter one a x × IsAfter other b y
-  two_after a b workers answers is all = pair answers (rw is at all)
+  lone : (b : B) (seats : List SeatState) (answers : List (Either X Y)) → AreAfter (after_either one other) (Other b ∷ []) seats answers
+      → (next : SeatState) × (y : Y) × (seats ≡ next ∷ []) × (answers ≡ Other y ∷ []) × other b next y
+  lone b [] [] all = absurd all
+  lone b [] (a ∷ answers) all = absurd all
+  lone b (s ∷ seats) [] all = absurd all
+  lone b (s ∷ seats) (One x ∷ answers) all = absurd all.0
+  lone b (s ∷ []) (Other y ∷ []) all = (s, y, refl, refl, all.0)
+  lone b (s ∷ t ∷ seats) (Other y ∷ []) all = absurd all.1
+  lone b (s ∷ []) (Other y ∷ a ∷ answers) all = absurd all.1
+  lone b (s ∷ t ∷ seats) (Other y ∷ a ∷ answers) all = absurd all.1
+
+  -- what two workers leave is of the one and of the other
+  pub two_after : (a : A) (b : B) (workers : List (Either A B)) (seats : List SeatState) (answers : List (Either X Y))
+      → workers ≡ One a ∷ Other b ∷ [] → AreAfter (after_either one other) workers seats answers → AreTheirs a b seats answers
+  two_after a b workers seats answers is all = pair seats answers (rw is at all)
     where
-      pair : (answers : List (Either X Y)) → AreAfter (after_either one other) (One a ∷ Other b ∷ []) answers
-          → (x : X) × (y : Y) × (answers ≡ One x ∷ Other y ∷ []) × IsAfter one a x × IsAfter other b y
-      pair [] all = absurd all
-      pair (Other x ∷ answers) all = absurd all.0.1
-      pair (One x ∷ answers) all =
-          let rest = lone b answers all.1 in
-          (x, rest.0, ap (λ t. One x ∷ t) rest.1, all.0, rest.2)
+      pair : (seats : List SeatState) (answers : List (Either X Y)) → AreAfter (after_either one other) (One a ∷ Other b ∷ []) seats answers
+          → AreTheirs a b seats answers
+      pair [] [] all = absurd all
+      pair [] (a ∷ answers) all = absurd all
+      pair (s ∷ seats) [] all = absurd all
+      pair (s ∷ seats) (Other x ∷ answers) all = absurd all.0
+      pair (s ∷ seats) (One x ∷ answers) all =
+          let rest = lone b seats answers all.1 in
+          record {
+            x = x;
+            y = rest.1;
+            seat = s;
+            next = rest.0;
+            answers_are = ap (λ t. One x ∷ t) rest.3;
+            seats_are = ap (λ t. s ∷ t) rest.2;
+            one_is = all.0;
+            other_is = rest.4;
+          }
 
-  same_two : (answers : List (Either X Y)) (x u : X) (y v : Y) → answers ≡ One x ∷ Other y ∷ [] → answers ≡ One u ∷ Other v ∷ []
+  -- the answers that were taken apart are these
+  pub same_two : (answers : List (Either X Y)) (x u : X) (y v : Y) → answers ≡ One x ∷ Other y ∷ [] → answers ≡ One u ∷ Other v ∷ []
       → (u ≡ x) × (v ≡ y)
   same_two answers x u y v e f =
       let first : u ≡ x = cc in
       let second : v ≡ y = cc in
       (first, second)
-
-  -- two answers are after their workers
-  pub each_after : (a : A) (b : B) (workers : List (Either A B)) (answers : List (Either X Y)) (x : X) (y : Y)
-      → workers ≡ One a ∷ Other b ∷ [] → AreAfter (after_either one other) workers answers → answers ≡ One x ∷ Other y ∷ []
-      → IsAfter one a x × IsAfter other b y
-  each_after a b workers answers x y is all taken =
-      let two = two_after a b workers answers is all in
-      let same = same_two answers two.0 x two.1 y two.2 taken in
-      (rw same.0 two.3, rw same.1 two.4)

@@ -1,4 +1,5 @@
 pub mod EitherLemmas
+pub mod FreeLemmas
 pub mod LawLemmas
 pub mod SendLemmas
 pub mod WorkerLemmas

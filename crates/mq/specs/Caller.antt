@@ -43,9 +43,21 @@ pub record IsRefusal (early : Bool) (may : Errno → Type 0) (old new : SeatStat
   pub refuses : Refuses early may (record { errno = errno; entry = entry })
   pub decided : IsDecided old new slot verdict (record { errno = errno; entry = entry })
 
+-- a call that ended before the system was asked: the seat has learned nothing
+abbrev pub IsUnasked : SeatState → SeatState → Type 0
+IsUnasked old new = new ≡ old
+
+-- there was no memory for so many bytes, and the system was not asked
+abbrev pub HasNoRoom : ℕ → SeatState → SeatState → Errno → Type 0
+HasNoRoom size old new errno = (errno ≡ ENOMEM) × (0 < size) × IsUnasked old new
+
 -- why no text was drafted of so many bytes: they are too many, or no run of pages is free for
 -- them, or no memory
 abbrev pub MayNotDraft : ℕ → Errno → Type 0
 MayNotDraft n EINVAL = nat_lt MSGMAX n ≡ true
 MayNotDraft n ENOMEM = (0 < n) × (n ≤ MSGMAX)
 MayNotDraft n _ = ⊥
+
+-- no text was drafted of so many bytes, and the system was not asked
+abbrev pub IsNotDrafted : ℕ → SeatState → SeatState → Errno → Type 0
+IsNotDrafted n old new errno = MayNotDraft n errno × IsUnasked old new

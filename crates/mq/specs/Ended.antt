@@ -3,9 +3,10 @@ use Rattle.std.specs.Prelude.{◌≡◌, ℕ, List, map}
 use Rattle.mq_tree.specs.LentSet.{Lending, free_pages}
 use Rattle.mq_one_thread.specs.Closed.{all_home, ending_of, ends}
 use Rattle.mq_one_thread.specs.State.{State}
+use Rattle.mq_one_thread.specs.declared.close.ClosedSlot.{ClosedSlot}
 use Rattle.mq_one_thread.specs.declared.config.Config.{Config}
-use Rattle.mq_system.specs.Closed.{entries_in}
 use Rattle.mq_shared.specs.Seat.{SeatState, counted_by}
+use Rattle.mq_system.specs.Closed.{AreDistinct, IsEnd, entries_in}
 use Rattle.mq.specs.declared.ended.Ended.{Ended}
 
 -- how many pages are free once all that waits is home
@@ -19,10 +20,18 @@ pub record Leaves {A : Type 0} (left : State) (ended : Ended A) : Type 0 where
   pub slots : map ending_of ended.slots.items ≡ map ends left.slots
   pub pages : ended.free_pages ≡ free_at_end left
 
--- what is known after a program's run holds of its answer, and of some seats that counted as many
--- changes as the slots have entries
-abbrev pub IsAfterAll : {Q A : Type 0} → (Q → Config → List SeatState → A → Type 0)
-    → Q → Config → Ended A → Type 0
-IsAfterAll after program config ended =
-    (seats : List SeatState) × (entries_in ended.slots.items ≡ counted_by seats)
-    × after program config seats ended.answer
+-- what happened in these slots are the changes of these seats, each of which has another number:
+-- each slot's list begins as each seat knows it, and has what the seats count there
+pub record AreChanges (last_seq : ℕ) (seats : List SeatState) (slots : List ClosedSlot)
+    : Type 0 where
+  pub numbers : AreDistinct seats
+  pub end : IsEnd last_seq seats slots
+  pub total : entries_in slots ≡ counted_by seats
+
+-- what is known after a program's run holds of its answer, and of the seats whose changes are in
+-- the slots
+pub record IsAfterAll {Q A : Type 0} (after : Q → Config → List SeatState → A → Type 0)
+    (program : Q) (config : Config) (ended : Ended A) : Type 0 where
+  pub seats : List SeatState
+  pub run : after program config seats ended.answer
+  pub changes : AreChanges config.last_seq seats ended.slots.items

@@ -1,4 +1,4 @@
-ghost use Rattle.std.specs.Prelude.{◌≡◌, ◌+◌, ◌≤◌, ◌⊎◌, ◌++◌, Ok, IfOk, IfErr, OnErr, length};
+ghost use Rattle.std.specs.Prelude.{◌≡◌, ◌+◌, ◌<◌, ◌≤◌, ◌⊎◌, ◌++◌, Ok, IfOk, IfErr, OnErr, length};
 ghost use Rattle.std.specs.Prelude.{vec_len, vec_capacity};
 ghost use Rattle.mq_one_thread.specs.Look.{refused_or_memory};
 ghost use Rattle.mq_one_thread.specs.declared.errno.Errno.TheVariants.{ENOMEM};
@@ -60,7 +60,7 @@ pub fn receive_bytes<L: Ledger>(
     ensures ok { IfOk result (λ d.
         receives_bytes queues.old seat id size msgtyp except noerror moment
         ≡ Ok (with_text d d.text.items, queues.new)) }
-    ensures refused { IfErr result (λ errno. (errno ≡ ENOMEM)
+    ensures refused { IfErr result (λ errno. ((errno ≡ ENOMEM) × (0 < size))
         ⊎ (errno ≡ (refused_or_memory queues.old id
         (receives_bytes queues.old seat id size msgtyp except noerror moment)).errno)) }
     ensures unchanged { OnErr result (queues.new ≡ queues.old) }

@@ -12,7 +12,7 @@ ghost use Rattle.mq_shared.specs.Seat.{IsCounted, IsLater, IsSame, front_of};
 ghost use Rattle.mq_shared.specs.Seen.{IsDone, IsReceipt, receive_verdict, remove_verdict, send_verdict};
 ghost use Rattle.mq_shared.specs.Shown.{IsRemoval};
 ghost use Rattle.mq_system.specs.Get.{IsNotGot, MayRefuse};
-ghost use Rattle.mq.specs.Caller.{creating, IsGotId, IsRefusal, MayCount, MayNotDraft, MeetsCut, with_bytes};
+ghost use Rattle.mq.specs.Caller.{creating, HasNoRoom, IsGotId, IsNotDrafted, IsRefusal, MayCount, MeetsCut, with_bytes};
 
 use crate::bytes::copy_out;
 use mq_one_thread::{Delivered, Errno, GetFlags, Removal, SendRefused};
@@ -37,6 +37,7 @@ impl<'a, N: Names, R: Wait> Caller<'a, N, R> {
     /// The caller at this seat, with moment 0.
     pub fn new(rt: &'a R, alloc: Global, seat: &'a mut Seat<N>) -> Caller<'a, N, R>
         ensures seat { result.seat ≡ seat.entry }
+        ensures moment { result.moment ≡ 0 }
     {
         Caller {
             rt,
@@ -79,8 +80,10 @@ impl<'a, N: Names, R: Wait> Caller<'a, N, R> {
             create: true,
             exclusive: false,
         };
-        let got = system.msgget(self.rt, self.seat, key, flags, self.moment)?;
-        Ok(got.id)
+        match system.msgget(self.rt, self.seat, key, flags, self.moment) {
+            Ok(got) => Ok(got.id),
+            Err(errno) => Err(errno),
+        }
     }
 
     /// Removes the queue (msgctl(2), IPC_RMID). Who waits in it answers EIDRM.
@@ -146,7 +149,8 @@ impl<'a, N: Names, R: Wait> Caller<'a, N, R> {
         ensures done { IfOk result (λ entry. IsDone self.old.seat.now self.new.seat.now (slot_of id)
             (send_verdict (seq_of id) mtype (length bytes.now)) entry
             (Sent self.old.seat.now.number self.old.moment tag mtype (length bytes.now))) }
-        ensures decided { IfErr result (λ errno. MayNotDraft (length bytes.now) errno
+        ensures decided { IfErr result (λ errno. IsNotDrafted (length bytes.now)
+            self.old.seat.now self.new.seat.now errno
             ⊎ IsRefusal (never_sent N.slots id mtype) (MaySend false)
             self.old.seat.now self.new.seat.now (slot_of id)
             (send_verdict (seq_of id) mtype (length bytes.now)) errno) }
@@ -154,7 +158,8 @@ impl<'a, N: Names, R: Wait> Caller<'a, N, R> {
         self.send_with(system, id, mtype, tag, bytes, SendFlags { nowait: false })
     }
 
-    /// Sends these bytes with these flags.
+    /// Sends these bytes with these flags. EINVAL and ENOMEM of the draft, then the refusals of
+    /// `System::msgsnd`.
     pub fn send_with<P: Pledge>(
         &mut self,
         system: &System<P, N>,
@@ -175,7 +180,8 @@ impl<'a, N: Names, R: Wait> Caller<'a, N, R> {
         ensures done { IfOk result (λ entry. IsDone self.old.seat.now self.new.seat.now (slot_of id)
             (send_verdict (seq_of id) mtype (length bytes.now)) entry
             (Sent self.old.seat.now.number self.old.moment tag mtype (length bytes.now))) }
-        ensures decided { IfErr result (λ errno. MayNotDraft (length bytes.now) errno
+        ensures decided { IfErr result (λ errno. IsNotDrafted (length bytes.now)
+            self.old.seat.now self.new.seat.now errno
             ⊎ IsRefusal (never_sent N.slots id mtype) (MaySend flags.nowait)
             self.old.seat.now self.new.seat.now (slot_of id)
             (send_verdict (seq_of id) mtype (length bytes.now)) errno) }
@@ -196,7 +202,8 @@ impl<'a, N: Names, R: Wait> Caller<'a, N, R> {
     }
 
     /// Receives the bytes of the first message that the selection names, and waits where there is
-    /// none. A text of more bytes than `size` stays, and E2BIG is answered.
+    /// none. A text of more bytes than `size` stays, and E2BIG is answered. Room for `size` bytes
+    /// is made first, without which it answers ENOMEM.
     pub fn receive<P: Pledge>(
         &mut self,
         system: &System<P, N>,
@@ -216,7 +223,8 @@ impl<'a, N: Names, R: Wait> Caller<'a, N, R> {
         ensures done { IfOk result (λ d. IsReceipt self.old.seat.now self.new.seat.now (slot_of id)
             (seq_of id) size (selection_of msgtyp false) false self.old.moment
             (with_bytes d d.text.items)) }
-        ensures decided { IfErr result (λ errno. (errno ≡ ENOMEM)
+        ensures decided { IfErr result (λ errno. HasNoRoom size
+            self.old.seat.now self.new.seat.now errno
             ⊎ IsRefusal (out_of_slots N.slots id) (MayReceive false false)
             self.old.seat.now self.new.seat.now (slot_of id)
             (receive_verdict (seq_of id) size (selection_of msgtyp false) false) errno) }
@@ -229,7 +237,8 @@ impl<'a, N: Names, R: Wait> Caller<'a, N, R> {
         self.receive_with(system, id, size, msgtyp, flags)
     }
 
-    /// Receives the bytes of the first message that the selection names, with these flags.
+    /// Receives the bytes of the first message that the selection names, with these flags. Room for
+    /// `size` bytes is made first, without which it answers ENOMEM.
     pub fn receive_with<P: Pledge>(
         &mut self,
         system: &System<P, N>,
@@ -252,7 +261,8 @@ impl<'a, N: Names, R: Wait> Caller<'a, N, R> {
         ensures done { IfOk result (λ d. IsReceipt self.old.seat.now self.new.seat.now (slot_of id)
             (seq_of id) size (selection_of msgtyp flags.except) flags.noerror self.old.moment
             (with_bytes d d.text.items)) }
-        ensures decided { IfErr result (λ errno. (errno ≡ ENOMEM)
+        ensures decided { IfErr result (λ errno. HasNoRoom size
+            self.old.seat.now self.new.seat.now errno
             ⊎ IsRefusal (out_of_slots N.slots id) (MayReceive flags.nowait flags.noerror)
             self.old.seat.now self.new.seat.now (slot_of id)
             (receive_verdict (seq_of id) size (selection_of msgtyp flags.except) flags.noerror)

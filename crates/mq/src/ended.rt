@@ -1,4 +1,8 @@
-use mq_one_thread::ClosedSlot;
+ghost use Rattle.std.specs.Prelude.{◌≡◌};
+ghost use Rattle.mq_tree.specs.LentSet.{free_pages};
+
+use mq_one_thread::{Closed, ClosedSlot};
+use std::sync::ledger::Ledger;
 
 /// What a program answered, and what its queues left.
 #[derive(Drop)]
@@ -8,4 +12,21 @@ pub struct Ended<A> {
     pub slots: Vec<ClosedSlot>,
     /// How many pages are free once the texts that waited have gone home.
     pub free_pages: u32,
+}
+
+impl<A> Ended<A> {
+    /// The answer, and what the system that was closed after it left.
+    pub(crate) fn of<L: Ledger>(answer: A, closed: Closed<L>) -> Ended<A>
+        ensures answer { result.answer ≡ answer }
+        ensures slots { result.slots ≡ closed.slots }
+        ensures pages { result.free_pages
+            ≡ free_pages closed.arena.height closed.arena.lent }
+    {
+        let Closed { slots, arena } = closed;
+        Ended {
+            answer,
+            slots,
+            free_pages: arena.free_pages(),
+        }
+    }
 }

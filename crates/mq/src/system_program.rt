@@ -1,4 +1,4 @@
-ghost use Rattle.std.specs.Prelude.{◌≡◌, ◌↔◌, ◌≤◌, ℕ, List, true, false, length, All, IfOk, IsErrOf};
+ghost use Rattle.std.specs.Prelude.{◌≡◌, ◌↔◌, ◌^◌, ◌≤◌, ℕ, List, true, false, length, All, IfOk, IsErrOf};
 ghost use Rattle.mq_one_thread.specs.Closed.{IsClosed};
 ghost use Rattle.mq_one_thread.specs.Limits.{keeps_limits};
 ghost use Rattle.mq_one_thread.specs.declared.config.Config.{Config as Sizes};
@@ -10,7 +10,7 @@ ghost use Rattle.mq.specs.Ended.{IsAfterAll};
 use crate::Ended;
 use mq_arena::LEDGER_PARTS;
 use mq_board::Copies;
-use mq_system::{Blanks, Closed, Config, Names, Pledge, Seat, SysError, System};
+use mq_system::{Blanks, Config, Names, Pledge, Seat, SysError, System};
 use std::alloc::Global;
 use std::marker::Brand;
 use std::sync::Wait;
@@ -56,6 +56,7 @@ pub fn with_system<P: Pledge, Q: SystemProgram<P>, R: Wait>(
     ensures after { IfOk result (IsAfterAll Q.after program config) }
     ensures slots { IfOk result (λ e. length e.slots.items ≡ config.slots) }
     ensures closed { IfOk result (λ e. All (IsClosed config.last_seq) e.slots.items) }
+    ensures free { IfOk result (λ e. e.free_pages ≤ 2 ^ config.height) }
     ensures err { IsErrOf result SysError.Config ↔ (keeps_limits config ≡ false) }
 {
     let blanks = match Blanks::of(alloc, config) {
@@ -65,6 +66,7 @@ pub fn with_system<P: Pledge, Q: SystemProgram<P>, R: Wait>(
     run_system::<P, Brand, Q, R>(rt, alloc, config, blanks, program)
 }
 
+#[tactic(auto, using(crate::proofs::FreeLemmas::free_within))]
 fn run_system<P: Pledge, N: Names, Q: SystemProgram<P>, R: Wait>(
     rt: &R,
     alloc: Global,
@@ -78,6 +80,7 @@ fn run_system<P: Pledge, N: Names, Q: SystemProgram<P>, R: Wait>(
     ensures after { IfOk result (IsAfterAll Q.after program config) }
     ensures slots { IfOk result (λ e. length e.slots.items ≡ N.slots) }
     ensures closed { IfOk result (λ e. All (IsClosed N.last_seq) e.slots.items) }
+    ensures free { IfOk result (λ e. e.free_pages ≤ 2 ^ N.height) }
     ensures err { IsErrOf result SysError.Config ↔ (keeps_limits config ≡ false) }
 {
     let (system, mut seats) = match System::<P, N, Copies<N>>::new(alloc, rt, config, blanks) {
@@ -85,10 +88,6 @@ fn run_system<P: Pledge, N: Names, Q: SystemProgram<P>, R: Wait>(
         Err(error) => return Err(error),
     };
     let answer = program.run(rt, alloc, config, &system, &mut seats);
-    let Closed { slots, arena } = system.close(rt, seats);
-    Ok(Ended {
-        answer,
-        slots,
-        free_pages: arena.free_pages(),
-    })
+    let closed = system.close(rt, seats);
+    Ok(Ended::of(answer, closed))
 }

@@ -1,8 +1,8 @@
-ghost use Rattle.std.specs.Prelude.{◌≡◌, ◌↔◌, ◌<◌, true, false, length, All, IfOk};
+ghost use Rattle.std.specs.Prelude.{◌≡◌, ◌↔◌, ◌^◌, ◌<◌, ◌≤◌, true, false, length, All, IfOk};
 ghost use Rattle.std.specs.Prelude.{IsErrOf};
 ghost use Rattle.mq_one_thread.specs.Closed.{IsClosed};
 ghost use Rattle.mq_one_thread.specs.Limits.{keeps_limits};
-ghost use Rattle.mq.specs.Workers.{IsAfter};
+ghost use Rattle.mq.specs.Workers.{AreOfTwo};
 
 use crate::either::{Either, apart, both};
 use crate::{Ended, Worker, WorkersError, with_workers};
@@ -24,10 +24,11 @@ pub fn with_two<
     one: A,
     other: B,
 ) -> Result<Ended<(A::Answer, B::Answer)>, WorkersError>
-    ensures one { IfOk result (λ e. IsAfter A.after one e.answer.0) }
-    ensures other { IfOk result (λ e. IsAfter B.after other e.answer.1) }
+    ensures after { IfOk result (λ e.
+        AreOfTwo A.after B.after config.last_seq one other e.answer e.slots.items) }
     ensures slots { IfOk result (λ e. length e.slots.items ≡ config.slots) }
     ensures closed { IfOk result (λ e. All (IsClosed config.last_seq) e.slots.items) }
+    ensures free { IfOk result (λ e. e.free_pages ≤ 2 ^ config.height) }
     ensures config { IsErrOf result WorkersError.Config ↔ (keeps_limits config ≡ false) }
     ensures seats { IsErrOf result WorkersError.TooManyWorkers
         ↔ ((keeps_limits config ≡ true) × (config.seats < 2)) }

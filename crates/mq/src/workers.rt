@@ -1,17 +1,17 @@
-ghost use Rattle.std.specs.Prelude.{◌≡◌, ◌↔◌, ◌≤◌, ◌<◌, ◌⊎◌, true, false, length, All, IfOk, IfErr, IfSome};
+ghost use Rattle.std.specs.Prelude.{◌≡◌, ◌↔◌, ◌^◌, ◌≤◌, ◌<◌, ◌⊎◌, true, false, length, All, IfOk, IfErr};
 ghost use Rattle.std.specs.Prelude.{IsErrOf, vec_len};
 ghost use Rattle.mq_one_thread.specs.Closed.{IsClosed};
 ghost use Rattle.mq_one_thread.specs.Limits.{keeps_limits};
 ghost use Rattle.mq_shared.specs.Sizes.{AreNames};
-ghost use Rattle.mq.specs.Workers.{AreAfter};
+ghost use Rattle.mq.specs.Workers.{AreAfter, AreOf};
 ghost use Rattle.mq.specs.declared.workers_error.WorkersError.TheVariants.{Memory, Thread};
 
-use crate::at_seat::at_seats;
+use crate::at_seat::{AtSeat, Crew, clear_seats, leave_seats, take_seats, turns};
 use crate::{Ended, Worker, WorkersError};
 use mq_arena::LEDGER_PARTS;
 use mq_board::Copies;
 use mq_jobs::{JobsError, run_jobs};
-use mq_system::{Blanks, Closed, Config, Names, Pledge, Seat, System};
+use mq_system::{Blanks, Config, Names, Pledge, Seat, System};
 use std::alloc::Global;
 use std::marker::Brand;
 use std::sync::Wait;
@@ -27,9 +27,11 @@ pub fn with_workers<P: Pledge + Send + Sync, W: Worker<P> + Send, R: Threads + W
     config: Config,
     workers: Vec<W>,
 ) -> Result<Ended<Vec<W::Answer>>, WorkersError>
-    ensures after { IfOk result (λ e. AreAfter W.after workers.items e.answer.items) }
+    ensures after { IfOk result (λ e.
+        AreOf W.after config.last_seq workers.items e.answer.items e.slots.items) }
     ensures slots { IfOk result (λ e. length e.slots.items ≡ config.slots) }
     ensures closed { IfOk result (λ e. All (IsClosed config.last_seq) e.slots.items) }
+    ensures free { IfOk result (λ e. e.free_pages ≤ 2 ^ config.height) }
     ensures config { IsErrOf result WorkersError.Config ↔ (keeps_limits config ≡ false) }
     ensures seats { IsErrOf result WorkersError.TooManyWorkers
         ↔ ((keeps_limits config ≡ true) × (config.seats < length workers.items)) }
@@ -49,12 +51,14 @@ pub fn with_workers<P: Pledge + Send + Sync, W: Worker<P> + Send, R: Threads + W
     let Ok(blanks) = Blanks::of(alloc, sized) else {
         return Err(WorkersError::Memory);
     };
-    run_workers::<P, Brand, W, R>(rt, alloc, sized, blanks, workers)
+    run_workers::<P, Brand, Brand, W, R>(rt, alloc, sized, blanks, workers)
 }
 
+#[tactic(auto, using(crate::proofs::FreeLemmas::free_within))]
 fn run_workers<
     P: Pledge + Send + Sync,
     N: Names + Send + Sync,
+    C: Crew<W> + Send + Sync,
     W: Worker<P> + Send,
     R: Threads + Wait + Sync,
 >(
@@ -66,28 +70,33 @@ fn run_workers<
 ) -> Result<Ended<Vec<W::Answer>>, WorkersError>
     requires names { AreNames N.Names.own N.Naming blanks config }
     requires enough { LEDGER_PARTS ≤ blanks.pages.parts }
-    requires seats { length workers.items ≤ config.seats }
-    ensures after { IfOk result (λ e. AreAfter W.after workers.items e.answer.items) }
+    requires crew { C.workers ≡ workers.items }
+    requires none { length workers.items ≡ 0 → config.seats ≡ 1 }
+    requires seats { 0 < length workers.items → config.seats ≡ length workers.items }
+    ensures after { IfOk result (λ e.
+        AreOf W.after N.last_seq workers.items e.answer.items e.slots.items) }
     ensures slots { IfOk result (λ e. length e.slots.items ≡ N.slots) }
     ensures closed { IfOk result (λ e. All (IsClosed N.last_seq) e.slots.items) }
+    ensures free { IfOk result (λ e. e.free_pages ≤ 2 ^ N.height) }
     ensures err { IfErr result (λ e. (e ≡ Memory) ⊎ (e ≡ Thread)) }
 {
     let Ok((system, mut seats)) = System::<P, N, Copies<N>>::new(alloc, rt, config, blanks) else {
         return Err(WorkersError::Memory);
     };
-    let ran = run_at(rt, alloc, &system, &mut seats, workers);
-    let Closed { slots, arena } = system.close(rt, seats);
-    Ok(Ended {
-        answer: ran?,
-        slots,
-        free_pages: arena.free_pages(),
-    })
+    if workers.is_empty() {
+        let closed = system.close(rt, seats);
+        return Ok(Ended::of(Vec::new(alloc), closed));
+    }
+    let ran = run_at::<P, N, C, W, R>(rt, alloc, &system, &mut seats, workers);
+    let closed = system.close(rt, seats);
+    Ok(Ended::of(ran?, closed))
 }
 
 /// Runs the workers, each at the seat of its place.
 fn run_at<
     P: Pledge + Send + Sync,
     N: Names + Send + Sync,
+    C: Crew<W> + Send + Sync,
     W: Worker<P> + Send,
     R: Threads + Wait + Sync,
 >(
@@ -97,16 +106,53 @@ fn run_at<
     seats: &mut Vec<Seat<N>>,
     workers: Vec<W>,
 ) -> Result<Vec<W::Answer>, WorkersError>
-    requires { length workers.items ≤ length seats.old.items }
+    requires crew { C.workers ≡ workers.items }
+    requires seats { vec_len seats.old ≡ vec_len workers }
     ensures count { vec_len seats.new ≡ vec_len seats.old }
-    ensures after { IfOk result (λ all. AreAfter W.after workers.items all.items) }
+    ensures after { IfOk result (λ all.
+        AreAfter W.after workers.items seats.new.items all.items) }
     ensures err { IfErr result (λ e. (e ≡ Memory) ⊎ (e ≡ Thread)) }
 {
-    let Ok(jobs) = at_seats(alloc, seats, workers) else {
+    let Ok(mut answers) = Vec::with_capacity(alloc, workers.len()) else {
+        return Err(WorkersError::Memory);
+    };
+    let Ok(mut taken) = Vec::with_capacity(alloc, workers.len()) else {
+        return Err(WorkersError::Memory);
+    };
+    take_seats::<P, N, C, W>(seats, workers, &mut taken);
+    match run_turns(rt, alloc, system, &mut taken) {
+        Ok(()) => {
+            leave_seats(rt, taken, seats, &mut answers);
+            Ok(answers)
+        }
+        Err(error) => {
+            clear_seats(taken, seats);
+            Err(error)
+        }
+    }
+}
+
+/// Runs all turns, each on a thread of its own.
+fn run_turns<
+    P: Pledge + Send + Sync,
+    N: Names + Send + Sync,
+    C: Crew<W> + Send + Sync,
+    W: Worker<P> + Send,
+    R: Threads + Wait + Sync,
+>(
+    rt: &R,
+    alloc: Global,
+    system: &System<P, N>,
+    taken: &mut Vec<AtSeat<P, N, C, W>>,
+) -> Result<(), WorkersError>
+    ensures count { vec_len taken.new ≡ vec_len taken.old }
+    ensures err { IfErr result (λ e. (e ≡ Memory) ⊎ (e ≡ Thread)) }
+{
+    let Ok(jobs) = turns(alloc, taken) else {
         return Err(WorkersError::Memory);
     };
     match run_jobs(rt, alloc, system, jobs) {
-        Ok(answers) => Ok(answers),
+        Ok(_) => Ok(()),
         Err(JobsError::Memory) => Err(WorkersError::Memory),
         Err(JobsError::Thread) => Err(WorkersError::Thread),
     }

@@ -5,6 +5,8 @@
 #[cfg(test)]
 mod answers;
 #[cfg(test)]
+mod bells;
+#[cfg(test)]
 mod calls;
 #[cfg(test)]
 mod ends;

@@ -1,12 +1,13 @@
 -- What a whole run of a threads script has written.
-use Rattle.std.proofs.Common.{◌≡◌, ◌⊎◌, inl, inr, ℕ, ◌^◌, List, [], ◌∷◌, ◌++◌, length, map, Option, Some, None, IfSome, Result, Ok, Err, IfOk, IfErr, IsErrOf, refl, sym, ap, ◌∙◌, subst, append-nil}
+use Rattle.std.proofs.Common.{◌≡◌, ◌⊎◌, inl, inr, ℕ, ◌-◌, ◌<◌, ◌^◌, zero, suc, List, [], ◌∷◌, ◌++◌, map, Option, Some, None, IfSome, Result, Ok, Err, IfOk, IfErr, IsErrOf, refl, sym, ap, ◌∙◌, subst, append-nil, arith, take}
 use Rattle.std.specs.Global.{Vec}
-use Rattle.std.specs.List.{All, AllZip}
-use Rattle.std.specs.Io.KnownBytes.{Appends, Consumes, IsAtEnd, Keeps}
+use Rattle.std.specs.List.{AllZip}
+use Rattle.std.specs.Io.KnownBytes.{Consumes, IsAtEnd, Keeps}
 use Rattle.std.proofs.KnownBytes.{Appends-kept, Appends-trans, Consumes-all, Keeps-trans}
 use Rattle.mq_one_thread.specs.declared.close.ClosedSlot.{ClosedSlot}
 use Rattle.mq_one_thread.specs.declared.config.Config.{Config}
-use Rattle.mq_one_thread.specs.Closed.{IsClosed}
+use Rattle.mq_shared.specs.Seat.{SeatState, fresh_seat}
+use Rattle.mq_system.specs.Started.{AreFresh}
 use Rattle.mq_cli.specs.declared.fault.RunFault.{RunFault}
 use Rattle.mq_cli.specs.declared.fault.RunFault.TheVariants.{Script, Size, Read, Write, Memory, Thread}
 use Rattle.mq_cli.specs.declared.outcome.Outcome.{Outcome}
@@ -15,7 +16,7 @@ use Rattle.mq_cli.specs.Closing.{closing}
 use Rattle.mq_cli.specs.MainPart.{RanMain, WroteAll, WroteSome, lines_replied}
 use Rattle.mq_cli.specs.Plans.{IsDone}
 use Rattle.mq_cli.specs.Serial.{AppendsPrefix}
-use Rattle.mq_cli.specs.Threads.{AreDone, Flushes, IsMakingFault, IsTold, IsWhole, RanParts, RanThreads, Tells, TellsEnd, WroteEnd, WroteMain, WrotePart}
+use Rattle.mq_cli.specs.Threads.{AreClosed, AreDone, Flushes, IsMakingFault, IsTold, IsWhole, RanParts, RanThreads, Tells, TellsEnd, WroteEnd, WroteMain, WrotePart, main_seat}
 use Rattle.mq_cli.specs.declared.threads_script.ThreadsScript.{ThreadsScript}
 use Rattle.mq_cli.specs.ThreadsParsed.{wanted_seen}
 use Rattle.mq_cli.specs.ThreadsScript.{Wanted, wanted_of}
@@ -31,70 +32,98 @@ done_seen (s ∷ sections) [] done = absurd done
 done_seen (s ∷ sections) (o ∷ outcomes) done = (done.0, done_seen sections outcomes done.1)
 
 -- all calls of the main part are some of them
-pub all_some : (slots : ℕ) (wanted : Wanted) (old new : Option (List ℕ)) → WroteAll slots wanted.calls old new → WroteSome slots wanted.calls old new
-all_some slots wanted old new so = wrote_first slots wanted.calls [] wanted.calls old new (sym (append-nil wanted.calls)) so
+pub all_some : (slots last_seq : ℕ) (wanted : Wanted) (main now : SeatState) (old new : Option (List ℕ)) → WroteAll slots last_seq wanted.calls main now old new
+    → WroteSome slots last_seq wanted.calls main old new
+all_some slots last_seq wanted main now old new so = wrote_first slots last_seq wanted.calls [] wanted.calls main now old new (sym (append-nil wanted.calls)) so
 
 -- workers that were not run
-pub not_run : (slots : ℕ) (wanted : Wanted) (old new : Option (List ℕ)) (fault : RunFault) → WroteAll slots wanted.calls old new → IsMakingFault fault
-    → RanParts slots wanted old new (Err fault)
-not_run slots wanted old new Memory so making = all_some slots wanted old new so
-not_run slots wanted old new Thread so making = so
-not_run slots wanted old new (Script line cause) so making = absurd making
-not_run slots wanted old new Size so making = absurd making
-not_run slots wanted old new Read so making = absurd making
-not_run slots wanted old new Write so making = absurd making
+pub not_run : (slots last_seq : ℕ) (wanted : Wanted) (main now : SeatState) (old new : Option (List ℕ)) (fault : RunFault) → WroteAll slots last_seq wanted.calls main now old new
+    → IsMakingFault fault → RanParts slots last_seq wanted main now old new (Err fault)
+not_run slots last_seq wanted main now old new Memory so making = all_some slots last_seq wanted main now old new so
+not_run slots last_seq wanted main now old new Thread so making = so
+not_run slots last_seq wanted main now old new (Script line cause) so making = absurd making
+not_run slots last_seq wanted main now old new Size so making = absurd making
+not_run slots last_seq wanted main now old new Read so making = absurd making
+not_run slots last_seq wanted main now old new Write so making = absurd making
 
 -- a main part that was not done to its end
-pub main_failed : (slots : ℕ) (wanted : Wanted) (old new : Option (List ℕ)) (fault : RunFault) → RanMain slots wanted.calls old new (Err fault)
-    → RanParts slots wanted old new (Err fault)
-main_failed slots wanted old new Write ran = ran
-main_failed slots wanted old new Memory ran = ran
-main_failed slots wanted old new Thread ran = absurd ran
-main_failed slots wanted old new (Script line cause) ran = absurd ran
-main_failed slots wanted old new Size ran = absurd ran
-main_failed slots wanted old new Read ran = absurd ran
+pub main_failed : (slots last_seq : ℕ) (wanted : Wanted) (main now : SeatState) (old new : Option (List ℕ)) (fault : RunFault)
+    → RanMain slots last_seq wanted.calls main now old new (Err fault) → RanParts slots last_seq wanted main now old new (Err fault)
+main_failed slots last_seq wanted main now old new Write ran = ran
+main_failed slots last_seq wanted main now old new Memory ran = ran
+main_failed slots last_seq wanted main now old new Thread ran = absurd ran
+main_failed slots last_seq wanted main now old new (Script line cause) ran = absurd ran
+main_failed slots last_seq wanted main now old new Size ran = absurd ran
+main_failed slots last_seq wanted main now old new Read ran = absurd ran
 
 -- the workers, behind a main part that was
-pub sections_ran : (slots : ℕ) (script : ThreadsScript) (old mid new : Option (List ℕ)) (r : Result (Vec Outcome) RunFault) → WroteAll slots script.calls.items old mid → Keeps mid new
+pub sections_ran : (slots last_seq : ℕ) (script : ThreadsScript) (main now : SeatState) (old mid new : Option (List ℕ)) (r : Result (Vec Outcome) RunFault)
+    → WroteAll slots last_seq script.calls.items main now old mid → Keeps mid new
     → IfOk r (λ (outcomes : Vec Outcome). AllZip (λ (plan : Vec Step) outcome. IsDone plan.items outcome) script.sections.items outcomes.items)
-    → IfErr r IsMakingFault → RanParts slots (wanted_seen script) old new r
-sections_ran slots script old mid new (Ok outcomes) so kept done fault =
-    (all_kept slots script.calls.items old mid new so kept, done_seen script.sections.items outcomes.items done)
-sections_ran slots script old mid new (Err e) so kept done fault = not_run slots (wanted_seen script) old new e (all_kept slots script.calls.items old mid new so kept) fault
+    → IfErr r IsMakingFault → RanParts slots last_seq (wanted_seen script) main now old new r
+sections_ran slots last_seq script main now old mid new (Ok outcomes) so kept done fault =
+    (all_kept slots last_seq script.calls.items main now old mid new so kept, done_seen script.sections.items outcomes.items done)
+sections_ran slots last_seq script main now old mid new (Err e) so kept done fault =
+    not_run slots last_seq (wanted_seen script) main now old new e (all_kept slots last_seq script.calls.items main now old mid new so kept) fault
 
 -- a flush that failed
-pub flush_failed : (slots : ℕ) (script : ThreadsScript) (old mid new : Option (List ℕ)) → WroteAll slots script.calls.items old mid → Keeps mid new
-    → RanParts slots (wanted_seen script) old new (Err Write)
-flush_failed slots script old mid new so kept = all_some slots (wanted_seen script) old new (all_kept slots script.calls.items old mid new so kept)
+pub flush_failed : (slots last_seq : ℕ) (script : ThreadsScript) (main now : SeatState) (old mid new : Option (List ℕ))
+    → WroteAll slots last_seq script.calls.items main now old mid → Keeps mid new → RanParts slots last_seq (wanted_seen script) main now old new (Err Write)
+flush_failed slots last_seq script main now old mid new so kept =
+    all_some slots last_seq (wanted_seen script) main now old new (all_kept slots last_seq script.calls.items main now old mid new so kept)
 
 -- a run that never began
 pub never_begun : (config : Config) (wanted : Wanted) (now : Option (List ℕ)) → WrotePart config wanted now now
-never_begun config wanted now = inl (wrote_first config.slots [] wanted.calls wanted.calls now now refl (wrote_nothing config.slots now))
+never_begun config wanted now =
+    let main = main_seat config in
+    inl (wrote_first config.slots config.last_seq [] wanted.calls wanted.calls main main now now refl (wrote_nothing config.slots config.last_seq main now))
+
+-- the first seat of a system that was just made is that of the main part
+pub first_seat : (config : Config) (slots : ℕ) (seats : List SeatState) (main : SeatState) (others : List SeatState) → slots ≡ config.slots → seats ≡ main ∷ others → AreFresh slots seats
+    → main ≡ main_seat config
+first_seat config slots seats main others same is fresh =
+    let all : AreFresh slots (main ∷ others) = subst (AreFresh slots) is fresh in
+    all 0 main (omega arith) ∙ ap (λ (n : ℕ). fresh_seat n 1) same
+
+-- some of a list, with its first
+pub first_taken : (n : ℕ) (x : SeatState) (xs : List SeatState) → 0 < n → take n (x ∷ xs) ≡ x ∷ take (n - 1) xs
+first_taken zero x xs some = absurd (omega arith)
+first_taken (suc n) x xs some = ap (λ (m : ℕ). x ∷ take m xs) (omega arith)
+
+-- what the parts of a run wrote and answered, of a system that was just made
+abbrev pub RanFrom : Config → Wanted → SeatState → Option (List ℕ) → Option (List ℕ) → Result (Vec Outcome) RunFault → Type 0
+RanFrom config wanted now old new r = RanParts config.slots config.last_seq wanted (main_seat config) now old new r
 
 -- a run that ended before its workers had
-part_stays : (config : Config) (wanted : Wanted) (old mid new : Option (List ℕ)) (fault : RunFault) → RanParts config.slots wanted old mid (Err fault) → Keeps mid new
+part_stays : (config : Config) (wanted : Wanted) (now : SeatState) (old mid new : Option (List ℕ)) (fault : RunFault) → RanFrom config wanted now old mid (Err fault) → Keeps mid new
     → RanThreads config wanted old new (Err fault)
-part_stays config wanted old mid new Write ran kept = inl (some_kept config.slots wanted.calls old mid new ran kept)
-part_stays config wanted old mid new Memory ran kept = inl (some_kept config.slots wanted.calls old mid new ran kept)
-part_stays config wanted old mid new Thread ran kept = all_kept config.slots wanted.calls old mid new ran kept
-part_stays config wanted old mid new (Script line cause) ran kept = absurd ran
-part_stays config wanted old mid new Size ran kept = absurd ran
-part_stays config wanted old mid new Read ran kept = absurd ran
+part_stays config wanted now old mid new Write ran kept = inl (some_kept config.slots config.last_seq wanted.calls (main_seat config) old mid new ran kept)
+part_stays config wanted now old mid new Memory ran kept = inl (some_kept config.slots config.last_seq wanted.calls (main_seat config) old mid new ran kept)
+part_stays config wanted now old mid new Thread ran kept = (now, all_kept config.slots config.last_seq wanted.calls (main_seat config) now old mid new ran kept)
+part_stays config wanted now old mid new (Script line cause) ran kept = absurd ran
+part_stays config wanted now old mid new Size ran kept = absurd ran
+part_stays config wanted now old mid new Read ran kept = absurd ran
 
 -- the same where the last flush failed
-part_cut : (config : Config) (wanted : Wanted) (old mid new : Option (List ℕ)) (fault : RunFault) → RanParts config.slots wanted old mid (Err fault) → Keeps mid new
+part_cut : (config : Config) (wanted : Wanted) (now : SeatState) (old mid new : Option (List ℕ)) (fault : RunFault) → RanFrom config wanted now old mid (Err fault) → Keeps mid new
     → WrotePart config wanted old new
-part_cut config wanted old mid new Write ran kept = inl (some_kept config.slots wanted.calls old mid new ran kept)
-part_cut config wanted old mid new Memory ran kept = inl (some_kept config.slots wanted.calls old mid new ran kept)
-part_cut config wanted old mid new Thread ran kept = inl (all_some config.slots wanted old new (all_kept config.slots wanted.calls old mid new ran kept))
-part_cut config wanted old mid new (Script line cause) ran kept = absurd ran
-part_cut config wanted old mid new Size ran kept = absurd ran
-part_cut config wanted old mid new Read ran kept = absurd ran
+part_cut config wanted now old mid new Write ran kept = inl (some_kept config.slots config.last_seq wanted.calls (main_seat config) old mid new ran kept)
+part_cut config wanted now old mid new Memory ran kept = inl (some_kept config.slots config.last_seq wanted.calls (main_seat config) old mid new ran kept)
+part_cut config wanted now old mid new Thread ran kept =
+    let main = main_seat config in
+    inl (all_some config.slots config.last_seq wanted main now old new (all_kept config.slots config.last_seq wanted.calls main now old mid new ran kept))
+part_cut config wanted now old mid new (Script line cause) ran kept = absurd ran
+part_cut config wanted now old mid new Size ran kept = absurd ran
+part_cut config wanted now old mid new Read ran kept = absurd ran
+
+-- all replies of the main part, as it ended
+abbrev WroteFrom : Config → Wanted → SeatState → Option (List ℕ) → Option (List ℕ) → Type 0
+WroteFrom config wanted now old new = WroteAll config.slots config.last_seq wanted.calls (main_seat config) now old new
 
 -- the text of a whole run
-whole : (config : Config) (wanted : Wanted) (old mid : Option (List ℕ)) (told : List ℕ) (so : WroteAll config.slots wanted.calls old mid) → IsTold config wanted.sections told
-    → IsWhole config wanted (lines_replied so.0 ++ told)
-whole config wanted old mid told so ending = record { replies = so.0; told = told; replied = so.1; ending = ending; text_is = refl }
+whole : (config : Config) (wanted : Wanted) (now : SeatState) (old mid : Option (List ℕ)) (told : List ℕ) (so : WroteFrom config wanted now old mid)
+    → IsTold config wanted.sections now told → IsWhole config wanted (lines_replied so.replies ++ told)
+whole config wanted now old mid told so ending = record { replies = so.replies; main = now; told = told; replied = so.are; ending = ending; text_is = refl }
 
 end_kept : (mid end new : Option (List ℕ)) (told : List ℕ) (r : Result (Unit {0}) RunFault) → WroteEnd mid end told r → Keeps end new → WroteEnd mid new told r
 end_kept mid end new told (Ok _) wrote kept = Appends-kept mid end new told wrote kept
@@ -116,62 +145,59 @@ end_prefix mid new told (Err Size) wrote = absurd wrote
 end_prefix mid new told (Err Read) wrote = absurd wrote
 
 -- a run whose workers have ended, and a prefix of what it tells
-whole_cut : (config : Config) (wanted : Wanted) (old mid new : Option (List ℕ)) (told : List ℕ) → WroteAll config.slots wanted.calls old mid → IsTold config wanted.sections told
-    → AppendsPrefix mid new told → WrotePart config wanted old new
-whole_cut config wanted old mid new told so ending part =
-    inr (lines_replied so.0 ++ told, whole config wanted old mid told so ending, prefix_behind old mid new (lines_replied so.0) told so.2 part)
+whole_cut : (config : Config) (wanted : Wanted) (now : SeatState) (old mid new : Option (List ℕ)) (told : List ℕ) → WroteFrom config wanted now old mid
+    → IsTold config wanted.sections now told → AppendsPrefix mid new told → WrotePart config wanted old new
+whole_cut config wanted now old mid new told so ending part =
+    let text = lines_replied so.replies in
+    inr (text ++ told, whole config wanted now old mid told so ending, prefix_behind old mid new text told so.wrote part)
 
-whole_stays : (config : Config) (wanted : Wanted) (old mid new : Option (List ℕ)) (told : List ℕ) (r : Result (Unit {0}) RunFault) → WroteAll config.slots wanted.calls old mid
-    → IsTold config wanted.sections told → WroteEnd mid new told r → RanThreads config wanted old new r
-whole_stays config wanted old mid new told (Ok _) so ending wrote =
-    (lines_replied so.0 ++ told, whole config wanted old mid told so ending, Appends-trans old mid new (lines_replied so.0) told so.2 wrote)
-whole_stays config wanted old mid new told (Err Write) so ending wrote = whole_cut config wanted old mid new told so ending wrote
-whole_stays config wanted old mid new told (Err Memory) so ending wrote = whole_cut config wanted old mid new told so ending wrote
-whole_stays config wanted old mid new told (Err Thread) so ending wrote = absurd wrote
-whole_stays config wanted old mid new told (Err (Script line cause)) so ending wrote = absurd wrote
-whole_stays config wanted old mid new told (Err Size) so ending wrote = absurd wrote
-whole_stays config wanted old mid new told (Err Read) so ending wrote = absurd wrote
+whole_stays : (config : Config) (wanted : Wanted) (now : SeatState) (old mid new : Option (List ℕ)) (told : List ℕ) (r : Result (Unit {0}) RunFault)
+    → WroteFrom config wanted now old mid → IsTold config wanted.sections now told → WroteEnd mid new told r → RanThreads config wanted old new r
+whole_stays config wanted now old mid new told (Ok _) so ending wrote =
+    let text = lines_replied so.replies in
+    (text ++ told, whole config wanted now old mid told so ending, Appends-trans old mid new text told so.wrote wrote)
+whole_stays config wanted now old mid new told (Err Write) so ending wrote = whole_cut config wanted now old mid new told so ending wrote
+whole_stays config wanted now old mid new told (Err Memory) so ending wrote = whole_cut config wanted now old mid new told so ending wrote
+whole_stays config wanted now old mid new told (Err Thread) so ending wrote = absurd wrote
+whole_stays config wanted now old mid new told (Err (Script line cause)) so ending wrote = absurd wrote
+whole_stays config wanted now old mid new told (Err Size) so ending wrote = absurd wrote
+whole_stays config wanted now old mid new told (Err Read) so ending wrote = absurd wrote
 
--- the slots of a system of this size, closed
-pub record AreClosed (config : Config) (slots : List ClosedSlot) : Type 0 where
-  pub count : length slots ≡ config.slots
-  pub closed : All (IsClosed config.last_seq) slots
-
-told_of : (config : Config) (wanted : Wanted) (outcomes : List Outcome) (slots : List ClosedSlot) (free : ℕ) → AreDone wanted.sections outcomes → AreClosed config slots
-    → IsTold config wanted.sections (closing outcomes slots (2 ^ config.height) free)
-told_of config wanted outcomes slots free done are =
-    record { outcomes = outcomes; slots = slots; free = free; done = done; count = are.count; closed = are.closed; text_is = refl }
+told_of : (config : Config) (wanted : Wanted) (now : SeatState) (outcomes : List Outcome) (slots : List ClosedSlot) (free : ℕ) → AreDone wanted.sections outcomes
+    → AreClosed config now slots → IsTold config wanted.sections now (closing outcomes slots (2 ^ config.height) free)
+told_of config wanted now outcomes slots free done are =
+    record { outcomes = outcomes; slots = slots; free = free; done = done; closed = are; text_is = refl }
 
 -- a run, from what its parts wrote, what was told at the end and the last flush
-run_by : (config : Config) (wanted : Wanted) (old mid end new : Option (List ℕ)) (ran : Result (Vec Outcome) RunFault) (slots : List ClosedSlot) (pages free : ℕ)
-    (told result : Result (Unit {0}) RunFault) → RanParts config.slots wanted old mid ran → AreClosed config slots → pages ≡ 2 ^ config.height
+run_by : (config : Config) (wanted : Wanted) (now : SeatState) (old mid end new : Option (List ℕ)) (ran : Result (Vec Outcome) RunFault) (slots : List ClosedSlot) (pages free : ℕ)
+    (told result : Result (Unit {0}) RunFault) → RanFrom config wanted now old mid ran → AreClosed config now slots → pages ≡ 2 ^ config.height
     → TellsEnd mid end slots pages free ran told → Keeps end new → (result ≡ told) ⊎ (result ≡ Err Write) → RanThreads config wanted old new result
-run_by config wanted old mid end new (Ok outcomes) slots pages free told result parts are paged tells kept (inl same) =
+run_by config wanted now old mid end new (Ok outcomes) slots pages free told result parts are paged tells kept (inl same) =
     let text = closing outcomes.items slots (2 ^ config.height) free in
     let wrote : WroteEnd mid end text told = subst (λ (p : ℕ). WroteEnd mid end (closing outcomes.items slots p free) told) paged tells in
     subst (RanThreads config wanted old new) (sym same)
-    (whole_stays config wanted old mid new text told parts.0 (told_of config wanted outcomes.items slots free parts.1 are) (end_kept mid end new text told wrote kept))
-run_by config wanted old mid end new (Ok outcomes) slots pages free told result parts are paged tells kept (inr failed) =
+    (whole_stays config wanted now old mid new text told parts.0 (told_of config wanted now outcomes.items slots free parts.1 are) (end_kept mid end new text told wrote kept))
+run_by config wanted now old mid end new (Ok outcomes) slots pages free told result parts are paged tells kept (inr failed) =
     let text = closing outcomes.items slots (2 ^ config.height) free in
     let wrote : WroteEnd mid end text told = subst (λ (p : ℕ). WroteEnd mid end (closing outcomes.items slots p free) told) paged tells in
     subst (RanThreads config wanted old new) (sym failed)
-    (whole_cut config wanted old mid new text parts.0 (told_of config wanted outcomes.items slots free parts.1 are) (end_prefix mid new text told (end_kept mid end new text told wrote kept)))
-run_by config wanted old mid end new (Err fault) slots pages free told result parts are paged tells kept (inl same) =
+    (whole_cut config wanted now old mid new text parts.0 (told_of config wanted now outcomes.items slots free parts.1 are) (end_prefix mid new text told (end_kept mid end new text told wrote kept)))
+run_by config wanted now old mid end new (Err fault) slots pages free told result parts are paged tells kept (inl same) =
     let stays : Keeps mid new = Keeps-trans mid end new tells.1 kept in
-    subst (RanThreads config wanted old new) (sym (same ∙ tells.0)) (part_stays config wanted old mid new fault parts stays)
-run_by config wanted old mid end new (Err fault) slots pages free told result parts are paged tells kept (inr failed) =
+    subst (RanThreads config wanted old new) (sym (same ∙ tells.0)) (part_stays config wanted now old mid new fault parts stays)
+run_by config wanted now old mid end new (Err fault) slots pages free told result parts are paged tells kept (inr failed) =
     let stays : Keeps mid new = Keeps-trans mid end new tells.1 kept in
-    subst (RanThreads config wanted old new) (sym failed) (part_cut config wanted old mid new fault parts stays)
+    subst (RanThreads config wanted old new) (sym failed) (part_cut config wanted now old mid new fault parts stays)
 
-pub run_is : (config : Config) (wanted : Wanted) (old mid end new : Option (List ℕ)) (ran : Result (Vec Outcome) RunFault) (slots : List ClosedSlot) (pages free : ℕ)
-    (told result : Result (Unit {0}) RunFault) → RanParts config.slots wanted old mid ran → AreClosed config slots → pages ≡ 2 ^ config.height
+pub run_is : (config : Config) (wanted : Wanted) (now : SeatState) (old mid end new : Option (List ℕ)) (ran : Result (Vec Outcome) RunFault) (slots : List ClosedSlot) (pages free : ℕ)
+    (told result : Result (Unit {0}) RunFault) → RanFrom config wanted now old mid ran → AreClosed config now slots → pages ≡ 2 ^ config.height
     → TellsEnd mid end slots pages free ran told → Flushes end new told result → RanThreads config wanted old new result
-run_is config wanted old mid end new ran slots pages free told result parts are paged tells flushed =
-    run_by config wanted old mid end new ran slots pages free told result parts are paged tells flushed.0 flushed.1
+run_is config wanted now old mid end new ran slots pages free told result parts are paged tells flushed =
+    run_by config wanted now old mid end new ran slots pages free told result parts are paged tells flushed.0 flushed.1
 
 -- where a thread could not be made the main part was written
 thread_main : (config : Config) (wanted : Wanted) (old new : Option (List ℕ)) (r : Result (Unit {0}) RunFault) → RanThreads config wanted old new r → IsErrOf r Thread
-    → WroteAll config.slots wanted.calls old new
+    → WroteMain config wanted old new
 thread_main config wanted old new (Ok _) ran is = absurd (cc is)
 thread_main config wanted old new (Err Thread) ran is = ran
 thread_main config wanted old new (Err Write) ran is = absurd (cc is)

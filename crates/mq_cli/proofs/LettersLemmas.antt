@@ -18,7 +18,7 @@ dropped f a (suc s) n =
     rw one (dropped f (a + 1) s n ∙ ap (λ k. map f (range_with_len k n)) next)
 
 -- a run in two parts
-in_two : (f : ℕ → ℕ) (a s n : ℕ) → map f (range_with_len a (s + n)) ≡ map f (range_with_len a s) ++ map f (range_with_len (a + s) n)
+pub in_two : {A : Type 0} (f : ℕ → A) (a s n : ℕ) → map f (range_with_len a (s + n)) ≡ map f (range_with_len a s) ++ map f (range_with_len (a + s) n)
 in_two f a zero n =
     let none : 0 + n ≡ n = omega arith in
     let same : a + 0 ≡ a = omega arith in

@@ -5,12 +5,14 @@ pub mod AlikeSystems
 pub mod ClosingLemmas
 pub mod DraftLemmas
 pub mod EndLemmas
+pub mod FarLemmas
 pub mod FilledLemmas
 pub mod LettersLemmas
 pub mod LinesLemmas
 pub mod MainLemmas
 pub mod NumberLemmas
 pub mod PartsLemmas
+pub mod PortLemmas
 pub mod ReportLemmas
 pub mod Runs
 pub mod Seats
@@ -19,3 +21,4 @@ pub mod ThreadsLemmas
 pub mod ThreadsRuns
 pub mod Transfers
 pub mod WantedLemmas
+pub mod WorkLemmas

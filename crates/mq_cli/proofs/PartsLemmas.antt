@@ -64,3 +64,6 @@ first_at p xs (Some k) found =
     let high : k ≤ n = le_from_not n k (λ less.
     found.0.before n (omega arith) less (passes_at_first p xs 0 (omega (arith, less, found.0.high)))) in
     one_at n k (length xs) low high found.0.high
+
+-- what cuts a text at its first separator, if there is one
+pub ruleset cut_parts = (split_taken, split_where_none)

@@ -1,4 +1,4 @@
-use Rattle.std.proofs.Common.{◌≡◌, ℕ, ℤ, ◌+◌, ◌^◌, ◌<◌, ◌≤◌, ◌==◌, nat_lt, Bool, true, false, cond, List, [], ◌∷◌, Some, Result, Ok, Err, codes, refl, sym, ap, subst, ◌∙◌, arith, lit<, lit≤, length}
+use Rattle.std.proofs.Common.{◌≡◌, ℕ, ℤ, ◌+◌, ◌^◌, ◌<◌, ◌≤◌, true, false, List, [], ◌∷◌, Some, Result, Ok, Err, codes, refl, ap, subst, ◌∙◌, arith, lit≤}
 use Rattle.std.specs.Fmt.{decimal, signed_decimal}
 use Rattle.std.specs.Int.{w64}
 use Rattle.std.specs.Int.RustNames.{FitsSigned}
@@ -12,11 +12,11 @@ use Rattle.mq_cli.specs.declared.step.Step.TheVariants.{Put, Take, Remove}
 use Rattle.mq_cli.specs.declared.threads_script.MainCall.TheVariants.{Get, Set}
 use Rattle.mq_cli.specs.declared.threads_script.ThreadsLine.{ThreadsLine}
 use Rattle.mq_cli.specs.declared.threads_script.ThreadsLine.TheVariants.{Worker, Main, Section}
-use Rattle.mq_cli.specs.Commands.{Call, sit, show, get, snd, rcv, set, rm, stat, cut, ipcs, get_of, set_of, is_filled, ok_map, ◌>>=◌}
-use Rattle.mq_cli.specs.Laws.{spelling, Spells}
+use Rattle.mq_cli.specs.Commands.{Call, sit, show, get, snd, rcv, set, rm, stat, cut, ipcs, get_of, set_of, is_filled, ok_map}
+use Rattle.mq_cli.specs.Laws.{Spells}
 use Rattle.mq_cli.specs.Lines.{line_of, words_of}
-use Rattle.mq_cli.specs.Numbers.{number_of, integer_of, under}
-use Rattle.mq_cli.specs.ThreadsLaws.{call_asked, moment_of, line_spelling, CanStand, Says, ThreadsReadBack, ThreadsSpelledOneWay}
+use Rattle.mq_cli.specs.Numbers.{number_of, under}
+use Rattle.mq_cli.specs.ThreadsLaws.{line_spelling, CanStand, Says, ThreadsReadBack, ThreadsSpelledOneWay}
 use Rattle.mq_cli.specs.ThreadsScript.{main_call, asked, main_of, put_of, take_of, drop_of, section_of, worker_of, part_of, line_said, threads_reading}
 use Rattle.mq_cli.proofs.NumberLemmas.{number_of-decimal, number_of-Some}
 use Rattle.mq_cli.proofs.SpellingLemmas.{all_filled, bind_ok, changed, chosen, decimal_word, got, integer_of-Some, integer_of-signed_decimal, key_again, name_word, needed, reading-Ok, reads_words, rejoined, signed_word, under-Some, under-decimal}

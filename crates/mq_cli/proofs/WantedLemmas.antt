@@ -1,11 +1,9 @@
 -- A threads script that was read has few sections, whose messages can be counted.
-use Rattle.std.proofs.Common.{◌≡◌, ℕ, ◌+◌, ◌*◌, ◌^◌, ◌<◌, ◌≤◌, zero, suc, List, [], ◌∷◌, ◌++◌, length, map, refl, sym, ap, subst, ◌∙◌, arith, lit<, length-append, Result, Ok, Some, Option}
-use Rattle.std.proofs.Math.ListN.{get_or}
+use Rattle.std.proofs.Common.{◌≡◌, ℕ, ◌+◌, ◌*◌, ◌≤◌, zero, suc, List, [], ◌∷◌, ◌++◌, length, map, refl, sym, ap, arith, length-append, Ok, Some}
 use Rattle.std.specs.Global.{Vec}
-use Rattle.std.specs.List.{All, sum_by}
+use Rattle.std.specs.List.{All}
 use Rattle.std.proofs.lemmas.List.Sums.{sum_by-append}
 use Rattle.mq_cli.specs.declared.limits.TheConstants.{MAX_COUNT, MAX_WORKERS}
-use Rattle.mq_cli.specs.declared.fault.Cause.{Cause}
 use Rattle.mq_cli.specs.declared.step.Step.{Step}
 use Rattle.mq_cli.specs.declared.step.Step.TheVariants.{Put, Take, Remove}
 use Rattle.mq_cli.specs.declared.threads_script.ThreadsLine.{ThreadsLine}

@@ -1,6 +1,6 @@
 -- What a threads script writes: the answers of its main part, and what is told at the end.
 use Rattle.std.specs.Prelude.{ℕ, ◌+◌, ◌==◌, Bool, true, false, if◌then◌else◌, List, [], ◌∷◌, ◌++◌}
-use Rattle.std.specs.Prelude.{length, codes, count_by, Option, Some, None}
+use Rattle.std.specs.Prelude.{codes, count_by, Option, Some, None}
 use Rattle.std.specs.Fmt.{decimal}
 use Rattle.mq_queue.specs.declared.event.Event.{Event}
 use Rattle.mq_queue.specs.declared.event.Event.TheVariants.{Sent, Received}
@@ -66,8 +66,8 @@ slot_told number events sent received left =
 abbrev pub slot_line : ℕ → ClosedSlot → List ℕ
 slot_line number slot =
     if entries_of slot == 0 then []
-    else slot_told number (entries_of slot) (sent_in (events_of slot)) (received_in (events_of slot))
-    slot.left
+    else slot_told number (entries_of slot) (sent_in (events_of slot))
+    (received_in (events_of slot)) slot.left
 
 -- the lines of the slots, the first of which has this number
 abbrev pub slot_lines : ℕ → List ClosedSlot → List ℕ

@@ -1,3 +1,4 @@
+pub mod Calls
 pub mod Closing
 pub mod Commands
 pub mod Cuts
@@ -9,6 +10,8 @@ pub mod MainPart
 pub mod Numbers
 pub mod Parts
 pub mod Plans
+pub mod Ports
+pub mod Progress
 pub mod Reports
 pub mod Seen
 pub mod Serial
@@ -18,3 +21,4 @@ pub mod ThreadsLaws
 pub mod ThreadsParsed
 pub mod ThreadsScript
 pub mod Transcript
+pub mod Works

@@ -1,62 +1,100 @@
--- The main part of a threads script: what its calls may reply, and what it writes.
-use Rattle.std.specs.Prelude.{◌≡◌, ◌≢◌, ◌<◌, ◌≤◌, ℕ, List, ◌++◌, Option, Result, Ok, Err}
-use Rattle.std.specs.List.{AllZip, flat_map}
+-- The main part of a threads script: what its calls reply at their seat, and what it writes.
+use Rattle.std.specs.Prelude.{◌≡◌, ◌≢◌, ◌≤◌, ℕ, ℤ, List, [], ◌∷◌, ◌++◌, Option, Result, Ok, Err}
+use Rattle.std.specs.List.{flat_map}
 use Rattle.std.specs.Io.KnownBytes.{Appends}
+use Rattle.mq_queue.specs.declared.event.Event.TheVariants.{Changed}
 use Rattle.mq_queue.specs.declared.limits.TheConstants.{MSGMNB}
-use Rattle.mq_table.specs.Ids.{slot_of}
+use Rattle.mq_table.specs.Ids.{seq_of, slot_of}
 use Rattle.mq_one_thread.specs.declared.errno.Errno.{Errno}
 use Rattle.mq_one_thread.specs.declared.errno.Errno.TheVariants.{ENOMEM}
-use Rattle.mq_one_thread.specs.declared.results.Refused.{Refused}
-use Rattle.mq_system.specs.Get.{MayGet, MayRefuse}
-use Rattle.mq_shared.specs.Refusals.{Refuses, MaySet, out_of_slots}
+use Rattle.mq_one_thread.specs.declared.results.GetFlags.{GetFlags}
+use Rattle.mq_one_thread.specs.declared.results.Got.{Got}
+use Rattle.mq_system.specs.Get.{CountsGet, IsGot, IsNotGot, MayGet, MayRefuse}
+use Rattle.mq_shared.specs.Refusals.{MaySet, out_of_slots}
+use Rattle.mq_shared.specs.Seat.{IsLater, IsSame, SeatState}
+use Rattle.mq_shared.specs.Seen.{set_verdict}
 use Rattle.mq_cli.specs.declared.fault.RunFault.{RunFault}
 use Rattle.mq_cli.specs.declared.fault.RunFault.TheVariants.{Write, Memory}
 use Rattle.mq_cli.specs.declared.threads_script.MainCall.{MainCall}
 use Rattle.mq_cli.specs.declared.threads_script.MainCall.TheVariants.{Get, Set}
+use Rattle.mq_cli.specs.Ports.{IsChange, IsRefusal}
 use Rattle.mq_cli.specs.Serial.{AppendsPrefix}
 use Rattle.mq_cli.specs.Transcript.{Reply, given, at, refused, output}
 
--- what a call may reply over so many slots, whatever stands under their locks; out of memory has no
--- line
-abbrev pub MayReply : ℕ → MainCall → Reply → Type 0
-MayReply slots (Get key flags moment) (given id) =
-    (slot_of id < slots) × ((made : Option ℕ) × MayGet key flags made)
-MayReply slots (Get key flags moment) (refused errno) = MayRefuse key flags errno × (errno ≢ ENOMEM)
-MayReply slots (Set id qbytes moment) (at entry) = qbytes ≤ MSGMNB
-MayReply slots (Set id qbytes moment) (refused errno) = (errno ≢ ENOMEM) × ((r : Refused)
-    × (r.errno ≡ errno) × Refuses (out_of_slots slots id) (MaySet qbytes) r)
-MayReply slots _ _ = ⊥
+-- msgget answered this id: of a queue that it found, or of one that it made
+pub record Gives (slots last_seq : ℕ) (key : ℤ) (flags : GetFlags) (moment id : ℕ)
+    (old new : SeatState) : Type 0 where
+  pub got : Got
+  pub id_is : got.id ≡ id
+  pub may : MayGet key flags got.made
+  pub counted : CountsGet old new got
+  pub later : IsLater old new
+  pub why : IsGot slots last_seq key moment old new got
 
--- the same of each call and its reply, in their order
-abbrev pub AreReplies : ℕ → List MainCall → List Reply → Type 0
-AreReplies slots calls replies = AllZip (MayReply slots) calls replies
+-- it answered none
+pub record GivesNone (slots last_seq : ℕ) (key : ℤ) (flags : GetFlags) (errno : Errno)
+    (old new : SeatState) : Type 0 where
+  pub may : MayRefuse key flags errno
+  pub same : IsSame old new
+  pub later : IsLater old new
+  pub why : IsNotGot slots last_seq key old new errno
+
+-- what a call replies at a seat that knew the one state before it and the other after it, over so
+-- many slots that each are used so often; out of memory has no line
+abbrev pub IsReply : ℕ → ℕ → MainCall → Reply → SeatState → SeatState → Type 0
+IsReply slots last_seq (Get key flags moment) (given id) old new =
+    Gives slots last_seq key flags moment id old new
+IsReply slots last_seq (Get key flags moment) (refused errno) old new =
+    (errno ≢ ENOMEM) × GivesNone slots last_seq key flags errno old new
+IsReply slots last_seq (Set id qbytes moment) (at entry) old new =
+    (qbytes ≤ MSGMNB) × IsChange old new (slot_of id) (set_verdict (seq_of id) qbytes) entry
+    (Changed old.number moment qbytes)
+IsReply slots last_seq (Set id qbytes moment) (refused errno) old new =
+    (errno ≢ ENOMEM) × IsRefusal (out_of_slots slots id) (MaySet qbytes) old new (slot_of id)
+    (set_verdict (seq_of id) qbytes) errno
+IsReply slots last_seq _ _ old new = ⊥
+
+-- the calls and their replies in order, at one seat, from what it knew first to what it knows last
+abbrev pub AreReplies : ℕ → ℕ → List MainCall → List Reply → SeatState → SeatState → Type 0
+AreReplies slots last_seq [] [] old new = new ≡ old
+AreReplies slots last_seq (call ∷ calls) (reply ∷ replies) old new = (mid : SeatState)
+    × IsReply slots last_seq call reply old mid × AreReplies slots last_seq calls replies mid new
+AreReplies slots last_seq _ _ old new = ⊥
 
 -- the lines of the replies
 abbrev pub lines_replied : List Reply → List ℕ
 lines_replied replies = flat_map output replies
 
 -- one reply was written behind what the buffer held
-abbrev pub Replies : ℕ → MainCall → List ℕ → List ℕ → Type 0
-Replies slots call old new =
-    (reply : Reply) × MayReply slots call reply × (new ≡ old ++ output reply)
+abbrev pub Replies : ℕ → ℕ → MainCall → List ℕ → List ℕ → SeatState → SeatState → Type 0
+Replies slots last_seq call held holds old new =
+    (reply : Reply) × IsReply slots last_seq call reply old new × (holds ≡ held ++ output reply)
 
 -- a reply of each call was written
-abbrev pub WroteAll : ℕ → List MainCall → Option (List ℕ) → Option (List ℕ) → Type 0
-WroteAll slots calls old new =
-    (replies : List Reply) × AreReplies slots calls replies
-    × Appends old new (lines_replied replies)
+pub record WroteAll (slots last_seq : ℕ) (calls : List MainCall) (old new : SeatState)
+    (had has : Option (List ℕ)) : Type 0 where
+  pub replies : List Reply
+  pub are : AreReplies slots last_seq calls replies old new
+  pub wrote : Appends had has (lines_replied replies)
 
 -- a prefix of the replies of the first calls was written
-abbrev pub WroteSome : ℕ → List MainCall → Option (List ℕ) → Option (List ℕ) → Type 0
-WroteSome slots calls old new =
-    (first : List MainCall) × ((rest : List MainCall) × (calls ≡ first ++ rest))
-    × ((replies : List Reply) × AreReplies slots first replies
-    × AppendsPrefix old new (lines_replied replies))
+pub record WroteSome (slots last_seq : ℕ) (calls : List MainCall) (old : SeatState)
+    (had has : Option (List ℕ)) : Type 0 where
+  pub first : List MainCall
+  pub rest : List MainCall
+  pub cut : calls ≡ first ++ rest
+  pub replies : List Reply
+  pub mid : SeatState
+  pub are : AreReplies slots last_seq first replies old mid
+  pub wrote : AppendsPrefix had has (lines_replied replies)
 
 -- what the main part wrote: all, or some of it where a write failed or memory ran out
-abbrev pub RanMain : ℕ → List MainCall → Option (List ℕ) → Option (List ℕ)
-    → Result (Unit {0}) RunFault → Type 0
-RanMain slots calls old new (Ok _) = WroteAll slots calls old new
-RanMain slots calls old new (Err Write) = WroteSome slots calls old new
-RanMain slots calls old new (Err Memory) = WroteSome slots calls old new
-RanMain slots calls old new (Err _) = ⊥
+abbrev pub RanMain : ℕ → ℕ → List MainCall → SeatState → SeatState → Option (List ℕ)
+    → Option (List ℕ) → Result (Unit {0}) RunFault → Type 0
+RanMain slots last_seq calls old new had has (Ok _) =
+    WroteAll slots last_seq calls old new had has
+RanMain slots last_seq calls old new had has (Err Write) =
+    WroteSome slots last_seq calls old had has
+RanMain slots last_seq calls old new had has (Err Memory) =
+    WroteSome slots last_seq calls old had has
+RanMain slots last_seq calls old new had has (Err _) = ⊥

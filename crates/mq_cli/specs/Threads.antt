@@ -1,12 +1,14 @@
 -- What a run of a threads script writes, and its faults.
-use Rattle.std.specs.Prelude.{◌≡◌, ◌⊎◌, ◌^◌, ℕ, List, ◌++◌, length, All, Option, Result, Ok, Err}
+use Rattle.std.specs.Prelude.{◌≡◌, ◌⊎◌, ◌^◌, ℕ, List, ◌∷◌, ◌++◌, length, All, Option, Result, Ok}
+use Rattle.std.specs.Prelude.{Err}
 use Rattle.std.specs.List.{AllZip}
 use Rattle.std.specs.Global.{Vec}
 use Rattle.std.specs.Io.KnownBytes.{Appends, Keeps}
 use Rattle.mq_one_thread.specs.Closed.{IsClosed}
 use Rattle.mq_one_thread.specs.declared.close.ClosedSlot.{ClosedSlot}
 use Rattle.mq_one_thread.specs.declared.config.Config.{Config}
-use Rattle.mq_cli.specs.declared.fault.Cause.{Cause}
+use Rattle.mq_shared.specs.Seat.{SeatState, fresh_seat}
+use Rattle.mq_system.specs.Closed.{IsEnd}
 use Rattle.mq_cli.specs.declared.fault.RunFault.{RunFault}
 use Rattle.mq_cli.specs.declared.fault.RunFault.TheVariants.{Write, Memory, Thread}
 use Rattle.mq_cli.specs.declared.outcome.Outcome.{Outcome}
@@ -22,23 +24,35 @@ use Rattle.mq_cli.specs.Transcript.{Reply}
 abbrev pub AreDone : List (List Step) → List Outcome → Type 0
 AreDone sections outcomes = AllZip IsDone sections outcomes
 
--- what is told of workers that ran these sections, and of the slots of a system of this size that
--- was closed behind them
-pub record IsTold (config : Config) (sections : List (List Step)) (text : List ℕ) : Type 0 where
+-- the slots of a system of this size that was closed: in them are the changes of the main part's
+-- seat, as it ended, and of some others
+pub record AreClosed (config : Config) (main : SeatState) (slots : List ClosedSlot) : Type 0 where
+  pub count : length slots ≡ config.slots
+  pub closed : All (IsClosed config.last_seq) slots
+  pub others : List SeatState
+  pub ends : IsEnd config.last_seq (main ∷ others) slots
+
+-- what is told of workers that ran these sections, and of slots that were closed behind them
+pub record IsTold (config : Config) (sections : List (List Step)) (main : SeatState)
+    (text : List ℕ) : Type 0 where
   pub outcomes : List Outcome
   pub slots : List ClosedSlot
   pub free : ℕ
   pub done : AreDone sections outcomes
-  pub count : length slots ≡ config.slots
-  pub closed : All (IsClosed config.last_seq) slots
+  pub closed : AreClosed config main slots
   pub text_is : text ≡ closing outcomes slots (2 ^ config.height) free
+
+-- what the seat of the main part knows before its first call
+abbrev pub main_seat : Config → SeatState
+main_seat config = fresh_seat config.slots 1
 
 -- what a whole run writes: the replies of the main part, and behind them what is told at the end
 pub record IsWhole (config : Config) (wanted : Wanted) (text : List ℕ) : Type 0 where
   pub replies : List Reply
+  pub main : SeatState
   pub told : List ℕ
-  pub replied : AreReplies config.slots wanted.calls replies
-  pub ending : IsTold config wanted.sections told
+  pub replied : AreReplies config.slots config.last_seq wanted.calls replies (main_seat config) main
+  pub ending : IsTold config wanted.sections main told
   pub text_is : text ≡ lines_replied replies ++ told
 
 abbrev pub WroteWhole : Config → Wanted → Option (List ℕ) → Option (List ℕ) → Type 0
@@ -47,26 +61,31 @@ WroteWhole config wanted old new =
 
 -- the main part alone
 abbrev pub WroteMain : Config → Wanted → Option (List ℕ) → Option (List ℕ) → Type 0
-WroteMain config wanted old new = WroteAll config.slots wanted.calls old new
+WroteMain config wanted old new = (main : SeatState)
+    × WroteAll config.slots config.last_seq wanted.calls (main_seat config) main old new
 
 -- a prefix of what a run writes, which may have ended in its main part
 abbrev pub WrotePart : Config → Wanted → Option (List ℕ) → Option (List ℕ) → Type 0
-WrotePart config wanted old new = WroteSome config.slots wanted.calls old new
+WrotePart config wanted old new =
+    WroteSome config.slots config.last_seq wanted.calls (main_seat config) old new
     ⊎ ((text : List ℕ) × IsWhole config wanted text × AppendsPrefix old new text)
 
 -- this is so of what the script wants, which is well formed
 abbrev pub Tells : (Wanted → Type 0) → List ℕ → Type 0
 Tells so script = (wanted : Wanted) × (wanted_of script ≡ Ok wanted) × so wanted
 
--- what the main part and the workers wrote and answered
-abbrev pub RanParts : ℕ → Wanted → Option (List ℕ) → Option (List ℕ)
+-- what the main part wrote at its seat, and the workers answered
+abbrev pub RanParts : ℕ → ℕ → Wanted → SeatState → SeatState → Option (List ℕ) → Option (List ℕ)
     → Result (Vec Outcome) RunFault → Type 0
-RanParts slots wanted old new (Ok outcomes) =
-    WroteAll slots wanted.calls old new × AreDone wanted.sections outcomes.items
-RanParts slots wanted old new (Err Thread) = WroteAll slots wanted.calls old new
-RanParts slots wanted old new (Err Write) = WroteSome slots wanted.calls old new
-RanParts slots wanted old new (Err Memory) = WroteSome slots wanted.calls old new
-RanParts slots wanted old new (Err _) = ⊥
+RanParts slots last_seq wanted old new had has (Ok outcomes) =
+    WroteAll slots last_seq wanted.calls old new had has × AreDone wanted.sections outcomes.items
+RanParts slots last_seq wanted old new had has (Err Thread) =
+    WroteAll slots last_seq wanted.calls old new had has
+RanParts slots last_seq wanted old new had has (Err Write) =
+    WroteSome slots last_seq wanted.calls old had has
+RanParts slots last_seq wanted old new had has (Err Memory) =
+    WroteSome slots last_seq wanted.calls old had has
+RanParts slots last_seq wanted old new had has (Err _) = ⊥
 
 -- the faults of workers that were not run
 abbrev pub IsMakingFault : RunFault → Type 0

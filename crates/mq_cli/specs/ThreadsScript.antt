@@ -1,5 +1,5 @@
 -- The lines of a threads script, and what they want done together.
-use Rattle.std.specs.Prelude.{ℕ, ◌+◌, ◌^◌, ◌==◌, nat_lt, Bool, if◌then◌else◌, List, [], ◌∷◌, ◌++◌}
+use Rattle.std.specs.Prelude.{ℕ, ◌+◌, ◌^◌, ◌==◌, nat_lt, if◌then◌else◌, List, [], ◌∷◌, ◌++◌}
 use Rattle.std.specs.Prelude.{length, codes, Option, Some, None, Result, Ok, Err}
 use Rattle.std.specs.List.{list_all}
 use Rattle.std.specs.Str.{bytes_eq}
@@ -12,7 +12,8 @@ use Rattle.mq_cli.specs.declared.threads_script.MainCall.{MainCall}
 use Rattle.mq_cli.specs.declared.threads_script.MainCall.TheVariants.{Get, Set}
 use Rattle.mq_cli.specs.declared.threads_script.ThreadsLine.{ThreadsLine}
 use Rattle.mq_cli.specs.declared.threads_script.ThreadsLine.TheVariants.{Worker, Main, Section}
-use Rattle.mq_cli.specs.Commands.{Call, get, set, get_of, set_of, is_filled, ok_map, reading_by, ◌>>=◌}
+use Rattle.mq_cli.specs.Commands.{Call, get, set, get_of, set_of, is_filled, reading_by}
+use Rattle.mq_cli.specs.Commands.{◌>>=◌}
 use Rattle.mq_cli.specs.Lines.{lines_of}
 use Rattle.mq_cli.specs.Numbers.{number_of, integer_of, under}
 

@@ -45,7 +45,7 @@ pub use plan::work;
 pub use port::Port;
 pub use serial::run_serial;
 pub use step::Step;
-pub use system_port::{Letters, SystemPort};
+pub use system_port::{Letters, SystemPort, letters_of_ports};
 pub use taken::Taken;
 pub use threads::run_threads;
 pub use workers::run_workers;

@@ -19,7 +19,8 @@ pub fn run_main<P: Pledge, N: Names, R: Wait, W: Write>(
     calls: &[MainCall],
     writer: &mut W,
 ) -> Result<(), RunFault>
-    ensures { RanMain N.slots calls.now (W.contents writer.old) (W.contents writer.new) result }
+    ensures { RanMain N.slots N.last_seq calls.now seat.old seat.new
+        (W.contents writer.old) (W.contents writer.new) result }
 {
     let mut out = Vec::new(alloc);
     for call in calls {
@@ -43,7 +44,8 @@ fn answer_main<P: Pledge, N: Names, R: Wait>(
     call: MainCall,
     out: &mut Vec<u8>,
 ) -> Result<(), AllocError>
-    ensures { OnOk result (Replies N.slots call out.old.items out.new.items) }
+    ensures { OnOk result (Replies N.slots N.last_seq call out.old.items out.new.items
+        seat.old seat.new) }
 {
     match call {
         MainCall::Get { key, flags, moment } => match system.msgget(rt, seat, key, flags, moment) {

@@ -1,7 +1,8 @@
-ghost use Rattle.std.specs.Prelude.{◌≡◌, ◌<◌, ◌&&◌, true, IfErr, OnOk, Some};
+ghost use Rattle.std.specs.Prelude.{◌≡◌, ◌<◌, ◌&&◌, true, IfErr, OnOk, None, Some};
 ghost use Rattle.std.specs.HashMap.{Updates, get, spare};
 ghost use Rattle.mq_one_thread.specs.declared.errno.Errno.TheVariants.{ENOMEM};
 ghost use Rattle.mq_cli.specs.Plans.{rises};
+ghost use Rattle.mq_cli.specs.declared.notes.Stream.{Stream};
 
 use crate::Taken;
 use mq_one_thread::Errno;
@@ -41,7 +42,9 @@ pub(crate) struct Notes {
 
 impl Notes {
     pub(crate) fn new(alloc: Global) -> Notes
-        ensures { result.ordered ≡ true }
+        ensures last { (stream : Stream) → get ⟦<Stream as PartialEq>⟧.eq result.last stream
+            ≡ None }
+        ensures ordered { result.ordered ≡ true }
     {
         Notes {
             last: HashMap::new(alloc),
@@ -59,6 +62,8 @@ impl Notes {
     /// Makes room for one more note. ENOMEM alone.
     pub(crate) fn reserve(&mut self) -> Result<(), Errno>
         ensures room { OnOk result (0 < spare self.new.last) }
+        ensures last { (stream : Stream) → get ⟦<Stream as PartialEq>⟧.eq self.new.last stream
+            ≡ get ⟦<Stream as PartialEq>⟧.eq self.old.last stream }
         ensures ordered { self.new.ordered ≡ self.old.ordered }
         ensures refused { IfErr result (λ errno. errno ≡ ENOMEM) }
     {

@@ -20,7 +20,7 @@ pub fn first_long_part(separator: u8, text: &[u8]) -> (&[u8], Option<&[u8]>)
 }
 
 /// The parts before and after that place: the whole text where there is none.
-#[tactic(auto, using(crate::proofs::PartsLemmas::split_taken, crate::proofs::PartsLemmas::split_where_none))]
+#[tactic(auto, using(crate::proofs::PartsLemmas::cut_parts))]
 fn cut_at(text: &[u8], place: Option<usize>) -> (&[u8], Option<&[u8]>)
     requires within { IfSome place (λ place. place < length text.now) }
     ensures { (separator : ℕ) → place ≡ position (λ b. b == separator) text.now

@@ -1,5 +1,8 @@
-ghost use Rattle.std.specs.Prelude.{◌≡◌, ◌+◌, ◌<◌, ◌≤◌, ◌^◌, true, OnOk, OnErr};
+ghost use Rattle.std.specs.Prelude.{◌≡◌, ◌+◌, ◌<◌, ◌≤◌, ◌^◌, true, replicate, OnOk, OnErr};
+ghost use Rattle.mq_cli.specs.Calls.{calls_of, receive, sends_after};
 ghost use Rattle.mq_cli.specs.Plans.{IsCountable, IsDone, HasGrown, puts_of, takes_of, removes_of};
+ghost use Rattle.mq_cli.specs.Progress.{GoesOn, end_of};
+ghost use Rattle.mq_cli.specs.Works.{HasWorked};
 
 use crate::notes::{Notes, Stream};
 use crate::{Outcome, Port, Step};
@@ -20,6 +23,7 @@ pub fn work<Q: Port, R: Wait>(
     requires { IsCountable plan.now }
     ensures done { IsDone plan.now result }
     ensures grown { HasGrown plan.now result (Q.calls port.old) (Q.calls port.new) }
+    ensures worked { HasWorked Q.puts Q.takes Q.removes plan.now result port.old port.new }
 {
     let mut progress = Progress {
         sent: 0,
@@ -75,6 +79,8 @@ impl Progress {
             ≡ Q.calls port.old + (self.new.sent + self.new.received) + removes_of step) }
         ensures refused { OnErr result (Q.calls port.new + (self.old.sent + self.old.received)
             ≡ Q.calls port.old + (self.new.sent + self.new.received)) }
+        ensures called { GoesOn ⟦<Stream as PartialEq>⟧.eq Q.puts Q.takes Q.removes
+            (calls_of self.old.sent step) port.old port.new self.old self.new (end_of result) }
     {
         match step {
             Step::Put {
@@ -114,10 +120,15 @@ impl Progress {
         ensures all { OnOk result (self.new.sent ≡ self.old.sent + count) }
         ensures received { self.new.received ≡ self.old.received }
         ensures calls { Q.calls port.new + self.old.sent ≡ Q.calls port.old + self.new.sent }
+        ensures called { GoesOn ⟦<Stream as PartialEq>⟧.eq Q.puts Q.takes Q.removes
+            (sends_after self.old.sent id mtype count length moment)
+            port.old port.new self.old self.new (end_of result) }
     {
         for _ in 0..count {
-            port.put(rt, shared, id, mtype, self.sent + 1, length, moment)?;
-            self.sent += 1;
+            match port.put(rt, shared, id, mtype, self.sent + 1, length, moment) {
+                Ok(_) => self.sent += 1,
+                Err(errno) => return Err(errno),
+            }
         }
         Ok(())
     }
@@ -139,10 +150,19 @@ impl Progress {
         ensures sent { self.new.sent ≡ self.old.sent }
         ensures calls { Q.calls port.new + self.old.received
             ≡ Q.calls port.old + self.new.received }
+        ensures called { GoesOn ⟦<Stream as PartialEq>⟧.eq Q.puts Q.takes Q.removes
+            (replicate count (receive id msgtyp moment))
+            port.old port.new self.old self.new (end_of result) }
     {
         for _ in 0..count {
-            self.notes.reserve()?;
-            let taken = port.take(rt, shared, id, msgtyp, moment)?;
+            match self.notes.reserve() {
+                Ok(()) => (),
+                Err(errno) => return Err(errno),
+            }
+            let taken = match port.take(rt, shared, id, msgtyp, moment) {
+                Ok(taken) => taken,
+                Err(errno) => return Err(errno),
+            };
             self.notes.note(Stream::of(id, taken), taken.tag);
             self.received += 1;
         }

@@ -1,4 +1,4 @@
-ghost use Rattle.std.specs.Prelude.{◌≡◌, ◌+◌, ℕ, MatchResult};
+ghost use Rattle.std.specs.Prelude.{◌≡◌, ◌+◌, ℕ, ℤ, MatchResult};
 
 use crate::Taken;
 use mq_one_thread::Errno;
@@ -6,12 +6,26 @@ use mq_table::Id;
 use std::sync::Wait;
 
 /// What a worker makes its calls through, each of which may wait. `calls` is the number of those
-/// that succeeded.
+/// that succeeded; `puts`, `takes` and `removes` are what a call of each kind does: the port before
+/// it, what it was told, its answer, and the port after it.
 pub trait Port {
+    ghost use Rattle.std.specs.Prelude.{Result};
+    ghost use Rattle.mq_one_thread.specs.declared.errno.Errno.{Errno};
+    ghost use Rattle.mq_cli.specs.declared.taken.Taken.{Taken};
+
     /// What the ports of all workers have in common.
     type Shared;
 
     ghost calls: { Self → ℕ };
+
+    /// By the id, the type, the tag, the length and the moment.
+    ghost puts: { Self → ℕ → ℤ → ℕ → ℕ → ℕ → Result ℕ Errno → Self → Type 0 };
+
+    /// By the id, the selection and the moment.
+    ghost takes: { Self → ℕ → ℤ → ℕ → Result Taken Errno → Self → Type 0 };
+
+    /// By the id and the moment.
+    ghost removes: { Self → ℕ → ℕ → Result ℕ Errno → Self → Type 0 };
 
     /// Sends a message of this length, and answers its entry.
     fn put<R: Wait>(
@@ -25,7 +39,8 @@ pub trait Port {
         moment: u64,
     ) -> Result<u64, Errno>
         ensures calls { MatchResult result (λ _. calls self.new ≡ calls self.old + 1)
-            (λ _. calls self.new ≡ calls self.old) };
+            (λ _. calls self.new ≡ calls self.old) }
+        ensures done { puts self.old id mtype tag length moment result self.new };
 
     /// Receives a message, whose text is spent.
     fn take<R: Wait>(
@@ -37,7 +52,8 @@ pub trait Port {
         moment: u64,
     ) -> Result<Taken, Errno>
         ensures calls { MatchResult result (λ _. calls self.new ≡ calls self.old + 1)
-            (λ _. calls self.new ≡ calls self.old) };
+            (λ _. calls self.new ≡ calls self.old) }
+        ensures done { takes self.old id msgtyp moment result self.new };
 
     /// Removes a queue, and answers the entry.
     fn remove<R: Wait>(
@@ -48,5 +64,6 @@ pub trait Port {
         moment: u64,
     ) -> Result<u64, Errno>
         ensures calls { MatchResult result (λ _. calls self.new ≡ calls self.old + 1)
-            (λ _. calls self.new ≡ calls self.old) };
+            (λ _. calls self.new ≡ calls self.old) }
+        ensures done { removes self.old id moment result self.new };
 }

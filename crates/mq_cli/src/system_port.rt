@@ -3,8 +3,10 @@ ghost use Rattle.std.specs.List.{range_with_len, sum};
 ghost use Rattle.mq_queue.specs.declared.limits.TheConstants.{MSGMAX};
 ghost use Rattle.mq_cli.specs.Drafts.{letter};
 ghost use Rattle.mq_cli.specs.Letters.{AreLetters, letters_from};
+ghost use Rattle.mq_cli.specs.Ports.{Receives, Removes, Sends};
 ghost use Rattle.mq_cli.specs.declared.system_port.TheConstants.{LETTERS};
 
+use crate::draft::letters;
 use crate::{Port, Taken};
 use mq_board::Copies;
 use mq_one_thread::{Delivered, DraftError, Errno, Removal, SendRefused};
@@ -41,6 +43,13 @@ impl<'a, N: Names> SystemPort<'a, N> {
     }
 }
 
+/// The letters of which ports cut their texts.
+pub fn letters_of_ports(alloc: Global) -> Result<Vec<u8>, AllocError>
+    ensures { IfOk result (λ all. all.items ≡ map letter (range_with_len 0 LETTERS)) }
+{
+    letters(alloc, LETTERS)
+}
+
 /// A port for each of the seats, in their order.
 pub fn ports_of<'a, N: Names>(
     alloc: Global,
@@ -61,7 +70,8 @@ pub fn ports_of<'a, N: Names>(
 fn bytes_of(letters: &[u8], seat: u16, tag: u64, count: u64) -> &[u8]
     requires letters { letters.now ≡ map letter (range_with_len 0 LETTERS) }
     requires few { count ≤ MSGMAX }
-    ensures { result.now ≡ letters_from (seat + tag) (length result.now) }
+    ensures letters { result.now ≡ letters_from (seat + tag) (length result.now) }
+    ensures count { length result.now ≡ count }
 {
     let start = ((tag % 26 + u64::from(seat)) % 26) as usize;
     &letters[start..start + count as usize]
@@ -71,6 +81,15 @@ impl<'a, N: Names> Port for SystemPort<'a, N> {
     type Shared = System<Letters, N, Copies<N>>;
 
     ghost calls = { λ p. sum p.seat.now.by_slot };
+
+    ghost puts = { λ old id mtype tag n moment answer new.
+        Sends N.slots old.seat.now new.seat.now id mtype tag n moment answer };
+
+    ghost takes = { λ old id msgtyp moment answer new.
+        Receives N.slots old.seat.now new.seat.now id msgtyp moment answer };
+
+    ghost removes = { λ old id moment answer new.
+        Removes N.slots old.seat.now new.seat.now id moment answer };
 
     fn put<R: Wait>(
         &mut self,

@@ -1,5 +1,5 @@
-ghost use Rattle.std.specs.Prelude.{◌≡◌, ◌+◌, ◌≤◌, ◌⊎◌, ℕ, true, Err, All, IfErr, IfOk, IfSome, OnOk};
-ghost use Rattle.std.specs.Prelude.{IsErrOf, length, vec_len};
+ghost use Rattle.std.specs.Prelude.{◌≡◌, ◌+◌, ◌≤◌, ◌⊎◌, ℕ, true, Err, All, IfErr, IfOk, IfSome};
+ghost use Rattle.std.specs.Prelude.{OnOk, IsErrOf, length, vec_len};
 ghost use Rattle.std.specs.List.{AllZip};
 ghost use Rattle.std.specs.Io.KnownBytes.{IsAtEnd, Keeps};
 ghost use Rattle.mq_one_thread.specs.Limits.{keeps_limits};
@@ -13,12 +13,11 @@ ghost use Rattle.mq_cli.specs.ThreadsScript.{wanted_of};
 ghost use Rattle.mq_cli.specs.declared.fault.Cause.{Cause};
 
 use crate::closing::closing_text;
-use crate::draft::letters;
 use crate::limits::MAX_WORKERS;
 use crate::main_part::run_main;
 use crate::output::{WriteFailed, write_bytes};
 use crate::script::read_script;
-use crate::system_port::{LETTERS, Letters, ports_of};
+use crate::system_port::{Letters, letters_of_ports, ports_of};
 use crate::threads_script::{ThreadsScript, read_threads_script};
 use crate::{Outcome, RunFault, SCRIPT_LIMIT, Step, run_workers};
 use mq_arena::LEDGER_PARTS;
@@ -115,31 +114,34 @@ fn run_wanted<N: Names + Send + Sync, T: Threads + Wait + Sync, W: Write>(
     else {
         return Err(RunFault::Memory);
     };
-    let ran = run_parts(rt, alloc, &system, &mut seats, wanted, writer);
+    let ran = match seats.split_first_mut() {
+        Some((main, others)) => run_parts(rt, alloc, &system, main, others, wanted, writer),
+        None => unreachable!(),
+    };
     let Closed { slots, arena } = system.close(rt, seats);
     let (pages, free) = (arena.pages(), arena.free_pages());
     let told = tell(alloc, ran, &slots, pages, free, writer);
     flush(writer, told)
 }
 
-/// Makes the calls of the main part by the first seat, and then runs each section at the seat of
-/// its place behind it.
+/// Makes the calls of the main part by its seat, and then runs each section at the seat of its
+/// place among the others.
 fn run_parts<N: Names + Send + Sync, T: Threads + Wait + Sync, W: Write>(
     rt: &T,
     alloc: Global,
     system: &System<Letters, N>,
-    seats: &mut Vec<Seat<N>>,
+    main: &mut Seat<N>,
+    others: &mut [Seat<N>],
     wanted: &ThreadsScript,
     writer: &mut W,
 ) -> Result<Vec<Outcome>, RunFault>
-    requires seats { vec_len seats.old ≡ vec_len wanted.now.sections + 1 }
+    requires seats { vec_len wanted.now.sections ≤ length others.old }
     requires countable { All (λ plan. IsCountable plan.items) wanted.now.sections.items }
-    ensures count { vec_len seats.new ≡ vec_len seats.old }
-    ensures ran { RanParts N.slots (wanted_seen wanted.now)
+    ensures count { length others.new ≡ length others.old }
+    ensures ran { RanParts N.slots N.last_seq (wanted_seen wanted.now) main.old main.new
         (W.contents writer.old) (W.contents writer.new) result }
 {
-    let (first, others) = seats.split_at_mut(1);
-    run_main(rt, alloc, system, &mut first[0], &wanted.calls, writer)?;
+    run_main(rt, alloc, system, main, &wanted.calls, writer)?;
     let Ok(()) = writer.flush() else {
         return Err(RunFault::Write);
     };
@@ -161,7 +163,7 @@ fn run_sections<N: Names + Send + Sync, T: Threads + Wait + Sync>(
     ensures fault { IfErr result IsMakingFault }
 {
     let (seats, _) = seats.split_at_mut(sections.len());
-    let Ok(letters) = letters(alloc, LETTERS) else {
+    let Ok(letters) = letters_of_ports(alloc) else {
         return Err(RunFault::Memory);
     };
     let Ok(mut ports) = ports_of(alloc, seats, &letters) else {

@@ -12,7 +12,8 @@ pub fn parts_of_a_threads_script()
         ∷ [] ∷ codes "rm 0" ∷ codes "worker" ∷ codes "take 0 1 100" ∷ [])
         ≡ Ok (record {
           calls = Get (pos 9) (record { create = true; exclusive = false }) 1 ∷ [];
-          sections = (Put 0 (pos 1) 100 1000 3 ∷ Remove 0 5 ∷ []) ∷ (Take 0 (pos 1) 100 7 ∷ []) ∷ [];
+          sections = (Put 0 (pos 1) 100 1000 3 ∷ Remove 0 5 ∷ [])
+              ∷ (Take 0 (pos 1) 100 7 ∷ []) ∷ [];
         }) }
 {}
 

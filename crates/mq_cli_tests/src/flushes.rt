@@ -45,10 +45,7 @@ fn a_run_flushes_once_after_all_it_writes(rt: HostRuntime) -> Result<(), Fail> {
             assert!(rt; ended == expected, "{script}");
             // A flush that fails hides that memory ran out before it.
             if fails {
-                assert!(rt;
-                    writer.taken.len() == output.len(),
-                    "out of memory: {script}"
-                );
+                assert!(rt; writer.taken.len() == output.len(), "out of memory");
             }
             assert!(rt; writer.taken.as_slice() == output.as_bytes(), "{script}");
             assert!(rt; writer.flushes == 1, "{script}");

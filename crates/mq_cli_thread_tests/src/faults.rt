@@ -47,10 +47,10 @@ fn a_writer_that_fails_has_the_first_bytes(rt: HostRuntime) -> Result<(), Fail> 
                 Ok(())
             };
             assert!(rt; !lacks_memory(ended, &writer.taken), "out of memory");
-            assert!(rt; ended == expected, "with room for {room}, or out of memory");
+            assert!(rt; ended == expected, "with room for {room}");
             assert!(rt;
                 writer.taken.as_slice() == &OWN_TOLD.as_bytes()[..room],
-                "with room for {room}, or out of memory"
+                "with room for {room}"
             );
         }
     }
@@ -80,10 +80,10 @@ fn a_flush_that_fails_is_a_failed_write(rt: HostRuntime) -> Result<(), Fail> {
             SCRIPT_DEFAULTS,
         );
         assert!(rt; !lacks_memory(ended, &writer.taken), "out of memory");
-        assert!(rt; ended == end, "at {fails_at_flush}, or out of memory");
+        assert!(rt; ended == end, "at {fails_at_flush}");
         assert!(rt;
             writer.taken.as_slice() == told.as_bytes(),
-            "at {fails_at_flush}, or out of memory"
+            "at {fails_at_flush}"
         );
     }
     Ok(())

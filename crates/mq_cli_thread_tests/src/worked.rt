@@ -100,8 +100,8 @@ slot 0 events 3 sent 2 received 0 left 2
 pages 64 free 64
 ";
 
-/// A text of the greatest length is handed on, and a longer one ends its worker; texts that are left
-/// are counted, and their pages are free.
+/// A text of the greatest length is handed on, and a longer one ends its worker; texts that are
+/// left are counted, and their pages are free.
 #[test]
 fn a_worker_ends_at_a_refusal_or_done(rt: HostRuntime) -> Result<(), Fail> {
     is_told(&rt, (LONGEST, LONGEST_TOLD, Ok(())))?;

@@ -1,7 +1,6 @@
 -- A slot goes on, and its event is published.
-use Rattle.std.proofs.Common.{◌≡◌, ℕ, ◌+◌, ◌-◌, ◌<◌, ◌≤◌, ◌^◌, List, [], ◌∷◌, ◌++◌, length, map, refl, ap, sym, ◌∙◌, arith}
+use Rattle.std.proofs.Common.{◌≡◌, ◌+◌, ◌-◌, ◌<◌, ◌≤◌, ◌^◌, [], ◌∷◌, ◌++◌, length, map, ap, sym, ◌∙◌, arith}
 use Rattle.mq_queue.specs.declared.event.Event.{Event}
-use Rattle.mq_queue.specs.declared.figures.Figures.{Figures}
 use Rattle.mq_queue.specs.Row.{made_count}
 use Rattle.mq_table.specs.Kept.{KeptSlot, kept_figures}
 use Rattle.mq_table.specs.declared.limits.TheConstants.{MAX_SEQ}

@@ -143,8 +143,8 @@ impl<J: Naming, W, B: Body, L: Waiting<B>> PublishedSlot<J, W, B, L> {
         self.slot.made();
     }
 
-    /// Cuts the slot's list off where it ends now, and hands out what was kept of it. The whole list
-    /// and the board stay, and nobody is told. `Err` means out of memory.
+    /// Cuts the slot's list off where it ends now, and hands out what was kept of it. The whole
+    /// list and the board stay, and nobody is told. `Err` means out of memory.
     pub fn cut(&mut self) -> Result<Cut, AllocError>
         ensures cut { IfOk result (λ cut. IsCutOf self.old.slot.events (shown cut)) }
         ensures first { IfOk result (λ cut. cut.first ≡ self.old.first) }

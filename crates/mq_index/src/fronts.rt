@@ -1,4 +1,4 @@
-ghost use Rattle.std.specs.Prelude.{◌≡◌, ◌<◌, ◌≤◌, ℕ, ℤ, true, cond, not, Some, None, IfSome, OnOk};
+ghost use Rattle.std.specs.Prelude.{◌≡◌, ◌<◌, ◌≤◌, ℕ, ℤ, true, cond, not, Some, None, IfSome, OnErr, OnOk};
 ghost use Rattle.std.specs.Option.{option_or, IsSomeAnd};
 ghost use Rattle.std.specs.Ordering.{int_eq};
 ghost use Rattle.mq_index.specs.Fronts.{first_of, IsLeastAt};
@@ -40,6 +40,7 @@ impl Fronts {
     pub fn reserve(&mut self) -> Result<(), AllocError>
         ensures unchanged { (t : ℤ) → first_of self.new t ≡ first_of self.old t }
         ensures ok { OnOk result (0 < self.new.spare) }
+        ensures refused { OnErr result (self.old.spare ≡ 0) }
         ensures room { self.old.spare ≤ self.new.spare }
     {
         self.heap.reserve(1)

@@ -46,6 +46,7 @@ impl<B> Room<B> {
     pub fn make(&mut self) -> Result<(), AllocError>
         ensures ok { OnOk result (self.new ≡ true) }
         ensures unchanged { OnErr result (self.new ≡ self.old) }
+        ensures refused { OnErr result (self.old ≡ false) }
     {
         if self.node.is_empty() {
             match self.node.push_back(None) {

@@ -238,8 +238,8 @@ fn type_of(place: u64) -> i64 {
     ((place % MOST * 5 % MOST + 1) * 8) as i64
 }
 
-/// As many messages as fit are sent, at the places from 2 on, then one more, and all are received by
-/// these selections.
+/// As many messages as fit are sent, at the places from 2 on, then one more, and all are received
+/// by these selections.
 fn emptied(alloc: Global, selection_of: &[Selection]) -> Result<Vec<Option<u64>>, AllocError> {
     let mut steps = Vec::new(alloc);
     steps.push(Step::Set(MOST))?;

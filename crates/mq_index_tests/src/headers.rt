@@ -154,7 +154,7 @@ fn by_log(alloc: Global, log: &Log) -> Result<Vec<Header>, AllocError> {
     Ok(headers)
 }
 
-/// Whether a list tells just as many headers as wanted, which are those that the log leaves waiting.
+/// Whether a list tells just as many headers as wanted, those that the log leaves waiting.
 fn agrees<W: Waiting<VecBody>>(
     alloc: Global,
     types: &[i64],

@@ -1,5 +1,5 @@
 -- What msgget answers and leaves (msgget(2)).
-use Rattle.std.specs.Prelude.{ℕ, ℤ, pos, ◌&&◌, if◌then◌else◌, Option, Some, None, Result, Ok, Err, position}
+use Rattle.std.specs.Prelude.{ℕ, ℤ, pos, ◌&&◌, if◌then◌else◌, Option, Some, None, IsSome, Result, Ok, Err, position}
 use Rattle.std.specs.Ordering.{int_eq}
 use Rattle.mq_table.specs.Kept.{entries_of}
 use Rattle.mq_table.specs.KeptCalls.{kept_makes}
@@ -53,3 +53,8 @@ msgget s seat key flags moment =
 abbrev pub errno_or_memory : GetAnswer → Errno
 errno_or_memory (Ok turn) = ENOMEM
 errno_or_memory (Err errno) = errno
+
+-- a call that fails where nothing refuses it was to make a queue
+abbrev pub MayRunOut : GetAnswer → Type 0
+MayRunOut (Ok turn) = IsSome turn.0.made
+MayRunOut (Err errno) = Unit {0}

@@ -1,7 +1,7 @@
 ghost use Rattle.std.specs.Prelude.{◌≡◌, ◌≢◌, ◌<◌, ◌≤◌, false, pos, Ok, None, IfOk, IfErr, IfSome, OnErr, length};
 ghost use Rattle.mq_table.specs.Kept.{is_live_kept, made_of};
 ghost use Rattle.mq_table.specs.Keys.{id_of_key};
-ghost use Rattle.mq_one_thread.specs.Get.{errno_or_memory, free_slot, makes_one};
+ghost use Rattle.mq_one_thread.specs.Get.{MayRunOut, errno_or_memory, free_slot, makes_one};
 ghost use Rattle.mq_one_thread.specs.Get.{msgget as msgget_answer};
 ghost use Rattle.mq_one_thread.specs.State.{slot_at};
 
@@ -24,6 +24,7 @@ impl<L: Ledger> OneThread<L> {
             msgget_answer self.old seat key flags moment ≡ Ok (got, self.new)) }
         ensures refused { IfErr result (λ errno.
             errno ≡ errno_or_memory (msgget_answer self.old seat key flags moment)) }
+        ensures memory { OnErr result (MayRunOut (msgget_answer self.old seat key flags moment)) }
         ensures unchanged { OnErr result (self.new ≡ self.old) }
     {
         if key == 0 {
@@ -43,6 +44,7 @@ impl<L: Ledger> OneThread<L> {
         ensures ok { IfOk result (λ got. makes_one self.old key seat moment ≡ Ok (got, self.new)) }
         ensures refused { IfErr result (λ errno.
             errno ≡ errno_or_memory (makes_one self.old key seat moment)) }
+        ensures memory { OnErr result (MayRunOut (makes_one self.old key seat moment)) }
         ensures unchanged { OnErr result (self.new ≡ self.old) }
     {
         let Some(k) = self.least_free() else {

@@ -1,7 +1,7 @@
 //! A first program: a queue that has a key, a message, and its receipt.
 ghost use Rattle.std.specs.Prelude.{◌≡◌, ◌<◌};
 
-use mq_one_thread::{Config, Delivered, GetFlags, OneThread};
+use mq_one_thread::{Config, Delivered, Errno, GetFlags, OneThread};
 use std::alloc::Global;
 use std::marker::Brand;
 use std::process::Abort;
@@ -27,10 +27,14 @@ fn said_hello<L: Ledger>(rt: &impl Abort, alloc: Global, ledger: Blank)
     requires enough { 1024 < ledger.parts }
 {
     let Ok(mut queues) = OneThread::<L>::new(alloc, CONFIG, ledger) else {
-        panic!(rt; "no memory");
+        panic!(rt; "out of memory");
     };
-    let Ok(got) = queues.msgget(1, 1234, CREATE, 1) else {
-        panic!(rt; "no queue");
+    let got = match queues.msgget(1, 1234, CREATE, 1) {
+        Ok(got) => got,
+        Err(errno) => {
+            assert!(rt; errno == Errno::ENOMEM, "no queue");
+            panic!(rt; "out of memory");
+        }
     };
     let Ok(mut text) = queues.draft(5) else {
         panic!(rt; "no page");
@@ -38,7 +42,10 @@ fn said_hello<L: Ledger>(rt: &impl Abort, alloc: Global, ledger: Blank)
     text.fill(b"hello");
     match queues.msgsnd(1, got.id, 7, 0, text, 2) {
         Ok(entry) => assert!(rt; entry == 1),
-        Err(_refused) => panic!(rt; "not sent"),
+        Err(refusal) => {
+            assert!(rt; refusal.refused.errno == Errno::ENOMEM, "not sent");
+            panic!(rt; "out of memory");
+        }
     }
     match queues.msgrcv(2, got.id, 100, 0, false, false, 3) {
         Ok(Delivered { text, .. }) => {

@@ -26,7 +26,10 @@ fn sized<L: Ledger, R: Abort>(
             assert!(rt; Ok((system.pages(), system.slots())) == wanted);
             let Closed { slots: _, arena: _ } = system.close();
         }
-        Err(refusal) => assert!(rt; Err(refusal) == wanted, "refused, or out of memory"),
+        Err(refusal) => {
+            assert!(rt; refusal != SysError::Memory, "out of memory");
+            assert!(rt; Err(refusal) == wanted, "refused");
+        }
     }
 }
 

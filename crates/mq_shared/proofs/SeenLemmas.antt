@@ -149,7 +149,7 @@ module _ (old now new : SeatState) (slot : ℕ) (s : SlotState PlainText) (h : E
         subst (IsDecided old new slot verdict) (sym its)
         (record {
           late = late;
-          known = omega (arith, ap length is);
+          known = sym (ap length is);
           why = rw (is, take-length s.events) refl;
         })
 

@@ -1,5 +1,5 @@
 -- What msgget finds and makes in a slot, as a seat's front shows it (msgget(2)).
-use Rattle.std.specs.Prelude.{◌≡◌, ◌≢◌, ℕ, ℤ, if◌then◌else◌, false, List, slice_get, take, None, Some}
+use Rattle.std.specs.Prelude.{◌≡◌, ◌≢◌, ℕ, ℤ, if◌then◌else◌, true, false, List, slice_get, take, None, Some}
 use Rattle.mq_queue.specs.Row.{live_key, made_count}
 use Rattle.mq_queue.specs.declared.event.Event.{Event}
 use Rattle.mq_queue.specs.declared.event.Event.TheVariants.{Made}
@@ -47,8 +47,8 @@ pub record IsMade (old new : SeatState) (slot last_seq : ℕ) (key : ℤ) (momen
   pub slot_is : slot_of got.id ≡ slot
   pub seq_is : seq_of got.id ≡ made_count (take entry (front_of new slot))
 
--- no queue was made: the slot is not free, or memory ran out
+-- no queue was made: the slot is not free, or it is and memory ran out
 abbrev pub IsNotMade : ℕ → List Event → Errno → Type 0
 IsNotMade last_seq events ENOSPC = is_free last_seq events ≡ false
-IsNotMade last_seq events ENOMEM = Unit {0}
+IsNotMade last_seq events ENOMEM = is_free last_seq events ≡ true
 IsNotMade last_seq events _ = ⊥

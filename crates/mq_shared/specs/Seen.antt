@@ -59,11 +59,11 @@ pub record IsDone (old new : SeatState) (slot : ℕ) (verdict : Verdict) (entry 
   pub allowed : verdict (take entry (front_of new slot)) ≡ None
 
 -- a call was refused after so many events of the slot, which are no fewer than the seat knew before
--- and of which it knows all now: for what they refuse, or else for memory
+-- and all that it knows now: for what they refuse, or else for memory
 pub record IsRefused (old new : SeatState) (slot : ℕ) (verdict : Verdict) (entry : ℕ) (errno : Errno)
     : Type 0 where
   pub late : length (front_of old slot) ≤ entry
-  pub known : entry ≤ length (front_of new slot)
+  pub known : entry ≡ length (front_of new slot)
   pub why : errno ≡ unwrap_or (verdict (take entry (front_of new slot))) ENOMEM
 
 -- the same of a refusal, where it was decided by the slot's events

@@ -11,11 +11,11 @@ use Rattle.mq_board.proofs.Fronts.{prefix_self, prefix_trans}
 use Rattle.mq_one_thread.specs.declared.errno.Errno.{Errno}
 use Rattle.mq_one_thread.specs.declared.errno.Errno.TheVariants.{ENOMEM, ENOSPC}
 use Rattle.mq_one_thread.specs.declared.results.Got.{Got}
-use Rattle.mq_shared.specs.Making.{IsMade, IsThere, Lacks, make_verdict}
+use Rattle.mq_shared.specs.Making.{IsMade, IsNotMade, IsThere, Lacks, make_verdict}
 use Rattle.mq_shared.specs.Seat.{IsLater, IsSame, SeatState, front_of}
 use Rattle.mq_shared.specs.Seen.{IsDone, Verdict}
 use Rattle.mq_shared.proofs.LaterLemmas.{later_self}
-use Rattle.mq_system.specs.Get.{IsFound, IsGot, IsNew, IsNotGot, IsTaken, Was, WasAt, WasBelow, WasLacked}
+use Rattle.mq_system.specs.Get.{HadFree, IsFound, IsFree, IsGot, IsNew, IsNotGot, IsNotNew, IsTaken, Was, WasAt, WasBelow, WasLacked}
 
 -- it is so now
 pub was_now : (fact : List Event → Type 0) (old new : SeatState) (slot : ℕ) → IsLater old new
@@ -96,9 +96,26 @@ made_before a b c slot last_seq key moment got same before made = record {
   seq_is = made.seq_is;
 }
 
--- no memory is not no slot
-pub other_errno : {A : Type 0} → ENOMEM ≡ ENOSPC → A
-other_errno is = cc
+-- memory ran out in a slot that was free
+pub wanted : (last_seq : ℕ) (events : List Event) (errno : Errno)
+    → IsNotMade last_seq events errno → errno ≢ ENOSPC → IsFree last_seq events
+wanted last_seq events ENOSPC is other = absurd (other refl)
+wanted last_seq events ENOMEM is other = is
+wanted last_seq events _ is other = absurd is
+
+-- a slot is free, and none below it was
+pub free_now : (slots last_seq : ℕ) (old had now : SeatState) (slot : ℕ) → slot < slots
+    → IsLater old had → IsLater had now → IsFree last_seq (front_of now slot)
+    → WasBelow (IsTaken last_seq) old had slot → HadFree slots last_seq old now
+free_now slots last_seq old had now slot within before later free lower = record {
+  slot = slot;
+  within = within;
+  free =
+      was_around (IsFree last_seq) old had now now slot before (later_self now)
+      (was_now (IsFree last_seq) had now slot later free);
+  lower =
+      below_around (IsTaken last_seq) old old had now slot (later_self old) later lower;
+}
 
 -- a queue that was found by a seat that knew less before
 pub found_before : (key : ℤ) (a b c : SeatState) (id : ℕ) → IsLater a b → IsFound key b c id
@@ -135,13 +152,21 @@ module _ (slots last_seq : ℕ) (key : ℤ) (a b c : SeatState) (same : IsSame a
       )
 
   -- none was made, and none was found
-  not_got : (errno : Errno) → (errno ≡ ENOSPC) ⊎ (errno ≡ ENOMEM)
-      → (errno ≡ ENOSPC → WasBelow (IsTaken last_seq) b c slots)
+  not_got : (errno : Errno) → IsNotNew slots last_seq b c errno
       → IsNotGot slots last_seq key a c errno
-  not_got errno (inl is) full =
-      rw is
-      (below_around (IsTaken last_seq) a b c c slots before (later_self c) (full is), still_lacked)
-  not_got errno (inr is) full = rw is tt
+  not_got ENOSPC full =
+      (below_around (IsTaken last_seq) a b c c slots before (later_self c) full, still_lacked)
+  not_got ENOMEM had = (
+    record {
+      slot = had.slot;
+      within = had.within;
+      free = was_around (IsFree last_seq) a b c c had.slot before (later_self c) had.free;
+      lower =
+          below_around (IsTaken last_seq) a b c c had.slot before (later_self c) had.lower;
+    },
+    still_lacked,
+  )
+  not_got _ none = absurd none
 
   -- the same of what the call answers
   pub answers_got : (moment : ℕ) (r : Result Got Errno) → IfOk r (λ got. IsSome got.made)
@@ -149,8 +174,7 @@ module _ (slots last_seq : ℕ) (key : ℤ) (a b c : SeatState) (same : IsSame a
   answers_got moment (Ok got) some new = got_new moment got some new
   answers_got moment (Err errno) some new = tt
 
-  pub answers_not : (r : Result Got Errno) → IfErr r (λ errno. (errno ≡ ENOSPC) ⊎ (errno ≡ ENOMEM))
-      → IfErr r (λ errno. errno ≡ ENOSPC → WasBelow (IsTaken last_seq) b c slots)
+  pub answers_not : (r : Result Got Errno) → IfErr r (IsNotNew slots last_seq b c)
       → IfErr r (IsNotGot slots last_seq key a c)
-  answers_not (Ok got) refused full = tt
-  answers_not (Err errno) refused full = not_got errno refused full
+  answers_not (Ok got) not_new = tt
+  answers_not (Err errno) not_new = not_got errno not_new

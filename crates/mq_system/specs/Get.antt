@@ -58,7 +58,10 @@ WasAt fact old new slot = Was fact (front_of old slot) (front_of new slot)
 abbrev pub WasBelow : (List Event → Type 0) → SeatState → SeatState → ℕ → Type 0
 WasBelow fact old new count = (slot : ℕ) → slot < count → WasAt fact old new slot
 
--- no queue could be made in the slot
+-- a queue could be made in the slot, or none could
+abbrev pub IsFree : ℕ → List Event → Type 0
+IsFree last_seq events = is_free last_seq events ≡ true
+
 abbrev pub IsTaken : ℕ → List Event → Type 0
 IsTaken last_seq events = is_free last_seq events ≡ false
 
@@ -73,6 +76,19 @@ pub record IsNew (slots last_seq : ℕ) (key : ℤ) (moment : ℕ) (old new : Se
   pub within : slot_of got.id < slots
   pub made : IsMade old new (slot_of got.id) last_seq key moment got
   pub lower : WasBelow (IsTaken last_seq) old new (slot_of got.id)
+
+-- a slot was free, and none below it
+pub record HadFree (slots last_seq : ℕ) (old new : SeatState) : Type 0 where
+  pub slot : ℕ
+  pub within : slot < slots
+  pub free : WasAt (IsFree last_seq) old new slot
+  pub lower : WasBelow (IsTaken last_seq) old new slot
+
+-- why no queue was made: no slot was free, or one was and memory ran out
+abbrev pub IsNotNew : ℕ → ℕ → SeatState → SeatState → Errno → Type 0
+IsNotNew slots last_seq old new ENOSPC = WasBelow (IsTaken last_seq) old new slots
+IsNotNew slots last_seq old new ENOMEM = HadFree slots last_seq old new
+IsNotNew slots last_seq old new _ = ⊥
 
 -- no slot had a queue with this key, where it is not 0
 abbrev pub WasLacked : ℕ → ℤ → SeatState → SeatState → Type 0
@@ -90,11 +106,12 @@ pub record IsAnyFound (slots : ℕ) (key : ℤ) (old new : SeatState) : Type 0 w
   pub within : slot_of id < slots
   pub found : IsFound key old new id
 
--- why none is answered: a queue was found, none was, or no slot was free
+-- why none is answered: a queue was found; or none was and, if one was to be made, why it was not
 abbrev pub IsNotGot : ℕ → ℕ → ℤ → SeatState → SeatState → Errno → Type 0
 IsNotGot slots last_seq key old new EEXIST = IsAnyFound slots key old new
 IsNotGot slots last_seq key old new ENOENT = WasLacked slots key old new
 IsNotGot slots last_seq key old new ENOSPC =
-    WasBelow (IsTaken last_seq) old new slots × WasLacked slots key old new
-IsNotGot slots last_seq key old new ENOMEM = Unit {0}
+    IsNotNew slots last_seq old new ENOSPC × WasLacked slots key old new
+IsNotGot slots last_seq key old new ENOMEM =
+    IsNotNew slots last_seq old new ENOMEM × WasLacked slots key old new
 IsNotGot slots last_seq key old new _ = ⊥

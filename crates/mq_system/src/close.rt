@@ -2,11 +2,15 @@ ghost use Rattle.std.specs.Prelude.{◌≡◌, ◌≢◌, ◌+◌, ◌≤◌, Al
 ghost use Rattle.std.specs.List.{AllPairs};
 ghost use Rattle.mq_shared.specs.Seat.{counted_by};
 ghost use Rattle.mq_shared.specs.Sizes.{all_changes};
-ghost use Rattle.mq_one_thread.specs.Closed.{IsClosed};
+ghost use Rattle.mq_table.specs.Slot.{Waits};
+ghost use Rattle.mq_table.specs.SlotList.{IsSlotList};
+ghost use Rattle.mq_one_thread.specs.Closed.{IsClosed, IsEndOf};
+ghost use Rattle.mq_one_thread.specs.Texts.{bytes_of};
 ghost use Rattle.mq_system.specs.Closed.{AreDistinct, AreWithout, IsEnd, IsRecorded, entries_in};
 ghost use Rattle.mq_system.specs.Closed.{known_by};
 
-use crate::{Closed, Names, Pages, Pledge, Seat, System};
+use crate::{Closed, ClosedSlot, Names, Pages, Pledge, Seat, System};
+use mq_arena::ArenaState;
 use mq_board::Copies;
 use mq_fronts::Fronts;
 use mq_one_thread::end_slot;
@@ -66,7 +70,7 @@ impl<P: Pledge, N: Names> System<P, N, Copies<N>> {
             let mut slot = with_number(rt, slot, places.len());
             come_home(&mut slot, &mut fronts);
             parts.merge(part);
-            closed.push_reserved(end_slot(&mut arena, slot.close(rt)));
+            closed.push_reserved(end_place(rt, &mut arena, slot));
         }
         places.destroy_empty();
         settle(&total, &mut parts);
@@ -130,6 +134,20 @@ fn come_home<N: Names>(slot: &mut PublishedOf<N, Copies<N>>, fronts: &mut Vec<Fr
         };
         slot.take_back(reader);
     }
+}
+
+/// Ends a slot that nobody uses any more, and spends the texts that wait in it.
+fn end_place<N: Names, R: Wait>(
+    rt: &R,
+    arena: &mut ArenaState<Pages<N>>,
+    slot: PublishedOf<N, Copies<N>>,
+) -> ClosedSlot
+    requires lawful { IsSlotList N.last_seq slot.slot.events }
+    requires waits { Waits bytes_of slot.slot }
+    ensures ends { IsEndOf N.last_seq slot.slot.events result }
+    ensures height { arena.new.height ≡ arena.old.height }
+{
+    end_slot(arena, slot.close(rt))
 }
 
 /// Tells what all parts have, once they are together.

@@ -4,7 +4,8 @@ ghost use Rattle.mq_table.specs.Keys.{id_of_key};
 ghost use Rattle.mq_one_thread.specs.declared.errno.Errno.TheVariants.{ENOMEM, ENOSPC};
 ghost use Rattle.mq_shared.specs.Making.{Lacks};
 ghost use Rattle.mq_shared.specs.Seat.{IsCounted, IsLater, IsSame};
-ghost use Rattle.mq_system.specs.Get.{CountsGet, IsFound, IsGot, IsNew, IsNotGot, IsTaken, MayGet, MayRefuse, WasBelow};
+ghost use Rattle.mq_system.specs.Get.{CountsGet, IsFound, IsGot, IsNew, IsNotGot, IsNotNew, MayGet};
+ghost use Rattle.mq_system.specs.Get.{MayRefuse, WasBelow};
 
 use crate::{Errno, GetFlags, Got, Keys, Names, Pledge, Seat, System};
 use mq_board::Copies;
@@ -132,6 +133,7 @@ impl<P: Pledge, N: Names> System<P, N, Copies<N>> {
     }
 
     /// Makes a queue in the first slot that is free.
+    #[tactic(auto, using(mq_shared::proofs::LaterLemmas::same_trans, mq_shared::proofs::LaterLemmas::later_trans))]
     fn make<R: Wait>(
         &self,
         rt: &R,
@@ -148,15 +150,16 @@ impl<P: Pledge, N: Names> System<P, N, Copies<N>> {
             (λ _. IsSame seat.old seat.new) }
         ensures later { IsLater seat.old seat.new }
         ensures new { IfOk result (IsNew N.slots N.last_seq key moment seat.old seat.new) }
-        ensures full { IfErr result (λ errno. errno ≡ ENOSPC
-            → WasBelow (IsTaken N.last_seq) seat.old seat.new N.slots) }
+        ensures not_new { IfErr result (IsNotNew N.slots N.last_seq seat.old seat.new) }
     {
         for number in 0..self.slots() {
             let place = &self.places[number as usize];
             match place.make(rt, keys, seat, number, key, self.last_seq, moment) {
                 Ok(got) => return Ok(got),
-                Err(Errno::ENOSPC) => (),
-                Err(_) => return Err(Errno::ENOMEM),
+                Err(errno) => match errno {
+                    Errno::ENOSPC => (),
+                    _ => return Err(Errno::ENOMEM),
+                },
             }
         }
         Err(Errno::ENOSPC)

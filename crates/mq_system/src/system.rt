@@ -1,5 +1,5 @@
 ghost use Rattle.std.specs.Prelude.{◌≡◌, ◌↔◌, ◌<◌, ◌≤◌, ℕ, true, false, length, nat_lt, replicate};
-ghost use Rattle.std.specs.Prelude.{vec_len, IfOk, IsErrOf};
+ghost use Rattle.std.specs.Prelude.{None, vec_len, IfOk, IsErrOf};
 ghost use Rattle.mq_one_thread.specs.Limits.{keeps_limits};
 ghost use Rattle.mq_shared.specs.Sizes.{AreNames};
 ghost use Rattle.mq_system.specs.Started.{AreFresh};
@@ -167,7 +167,9 @@ impl<P: Pledge, N: Names, W> System<P, N, W> {
     }
 
     /// Spends a text: its block goes home. A text without a block is at home.
-    pub fn spend<R: Wait>(&self, rt: &R, text: TextOf<N>) -> Homecoming {
+    pub fn spend<R: Wait>(&self, rt: &R, text: TextOf<N>) -> Homecoming
+        ensures none { text.block ≡ None → result ≡ Homecoming.Home }
+    {
         match text.into_block() {
             Some(block) => self.arena.put(rt, block),
             None => Homecoming::Home,

@@ -41,22 +41,28 @@ const TAKES: Last = Last {
 };
 
 /// Makes a queue with key 9 in a slot that is free.
-fn makes(keys: &mut KeyTable, slot: &mut Place, notice: &mut Last) -> Result<bool, AllocError> {
+fn makes(keys: &mut KeyTable, slot: &mut Place, notice: &mut Last) -> Result<bool, QueueError> {
     if !slot.is_free(MAX_SEQ) || keys.look(9).is_some() {
         return Ok(false);
     }
-    make_under(keys, slot, 9, 1, 10, notice)?;
-    Ok(true)
+    match make_under(keys, slot, 9, 1, 10, notice) {
+        Ok(_) => Ok(true),
+        Err(AllocError) => Err(QueueError::Memory),
+    }
 }
 
 /// Removes the queue that is in the slot.
-fn removes(keys: &mut KeyTable, slot: &mut Place, notice: &mut Last) -> Result<bool, AllocError> {
+fn removes(keys: &mut KeyTable, slot: &mut Place, notice: &mut Last) -> Result<bool, QueueError> {
     if !slot.is_live() {
         return Ok(false);
     }
-    let (_log, waiting) = remove_under(keys, slot, 2, 20, notice)?;
-    discard(waiting);
-    Ok(true)
+    match remove_under(keys, slot, 2, 20, notice) {
+        Ok((_log, waiting)) => {
+            discard(waiting);
+            Ok(true)
+        }
+        Err(AllocError) => Err(QueueError::Memory),
+    }
 }
 
 /// Whether the notice took in the last event of the slot list, with the figures that the slot
@@ -115,10 +121,10 @@ fn tells_all(
     text: Message<VecBody>,
 ) -> Result<bool, QueueError> {
     let mut notice = TAKES;
-    let made = makes(keys, slot, &mut notice) == Ok(true) && is_told(slot, &notice);
+    let made = makes(keys, slot, &mut notice)? && is_told(slot, &notice);
     let each = tells_each(slot, text, &mut notice)?;
-    let removed = removes(keys, slot, &mut notice) == Ok(true) && is_told(slot, &notice);
-    let again = makes(keys, slot, &mut notice) == Ok(true) && is_told(slot, &notice);
+    let removed = removes(keys, slot, &mut notice)? && is_told(slot, &notice);
+    let again = makes(keys, slot, &mut notice)? && is_told(slot, &notice);
     Ok(made && each && removed && again && notice.after.qbytes == 131_072)
 }
 
@@ -129,7 +135,7 @@ fn each_event_of_a_slot_is_noticed_with_its_figures(rt: HostRuntime) -> Result<(
     let mut slot = Place::new(rt.alloc(), 8);
     let told = tells_all(&mut keys, &mut slot, text);
     close(slot);
-    assert!(rt; told?, "not told, or out of memory");
+    assert!(rt; told?, "not told");
     Ok(())
 }
 

@@ -245,43 +245,49 @@ fn bytes_come_whole_or_cut_and_a_refusal_leaves_no_page_out(rt: HostRuntime) {
             (Err(Errno::ENOMSG), 8),
         ],
     );
-    match with_queues(rt.alloc(), SMALL, Exchange) {
-        Ok(Ended { answer, .. }) => assert!(rt;
-            answer == wanted,
-            "out of memory, or not as wanted"
-        ),
-        Err(refusal) => panic!(rt; "{refusal}"),
+    // Once more, where memory was wanted.
+    for _ in 0..2 {
+        match with_queues(rt.alloc(), SMALL, Exchange) {
+            Ok(Ended { answer, .. }) if answer == wanted => return,
+            Ok(_) | Err(SysError::Memory) => (),
+            Err(refusal) => panic!(rt; "{refusal}"),
+        }
     }
+    panic!(rt; "not as wanted");
 }
 
-/// Sends a text of the greatest length, and then receives it.
+/// Sends a text of the greatest length to no queue and to one, and then receives it.
 #[derive(Drop)]
 struct Greatest;
 
 impl QueueProgram for Greatest {
-    type Answer = (Sent, Received);
+    type Answer = (Sent, Sent, Received);
 
     fn run<L: Ledger>(
         self,
         alloc: Global,
         _config: Config,
         queues: &mut OneThread<L>,
-    ) -> (Sent, Received) {
+    ) -> (Sent, Sent, Received) {
         let _made = queues.msgget(1, 5, NEW, 1);
+        let refused = sent(alloc, queues, 1, 1, 65_536);
         let answer = sent(alloc, queues, 0, 1, 65_536);
-        (answer, received(alloc, queues, 65_536, false))
+        (refused, answer, received(alloc, queues, 65_536, false))
     }
 }
 
 #[test]
 fn the_greatest_text_takes_64_pages_and_comes_whole(rt: HostRuntime) {
-    let wanted: (Sent, Received) = ((Ok(1), 0), (Ok((1, 65_536, 65_536)), 64));
+    let refused = (Err(Errno::EINVAL), 64);
+    let wanted: (Sent, Sent, Received) = (refused, (Ok(1), 0), (Ok((1, 65_536, 65_536)), 64));
     let config = Config { height: 6, ..SMALL };
-    match with_queues(rt.alloc(), config, Greatest) {
-        Ok(Ended { answer, .. }) => assert!(rt;
-            answer == wanted,
-            "out of memory, or not as wanted"
-        ),
-        Err(refusal) => panic!(rt; "{refusal}"),
+    // Once more, where memory was wanted.
+    for _ in 0..2 {
+        match with_queues(rt.alloc(), config, Greatest) {
+            Ok(Ended { answer, .. }) if answer == wanted => return,
+            Ok(_) | Err(SysError::Memory) => (),
+            Err(refusal) => panic!(rt; "{refusal}"),
+        }
     }
+    panic!(rt; "not as wanted");
 }

@@ -1,15 +1,17 @@
 //! A slot whose queues come and go under those that use them.
 
 use crate::calls::{Nothing, queue, receive, remove, send};
+use crate::watch::Watch;
 use mq::{
     ClosedSlot, Config, Ended, Errno, Event, Id, Names, Seat, SendFlags, System, Worker,
     WorkersError, with_workers,
 };
 use std::alloc::{AllocError, Global};
 use std::hint::spin_loop;
+use std::process::Abort;
 use std::sync::Wait;
 use std::sync::atomic::{AtomicU32, Ordering};
-use std::thread::Threads;
+use std::thread::{Threads, join};
 
 /// One slot for ten queues.
 const ONE: Config = Config {
@@ -169,6 +171,29 @@ fn played<R: Threads + Wait + Sync>(
     Err(WorkersError::Memory)
 }
 
+/// Plays the parts, which end by what is told.
+fn ended<R: Abort + Threads + Wait + Sync>(
+    rt: &R,
+    alloc: Global,
+    what: &str,
+    parts: &[Part<'_>],
+) -> Ended<Vec<Done>> {
+    let watch = Watch::new();
+    let ((), ended) = join(
+        rt,
+        || watch.keeps(rt, what),
+        || {
+            let ended = played(rt, alloc, parts);
+            watch.ends();
+            ended
+        },
+    );
+    match ended {
+        Ok(ended) => ended,
+        Err(error) => panic!(rt; "{error}"),
+    }
+}
+
 /// How many messages the seat sent by the slot list, and the sum of their entries.
 fn sent_by(slot: &ClosedSlot, by: u16) -> (u64, u64) {
     let mut sent = 0u64;
@@ -187,9 +212,7 @@ fn sent_by(slot: &ClosedSlot, by: u16) -> (u64, u64) {
 #[test]
 fn ten_queues_come_and_go_under_three_senders(rt: HostRuntime) {
     let parts = [Part::Makes, Part::Sends, Part::Sends, Part::Sends];
-    let Ok(ended) = played(&rt, rt.alloc(), &parts) else {
-        panic!(rt; "out of memory");
-    };
+    let ended = ended(&rt, rt.alloc(), "queues come and go", &parts);
     let Some(slot) = ended.slots.first() else {
         panic!(rt; "no slot");
     };
@@ -197,7 +220,7 @@ fn ten_queues_come_and_go_under_three_senders(rt: HostRuntime) {
     let mut seat = 1u16;
     for done in ended.answer.iter() {
         let told = sent_by(slot, seat);
-        assert!(rt; *done == Ok(told), "seat {seat}, or out of memory");
+        assert!(rt; *done == Ok(told), "seat {seat}");
         all = all.wrapping_add(told.0);
         seat = seat.wrapping_add(1);
     }
@@ -209,14 +232,9 @@ fn ten_queues_come_and_go_under_three_senders(rt: HostRuntime) {
 fn who_waits_in_a_removed_queue_does_not_get_the_next_ones_message(rt: HostRuntime) {
     let ready = AtomicU32::new(0);
     let parts = [Part::Waits(&ready), Part::MakesAgain(&ready)];
-    let Ok(ended) = played(&rt, rt.alloc(), &parts) else {
-        panic!(rt; "out of memory");
-    };
+    let ended = ended(&rt, rt.alloc(), "a removal wakes a receiver", &parts);
     let answers = [Err(Errno::EIDRM), Ok((1, 3))];
-    assert!(rt;
-        ended.answer.as_slice() == answers.as_slice(),
-        "or out of memory"
-    );
+    assert!(rt; ended.answer.as_slice() == answers.as_slice());
     let Some(slot) = ended.slots.first() else {
         panic!(rt; "no slot");
     };

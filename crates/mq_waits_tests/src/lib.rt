@@ -1,4 +1,4 @@
-//! Tests of calls that wait, and of who wakes them.
+//! Tests of calls that wait, of who wakes them, and of the slots that calls reach.
 
 #![tactic(auto)]
 
@@ -9,4 +9,10 @@ mod churn;
 #[cfg(test)]
 mod pages;
 #[cfg(test)]
+mod places;
+#[cfg(test)]
+mod sleeps;
+#[cfg(test)]
 mod waits;
+#[cfg(test)]
+mod watch;

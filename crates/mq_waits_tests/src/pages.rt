@@ -89,7 +89,7 @@ fn four_threads_that_keep_all_pages_have_four(rt: HostRuntime) {
                 for kept in ended.answer.iter() {
                     all = all.wrapping_add(kept.unwrap_or(100));
                 }
-                assert_eq!(rt; all, 4, "or out of memory");
+                assert_eq!(rt; all, 4);
                 assert_eq!(rt; ended.free_pages, 4);
                 return;
             }
@@ -97,5 +97,5 @@ fn four_threads_that_keep_all_pages_have_four(rt: HostRuntime) {
             Err(error) => panic!(rt; "{error}"),
         }
     }
-    panic!(rt; "no memory");
+    panic!(rt; "out of memory");
 }

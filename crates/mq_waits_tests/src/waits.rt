@@ -1,54 +1,56 @@
-//! Each worker says on the queue with key 2 that it is ready, and then waits on the one with key 1;
-//! another worker takes what is said before it does what they wait for. So nobody sleeps to let
-//! another go first, and a wake that is lost lets the test run out of its time. Whoever makes room
-//! looks at the queue for some milliseconds first, so that the sender waits by then.
+//! Who waits, and by which change it is woken: each test names the wake without which it does not
+//! end, and ends by this name where it does not come. Workers tell one another how far they are by
+//! messages on a queue of their own, and whoever makes the change looks at the queue for a
+//! while first, so that all who wait sleep by then. The queue is not in the first slot.
 
 use crate::calls::{Nothing, queue, receive, remove, send, set};
+use crate::watch::Watch;
 use mq::{Config, Ended, Errno, Id, Names, Seat, System, Worker, WorkersError, with_workers};
 use std::alloc::Global;
+use std::process::Abort;
 use std::sync::Wait;
-use std::thread::Threads;
+use std::thread::{Threads, join};
 
-/// The length of a text of which two fill a queue.
-const FULL: u64 = 65_536;
-
-/// Pages for four of these texts.
 const SIZE: Config = Config {
     height: 8,
     slots: 4,
-    seats: 5,
+    seats: 7,
     last_seq: 9,
 };
 
-/// How often a worker looks at the queue before it makes room in it.
-const LOOKS: u32 = 500_000;
+/// How often a worker looks at the queue before it changes it.
+const LOOKS: u32 = 20_000;
 
-/// What a worker does.
+/// What a worker does next.
 #[derive(Clone, Copy, Drop)]
-enum Part {
-    /// Waits for a message of this type, of up to so many bytes.
+enum Step {
+    /// Says this word, so many times.
+    Says(i64, u8),
+    /// Waits until this word is said so many times.
+    Hears(i64, u8),
+    Looks,
+    /// Sends a message of this type and so many bytes, and waits for room.
+    Sends(i64, u64),
+    /// Receives a message of this type, of up to so many bytes, and waits for one.
     Receives(i64, u64),
-    /// Sends so many texts of `FULL` bytes, of which the last has to wait.
-    Sends(u8),
-    /// Sends to so many that wait for the types from 1 on, the last type first, each once the one
-    /// before has its message.
-    Serves(u8),
-    /// Receives one message once a sender is ready.
-    MakesRoom,
-    /// Sets a quota with room for one text, and sends two.
-    SendsUnderQuota,
-    /// Sets a quota with room for two texts once the sender is ready.
-    RaisesQuota,
-    /// Removes the queue once so many are ready.
-    Removes(u8),
-    /// Sends five bytes once a receiver of one byte is ready, and receives them after it.
-    SendsFive,
+    /// Waits for a message that has more bytes.
+    Misses(u64),
+    Sets(u64),
+    Removes,
 }
 
-/// The answer of a worker: how many texts it sent, or the type and length that it received.
-type Done = Result<(i64, u64), Errno>;
+use Step::{Hears, Looks, Misses, Receives, Removes, Says, Sends, Sets};
 
-/// The two queues, at a seat.
+/// What a worker does, step by step.
+#[derive(Clone, Copy, Drop)]
+struct Part<'a> {
+    steps: &'a [Step],
+}
+
+/// How many bytes a worker received, or why a call of it was refused.
+type Done = Result<u64, Errno>;
+
+/// The two queues, at a seat: the one in which all wait, and the one on which words are said.
 #[derive(Drop)]
 struct At<'a, N: Names, R: Wait> {
     rt: &'a R,
@@ -58,110 +60,62 @@ struct At<'a, N: Names, R: Wait> {
 }
 
 impl<'a, N: Names, R: Wait> At<'a, N, R> {
-    fn ready(&mut self, system: &System<Nothing, N>) -> Result<(), Errno> {
-        send(self.rt, system, self.seat, self.said, 1, 0)
+    fn says(&mut self, system: &System<Nothing, N>, word: i64, count: u8) -> Done {
+        for _ in 0..count {
+            send(self.rt, system, self.seat, self.said, word, 0)?;
+        }
+        Ok(0)
     }
 
-    fn hears(&mut self, system: &System<Nothing, N>) -> Result<(), Errno> {
-        receive(self.rt, system, self.seat, self.said, 0, 0)?;
-        Ok(())
+    fn hears(&mut self, system: &System<Nothing, N>, word: i64, count: u8) -> Done {
+        for _ in 0..count {
+            receive(self.rt, system, self.seat, self.said, 0, word)?;
+        }
+        Ok(0)
     }
 
-    fn receives(&mut self, system: &System<Nothing, N>, msgtyp: i64, size: u64) -> Done {
-        receive(self.rt, system, self.seat, self.here, size, msgtyp)
-    }
-
-    fn sends(&mut self, system: &System<Nothing, N>, mtype: i64, len: u64) -> Result<(), Errno> {
-        send(self.rt, system, self.seat, self.here, mtype, len)
-    }
-
-    fn quota(&mut self, system: &System<Nothing, N>, qbytes: u64) -> Result<(), Errno> {
-        set(self.rt, system, self.seat, self.here, qbytes)
-    }
-
-    fn looks(&mut self, system: &System<Nothing, N>) -> Result<(), Errno> {
+    fn looks(&mut self, system: &System<Nothing, N>) -> Done {
         for _ in 0..LOOKS {
             system.stat(self.seat, self.here)?;
         }
-        Ok(())
+        Ok(0)
     }
 
-    fn waits_for(&mut self, system: &System<Nothing, N>, msgtyp: i64, size: u64) -> Done {
-        self.ready(system)?;
-        let done = self.receives(system, msgtyp, size);
-        self.ready(system)?;
-        done
+    fn misses(&mut self, system: &System<Nothing, N>, size: u64) -> Done {
+        match receive(self.rt, system, self.seat, self.here, size, 0) {
+            Err(Errno::E2BIG) => Ok(0),
+            Err(errno) => Err(errno),
+            Ok(_) => Err(Errno::EINVAL),
+        }
     }
 
-    fn fills(&mut self, system: &System<Nothing, N>, count: u8) -> Done {
-        for sent in 0..count {
-            if sent + 1 == count {
-                self.ready(system)?;
+    fn does(&mut self, system: &System<Nothing, N>, step: Step) -> Done {
+        match step {
+            Step::Says(word, count) => return self.says(system, word, count),
+            Step::Hears(word, count) => return self.hears(system, word, count),
+            Step::Looks => return self.looks(system),
+            Step::Misses(size) => return self.misses(system, size),
+            Step::Sends(mtype, len) => send(self.rt, system, self.seat, self.here, mtype, len)?,
+            Step::Sets(qbytes) => set(self.rt, system, self.seat, self.here, qbytes)?,
+            Step::Removes => remove(self.rt, system, self.seat, self.here)?,
+            Step::Receives(msgtyp, size) => {
+                let (_, length) = receive(self.rt, system, self.seat, self.here, size, msgtyp)?;
+                return Ok(length);
             }
-            self.sends(system, 1, FULL)?;
         }
-        Ok((i64::from(count), 0))
+        Ok(0)
     }
 
-    fn serves(&mut self, system: &System<Nothing, N>, types: u8) -> Done {
-        for _ in 0..types {
-            self.hears(system)?;
+    fn plays(&mut self, system: &System<Nothing, N>, steps: &[Step]) -> Done {
+        let mut bytes = 0u64;
+        for step in steps {
+            bytes = bytes.saturating_add(self.does(system, *step)?);
         }
-        for before in 0..types {
-            self.sends(system, i64::from(types - before), 3)?;
-            self.hears(system)?;
-        }
-        Ok((i64::from(types), 0))
-    }
-
-    fn sends_under_quota(&mut self, system: &System<Nothing, N>) -> Done {
-        self.quota(system, FULL)?;
-        self.fills(system, 2)
-    }
-
-    fn raises_quota(&mut self, system: &System<Nothing, N>) -> Done {
-        self.hears(system)?;
-        self.looks(system)?;
-        self.quota(system, 2 * FULL)?;
-        Ok((0, 0))
-    }
-
-    fn removes(&mut self, system: &System<Nothing, N>, waiting: u8) -> Done {
-        for _ in 0..waiting {
-            self.hears(system)?;
-        }
-        remove(self.rt, system, self.seat, self.here)?;
-        Ok((0, 0))
-    }
-
-    fn sends_five(&mut self, system: &System<Nothing, N>) -> Done {
-        self.hears(system)?;
-        self.sends(system, 1, 5)?;
-        self.hears(system)?;
-        self.receives(system, 0, 10)
-    }
-
-    fn makes_room(&mut self, system: &System<Nothing, N>) -> Done {
-        self.hears(system)?;
-        self.looks(system)?;
-        self.receives(system, 0, FULL)
-    }
-
-    fn plays(&mut self, system: &System<Nothing, N>, part: Part) -> Done {
-        match part {
-            Part::Receives(msgtyp, size) => self.waits_for(system, msgtyp, size),
-            Part::Sends(count) => self.fills(system, count),
-            Part::Serves(types) => self.serves(system, types),
-            Part::MakesRoom => self.makes_room(system),
-            Part::SendsUnderQuota => self.sends_under_quota(system),
-            Part::RaisesQuota => self.raises_quota(system),
-            Part::Removes(waiting) => self.removes(system, waiting),
-            Part::SendsFive => self.sends_five(system),
-        }
+        Ok(bytes)
     }
 }
 
-impl Worker<Nothing> for Part {
+impl<'a> Worker<Nothing> for Part<'a> {
     type Answer = Done;
 
     fn work<N: Names, R: Wait>(
@@ -171,15 +125,15 @@ impl Worker<Nothing> for Part {
         system: &System<Nothing, N>,
         seat: &mut Seat<N>,
     ) -> Done {
-        let here = queue(rt, system, seat, 1)?;
-        let said = queue(rt, system, seat, 2)?;
+        let said = queue(rt, system, seat, 1)?;
+        let here = queue(rt, system, seat, 2)?;
         let mut at = At {
             rt,
             seat,
             here,
             said,
         };
-        at.plays(system, self)
+        at.plays(system, self.steps)
     }
 }
 
@@ -187,7 +141,7 @@ impl Worker<Nothing> for Part {
 fn played<R: Threads + Wait + Sync>(
     rt: &R,
     alloc: Global,
-    parts: &[Part],
+    parts: &[Part<'_>],
 ) -> Result<Ended<Vec<Done>>, WorkersError> {
     for _ in 0..2 {
         let Ok(copied) = parts.to_vec(alloc) else {
@@ -201,61 +155,233 @@ fn played<R: Threads + Wait + Sync>(
     Err(WorkersError::Memory)
 }
 
-/// Wants these answers, so many messages left, and all pages home.
-fn wants<R: Threads + Wait + Sync>(
+/// Plays the parts, which end by this wake, and wants these answers, so many messages left, and all
+/// pages home.
+fn wakes<R: Abort + Threads + Wait + Sync>(
     rt: &R,
     alloc: Global,
-    parts: &[Part],
+    wake: &str,
+    parts: &[Part<'_>],
     answers: &[Done],
     left: u64,
-) -> bool {
-    match played(rt, alloc, parts) {
+) {
+    let watch = Watch::new();
+    let ((), ended) = join(
+        rt,
+        || watch.keeps(rt, wake),
+        || {
+            let ended = played(rt, alloc, parts);
+            watch.ends();
+            ended
+        },
+    );
+    match ended {
         Ok(ended) => {
-            ended.answer.as_slice() == answers
-                && matches!(ended.slots.first(), Some(slot) if slot.left == left)
-                && ended.free_pages == 256
+            assert!(rt; ended.answer.as_slice() == answers, "other answers");
+            let is_left = matches!(ended.slots.get(1), Some(slot) if slot.left == left);
+            assert!(rt; is_left, "other than {left} messages are left");
+            assert_eq!(rt; ended.free_pages, 256);
         }
-        Err(_) => false,
+        Err(error) => panic!(rt; "{error}"),
     }
 }
 
 #[test]
-fn a_waiting_receiver_gets_what_fits_it_beside_others_that_wait(rt: HostRuntime) {
-    let parts = [
-        Part::Receives(1, 10),
-        Part::Receives(2, 10),
-        Part::Receives(3, 10),
-        Part::Receives(4, 10),
-        Part::Serves(4),
+fn a_send_wakes_a_receiver_beside_others_that_want_another_type(rt: HostRuntime) {
+    let first = [Says(1, 1), Receives(1, 9)];
+    let second = [Hears(1, 1), Looks, Says(2, 1), Receives(2, 9), Says(5, 1)];
+    let third = [Hears(2, 1), Looks, Says(3, 1), Receives(3, 9), Says(4, 1)];
+    let sender = [
+        Hears(3, 1),
+        Looks,
+        Sends(3, 5),
+        Hears(4, 1),
+        Sends(2, 4),
+        Hears(5, 1),
+        Sends(1, 3),
     ];
-    let answers = [Ok((1, 3)), Ok((2, 3)), Ok((3, 3)), Ok((4, 3)), Ok((4, 0))];
-    assert!(rt; wants(&rt, rt.alloc(), &parts, &answers, 0));
-}
-
-#[test]
-fn a_waiting_sender_goes_on_after_a_receipt(rt: HostRuntime) {
-    let parts = [Part::Sends(3), Part::MakesRoom];
-    let answers = [Ok((3, 0)), Ok((1, FULL))];
-    assert!(rt; wants(&rt, rt.alloc(), &parts, &answers, 2));
-}
-
-#[test]
-fn a_waiting_sender_goes_on_under_a_higher_quota(rt: HostRuntime) {
-    let parts = [Part::SendsUnderQuota, Part::RaisesQuota];
-    let answers = [Ok((2, 0)), Ok((0, 0))];
-    assert!(rt; wants(&rt, rt.alloc(), &parts, &answers, 2));
-}
-
-#[test]
-fn who_waits_in_a_queue_that_is_removed_answers_eidrm(rt: HostRuntime) {
-    let parts = [Part::Receives(9, 10), Part::Sends(3), Part::Removes(2)];
-    let answers = [Err(Errno::EIDRM), Err(Errno::EIDRM), Ok((0, 0))];
-    assert!(rt; wants(&rt, rt.alloc(), &parts, &answers, 0));
+    let parts = [
+        Part { steps: &first },
+        Part { steps: &second },
+        Part { steps: &third },
+        Part { steps: &sender },
+    ];
+    let answers = [Ok(3), Ok(4), Ok(5), Ok(0)];
+    wakes(
+        &rt,
+        rt.alloc(),
+        "a send wakes all receivers",
+        &parts,
+        &answers,
+        0,
+    );
 }
 
 #[test]
 fn a_woken_receiver_with_too_little_room_leaves_the_message_for_another(rt: HostRuntime) {
-    let parts = [Part::Receives(0, 1), Part::SendsFive];
-    let answers = [Err(Errno::E2BIG), Ok((1, 5))];
-    assert!(rt; wants(&rt, rt.alloc(), &parts, &answers, 0));
+    let misses = [Says(1, 1), Misses(1), Says(2, 1)];
+    let sender = [
+        Hears(1, 1),
+        Looks,
+        Sends(1, 5),
+        Hears(2, 1),
+        Receives(0, 10),
+    ];
+    let parts = [Part { steps: &misses }, Part { steps: &sender }];
+    let answers = [Ok(0), Ok(5)];
+    wakes(
+        &rt,
+        rt.alloc(),
+        "a send wakes who has no room for it",
+        &parts,
+        &answers,
+        0,
+    );
+}
+
+#[test]
+fn a_receipt_wakes_a_sender_beside_one_whose_text_is_too_long(rt: HostRuntime) {
+    let long = [Hears(1, 1), Says(2, 1), Sends(1, 10), Says(5, 1)];
+    let short = [Hears(2, 1), Looks, Says(3, 1), Sends(2, 3), Says(4, 1)];
+    let receiver = [
+        Sets(10),
+        Sends(7, 7),
+        Sends(3, 3),
+        Says(1, 1),
+        Hears(3, 1),
+        Looks,
+        Receives(3, 9),
+        Hears(4, 1),
+        Receives(7, 9),
+        Receives(2, 9),
+        Hears(5, 1),
+        Receives(1, 10),
+    ];
+    let parts = [
+        Part { steps: &long },
+        Part { steps: &short },
+        Part { steps: &receiver },
+    ];
+    let answers = [Ok(0), Ok(0), Ok(23)];
+    wakes(
+        &rt,
+        rt.alloc(),
+        "a receipt wakes all senders",
+        &parts,
+        &answers,
+        0,
+    );
+}
+
+#[test]
+fn a_receipt_wakes_all_for_whom_it_makes_room(rt: HostRuntime) {
+    let sender = [Hears(1, 1), Says(2, 1), Sends(1, 3), Says(3, 1)];
+    let receiver = [
+        Sets(9),
+        Sends(7, 9),
+        Says(1, 3),
+        Hears(2, 3),
+        Looks,
+        Receives(7, 9),
+        Hears(3, 3),
+    ];
+    let part = Part { steps: &sender };
+    let parts = [part, part, part, Part { steps: &receiver }];
+    let answers = [Ok(0), Ok(0), Ok(0), Ok(9)];
+    wakes(
+        &rt,
+        rt.alloc(),
+        "a receipt wakes all three senders",
+        &parts,
+        &answers,
+        3,
+    );
+}
+
+#[test]
+fn a_higher_quota_wakes_all_for_whom_it_makes_room(rt: HostRuntime) {
+    let sender = [Hears(1, 1), Says(2, 1), Sends(1, 3), Says(3, 1)];
+    let setter = [
+        Sets(2),
+        Says(1, 3),
+        Hears(2, 3),
+        Looks,
+        Sets(9),
+        Hears(3, 3),
+    ];
+    let part = Part { steps: &sender };
+    let parts = [part, part, part, Part { steps: &setter }];
+    let answers = [Ok(0), Ok(0), Ok(0), Ok(0)];
+    wakes(
+        &rt,
+        rt.alloc(),
+        "a higher quota wakes all three senders",
+        &parts,
+        &answers,
+        3,
+    );
+}
+
+#[test]
+fn a_removal_wakes_all_who_wait_for_a_message(rt: HostRuntime) {
+    let receiver = [Says(1, 1), Receives(9, 9)];
+    let remover = [Hears(1, 3), Looks, Removes];
+    let part = Part { steps: &receiver };
+    let parts = [part, part, part, Part { steps: &remover }];
+    let gone = Err(Errno::EIDRM);
+    let answers = [gone, gone, gone, Ok(0)];
+    wakes(
+        &rt,
+        rt.alloc(),
+        "a removal wakes all three receivers",
+        &parts,
+        &answers,
+        0,
+    );
+}
+
+#[test]
+fn a_removal_wakes_all_who_wait_for_room(rt: HostRuntime) {
+    let sender = [Hears(1, 1), Says(2, 1), Sends(1, 3)];
+    let remover = [Sets(2), Says(1, 3), Hears(2, 3), Looks, Removes];
+    let part = Part { steps: &sender };
+    let parts = [part, part, part, Part { steps: &remover }];
+    let gone = Err(Errno::EIDRM);
+    let answers = [gone, gone, gone, Ok(0)];
+    wakes(
+        &rt,
+        rt.alloc(),
+        "a removal wakes all three senders",
+        &parts,
+        &answers,
+        0,
+    );
+}
+
+#[test]
+fn a_removal_wakes_those_who_wait_for_room_beside_those_who_wait_for_a_message(rt: HostRuntime) {
+    let receiver = [Says(2, 1), Receives(9, 9)];
+    let sender = [Hears(1, 1), Says(2, 1), Sends(1, 3)];
+    let remover = [Sets(2), Says(1, 3), Hears(2, 6), Looks, Removes];
+    let receives = Part { steps: &receiver };
+    let sends = Part { steps: &sender };
+    let parts = [
+        receives,
+        sends,
+        receives,
+        sends,
+        receives,
+        sends,
+        Part { steps: &remover },
+    ];
+    let gone = Err(Errno::EIDRM);
+    let answers = [gone, gone, gone, gone, gone, gone, Ok(0)];
+    wakes(
+        &rt,
+        rt.alloc(),
+        "a removal wakes receivers and senders",
+        &parts,
+        &answers,
+        0,
+    );
 }

@@ -1,7 +1,7 @@
 ghost use Rattle.std.specs.Prelude.{◌≡◌, All, IfOk, vec_len};
 ghost use Rattle.mq_cli.specs.Plans.{IsCountable};
 
-use crate::plans::{Counting, puts};
+use crate::plans::{Call, Wanting, put_call, puts};
 use mq_cli::{Outcome, RunFault, Step, run_workers};
 use mq_jobs::{Job, JobsError, run_jobs};
 use std::alloc::{AllocError, Global};
@@ -74,13 +74,23 @@ fn rising(alloc: Global, count: u32) -> Result<Vec<Vec<Step>>, AllocError>
     Ok(plans)
 }
 
-/// Ports that let a hundred calls succeed.
-fn ports(alloc: Global, count: u32) -> Result<Vec<Counting>, AllocError>
+/// The calls of the longest of fifteen plans, with which the calls of each other begin.
+fn wanted() -> [Call; 14] {
+    let mut wanted = [put_call(1); 14];
+    for place in 1..14usize {
+        wanted[place] = put_call(place as u64 + 1);
+    }
+    wanted
+}
+
+/// Ports that want these calls.
+fn ports<'a>(alloc: Global, wanted: &'a [Call], count: u32) -> Result<Vec<Wanting<'a>>, AllocError>
     ensures len { IfOk result (λ ports. vec_len ports ≡ count) }
 {
     let mut ports = Vec::new(alloc);
     for _ in 0..count {
-        ports.push(Counting {
+        ports.push(Wanting {
+            wanted,
             calls: 0,
             lets: 100,
         })?;
@@ -93,7 +103,8 @@ fn outcomes<R: Threads + Wait + Sync>(
     alloc: Global,
     count: u32,
 ) -> Result<Vec<Outcome>, RunFault> {
-    let (Ok(plans), Ok(mut ports)) = (rising(alloc, count), ports(alloc, count)) else {
+    let wanted = wanted();
+    let (Ok(plans), Ok(mut ports)) = (rising(alloc, count), ports(alloc, &wanted, count)) else {
         return Err(RunFault::Memory);
     };
     run_workers(rt, alloc, &(), &plans, ports.as_mut_slice())
@@ -110,7 +121,7 @@ fn workers_answer_in_the_order_of_their_plans(rt: HostRuntime) {
             Ok(all) => {
                 assert!(rt; all.len() == count as usize, "an outcome for each");
                 for (place, outcome) in all.iter().enumerate() {
-                    assert!(rt; outcome.end == None, "done, or no memory");
+                    assert!(rt; outcome.end == None, "done");
                     assert!(rt; outcome.sent as usize == place, "at its place");
                 }
             }

@@ -1,4 +1,5 @@
-//! Tests of workers that run plans, over ports that are told what to answer, and of jobs.
+//! Tests of workers that run plans, over ports that are told what to answer, of the ports of a
+//! system, and of jobs.
 
 #![tactic(auto)]
 
@@ -12,3 +13,5 @@ mod order;
 mod plans;
 #[cfg(test)]
 mod refusals;
+#[cfg(test)]
+mod seats;

@@ -1,7 +1,7 @@
 ghost use Rattle.std.specs.Prelude.{◌≡◌, ◌+◌, length, All, IfOk};
 ghost use Rattle.mq_cli.specs.Plans.{IsCountable};
 
-use crate::plans::one_take;
+use crate::plans::{Call, TAKE, one_take};
 use mq_cli::{Outcome, Port, RunFault, Step, Taken, run_workers};
 use mq_one_thread::Errno;
 use mq_table::Id;
@@ -26,6 +26,12 @@ impl<'a> Port for Meeting<'a> {
 
     ghost calls = { λ port. port.calls };
 
+    ghost puts = { λ old id mtype tag n moment answer new. Unit {0} };
+
+    ghost takes = { λ old id msgtyp moment answer new. Unit {0} };
+
+    ghost removes = { λ old id moment answer new. Unit {0} };
+
     fn put<R: Wait>(
         &mut self,
         _rt: &R,
@@ -43,10 +49,18 @@ impl<'a> Port for Meeting<'a> {
         &mut self,
         _rt: &R,
         _shared: &(),
-        _id: Id,
+        id: Id,
         msgtyp: i64,
-        _moment: u64,
+        moment: u64,
     ) -> Result<Taken, Errno> {
+        let call = Call::Take {
+            id: id.number(),
+            msgtyp,
+            moment,
+        };
+        if call != TAKE {
+            return Err(Errno::EEXIST);
+        }
         if self.calls > 0 || !meets(self.mine, self.other) {
             return Err(Errno::EAGAIN);
         }
@@ -154,5 +168,5 @@ fn two_workers_are_there_at_the_same_time(rt: HostRuntime) {
             }
         }
     }
-    panic!(rt; "no memory twice");
+    panic!(rt; "out of memory");
 }

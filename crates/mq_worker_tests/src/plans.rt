@@ -1,4 +1,4 @@
-//! Plans that the tests run, and a port that counts.
+//! Plans that the tests run, and a port that wants just their calls.
 
 ghost use Rattle.std.specs.Prelude.{◌≡◌, ◌+◌, MatchResult, IfOk};
 ghost use Rattle.mq_cli.specs.Plans.{IsCountable, puts_of, takes_of};
@@ -9,18 +9,45 @@ use mq_table::Id;
 use std::alloc::{AllocError, Global};
 use std::sync::Wait;
 
-/// Lets so many calls succeed, and refuses all others.
+/// A call of a port, with all that it is told.
+#[derive(Clone, Copy, Debug, PartialEq, Eq)]
+pub(crate) enum Call {
+    Put {
+        id: u32,
+        mtype: i64,
+        tag: u64,
+        length: u64,
+        moment: u64,
+    },
+    Take {
+        id: u32,
+        msgtyp: i64,
+        moment: u64,
+    },
+    Remove {
+        id: u32,
+        moment: u64,
+    },
+}
+
+/// Wants these calls, one after the other. It lets so many succeed and refuses the next with EPERM;
+/// a call that is not the one that is wanted it refuses with EEXIST.
 #[derive(Drop)]
-pub(crate) struct Counting {
+pub(crate) struct Wanting<'a> {
+    pub wanted: &'a [Call],
     pub calls: u64,
     pub lets: u64,
 }
 
-impl Counting {
-    fn call(&mut self) -> Result<u64, Errno>
+impl<'a> Wanting<'a> {
+    fn call(&mut self, call: Call) -> Result<u64, Errno>
         ensures { MatchResult result (λ _. self.new.calls ≡ self.old.calls + 1)
             (λ _. self.new.calls ≡ self.old.calls) }
     {
+        match self.wanted.get(self.calls as usize) {
+            Some(wanted) if *wanted == call => (),
+            _ => return Err(Errno::EEXIST),
+        }
         if self.calls >= self.lets {
             return Err(Errno::EPERM);
         }
@@ -29,37 +56,54 @@ impl Counting {
     }
 }
 
-impl Port for Counting {
+impl<'a> Port for Wanting<'a> {
     type Shared = ();
 
     ghost calls = { λ port. port.calls };
+
+    ghost puts = { λ old id mtype tag n moment answer new. Unit {0} };
+
+    ghost takes = { λ old id msgtyp moment answer new. Unit {0} };
+
+    ghost removes = { λ old id moment answer new. Unit {0} };
 
     fn put<R: Wait>(
         &mut self,
         _rt: &R,
         _shared: &(),
-        _id: Id,
-        _mtype: i64,
-        _tag: u64,
-        _length: u64,
-        _moment: u64,
+        id: Id,
+        mtype: i64,
+        tag: u64,
+        length: u64,
+        moment: u64,
     ) -> Result<u64, Errno> {
-        self.call()
+        self.call(Call::Put {
+            id: id.number(),
+            mtype,
+            tag,
+            length,
+            moment,
+        })
     }
 
     fn take<R: Wait>(
         &mut self,
         _rt: &R,
         _shared: &(),
-        _id: Id,
+        id: Id,
         msgtyp: i64,
-        _moment: u64,
+        moment: u64,
     ) -> Result<Taken, Errno> {
-        match self.call() {
+        let call = Call::Take {
+            id: id.number(),
+            msgtyp,
+            moment,
+        };
+        match self.call(call) {
             Ok(tag) => Ok(Taken {
                 sender: 2,
                 tag,
-                mtype: msgtyp,
+                mtype: 3,
                 length: 0,
             }),
             Err(errno) => Err(errno),
@@ -70,22 +114,59 @@ impl Port for Counting {
         &mut self,
         _rt: &R,
         _shared: &(),
-        _id: Id,
-        _moment: u64,
+        id: Id,
+        moment: u64,
     ) -> Result<u64, Errno> {
-        self.call()
+        self.call(Call::Remove {
+            id: id.number(),
+            moment,
+        })
     }
 }
 
+/// So many messages of 10 bytes, and the call that sends the one with this tag.
 pub(crate) fn put(count: u32) -> Step
     ensures { (puts_of result ≡ count) × (takes_of result ≡ 0) }
 {
     Step::Put {
-        id: Id::from_number(0),
-        mtype: 1,
+        id: Id::from_number(65),
+        mtype: 7,
         count,
         length: 10,
-        moment: 1,
+        moment: 4,
+    }
+}
+
+pub(crate) fn put_call(tag: u64) -> Call {
+    Call::Put {
+        id: 65,
+        mtype: 7,
+        tag,
+        length: 10,
+        moment: 4,
+    }
+}
+
+/// So many of another length, to another queue.
+pub(crate) fn long_put(count: u32) -> Step
+    ensures { (puts_of result ≡ count) × (takes_of result ≡ 0) }
+{
+    Step::Put {
+        id: Id::from_number(2),
+        mtype: i64::MAX,
+        count,
+        length: 300,
+        moment: 5,
+    }
+}
+
+pub(crate) fn long_put_call(tag: u64) -> Call {
+    Call::Put {
+        id: 2,
+        mtype: i64::MAX,
+        tag,
+        length: 300,
+        moment: 5,
     }
 }
 
@@ -93,21 +174,29 @@ pub(crate) fn take(count: u32) -> Step
     ensures { (puts_of result ≡ 0) × (takes_of result ≡ count) }
 {
     Step::Take {
-        id: Id::from_number(0),
-        msgtyp: 1,
+        id: Id::from_number(129),
+        msgtyp: -7,
         count,
-        moment: 2,
+        moment: 6,
     }
 }
+
+pub(crate) const TAKE: Call = Call::Take {
+    id: 129,
+    msgtyp: -7,
+    moment: 6,
+};
 
 pub(crate) fn remove() -> Step
     ensures { (puts_of result ≡ 0) × (takes_of result ≡ 0) }
 {
     Step::Remove {
-        id: Id::from_number(0),
-        moment: 3,
+        id: Id::from_number(66),
+        moment: 8,
     }
 }
+
+pub(crate) const REMOVE: Call = Call::Remove { id: 66, moment: 8 };
 
 /// A plan that sends so many messages.
 pub(crate) fn puts(alloc: Global, count: u32) -> Result<Vec<Step>, AllocError>

@@ -1,33 +1,60 @@
-use crate::plans::{Counting, put, remove, take};
+use crate::plans::{
+    Call, REMOVE, TAKE, Wanting, long_put, long_put_call, put, put_call, remove, take,
+};
 use mq_cli::{Outcome, work};
 use mq_one_thread::Errno;
 use std::alloc::Global;
 use std::sync::Wait;
 
-/// What becomes of two messages sent, three received and a removal, where so many calls succeed.
+/// The calls of the plan below, in their order: the tags rise from 1 over all that is sent.
+fn wanted() -> [Call; 7] {
+    [
+        put_call(1),
+        put_call(2),
+        long_put_call(3),
+        TAKE,
+        TAKE,
+        TAKE,
+        REMOVE,
+    ]
+}
+
+/// What becomes of two messages sent, one more, three received and a removal, where so many calls
+/// succeed.
 fn outcome<R: Wait>(rt: &R, alloc: Global, lets: u64) -> (Outcome, u64) {
-    let mut port = Counting { calls: 0, lets };
-    let first = work(rt, alloc, &(), &mut port, &[put(2), take(3), remove()]);
+    let wanted = wanted();
+    let plan = [put(2), long_put(1), take(3), remove()];
+    let mut port = Wanting {
+        wanted: &wanted,
+        calls: 0,
+        lets,
+    };
+    let first = work(rt, alloc, &(), &mut port, &plan);
     if first.end != Some(Errno::ENOMEM) {
         return (first, port.calls);
     }
-    let mut port = Counting { calls: 0, lets };
-    let second = work(rt, alloc, &(), &mut port, &[put(2), take(3), remove()]);
+    let mut port = Wanting {
+        wanted: &wanted,
+        calls: 0,
+        lets,
+    };
+    let second = work(rt, alloc, &(), &mut port, &plan);
     (second, port.calls)
 }
 
 #[test]
 fn a_plan_ends_at_the_first_call_that_is_refused(rt: HostRuntime) {
-    for lets in 0..6u64 {
+    for lets in 0..7u64 {
         let (outcome, calls) = outcome(&rt, rt.alloc(), lets);
         assert!(rt;
-            outcome.end == Some(Errno::EPERM),
-            "the refusal, or no memory"
+            outcome.end != Some(Errno::EEXIST),
+            "a call that is not in the plan"
         );
+        assert!(rt; outcome.end == Some(Errno::EPERM), "the refusal");
         assert!(rt; calls == lets, "a call after the refusal");
-        assert!(rt; outcome.sent == lets.min(2), "sent");
+        assert!(rt; outcome.sent == lets.min(3), "sent");
         assert!(rt;
-            outcome.received == lets.saturating_sub(2).min(3),
+            outcome.received == lets.saturating_sub(3).min(3),
             "received"
         );
         assert!(rt; outcome.ordered, "in order");
@@ -36,17 +63,21 @@ fn a_plan_ends_at_the_first_call_that_is_refused(rt: HostRuntime) {
 
 #[test]
 fn a_plan_that_is_not_refused_is_done(rt: HostRuntime) {
-    for lets in 6..8u64 {
+    for lets in 7..9u64 {
         let (outcome, calls) = outcome(&rt, rt.alloc(), lets);
-        assert!(rt; outcome.end == None, "done, or no memory");
-        assert!(rt; calls == 6, "each call once");
-        assert!(rt; outcome.sent == 2 && outcome.received == 3, "all");
+        assert!(rt; outcome.end == None, "done");
+        assert!(rt; calls == 7, "each call once");
+        assert!(rt; outcome.sent == 3 && outcome.received == 3, "all");
     }
 }
 
 #[test]
 fn an_empty_plan_makes_no_call(rt: HostRuntime) {
-    let mut port = Counting { calls: 0, lets: 9 };
+    let mut port = Wanting {
+        wanted: &[],
+        calls: 0,
+        lets: 9,
+    };
     let outcome = work(&rt, rt.alloc(), &(), &mut port, &[]);
     assert!(rt; outcome.end == None && outcome.ordered, "done");
     assert!(rt;

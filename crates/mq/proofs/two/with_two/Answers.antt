@@ -1,27 +1,36 @@
 use Rattle.std.proofs.Common.{refl, rules}
-use Rattle.mq.proofs.EitherLemmas.{two_after, each_after}
+use Rattle.mq.specs.Workers.{AreOfTwo}
+use Rattle.mq.proofs.EitherLemmas.{two_after, same_two}
 use Rattle.mq.proofs.two.with_two.Goals as goal
 
 pub apart-requires-clause-len : goal.apart-requires-clause-len
 apart-requires-clause-len g c =
-    let two = two_after g.A.Worker.after g.B.Worker.after c.args.one c.args.other c.in-Ok.workers.items
-    c.in_ok-ended.ended.answer.items (search rules) (search rules) in
-    rw two.2 refl
+    let left = c.in_ok-ended.ensures.after in
+    let two = two_after g.A.Worker.after g.B.Worker.after c.args.one c.args.other c.in-Ok.workers.items left.seats
+    c.in_ok-ended.ended.answer.items (search rules) left.each in
+    rw two.answers_are refl
 
 pub apart-requires-clause-two : goal.apart-requires-clause-two
 apart-requires-clause-two g c =
-    let two = two_after g.A.Worker.after g.B.Worker.after c.args.one c.args.other c.in-Ok.workers.items
-    c.in_ok-ended.ended.answer.items (search rules) (search rules) in
-    (two.0, two.1, two.2)
+    let left = c.in_ok-ended.ensures.after in
+    let two = two_after g.A.Worker.after g.B.Worker.after c.args.one c.args.other c.in-Ok.workers.items left.seats
+    c.in_ok-ended.ended.answer.items (search rules) left.each in
+    (two.x, two.y, two.answers_are)
 
-pub returns-clause-one : goal.returns-clause-one
-returns-clause-one g c =
-    let each = each_after g.A.Worker.after g.B.Worker.after c.args.one c.args.other c.in-Ok.workers.items c.in_ok-ended.ended.answer.items
-    c.apart.result.0 c.apart.result.1 (search rules) (search rules) c.apart.ensures in
-    each.0
-
-pub returns-clause-other : goal.returns-clause-other
-returns-clause-other g c =
-    let each = each_after g.A.Worker.after g.B.Worker.after c.args.one c.args.other c.in-Ok.workers.items c.in_ok-ended.ended.answer.items
-    c.apart.result.0 c.apart.result.1 (search rules) (search rules) c.apart.ensures in
-    each.1
+pub returns-clause-after : goal.returns-clause-after
+returns-clause-after g c =
+    let left = c.in_ok-ended.ensures.after in
+    let two = two_after g.A.Worker.after g.B.Worker.after c.args.one c.args.other c.in-Ok.workers.items left.seats
+    c.in_ok-ended.ended.answer.items (search rules) left.each in
+    let same = same_two g.A.Worker.after g.B.Worker.after c.in_ok-ended.ended.answer.items two.x c.apart.result.0 two.y c.apart.result.1
+    two.answers_are c.apart.ensures in
+    let told : AreOfTwo g.A.Worker.after g.B.Worker.after c.args.config.last_seq c.args.one c.args.other c.apart.result
+    c.in_ok-ended.ended.slots.items =
+    record {
+      seat = two.seat;
+      next = two.next;
+      one_is = rw same.0 two.one_is;
+      other_is = rw same.1 two.other_is;
+      changes = rw two.seats_are at left.changes;
+    } in
+    search (rules, told)

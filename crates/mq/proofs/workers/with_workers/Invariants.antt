@@ -7,3 +7,7 @@ ghosts-run_workers-N-Names g a = names_of a.blanks a.config
 
 abbrev pub ghosts-run_workers-N-Naming : goal.ghosts-run_workers-N-Naming
 ghosts-run_workers-N-Naming g a = books_of a.blanks
+
+-- these workers
+abbrev pub ghosts-run_workers-C-Crew : goal.ghosts-run_workers-C-Crew
+ghosts-run_workers-C-Crew g a = record { workers = a.workers.items }

@@ -1,4 +1,4 @@
-use Rattle.std.proofs.Common.{◌≡◌, ◌+◌, ◌++◌, drop}
+use Rattle.std.proofs.Common.{◌≡◌, ◌++◌, drop}
 use Rattle.mq_cli.specs.Closing.{slot_lines}
 use Rattle.mq_cli.proofs.closing.write_slots.Given as goal
 

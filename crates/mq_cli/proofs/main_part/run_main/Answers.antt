@@ -1,6 +1,5 @@
-use Rattle.std.proofs.Common.{◌≡◌, ◌+◌, ◌++◌, ◌∷◌, [], List, take, drop, ap, ◌∙◌}
+use Rattle.std.proofs.Common.{◌+◌, ◌++◌, List, take, drop, ap, sym, ◌∙◌}
 use Rattle.mq_cli.specs.declared.threads_script.MainCall.{MainCall}
-use Rattle.mq_cli.specs.MainPart.{Replies}
 use Rattle.mq_cli.proofs.MainLemmas.{cut_at, taken_more, wrote_first, wrote_more, wrote_part}
 use Rattle.mq_cli.proofs.main_part.run_main.Goals as goal
 
@@ -8,7 +7,7 @@ pub returns-in_default : goal.returns-in_default
 returns-in_default g c =
     let calls = c.args.calls.now in
     let k = c.loop-call.call-index in
-    wrote_first g.N.Names.slots (take k calls) (drop k calls) calls _ _ (cut_at calls k) c.loop-call.invariant
+    wrote_first g.N.Names.slots g.N.Names.last_seq (take k calls) (drop k calls) calls _ _ _ _ (cut_at calls k) c.loop-call.invariant
 
 pub returns-in_default-write_bytes : goal.returns-in_default-write_bytes
 returns-in_default-write_bytes g c =
@@ -18,8 +17,9 @@ returns-in_default-write_bytes g c =
     let more = taken_more calls k call c.loop-call-test.true c.call-item.is in
     let cut = cut_at calls (k + 1) ∙ ap (λ (l : List MainCall). l ++ drop (k + 1) calls) more in
     let cleared = rw c.clear.ensures.items at c.in-Ok.ensures in
-    let reply : Replies g.N.Names.slots call [] c.deref.result.now = rw c.deref.ensures.value cleared in
-    wrote_part g.N.Names.slots (take k calls) call (drop (k + 1) calls) calls c.deref.result.now _ _ _ cut c.loop-call.invariant reply c.in_default-write_bytes.ensures.err
+    let reply = rw (sym c.deref.ensures.value) at cleared in
+    wrote_part g.N.Names.slots g.N.Names.last_seq (take k calls) call (drop (k + 1) calls) calls c.deref.result.now _ _ _ _ _ _ cut c.loop-call.invariant reply
+    c.in_default-write_bytes.ensures.err
 
 pub loop-call-preserved : goal.loop-call-preserved
 loop-call-preserved g c =
@@ -28,5 +28,6 @@ loop-call-preserved g c =
     let call = c.call-item.result in
     let more = taken_more calls k call c.loop-call-test.true c.call-item.is in
     let cleared = rw c.clear.ensures.items at c.in-Ok.ensures in
-    let reply : Replies g.N.Names.slots call [] c.deref.result.now = rw c.deref.ensures.value cleared in
-    rw more (wrote_more g.N.Names.slots (take k calls) call c.deref.result.now _ _ _ c.loop-call.invariant reply c.in-Ok-write_bytes.ensures.ok)
+    let reply = rw (sym c.deref.ensures.value) at cleared in
+    rw more
+    (wrote_more g.N.Names.slots g.N.Names.last_seq (take k calls) call c.deref.result.now _ _ _ _ _ _ c.loop-call.invariant reply c.in-Ok-write_bytes.ensures.ok)

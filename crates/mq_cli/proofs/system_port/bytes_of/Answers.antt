@@ -3,8 +3,8 @@ use Rattle.mq_cli.specs.declared.system_port.TheConstants.{LETTERS}
 use Rattle.mq_cli.proofs.LettersLemmas.{text_is}
 use Rattle.mq_cli.proofs.system_port.bytes_of.Goals as goal
 
-pub returns : goal.returns
-returns c =
+pub returns-clause-letters : goal.returns-clause-letters
+returns-clause-letters c =
     let same : c.from.result ≡ c.args.seat = search (rules, c.from.ensures) in
     let start = (c.args.tag % 26 + c.args.seat) % 26 in
     let count : start + c.args.count - start ≡ c.args.count = omega arith in

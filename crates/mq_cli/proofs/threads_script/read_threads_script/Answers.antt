@@ -1,4 +1,4 @@
-use Rattle.std.proofs.Common.{◌≡◌, ◌≤◌, length, arith, ap, rules, [], ◌∙◌, sym, subst, lit≤, ◌+◌}
+use Rattle.std.proofs.Common.{◌≡◌, length, arith, ap, rules, [], ◌∙◌, sym, subst, lit≤, ◌+◌}
 use Rattle.mq_cli.specs.Lines.{lines_of}
 use Rattle.mq_cli.specs.Parts.{lines_left}
 use Rattle.mq_cli.specs.ThreadsParsed.{wanted_seen}

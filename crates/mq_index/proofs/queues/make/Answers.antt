@@ -44,3 +44,8 @@ returns-in-Ok-clause-ok g c t =
     ∙ ap (λ b. cond b (Some c.new.result) (queue_at c.args.queues.now.entries t)) (at_is c.args.mtype t)
     ∙ ap (λ q. cond (int_eq c.args.mtype t) (Some q) (queue_at c.args.queues.now.entries t)) c.new.ensures
     ∙ comes (queue_at c.args.queues.now.entries) t c.args.mtype (none_is _ absent)
+
+pub returns-in-Err-clause-refused : goal.returns-in-Err-clause-refused
+returns-in-Err-clause-refused g c =
+    let absent = simp (to_z-of_z, c.ranges.mtype) at c.if-contains_key.ensures in
+    none_is _ absent

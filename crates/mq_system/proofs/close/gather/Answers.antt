@@ -1,4 +1,4 @@
-use Rattle.std.proofs.Common.{◌≡◌, ℕ, ◌-◌, List, ◌∷◌, [], ◌++◌, ◌∙◌, arith, ap, length, length-append, take}
+use Rattle.std.proofs.Common.{◌≡◌, ℕ, ◌-◌, List, ◌∷◌, [], ◌++◌, ◌∙◌, arith, rules, ap, length, length-append, map, take}
 use Rattle.mq_shared.specs.Seat.{SeatState, counted_by}
 use Rattle.mq_shared.proofs.CountLemmas.{one_seat_more}
 use Rattle.mq_system.specs.Closed.{known_by}
@@ -40,7 +40,9 @@ returns-clause-fronts g c =
     ∙ ap (λ (n : ℕ). take (n - 1) c.loop-seat.seats.items) c.in_default.ensures.cases.0 in
     let none : c.loop-seat.seats.items ≡ [] =
     c.in_default.ensures.items ∙ ap (λ (rest : List SeatState). rest ++ []) last in
-    c.reverse.ensures.items ∙ (all_apart g.N.Names.slots c.args.seats.items c.loop-seat.seats.items c.loop-seat.fronts.items c.loop-seat.invariant.2 none).0
+    let told : c.reverse.new.self.items ≡ map known_by c.args.seats.items =
+    c.reverse.ensures.items ∙ (all_apart g.N.Names.slots c.args.seats.items c.loop-seat.seats.items c.loop-seat.fronts.items c.loop-seat.invariant.2 none).0 in
+    search (rules, told)
 
 pub returns-clause-recorded : goal.returns-clause-recorded
 returns-clause-recorded g c =

@@ -1,6 +1,5 @@
-use Rattle.std.proofs.Common.{ℕ, ◌≡◌, ◌+◌, ◌-◌, length, ap, refl, arith}
+use Rattle.std.proofs.Common.{◌≡◌, ◌+◌, ◌-◌, length, ap, refl, arith}
 use Rattle.mq_cli.proofs.ThreadsRuns.{onto_last_set}
-use Rattle.mq_cli.specs.ThreadsScript.{Wanted}
 use Rattle.mq_cli.proofs.threads_script.ThreadsScript.add.Goals as goal
 
 pub returns-in_ok-push-in-Section : goal.returns-in_ok-push-in-Section

@@ -1,4 +1,4 @@
-use Rattle.std.proofs.Common.{◌≡◌, refl}
+use Rattle.std.proofs.Common.{rules}
 use Rattle.mq_table.specs.declared.limits.TheConstants.{MAX_SEQ}
 use Rattle.mq_table.proofs.Cuts.{cut_is, cut_kept}
 use Rattle.mq_table.proofs.Kepts.{entries_is}
@@ -16,8 +16,9 @@ invariant_of-self-2 g c =
 
 pub returns-clause-cut : goal.returns-clause-cut
 returns-clause-cut g c =
-    rw (← c.self.view_is, c.in_ok-cut.ensures.handed) (cut_is _ _ c.self.invariant.kept)
+    let cut = cut_is _ _ c.self.invariant.kept in
+    rw (← c.self.view_is, c.in_ok-cut.ensures.handed) (search (rules, cut))
 
 pub returns-clause-left : goal.returns-clause-left
 returns-clause-left g c =
-    rw (← c.self.view_is, c.in_ok-cut.ensures.after, entries_is _ _ c.self.invariant.kept) refl
+    rw (← c.self.view_is, c.in_ok-cut.ensures.after, entries_is _ _ c.self.invariant.kept) (search rules)

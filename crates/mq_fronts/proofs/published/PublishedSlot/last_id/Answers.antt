@@ -9,4 +9,5 @@ last_id-requires g c = record {
 
 pub returns : goal.returns
 returns g c =
-    rw (← c.self.view_is, ← last_id_is _ _ c.self.invariant.kept) c.last_id.ensures
+    let same = last_id_is c.self.inside.writer.events c.self.inside.slot c.self.invariant.kept in
+    rw (← c.self.view_is) (cc)

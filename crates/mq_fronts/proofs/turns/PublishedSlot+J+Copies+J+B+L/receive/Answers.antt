@@ -1,5 +1,4 @@
-use Rattle.std.proofs.Common.{rules, ◌≡◌, ◌∷◌, ◌++◌, [], length, refl, ap, sym, ◌∙◌}
-use Rattle.mq_queue.specs.declared.event.Event.TheVariants.{Received}
+use Rattle.std.proofs.Common.{rules, ◌∙◌}
 use Rattle.mq_table.specs.declared.limits.TheConstants.{MAX_SEQ}
 use Rattle.mq_table.proofs.Kepts.{live_is}
 use Rattle.mq_table.proofs.Turned.{received_turned}

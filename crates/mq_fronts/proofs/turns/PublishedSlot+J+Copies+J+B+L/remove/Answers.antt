@@ -1,7 +1,5 @@
-use Rattle.std.proofs.Common.{rules, ◌≡◌, ◌∷◌, ◌++◌, [], length, refl, ap, sym, ◌∙◌}
-use Rattle.mq_queue.specs.declared.base.Base.{Base}
+use Rattle.std.proofs.Common.{refl, ◌∙◌}
 use Rattle.mq_queue.specs.declared.event.Event.TheVariants.{Removed}
-use Rattle.mq_queue.specs.Queue.{CutLog}
 use Rattle.mq_table.specs.declared.limits.TheConstants.{MAX_SEQ}
 use Rattle.mq_table.proofs.Kepts.{last_id_is, live_is}
 use Rattle.mq_table.proofs.LogLeft.{log_left, places_left}

@@ -1,6 +1,7 @@
-use Rattle.std.proofs.Common.{◌≡◌, ◌∙◌, ℕ, ℤ, List, Some, ap, cond, nat_eq, refl, arith}
+use Rattle.std.proofs.Common.{◌≡◌, ◌≢◌, ◌∙◌, ℕ, ℤ, List, Some, Result, Ok, Err, OnErr, true, false, ap, sym, cond, nat_eq, refl, arith}
 use Rattle.std.specs.Ordering.{int_eq}
 use Rattle.std.specs.Map.{lookup}
+use Rattle.std.proofs.lemmas.Bool.{lt-ltb, ltb-true}
 use Rattle.std.proofs.lemmas.Int.{to_z-of_z}
 use Rattle.std.proofs.lemmas.Option.{same_Some}
 use Rattle.indexmap.specs.IndexMap.{get}
@@ -38,6 +39,7 @@ invariant_of-self-in_err-make g c = (
 pub invariant_of-self-2 : goal.invariant_of-self-2
 invariant_of-self-2 g c =
     let room = simp (to_z-of_z, c.ranges.mtype) at c.has_room.ensures in
+    let has : c.has_room.result ≡ true = rw (c.if-not-has_room.false) refl in
     let made = simp (to_z-of_z, c.ranges.mtype) at c.in_ok-make-2.ensures.ok in
     let there = simp (to_z-of_z, c.ranges.mtype) at c.forget_older.ensures.there in
     let kept = simp (to_z-of_z, c.ranges.mtype) at c.forget_older.ensures.kept in
@@ -50,7 +52,7 @@ invariant_of-self-2 g c =
           rw (← same)
           (record {
             queue = rw (there, is) refl;
-            few = rw (c.forget_older.ensures.same c.args.mtype, is) (room (rw (c.if-not-has_room.false) refl));
+            few = rw (c.forget_older.ensures.same c.args.mtype, is) (ltb-true _ _ (sym room ∙ has));
             front = c.in_ok-reserve.ensures.ok;
             place = c.in_ok-reserve-2.ensures.ok;
             node = c.in_ok-make.ensures.ok;
@@ -64,3 +66,49 @@ returns-clause-unchanged g c =
     let new = prepared (λ m. m.mtype) (merged c.self.inside.queues.entries) c.self.inside.queues.entries c.make-2.new.queues.entries c.forget_older.new.queues.entries (first_of c.self.inside.fronts) (first_of c.reserve.new.self) (get nat_eq c.self.inside.types) (get nat_eq c.reserve-2.new.self) c.self.inside.prepared c.args.mtype c.self.invariant.0 c.forget_older.ensures.ordered made c.forget_older.ensures.same kept c.reserve.ensures.unchanged (λ n. ap (lookup (nat_eq n)) c.reserve-2.ensures.entries) in
     let whole = settled _ _ _ _ _ _ new in
     rw (← c.self.view_is) whole.0
+
+-- what holds anyway holds of a refusal
+on_err : {T E : Type 0} (P : Type 0) (r : Result T E) → P → OnErr r P
+on_err P (Ok x) p = tt
+on_err P (Err e) p = p
+
+-- a list that is prepared for this type has all that one more message of it needs
+pub returns-then-not-has_room-clause-refused : goal.returns-then-not-has_room-clause-refused
+returns-then-not-has_room-clause-refused g c e =
+    let ready = c.self.invariant.1 c.args.mtype (rw (← c.self.view_is) at e) in
+    let room = simp (to_z-of_z, c.ranges.mtype) at c.has_room.ensures in
+    let fits = lt-ltb _ _ ready.few in
+    cc
+
+pub returns-in_err-reserve-clause-refused : goal.returns-in_err-reserve-clause-refused
+returns-in_err-reserve-clause-refused g c =
+    on_err (c.args.self.now.prepared ≢ Some c.args.mtype) c.from_residual.result
+    (λ e.
+    let ready = c.self.invariant.1 c.args.mtype (rw (← c.self.view_is) at e) in
+    omega (arith, ready.front, c.in_err-reserve.ensures.refused))
+
+pub returns-in_err-reserve-2-clause-refused : goal.returns-in_err-reserve-2-clause-refused
+returns-in_err-reserve-2-clause-refused g c =
+    on_err (c.args.self.now.prepared ≢ Some c.args.mtype) c.from_residual-in_err-reserve-2.result
+    (λ e.
+    let ready = c.self.invariant.1 c.args.mtype (rw (← c.self.view_is) at e) in
+    let clash : false ≡ true = c.in_err-reserve-2.ensures.succeeds (omega (arith, ready.place)) in
+    cc)
+
+pub returns-in_err-make-clause-refused : goal.returns-in_err-make-clause-refused
+returns-in_err-make-clause-refused g c =
+    on_err (c.args.self.now.prepared ≢ Some c.args.mtype) c.from_residual-in_err-make.result
+    (λ e.
+    let ready = c.self.invariant.1 c.args.mtype (rw (← c.self.view_is) at e) in
+    let node = ready.node in
+    let none = c.in_err-make.ensures.refused in
+    cc)
+
+pub returns-in_err-make-2-clause-refused : goal.returns-in_err-make-2-clause-refused
+returns-in_err-make-2-clause-refused g c =
+    on_err (c.args.self.now.prepared ≢ Some c.args.mtype) c.from_residual-in_err-make-2.result
+    (λ e.
+    let ready = c.self.invariant.1 c.args.mtype (rw (← c.self.view_is) at e) in
+    let none = simp (to_z-of_z, c.ranges.mtype) at c.in_err-make-2.ensures.refused in
+    let clash : false ≡ true = rw none at ready.queue in
+    cc)

@@ -1,19 +1,15 @@
-use Rattle.std.proofs.Common.{◌≡◌, ℕ, ◌+◌, ◌-◌, [], ◌∷◌, ◌++◌, arith, length, reverse, slice_index_or, take, ap, sym, subst, ◌∙◌, length-append}
+use Rattle.std.proofs.Common.{◌≡◌, ℕ, ◌+◌, ◌-◌, [], ◌∷◌, ◌++◌, arith, length, reverse, rules, slice_index_or, take, ap, sym, subst, ◌∙◌, length-append}
 use Rattle.std.specs.List.{All, sum_by}
 use Rattle.std.proofs.lemmas.List.{length-reverse}
 use mathlib.Core.List.{IsPrefix}
-use Rattle.mq_tree.specs.LentSet.{Lending}
-use Rattle.mq_select.specs.Waiting.{headers_of}
-use Rattle.mq_queue.specs.Waiting.{waiting}
-use Rattle.mq_table.specs.KeptPart.{IsKeptPart}
-use Rattle.mq_table.specs.SlotList.{live_log}
-use Rattle.mq_table.proofs.Kepts.{waiting_is}
+use Rattle.mq_message.specs.Text.{PlainText}
+use Rattle.mq_table.specs.Slot.{SlotState, Waits}
+use Rattle.mq_table.specs.SlotList.{IsSlotList}
 use Rattle.mq_one_thread.specs.Closed.{IsEndOf}
 use Rattle.mq_one_thread.specs.Texts.{bytes_of}
-use Rattle.mq_one_thread.proofs.CloseLemmas.{ends_with_list}
 use Rattle.mq_shared.specs.Seat.{counted_by, front_of}
 use Rattle.mq_shared.specs.Sizes.{all_changes}
-use Rattle.mq_system.specs.Closed.{entries_in}
+use Rattle.mq_system.specs.Closed.{IsEnd, entries_in}
 use Rattle.mq_system.proofs.ClosedLemmas.{IsSeen, in_order, none_ended, one_ended, sums_agree, whole_length}
 use Rattle.mq_system.proofs.HomeLemmas.{AreLeft, IsFewer, all_counted, all_distinct, all_left, all_seen, left_length, one_fewer}
 use Rattle.mq_system.proofs.TallyLemmas.{entries_more, entries_reverse}
@@ -54,6 +50,17 @@ come_home-requires g c =
           );
     }
 
+pub end_place-requires-clause-lawful : goal.end_place-requires-clause-lawful
+end_place-requires-clause-lawful g c =
+    let had = ap (λ p. p.slot) c.with_number-slot.ensures.same ∙ c.into_parts-slot.ensures.slot in
+    subst (λ (s : SlotState PlainText). IsSlotList g.N.Names.last_seq s.events)
+    (sym (c.come_home.ensures.same ∙ had)) c.into_parts-slot.ensures.lawful
+
+pub end_place-requires-clause-waits : goal.end_place-requires-clause-waits
+end_place-requires-clause-waits g c =
+    let had = ap (λ p. p.slot) c.with_number-slot.ensures.same ∙ c.into_parts-slot.ensures.slot in
+    subst (Waits bytes_of) (sym (c.come_home.ensures.same ∙ had)) c.into_parts-slot.ensures.waits
+
 pub loop-place-preserved : goal.loop-place-preserved
 loop-place-preserved g c =
     let slots = g.N.Names.slots in
@@ -64,16 +71,11 @@ loop-place-preserved g c =
     let had : published ≡ slot = ap (λ p. p.slot) c.with_number-slot.ensures.same ∙ c.into_parts-slot.ensures.slot in
     let same : c.come_home.new.slot.slot ≡ slot = c.come_home.ensures.same ∙ had in
     let ended = c.into_parts-slot.ensures in
-    let part : IsKeptPart slot.events c.close.result =
-    subst (λ es. IsKeptPart es c.close.result) (ap (λ s. s.events) same) c.close.ensures.kept in
-    let waits : headers_of bytes_of c.close.result.messages ≡ waiting (live_log slot.events) =
-    ap (headers_of bytes_of) (c.close.ensures.messages ∙ ap (λ s. s.messages) same) ∙ ended.waits in
     let grown = c.push_reserved.ensures in
     let before = c.loop-place.closed.items in
-    let closed = c.end_slot.result in
+    let closed = c.end_place.result in
     let is : IsEndOf g.N.Names.last_seq slot.events closed =
-    ends_with_list g.N.Names.last_seq slot.events c.close.result closed c.end_slot.ensures.slot part
-    ended.lawful (waits ∙ sym (waiting_is slot.events c.close.result part)) in
+    subst (λ (s : SlotState PlainText). IsEndOf g.N.Names.last_seq s.events closed) same c.end_place.ensures.ends in
     let kept = c.loop-place.invariant in
     let longer = length-append before (closed ∷ []) in
     let more : length c.loop-place.places.items ≡ m + 1 =
@@ -89,7 +91,7 @@ loop-place-preserved g c =
       omega (arith, more, ap length grown.items, longer, kept.0),
       omega (arith, grown.capacity, kept.1),
       rw grown.items (one_ended slots g.N.Names.last_seq seats before kept.2 slot.events closed is seen),
-      ap (λ (a : Lending). a.height) c.end_slot.ensures.arena ∙ kept.3,
+      c.end_place.ensures.height ∙ kept.3,
       omega (arith, ap length grown.items, longer, c.merge.ensures.parts, ended.part, kept.4),
       omega (arith, ap entries_in grown.items, entries_more before closed, whole_length slot.events closed is.kept, c.merge.ensures.amount, ended.noted, kept.5),
       fewer.left,
@@ -127,14 +129,16 @@ returns-clause-ends g c =
     let seen = all_seen slots seats ended.lists all ended.seen in
     let total : sum_by length (reverse ended.lists) ≡ counted_by seats =
     omega (arith, sums_agree last_seq (reverse ended.lists) (reverse closed) ends, entries_reverse closed, kept.5, c.gather.ensures.amount, c.empty-parts.ensures.amount, c.settle.ensures, c.self.invariant.settled, ap (λ n. all_changes slots n) c.requires.seats) in
-    rw c.reverse.ensures.items (record {
+    let told : IsEnd last_seq seats (reverse closed) = record {
       lists = reverse ended.lists;
       ends = ends;
       seen = seen;
       counted =
           all_counted slots seats (reverse ended.lists) (length-reverse ended.lists ∙ all) c.gather.ensures.recorded
           (kept.7 (omega (arith, none, c.self.invariant.some))) seen total;
-    })
+    } in
+    let is : IsEnd last_seq seats c.reverse.new.self.items = rw c.reverse.ensures.items told in
+    search (rules, is)
 
 pub returns-clause-closed : goal.returns-clause-closed
 returns-clause-closed g c k d low =

@@ -1,6 +1,6 @@
-use Rattle.std.proofs.Common.{◌≡◌, ◌<◌, ◌∙◌, length, arith, rules, sym}
+use Rattle.std.proofs.Common.{◌≡◌, ◌+◌, ◌<◌, ◌∙◌, length, slice_set, arith, rules, sym}
 use Rattle.mq_shared.proofs.LaterLemmas.{later_trans, same_trans}
-use Rattle.mq_system.proofs.ReportLemmas.{all_rows, rows_more}
+use Rattle.mq_system.proofs.ReportLemmas.{AreRows, all_rows, rows_more}
 use Rattle.mq_system.proofs.control.System+P+N+Copies+N.report.Goals as goal
 
 pub loop-number-preserved : goal.loop-number-preserved
@@ -12,12 +12,14 @@ loop-number-preserved g c =
     let slots : c.slots-number-end.result ≡ g.N.Names.slots = search rules in
     let within : c.loop-number.number < length c.loop-number.rows = search rules in
     let low : c.loop-number.number < length seat.fronts =
-    omega (arith, had.2.count, c.holds.ensures.fronts, slots, c.loop-number-test.true) in (
+    omega (arith, had.2.count, c.holds.ensures.fronts, slots, c.loop-number-test.true) in
+    let more : AreRows now.fronts (slice_set c.loop-number.rows c.loop-number.number c.row.result) (c.loop-number.number + 1) =
+    rows_more seat now c.loop-number.rows c.loop-number.number c.row.result within low told.others
+    told.row had.3 in (
       search rules,
       same_trans c.args.seat.now seat now had.1 told.same,
       later_trans c.args.seat.now seat now had.2 told.later,
-      rows_more seat now c.loop-number.rows c.loop-number.number c.row.result within low
-          told.others told.row had.3,
+      search (rules, more),
     )
 
 pub returns-clause-rows : goal.returns-clause-rows

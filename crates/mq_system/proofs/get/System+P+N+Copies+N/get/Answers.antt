@@ -29,6 +29,7 @@ returns-clause-not_got g c =
     let now = c.make-2.new.seat in
     let told = c.make-2.ensures in
     let lacked = simp to_z-of_z at c.in_default.ensures.lacked in
-    answers_not g.N.Names.slots g.N.Names.last_seq c.args.key c.args.seat.now mid now
+    let not_got = answers_not g.N.Names.slots g.N.Names.last_seq c.args.key c.args.seat.now mid now
     c.find.ensures.same c.find.ensures.later told.later (λ some. lacked) c.make-2.result
-    told.refused told.full
+    told.not_new in
+    search (rules, not_got)

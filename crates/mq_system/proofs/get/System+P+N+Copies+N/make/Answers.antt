@@ -1,9 +1,11 @@
-use Rattle.std.proofs.Common.{◌≡◌, ◌<◌, inr, rules, refl}
+use Rattle.std.proofs.Common.{◌≡◌, ◌<◌, rules}
 use mir.Val.{SFits}
 use mir.Syntax.{w32}
 use Rattle.std.proofs.lemmas.Int.{to_z-of_z}
-use Rattle.mq_shared.proofs.LaterLemmas.{later_self, later_trans, same_self, same_trans}
-use Rattle.mq_system.proofs.GetLemmas.{below_around, below_more, found, made_before, other_errno}
+use Rattle.mq_shared.specs.Seat.{front_of}
+use Rattle.mq_shared.proofs.LaterLemmas.{later_self, later_trans, same_trans}
+use Rattle.mq_system.specs.Get.{HadFree, IsFree}
+use Rattle.mq_system.proofs.GetLemmas.{below_around, below_more, free_now, made_before, wanted}
 use Rattle.mq_system.proofs.get.System+P+N+Copies+N.make.Goals as goal
 
 pub returns-in-Ok-clause-later : goal.returns-in-Ok-clause-later
@@ -29,28 +31,32 @@ returns-in-Ok-clause-new g c =
           (later_self c.args.seat.now) c.in-Ok.ensures.later had.3);
     }
 
-pub returns-in-Err : goal.returns-in-Err
-returns-in-Err g c =
+pub returns-in_default-clause-not_new : goal.returns-in_default-clause-not_new
+returns-in_default-clause-not_new g c =
     let had = c.loop-number.invariant in
-    let told = c.in-Err.ensures in record {
-      made = tt;
-      within = tt;
-      refused = inr refl;
-      counted = same_trans c.args.seat.now c.loop-number.seat c.make.new.seat had.1 told.counted;
-      later = later_trans c.args.seat.now c.loop-number.seat c.make.new.seat had.2 told.later;
-      new = tt;
-      full = λ is. other_errno is;
-    }
+    let slots = g.N.Names.slots in
+    let last_seq = g.N.Names.last_seq in
+    let old = c.args.seat.now in
+    let seat = c.loop-number.seat in
+    let now = c.make.new.seat in
+    let number = c.loop-number.number in
+    let told = c.in-Err.ensures in
+    let low : number < slots = search rules in
+    let free : IsFree last_seq (front_of now number) =
+    wanted last_seq (front_of now number) _ told.refused c.in_default.not-ENOSPC in
+    let not_new : HadFree slots last_seq old now =
+    free_now slots last_seq old seat now number low had.2 told.later free had.3 in
+    search (rules, not_new)
 
 pub loop-number-preserved : goal.loop-number-preserved
 loop-number-preserved g c =
     let had = c.loop-number.invariant in
     let seat = c.loop-number.seat in
     let now = c.make.new.seat in
-    let told = c.in-Err-ENOSPC.ensures in (
+    let told = c.in-Err.ensures in (
       search rules,
       same_trans c.args.seat.now seat now had.1 told.counted,
       later_trans c.args.seat.now seat now had.2 told.later,
       below_more _ c.args.seat.now seat now c.loop-number.number had.2 told.later
-          (rw c.in-Err-ENOSPC.field-0-is at told.refused) had.3,
+          (rw c.in-ENOSPC.is at told.refused) had.3,
     )

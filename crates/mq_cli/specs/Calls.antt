@@ -1,0 +1,61 @@
+-- The calls that a plan asks for, each with all that the port is told, and what was received.
+use Rattle.std.specs.Prelude.{ℕ, ◌+◌, ◌==◌, ℤ, Bool, true, false, ◌&&◌, if◌then◌else◌}
+use Rattle.std.specs.Prelude.{List, [], ◌∷◌, ◌++◌, map, replicate, Option, None, Some}
+use Rattle.std.specs.List.{range_with_len}
+use Rattle.std.specs.Ordering.{int_eq}
+use Rattle.mq_cli.specs.declared.notes.Stream.{Stream}
+use Rattle.mq_cli.specs.declared.step.Step.{Step}
+use Rattle.mq_cli.specs.declared.step.Step.TheVariants.{Put, Take, Remove}
+use Rattle.mq_cli.specs.declared.taken.Taken.{Taken}
+use Rattle.mq_cli.specs.Plans.{puts_of, rises}
+
+-- a call of a port
+pub data Call : Type 0 where
+  send : (id : ℕ) (mtype : ℤ) (tag n moment : ℕ) → Call
+  receive : (id : ℕ) (msgtyp : ℤ) (moment : ℕ) → Call
+  remove : (id moment : ℕ) → Call
+
+-- whether a call sends
+abbrev pub is_send : Call → Bool
+is_send (send id mtype tag n moment) = true
+is_send (receive id msgtyp moment) = false
+is_send (remove id moment) = false
+
+-- so many messages of n bytes, where so many were sent before: the tags go on from there
+abbrev pub sends_after : ℕ → ℕ → ℤ → ℕ → ℕ → ℕ → List Call
+sends_after sent id mtype count n moment =
+    map (λ tag. send id mtype tag n moment) (range_with_len (sent + 1) count)
+
+-- the calls of a step
+abbrev pub calls_of : ℕ → Step → List Call
+calls_of sent (Put id mtype count len moment) = sends_after sent id mtype count len moment
+calls_of sent (Take id msgtyp count moment) = replicate count (receive id msgtyp moment)
+calls_of sent (Remove id moment) = remove id moment ∷ []
+
+-- the calls of a plan
+abbrev pub calls_in : ℕ → List Step → List Call
+calls_in sent [] = []
+calls_in sent (step ∷ plan) = calls_of sent step ++ calls_in (sent + puts_of step) plan
+
+-- a message that was received of a queue
+pub record Receipt : Type 0 where
+  pub id : ℕ
+  pub taken : Taken
+
+-- its queue, sender and type
+abbrev pub stream_of : Receipt → Stream
+stream_of one = record { id = one.id; sender = one.taken.sender; mtype = one.taken.mtype }
+
+abbrev pub same_stream : Stream → Stream → Bool
+same_stream a b = (a.id == b.id) && ((a.sender == b.sender) && int_eq a.mtype b.mtype)
+
+-- the last tag of a stream, where what came last stands first
+abbrev pub last_tag : Stream → List Receipt → Option ℕ
+last_tag stream [] = None
+last_tag stream (one ∷ before) = if same_stream (stream_of one) stream then Some one.taken.tag
+    else last_tag stream before
+
+-- whether each tag is above the one before it in its stream, where what came last stands first
+abbrev pub tags_rise : List Receipt → Bool
+tags_rise [] = true
+tags_rise (one ∷ before) = tags_rise before && rises (last_tag (stream_of one) before) one.taken.tag

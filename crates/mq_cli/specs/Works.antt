@@ -1,0 +1,77 @@
+-- What a worker did by its plan: which calls its port made, and how they ended.
+use Rattle.std.specs.Prelude.{◌≡◌, ◌⊎◌, ℕ, ℤ, List, [], ◌∷◌, ◌++◌, length, reverse, count_by}
+use Rattle.std.specs.Prelude.{Option, None, Some, Result, Ok, Err}
+use Rattle.mq_one_thread.specs.declared.errno.Errno.{Errno}
+use Rattle.mq_one_thread.specs.declared.errno.Errno.TheVariants.{ENOMEM}
+use Rattle.mq_cli.specs.declared.outcome.Outcome.{Outcome}
+use Rattle.mq_cli.specs.declared.step.Step.{Step}
+use Rattle.mq_cli.specs.declared.taken.Taken.{Taken}
+use Rattle.mq_cli.specs.Calls.{Call, send, receive, remove, Receipt, calls_in, is_send, tags_rise}
+
+-- what the calls of a port do: before, what it was told, the answer, after
+abbrev pub Puts : Type 0 → Type 1
+Puts Q = Q → ℕ → ℤ → ℕ → ℕ → ℕ → Result ℕ Errno → Q → Type 0
+
+abbrev pub Takes : Type 0 → Type 1
+Takes Q = Q → ℕ → ℤ → ℕ → Result Taken Errno → Q → Type 0
+
+abbrev pub Removals : Type 0 → Type 1
+Removals Q = Q → ℕ → ℕ → Result ℕ Errno → Q → Type 0
+
+-- a call succeeded, and received these
+abbrev pub Succeeds : {Q : Type 0} → Puts Q → Takes Q → Removals Q → Call → Q → List Receipt → Q
+    → Type 0
+Succeeds puts takes removes (send id mtype tag n moment) old received new =
+    (received ≡ []) × ((entry : ℕ) × puts old id mtype tag n moment (Ok entry) new)
+Succeeds puts takes removes (receive id msgtyp moment) old received new = (taken : Taken)
+    × (received ≡ record { id = id; taken = taken } ∷ [])
+    × takes old id msgtyp moment (Ok taken) new
+Succeeds puts takes removes (remove id moment) old received new =
+    (received ≡ []) × ((entry : ℕ) × removes old id moment (Ok entry) new)
+
+-- a call was refused; one that receives may not be made, for want of memory for its note
+abbrev pub Fails : {Q : Type 0} → Puts Q → Takes Q → Removals Q → Call → Q → Errno → Q → Type 0
+Fails puts takes removes (send id mtype tag n moment) old errno new =
+    puts old id mtype tag n moment (Err errno) new
+Fails puts takes removes (receive id msgtyp moment) old errno new =
+    takes old id msgtyp moment (Err errno) new ⊎ ((errno ≡ ENOMEM) × (new ≡ old))
+Fails puts takes removes (remove id moment) old errno new = removes old id moment (Err errno) new
+
+-- the calls succeeded one after the other, and received these
+abbrev pub AllSucceed : {Q : Type 0} → Puts Q → Takes Q → Removals Q → List Call → Q
+    → List Receipt → Q → Type 0
+AllSucceed puts takes removes [] old received new = (received ≡ []) × (new ≡ old)
+AllSucceed {Q} puts takes removes (call ∷ calls) old received new = (first : List Receipt)
+    × (rest : List Receipt) × (mid : Q) × (received ≡ first ++ rest)
+    × Succeeds puts takes removes call old first mid
+    × AllSucceed puts takes removes calls mid rest new
+
+-- none is left, or the first of those that are left was refused
+abbrev pub Ends : {Q : Type 0} → Puts Q → Takes Q → Removals Q → List Call → Q → Option Errno → Q
+    → Type 0
+Ends puts takes removes [] old None new = new ≡ old
+Ends puts takes removes (call ∷ calls) old (Some errno) new =
+    Fails puts takes removes call old errno new
+Ends puts takes removes _ old _ new = ⊥
+
+-- of these calls the first succeeded, one after the other: so many sent, and these were received;
+-- then none was left, or the next was refused
+pub record AreCalled {Q : Type 0} (puts : Puts Q) (takes : Takes Q) (removes : Removals Q)
+    (calls : List Call) (old : Q) (sent : ℕ) (received : List Receipt) (end : Option Errno)
+    (new : Q) : Type 0 where
+  pub first : List Call
+  pub rest : List Call
+  pub mid : Q
+  pub cut : calls ≡ first ++ rest
+  pub made : AllSucceed puts takes removes first old received mid
+  pub sent_is : sent ≡ count_by is_send first
+  pub ended : Ends puts takes removes rest mid end new
+
+-- a worker made the calls of its plan, up to its end
+pub record HasWorked {Q : Type 0} (puts : Puts Q) (takes : Takes Q) (removes : Removals Q)
+    (plan : List Step) (outcome : Outcome) (old new : Q) : Type 0 where
+  pub received : List Receipt
+  pub called : AreCalled puts takes removes (calls_in 0 plan) old outcome.sent received
+      outcome.end new
+  pub count : outcome.received ≡ length received
+  pub ordered : outcome.ordered ≡ tags_rise (reverse received)
