@@ -49,6 +49,10 @@ pages 64 free 64
 
 /// Whether a run, a thread or a worker of it lacked memory.
 pub fn lacks_memory(ended: Result<(), RunFault>, written: &[u8]) -> bool {
-    matches!(ended, Err(RunFault::Memory | RunFault::Thread))
-        || written.windows(6).any(|part| part == b"ENOMEM".as_slice())
+    matches!(ended, Err(RunFault::Memory | RunFault::Thread)) || tells_enomem(written)
+}
+
+/// Whether a text tells of ENOMEM.
+pub fn tells_enomem(text: &[u8]) -> bool {
+    text.windows(6).any(|part| part == b"ENOMEM".as_slice())
 }
