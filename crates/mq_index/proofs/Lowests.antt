@@ -150,20 +150,9 @@ least_is {X} type_of all bound low lowest = by (least_of bound types) (finds_low
             ap Some (both_ways least low least_below below)
         case false e = never least low (pos bound) (le_fails low (pos bound) e) below h.1
 
--- the first message of a type, if there is one
-abbrev pub first_with : {X : Type 0} → (X → ℤ) → List (ℕ × X) → Option ℤ → Option (ℕ × X)
-first_with type_of all o = find (λ m. option_map_or (int_eq (type_of m.1)) o false) all
-
-pub up_to_is : {X : Type 0} (type_of : X → ℤ) (all : List (ℕ × X)) (bound : ℕ) (low : Option ℤ) → IsLowestType (λ t. some_wait (of_type type_of all t)) low → pick (λ m. type_of m.1) all (UpTo bound) ≡ first_with type_of all (bounded bound low)
-up_to_is type_of all bound low lowest = ap (first_with type_of all) (least_is type_of all bound low lowest)
-
--- the place of the first message of a type, if that is within a bound
-abbrev pub place_within : (ℤ → Option ℕ) → ℕ → Option ℤ → Option ℕ
-place_within fronts bound None = None
-place_within fronts bound (Some low) = if int_le low (pos bound) then fronts low else None
-
-pub place_found : {X : Type 0} (type_of : X → ℤ) (all : List (ℕ × X)) (queues : List (ℤ × List (ℕ × X))) (fronts : ℤ → Option ℕ) (bound : ℕ) (low : Option ℤ) → IsStrictlySortedBy int_cmp (keys_of queues) → ((t : ℤ) → queue_of queues t ≡ of_type type_of all t) → ((t : ℤ) → fronts t ≡ front_of type_of all t) → low ≡ option_map (λ q. q.0) (find (λ q. some_wait q.1) queues) → place_within fronts bound low ≡ option_map (λ m. m.0) (pick (λ m. type_of m.1) all (UpTo bound))
-place_found {X} type_of all queues fronts bound low sorted parted fronted is = ends low parts ∙ ap (option_map (λ (m : ℕ × X). m.0)) (sym (up_to_is type_of all bound low parts))
+-- the lowest type within a bound is that of the lowest of the queues, if it is within it
+pub least_found : {X : Type 0} (type_of : X → ℤ) (all : List (ℕ × X)) (queues : List (ℤ × List (ℕ × X))) (bound : ℕ) (low : Option ℤ) → IsStrictlySortedBy int_cmp (keys_of queues) → ((t : ℤ) → queue_of queues t ≡ of_type type_of all t) → low ≡ option_map (λ q. q.0) (find (λ q. some_wait q.1) queues) → least_of bound (map (λ m. type_of m.1) all) ≡ bounded bound low
+least_found {X} type_of all queues bound low sorted parted is = least_is type_of all bound low parts
   where
     same : (o : Option ℤ) → IsLowestType (λ t. some_wait (queue_of queues t)) o → IsLowestType (λ t. some_wait (of_type type_of all t)) o
     same None h = λ t. ap some_wait (sym (parted t)) ∙ h t
@@ -172,10 +161,14 @@ place_found {X} type_of all queues fronts bound low sorted parted fronted is = e
     parts : IsLowestType (λ t. some_wait (of_type type_of all t)) low
     parts = same low (let P : Option ℤ → Type 0 = IsLowestType (λ t. some_wait (queue_of queues t)) in subst P (sym is) (lowest_is queues sorted))
 
-    ends : (o : Option ℤ) → IsLowestType (λ t. some_wait (of_type type_of all t)) o → place_within fronts bound o ≡ option_map (λ m. m.0) (first_with type_of all (bounded bound o))
-    ends None h = ap (option_map (λ (m : ℕ × X). m.0)) (sym (find_none all))
-    ends (Some t) h = by (int_le t (pos bound))
-      where
-        by : (b : Bool) → (if b then fronts t else None) ≡ option_map (λ m. m.0) (first_with type_of all (if b then Some t else None))
-        by true = fronted t
-        by false = ap (option_map (λ (m : ℕ × X). m.0)) (sym (find_none all))
+-- the place of the first message of a type, if there is one
+abbrev pub place_of_type : (ℤ → Option ℕ) → Option ℤ → Option ℕ
+place_of_type fronts None = None
+place_of_type fronts (Some t) = fronts t
+
+pub place_found : {X : Type 0} (type_of : X → ℤ) (all : List (ℕ × X)) (fronts : ℤ → Option ℕ) (bound : ℕ) (low : Option ℤ) → ((t : ℤ) → fronts t ≡ front_of type_of all t) → low ≡ least_of bound (map (λ m. type_of m.1) all) → place_of_type fronts low ≡ option_map (λ m. m.0) (pick (λ m. type_of m.1) all (UpTo bound))
+place_found {X} type_of all fronts bound low fronted is = by low ∙ ap (λ o. option_map (λ (m : ℕ × X). m.0) (find (λ m. option_map_or (int_eq (type_of m.1)) o false) all)) is
+  where
+    by : (o : Option ℤ) → place_of_type fronts o ≡ option_map (λ m. m.0) (find (λ (m : ℕ × X). option_map_or (int_eq (type_of m.1)) o false) all)
+    by None = ap (option_map (λ (m : ℕ × X). m.0)) (sym (find_none all))
+    by (Some t) = fronted t

@@ -1,11 +1,11 @@
-//! How messages go over from a list to the list by type, and back.
+//! How messages go over from a list to one in layers, and back.
 
 ghost use Rattle.std.specs.Prelude.{◌≡◌, ◌+◌, ◌<◌, ◌≤◌, ◌++◌, [], AllPairs, IfErr, IfOk, OnOk};
 ghost use Rattle.std.specs.Prelude.{Some, length, slice_get};
 ghost use Rattle.std.specs.Option.{option_map};
 ghost use Rattle.std.specs.VecDeque.{deque_len, deque_capacity};
 
-use crate::ByType;
+use crate::Layered;
 use mq_message::Body;
 use mq_select::{ListWaiting, Placed, Waiting};
 use std::alloc::{AllocError, Global};
@@ -18,11 +18,11 @@ fn first_type<B>(messages: &VecDeque<Placed<B>>) -> Option<i64>
     Some(messages.front()?.1.mtype)
 }
 
-/// Moves messages, first to last, to the end of a list by type, and makes room there for one more
+/// Moves messages, first to last, to the end of a list in layers, and makes room there for one more
 /// of this type. `Err` means out of memory: then some have moved.
 fn go_over<B: Body>(
     messages: &mut VecDeque<Placed<B>>,
-    index: &mut ByType<B>,
+    index: &mut Layered<B>,
     mtype: i64,
 ) -> Result<(), AllocError>
     requires rising { AllPairs (λ a b. a.0 < b.0) (index.old.messages ++ messages.old.items) }
@@ -39,8 +39,8 @@ fn go_over<B: Body>(
     index.prepare(mtype)
 }
 
-/// Moves the messages of a list by type to the end of others, where there is room for them.
-fn go_back<B>(index: &mut ByType<B>, messages: &mut VecDeque<Placed<B>>)
+/// Moves the messages of a list in layers to the end of others, where there is room for them.
+fn go_back<B: Body>(index: &mut Layered<B>, messages: &mut VecDeque<Placed<B>>)
     requires room { deque_len messages.old + length index.old.messages
         ≤ deque_capacity messages.old }
     ensures none { index.new.messages ≡ [] }
@@ -52,8 +52,8 @@ fn go_back<B>(index: &mut ByType<B>, messages: &mut VecDeque<Placed<B>>)
     }
 }
 
-/// Moves the messages of a list by type to where they came from: before those that were left.
-fn come_back<B>(index: &mut ByType<B>, messages: &mut VecDeque<Placed<B>>)
+/// Moves the messages of a list in layers to where they came from: before those that were left.
+fn come_back<B: Body>(index: &mut Layered<B>, messages: &mut VecDeque<Placed<B>>)
     requires room { deque_len messages.old + length index.old.messages
         ≤ deque_capacity messages.old }
     ensures none { index.new.messages ≡ [] }
@@ -65,20 +65,20 @@ fn come_back<B>(index: &mut ByType<B>, messages: &mut VecDeque<Placed<B>>)
     messages.rotate_left(left);
 }
 
-/// A list by type of the messages of a list, with room for one more of this type. `Err` means out
+/// A list in layers of the messages of a list, with room for one more of this type. `Err` means out
 /// of memory: then the list is as it was.
-pub(crate) fn by_type<B: Body>(
+pub(crate) fn layered<B: Body>(
     list: ListWaiting<B>,
     alloc: Global,
     mtype: i64,
-) -> Result<ByType<B>, ListWaiting<B>>
+) -> Result<Layered<B>, ListWaiting<B>>
     ensures messages { IfOk result (λ index. index.messages ≡ list.messages) }
     ensures prepared { IfOk result (λ index. index.prepared ≡ Some mtype) }
     ensures handed_back { IfErr result (λ same. same ≡ list) }
 {
     let (messages, prepared) = list.into_parts();
     let mut messages = messages;
-    let mut index = ByType::fresh(alloc);
+    let mut index = Layered::new(alloc, first_type(&messages).unwrap_or(mtype));
     match go_over(&mut messages, &mut index, mtype) {
         Ok(()) => {
             messages.destroy_empty();
@@ -92,14 +92,14 @@ pub(crate) fn by_type<B: Body>(
     }
 }
 
-/// A list of the messages of a list by type, with room for so many and one more of this type.
-/// `Err` means out of memory: then the list by type is as it was.
+/// A list of the messages of one in layers, with room for so many and one more of this type. `Err`
+/// means out of memory: then the list in layers is as it was.
 pub(crate) fn listed<B: Body>(
-    index: ByType<B>,
+    index: Layered<B>,
     alloc: Global,
     most: usize,
     mtype: i64,
-) -> Result<ListWaiting<B>, ByType<B>>
+) -> Result<ListWaiting<B>, Layered<B>>
     requires few { length index.messages < most }
     ensures messages { IfOk result (λ list. list.messages ≡ index.messages) }
     ensures prepared { IfOk result (λ list. list.prepared ≡ Some mtype) }
@@ -110,7 +110,7 @@ pub(crate) fn listed<B: Body>(
     };
     let (mut messages, mut index) = (messages, index);
     // The length is what says that the places rise.
-    let _len = index.len();
+    let _longer = index.is_longer_than(most);
     go_back(&mut index, &mut messages);
     index.end();
     Ok(ListWaiting::from_parts(messages, Some(mtype)))

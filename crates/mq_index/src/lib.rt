@@ -1,6 +1,6 @@
-//! Waiting messages that are kept in a list while few wait, and found by type while many do: then
-//! the messages of each type have a queue of their own, in nodes that were made before, and of the
-//! places of the first message of each type the least is at hand.
+//! Waiting messages that are kept in a list while few wait or all are of one type. Behind many of
+//! one type those of others are found by type: there each type has a queue of its own, in nodes
+//! that were made before, and of the places of the first message of each type the least is at hand.
 
 #![tactic(auto)]
 
@@ -9,12 +9,16 @@ mod crossing;
 mod fronts;
 mod heap;
 mod index;
+mod layered;
 mod queue;
 mod queues;
 mod room;
+mod same;
 
 pub use by_type::ByType;
 pub use fronts::Fronts;
 pub use index::IndexWaiting;
+pub use layered::Layered;
 pub use queue::Queue;
 pub use room::Room;
+pub use same::SameType;

@@ -1,5 +1,5 @@
 use crate::steps::{Step, places};
-use mq_index::{ByType, IndexWaiting};
+use mq_index::{ByType, IndexWaiting, Layered};
 use mq_message::VecBody;
 use mq_select::{ListWaiting, Selection};
 use std::alloc::{AllocError, Global};
@@ -9,6 +9,8 @@ use std::test::Fail;
 type List = ListWaiting<VecBody>;
 
 type Typed = ByType<VecBody>;
+
+type Layers = Layered<VecBody>;
 
 type Index = IndexWaiting<VecBody>;
 
@@ -24,6 +26,7 @@ fn check(
 ) -> Result<(), AllocError> {
     assert!(rt; places::<List>(alloc, steps)?.as_slice() == wanted);
     assert!(rt; places::<Typed>(alloc, steps)?.as_slice() == wanted);
+    assert!(rt; places::<Layers>(alloc, steps)?.as_slice() == wanted);
     assert!(rt; places::<Index>(alloc, steps)?.as_slice() == wanted);
     Ok(())
 }
@@ -210,6 +213,45 @@ fn the_bodies_give_the_same_answers(rt: HostRuntime) -> Result<(), Fail> {
     Ok(())
 }
 
+/// A list of steps that sends messages of the type 2, and then some of three types between receipts:
+/// at first as many as these, then few, then most of them. It ends with messages that wait.
+fn layered(alloc: Global, seed: u64, first: u64) -> Result<Vec<Step>, AllocError> {
+    let mut steps = Vec::new(alloc);
+    for _ in 0..first {
+        steps.push(Step::Send(2))?;
+    }
+    let mut seed = next(seed);
+    for i in 0..600u32 {
+        seed = next(seed);
+        let sends = if i < 150 {
+            5
+        } else if i < 520 {
+            1
+        } else {
+            9
+        };
+        steps.push(step(seed, 3, sends))?;
+    }
+    Ok(steps)
+}
+
+/// Of messages of one type and those of others that come behind them, whatever is selected.
+#[test]
+fn behind_one_type_the_bodies_give_the_same_answers(rt: HostRuntime) -> Result<(), Fail> {
+    let mut crossed = 0u64;
+    for seed in 0..150u64 {
+        let steps = layered(rt.alloc(), seed, 30 + seed)?;
+        let Some(crosses) = agree(rt.alloc(), &steps)? else {
+            return Err("the bodies differ".into());
+        };
+        let wanted = places::<List>(rt.alloc(), &steps)?;
+        assert!(rt; places::<Layers>(rt.alloc(), &steps)?.as_slice() == wanted.as_slice());
+        crossed = crossed.wrapping_add(u64::from(crosses));
+    }
+    assert!(rt; 100 < crossed);
+    Ok(())
+}
+
 /// So many messages are sent, all but some received, and so on: twice over to many and back.
 fn there_and_back(alloc: Global) -> Result<Vec<Step>, AllocError> {
     let mut steps = Vec::new(alloc);
@@ -229,6 +271,32 @@ fn there_and_back(alloc: Global) -> Result<Vec<Step>, AllocError> {
 #[test]
 fn a_refused_crossing_goes_on_where_it_was(rt: HostRuntime) -> Result<(), Fail> {
     let steps = there_and_back(rt.alloc())?;
+    assert!(rt; agree(rt.alloc(), &steps)? == Some(true));
+    Ok(())
+}
+
+/// Messages of one type, then of others, then all but some are received: twice over.
+fn layer_upon_layer(alloc: Global) -> Result<Vec<Step>, AllocError> {
+    let mut steps = Vec::new(alloc);
+    for i in 0..200u32 {
+        let phase = i % 100;
+        steps.push(if phase < 40 {
+            Step::Send(5)
+        } else if phase < 50 {
+            Step::Send(i64::from(i % 3) + 4)
+        } else if phase < 75 {
+            Step::Receive(Selection::UpTo(5))
+        } else {
+            Step::Receive(Selection::Any)
+        })?;
+    }
+    Ok(steps)
+}
+
+/// Run with each allocation refused in turn: what is refused in one layer leaves both.
+#[test]
+fn a_refused_layer_goes_on_where_it_was(rt: HostRuntime) -> Result<(), Fail> {
+    let steps = layer_upon_layer(rt.alloc())?;
     assert!(rt; agree(rt.alloc(), &steps)? == Some(true));
     Ok(())
 }

@@ -7,22 +7,15 @@ use Rattle.mq_index.proofs.by_type.ByType.first_within.Goals as goal
 
 pub returns-in-Some : goal.returns-in-Some
 returns-in-Some g c =
-    let range = rw c.in-Some.is at c.lowest.type_inv in
+    let range = rw c.in-Some.is at c.lowest_within.type_inv in
     let fits : FitsSigned w64 c.in-Some.lowest = record { sfits = range.1.1.1.1.0.1 } in
-    let within = simp (to_z-of_z, fits) at c.if-is_within.ensures in
     let placed = simp (to_z-of_z, fits) at c.place_of.ensures in
-    let found = place_found (λ m. m.mtype) (merged c.self.inside.queues.entries) c.self.inside.queues.entries (first_of c.self.inside.fronts) c.args.bound _ c.self.invariant.0.ordered c.self.invariant.0.parted c.self.invariant.0.fronted c.in-Some.ensures in
-    rw (← c.self.view_is) (placed ∙ (rw (← within) at found))
+    let lowest = rw (← c.self.view_is) at c.in-Some.ensures in
+    let found = place_found (λ m. m.mtype) (merged c.self.inside.queues.entries) (first_of c.self.inside.fronts) c.args.bound _ c.self.invariant.0.fronted lowest in
+    rw (← c.self.view_is) (placed ∙ found)
 
-pub returns-in_default : goal.returns-in_default
-returns-in_default g c =
-    let range = rw c.in-Some.is at c.lowest.type_inv in
-    let fits : FitsSigned w64 c.in-Some.lowest = record { sfits = range.1.1.1.1.0.1 } in
-    let within = simp (to_z-of_z, fits) at c.if-is_within.ensures in
-    let found = place_found (λ m. m.mtype) (merged c.self.inside.queues.entries) c.self.inside.queues.entries (first_of c.self.inside.fronts) c.args.bound _ c.self.invariant.0.ordered c.self.invariant.0.parted c.self.invariant.0.fronted c.in-Some.ensures in
-    rw (← c.self.view_is) (rw (← within) at found)
-
-pub returns-in_default-2 : goal.returns-in_default-2
-returns-in_default-2 g c =
-    let found = place_found (λ m. m.mtype) (merged c.self.inside.queues.entries) c.self.inside.queues.entries (first_of c.self.inside.fronts) c.args.bound _ c.self.invariant.0.ordered c.self.invariant.0.parted c.self.invariant.0.fronted c.in_default.ensures in
+pub returns-in-None : goal.returns-in-None
+returns-in-None g c =
+    let lowest = rw (← c.self.view_is) at c.in-None.ensures in
+    let found = place_found (λ m. m.mtype) (merged c.self.inside.queues.entries) (first_of c.self.inside.fronts) c.args.bound _ c.self.invariant.0.fronted lowest in
     rw (← c.self.view_is) found

@@ -1,10 +1,10 @@
 use Rattle.std.proofs.Common.{◌∙◌, ℕ, ◌<◌, ◌++◌, List, AllPairs, ap, arith, length, length-append, subst, sym}
 use Rattle.std.proofs.lemmas.List.{append-nil}
 use Rattle.mq_message.specs.declared.message.Message.{Message}
-use Rattle.mq_index.proofs.crossing.by_type.Goals as goal
+use Rattle.mq_index.proofs.crossing.layered.Goals as goal
 
 pub go_over-requires : goal.go_over-requires
-go_over-requires g c = record { rising = rw c.fresh-index.ensures.empty c.into_parts-messages.ensures.rising }
+go_over-requires g c = record { rising = rw c.new-index.ensures.empty c.into_parts-messages.ensures.rising }
 
 pub destroy_empty-requires : goal.destroy_empty-requires
 destroy_empty-requires g c = c.go_over.new.messages.ok.0 ∙ ap length c.in-Ok.ensures.ok.0
@@ -14,12 +14,12 @@ returns-in-Ok-clause-messages g c =
     sym (append-nil c.go_over.new.index.messages)
     ∙ ap (λ ms. c.go_over.new.index.messages ++ ms) (sym c.in-Ok.ensures.ok.0)
     ∙ c.go_over.ensures.kept
-    ∙ ap (λ ms. ms ++ c.into_parts-messages.result.0.items) c.fresh-index.ensures.empty
+    ∙ ap (λ ms. ms ++ c.into_parts-messages.result.0.items) c.new-index.ensures.empty
     ∙ c.into_parts-messages.ensures.messages
 
 pub come_back-requires : goal.come_back-requires
 come_back-requires g c =
-    let whole = ap length (c.go_over.ensures.kept ∙ ap (λ ms. ms ++ c.into_parts-messages.result.0.items) c.fresh-index.ensures.empty) in
+    let whole = ap length (c.go_over.ensures.kept ∙ ap (λ ms. ms ++ c.into_parts-messages.result.0.items) c.new-index.ensures.empty) in
     let both = length-append c.go_over.new.index.messages c.go_over.new.messages.items in
     let long = c.go_over.new.messages.ok.0 in
     let was = c.into_parts-messages.result.0.ok.0 in
@@ -30,12 +30,12 @@ come_back-requires g c =
 pub from_parts-requires-clause-rising : goal.from_parts-requires-clause-rising
 from_parts-requires-clause-rising g c =
     let Rising : List (ℕ × Message g.row.B.Denot) → Type 0 = λ ms. AllPairs (λ a b. a.0 < b.0) ms in
-    let whole = c.come_back.ensures.moved ∙ c.go_over.ensures.kept ∙ ap (λ ms. ms ++ c.into_parts-messages.result.0.items) c.fresh-index.ensures.empty in
+    let whole = c.come_back.ensures.moved ∙ c.go_over.ensures.kept ∙ ap (λ ms. ms ++ c.into_parts-messages.result.0.items) c.new-index.ensures.empty in
     subst Rising (sym whole) c.into_parts-messages.ensures.rising
 
 pub from_parts-requires-clause-room : goal.from_parts-requires-clause-room
 from_parts-requires-clause-room g c x e =
-    let whole = ap length (c.come_back.ensures.moved ∙ c.go_over.ensures.kept ∙ ap (λ ms. ms ++ c.into_parts-messages.result.0.items) c.fresh-index.ensures.empty) in
+    let whole = ap length (c.come_back.ensures.moved ∙ c.go_over.ensures.kept ∙ ap (λ ms. ms ++ c.into_parts-messages.result.0.items) c.new-index.ensures.empty) in
     let long = c.come_back.new.messages.ok.0 in
     let was = c.into_parts-messages.result.0.ok.0 in
     let room = c.into_parts-messages.ensures.room x e in

@@ -1,0 +1,19 @@
+-- Waiting messages that are all of one type.
+use Rattle.std.specs.Prelude.{ℕ, ℤ, pos, int_le, Bool, true, not, Option, List}
+use Rattle.std.specs.Ordering.{int_eq}
+use Rattle.mq_message.specs.declared.message.Message.{Message}
+use Rattle.mq_select.specs.declared.selection.Selection.{Selection}
+use Rattle.mq_select.specs.declared.selection.Selection.TheVariants.{Any, Exact, Except, UpTo}
+
+-- the messages, the prepared type, if there is one, and the type that all of the messages have
+pub record Same (B : Type 0) : Type 0 where
+  pub messages : List (ℕ × Message B)
+  pub prepared : Option ℤ
+  pub mtype : ℤ
+
+-- whether a selection picks messages of this type, where no others wait
+abbrev pub picks : Selection → ℤ → Bool
+picks Any mtype = true
+picks (Exact wanted) mtype = int_eq mtype wanted
+picks (Except other) mtype = not (int_eq mtype other)
+picks (UpTo bound) mtype = int_le mtype (pos bound)

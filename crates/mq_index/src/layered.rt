@@ -1,0 +1,230 @@
+ghost use Rattle.std.specs.Prelude.{◌≡◌, ◌<◌, ◌++◌, ◌∷◌, [], All, AllPairs, IfNone};
+ghost use Rattle.std.specs.Prelude.{None, OnErr, OnOk, Some, false, length, map, nat_lt};
+ghost use Rattle.std.specs.Prelude.{option_to_list};
+ghost use Rattle.std.specs.Option.{option_map};
+ghost use Rattle.mq_select.specs.Selection.{pick};
+ghost use Rattle.mq_index.specs.Layered.{joins, prefers, reaches, room_for};
+
+use crate::{ByType, SameType};
+use mq_message::{Body, Message};
+use mq_select::{Header, Selection, Waiting};
+use std::alloc::{AllocError, Global};
+use std::marker::Model;
+
+/// The waiting messages in two layers: first those of one type, in a list, and behind them the
+/// others, found by type. While all that come are of the first type the others are none, and a
+/// message costs no node and no look at a map. It can't be dropped, whatever its bodies are: `end`
+/// alone takes it.
+pub struct Layered<B> {
+    first: SameType<B>,
+    rest: ByType<B>,
+    /// The type for which the layer that its next message goes to has room.
+    prepared: Option<i64>,
+    alloc: Global,
+}
+
+impl<B> Model for Layered<B> {
+    ghost use Rattle.std.specs.Prelude.{◌++◌};
+    ghost use Rattle.mq_select.specs.Waiting.{Listed};
+    ghost use Rattle.mq_index.specs.Layered.{IsLayered};
+
+    ghost Value = { Listed B };
+
+    ghost view = { λ w. record {
+      messages = w.first.messages ++ w.rest.messages;
+      prepared = w.prepared;
+    } };
+
+    ghost invariant = { λ w. IsLayered w.first w.rest w.prepared };
+}
+
+/// Whether the next message of this type joins those of one type.
+fn is_joining<B>(first: &SameType<B>, rest: &ByType<B>, mtype: i64) -> bool
+    ensures { result ≡ joins first.now rest.now.messages mtype }
+{
+    rest.is_empty() && first.mtype() == mtype
+}
+
+/// Whether the selection prefers one of the rest to the first layer's.
+fn is_preferred<B>(first: &SameType<B>, rest: &ByType<B>, selection: Selection) -> bool
+    ensures { result ≡ prefers selection first.now.mtype (map (λ m. m.1.mtype) rest.now.messages) }
+{
+    match selection {
+        Selection::UpTo(bound) => match rest.lowest_within(bound) {
+            Some(lowest) => lowest < first.mtype(),
+            None => false,
+        },
+        _ => false,
+    }
+}
+
+/// The place of the message that the selection picks from both layers.
+fn find_in<B: Body>(first: &SameType<B>, rest: &ByType<B>, selection: Selection) -> Option<u64>
+    ensures { result ≡ option_map (λ m. m.0)
+        (pick (λ m. m.1.mtype) (first.now.messages ++ rest.now.messages) selection) }
+{
+    match first.find(selection) {
+        Some(place) => {
+            if is_preferred(first, rest, selection) {
+                rest.find(selection)
+            } else {
+                Some(place)
+            }
+        }
+        None => rest.find(selection),
+    }
+}
+
+/// Whether a place is behind the first layer.
+fn is_behind<B: Body>(rest: &ByType<B>, place: u64) -> bool
+    ensures reached { result ≡ reaches place rest.now.messages }
+    ensures before { result ≡ false → All (λ m. place < m.0) rest.now.messages }
+{
+    // The length is what says that the places rise.
+    let _len = rest.len();
+    match rest.find(Selection::Any) {
+        Some(least) => least <= place,
+        None => false,
+    }
+}
+
+/// Takes the memory that one more message of this type needs where it goes to. `Err` means out of
+/// memory.
+fn prepare_in<B: Body>(
+    first: &mut SameType<B>,
+    rest: &mut ByType<B>,
+    alloc: Global,
+    mtype: i64,
+) -> Result<(), AllocError>
+    ensures first { first.new.messages ≡ first.old.messages }
+    ensures rest { rest.new.messages ≡ rest.old.messages }
+    ensures ok { OnOk result (room_for first.new rest.new mtype ≡ Some mtype) }
+    ensures unchanged { OnErr result ((first.new ≡ first.old) × (rest.new ≡ rest.old)) }
+{
+    if is_joining(first, rest, mtype) {
+        return first.prepare();
+    }
+    rest.prepare(mtype)?;
+    first.give_back(alloc);
+    Ok(())
+}
+
+impl<B> Layered<B> {
+    /// Whether more than so many messages wait.
+    #[inline(always)]
+    pub fn is_longer_than(&self, few: usize) -> bool
+        ensures longer { result ≡ nat_lt few (length self.now.messages) }
+        ensures rising { AllPairs (λ a b. a.0 < b.0) self.now.messages }
+    {
+        let first = self.first.len();
+        few < first || few - first < self.rest.len()
+    }
+}
+
+impl<B: Body> Layered<B> {
+    /// No messages yet; those of this type come first.
+    pub fn new(alloc: Global, mtype: i64) -> Layered<B>
+        ensures empty { result.messages ≡ [] }
+        ensures unprepared { result.prepared ≡ None }
+    {
+        Layered {
+            first: SameType::new(alloc, mtype),
+            rest: ByType::fresh(alloc),
+            prepared: None,
+            alloc,
+        }
+    }
+
+    /// Takes out the first message, and its place with it.
+    pub fn pop_first(&mut self) -> Option<(u64, Message<B>)>
+        ensures none { IfNone result (self.new.messages ≡ []) }
+        ensures first { self.old.messages ≡ option_to_list result ++ self.new.messages }
+        ensures unprepared { self.new.prepared ≡ None }
+    {
+        self.prepared = None;
+        match self.find(Selection::Any) {
+            Some(place) => Some((place, self.take(place))),
+            None => None,
+        }
+    }
+}
+
+impl<B: Body> Waiting<B> for Layered<B> {
+    ghost messages = { λ w. w.messages };
+
+    ghost prepared = { λ w. w.prepared };
+
+    fn fresh(alloc: Global) -> Self {
+        Layered::new(alloc, 1)
+    }
+
+    fn find(&self, selection: Selection) -> Option<u64> {
+        if self.rest.is_empty() {
+            self.first.find(selection)
+        } else {
+            find_in(&self.first, &self.rest, selection)
+        }
+    }
+
+    fn prepare(&mut self, mtype: i64) -> Result<(), AllocError> {
+        prepare_in(&mut self.first, &mut self.rest, self.alloc, mtype)?;
+        self.prepared = Some(mtype);
+        Ok(())
+    }
+
+    fn put_prepared(&mut self, place: u64, message: Message<B>)
+        requires prepared { self.old.prepared ≡ Some message.mtype }
+        requires above { All (λ m. m.0 < place) self.old.messages }
+        ensures added { self.new.messages ≡ self.old.messages ++ (place, message) ∷ [] }
+        ensures unprepared { self.new.prepared ≡ None }
+    {
+        self.prepared = None;
+        if is_joining(&self.first, &self.rest, message.mtype) {
+            self.first.put_prepared(place, message);
+        } else {
+            self.rest.put_prepared(place, message);
+        }
+    }
+
+    fn take(&mut self, place: u64) -> Message<B> {
+        self.prepared = None;
+        if is_behind(&self.rest, place) {
+            self.rest.take(place)
+        } else {
+            self.first.take(place)
+        }
+    }
+
+    fn length_of(&self, place: u64) -> u64 {
+        if is_behind(&self.rest, place) {
+            self.rest.length_of(place)
+        } else {
+            self.first.length_of(place)
+        }
+    }
+
+    fn headers(&self, alloc: Global) -> Result<Vec<Header>, AllocError> {
+        let mut headers = self.first.headers(alloc)?;
+        let rest = self.rest.headers(alloc)?;
+        headers.extend_from_slice(&rest)?;
+        Ok(headers)
+    }
+
+    fn pop_any(&mut self) -> Option<Message<B>> {
+        match self.pop_first() {
+            Some((_, message)) => Some(message),
+            None => None,
+        }
+    }
+
+    fn end(self) {
+        let Layered {
+            first,
+            rest,
+            prepared: _,
+            alloc: _,
+        } = self;
+        first.end();
+        rest.end();
+    }
+}

@@ -1,0 +1,158 @@
+ghost use Rattle.std.specs.Prelude.{◌≡◌, ◌<◌, ◌++◌, ◌∷◌, [], All, IfOk, IfSome, IsSome};
+ghost use Rattle.std.specs.Prelude.{None, OnErr, OnOk, Some, length};
+ghost use Rattle.std.specs.Option.{option_map};
+ghost use Rattle.mq_select.specs.Selection.{pick};
+ghost use Rattle.mq_select.specs.Waiting.{headers_of, message_at, without};
+ghost use Rattle.mq_index.specs.Same.{picks};
+
+use mq_message::{Body, Message};
+use mq_select::{Header, ListWaiting, Selection, Waiting};
+use std::alloc::{AllocError, Global};
+use std::marker::Model;
+use std::mem;
+
+/// Waiting messages of one type, in a list, however many there are: a selection picks the first of
+/// them or none. It can't be dropped, whatever its bodies are: `end` alone takes it.
+pub struct SameType<B> {
+    list: ListWaiting<B>,
+    mtype: i64,
+}
+
+impl<B> Model for SameType<B> {
+    ghost use Rattle.std.specs.Prelude.{◌≡◌, All};
+    ghost use Rattle.std.specs.Option.{ForSome};
+    ghost use Rattle.mq_index.specs.Same.{Same};
+
+    ghost Value = { Same B };
+
+    ghost view = { λ s. record {
+      messages = s.list.messages;
+      prepared = s.list.prepared;
+      mtype = s.mtype;
+    } };
+
+    ghost invariant = { λ s. All (λ m. m.1.mtype ≡ s.mtype) s.list.messages
+        × ForSome s.list.prepared (λ t. t ≡ s.mtype) };
+}
+
+impl<B> SameType<B> {
+    /// The type of all its messages.
+    pub fn mtype(&self) -> i64
+        ensures { result ≡ self.now.mtype }
+    {
+        self.mtype
+    }
+
+    /// How many messages wait.
+    pub fn len(&self) -> usize
+        ensures { result ≡ length self.now.messages }
+    {
+        self.list.len()
+    }
+
+    /// Whether the selection picks messages of the type.
+    fn is_picked(&self, selection: Selection) -> bool
+        ensures { result ≡ picks selection self.now.mtype }
+    {
+        let mtype = self.mtype;
+        match selection {
+            Selection::Any => true,
+            Selection::Exact(wanted) => mtype == wanted,
+            Selection::Except(other) => mtype != other,
+            Selection::UpTo(bound) => i128::from(mtype) <= i128::from(bound),
+        }
+    }
+}
+
+impl<B: Body> SameType<B> {
+    /// No messages yet, of this type.
+    pub fn new(alloc: Global, mtype: i64) -> SameType<B>
+        ensures empty { result.messages ≡ [] }
+        ensures unprepared { result.prepared ≡ None }
+        ensures mtype { result.mtype ≡ mtype }
+    {
+        SameType {
+            list: ListWaiting::fresh(alloc),
+            mtype,
+        }
+    }
+
+    /// The place of the message that the selection picks.
+    pub fn find(&self, selection: Selection) -> Option<u64>
+        ensures found { result ≡ option_map (λ m. m.0)
+            (pick (λ m. m.1.mtype) self.now.messages selection) }
+        ensures same { All (λ m. m.1.mtype ≡ self.now.mtype) self.now.messages }
+    {
+        if self.is_picked(selection) {
+            self.list.find(Selection::Any)
+        } else {
+            None
+        }
+    }
+
+    /// Takes the memory that one more message of the type needs. `Err` means out of memory.
+    pub fn prepare(&mut self) -> Result<(), AllocError>
+        ensures unchanged { self.new.messages ≡ self.old.messages }
+        ensures mtype { self.new.mtype ≡ self.old.mtype }
+        ensures ok { OnOk result (self.new.prepared ≡ Some self.old.mtype) }
+        ensures err { OnErr result (self.new.prepared ≡ self.old.prepared) }
+    {
+        self.list.prepare(self.mtype)
+    }
+
+    /// Adds a message of the type at the end.
+    pub fn put_prepared(&mut self, place: u64, message: Message<B>)
+        requires prepared { self.old.prepared ≡ Some message.mtype }
+        requires above { All (λ m. m.0 < place) self.old.messages }
+        ensures added { self.new.messages ≡ self.old.messages ++ (place, message) ∷ [] }
+        ensures unprepared { self.new.prepared ≡ None }
+        ensures mtype { self.new.mtype ≡ self.old.mtype }
+    {
+        self.list.put_prepared(place, message);
+    }
+
+    /// Takes out the message at this place.
+    pub fn take(&mut self, place: u64) -> Message<B>
+        requires { IsSome (message_at place self.old.messages) }
+        ensures taken { message_at place self.old.messages ≡ Some result }
+        ensures rest { self.new.messages ≡ without place self.old.messages }
+        ensures unprepared { self.new.prepared ≡ None }
+        ensures mtype { self.new.mtype ≡ self.old.mtype }
+    {
+        self.list.take(place)
+    }
+
+    /// The number of bytes of the message at this place.
+    pub fn length_of(&self, place: u64) -> u64
+        requires { IsSome (message_at place self.now.messages) }
+        ensures { IfSome (message_at place self.now.messages)
+            (λ m. result ≡ length (B.bytes m.body)) }
+    {
+        self.list.length_of(place)
+    }
+
+    /// The headers of the messages, in the order of sending. `Err` means out of memory.
+    pub fn headers(&self, alloc: Global) -> Result<Vec<Header>, AllocError>
+        ensures { IfOk result (λ headers. headers.items ≡ headers_of B.bytes self.now.messages) }
+    {
+        self.list.headers(alloc)
+    }
+
+    /// Where no message waits, gives back the memory in which some did.
+    pub fn give_back(&mut self, alloc: Global)
+        ensures unchanged { self.new.messages ≡ self.old.messages }
+        ensures mtype { self.new.mtype ≡ self.old.mtype }
+    {
+        if self.list.len() == 0 {
+            mem::replace(&mut self.list, ListWaiting::fresh(alloc)).end();
+        }
+    }
+
+    /// Ends where no message waits.
+    pub fn end(self)
+        requires { self.messages ≡ [] }
+    {
+        let SameType { list, mtype: _ } = self;
+        list.end();
+    }
+}
