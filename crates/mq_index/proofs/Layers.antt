@@ -8,10 +8,11 @@ use Rattle.std.proofs.lemmas.List.{append-nil, append_assoc}
 use Rattle.std.proofs.lemmas.List.Elements.{All-nil, All-cons, All-head, All-tail, filter-append, recursion_from_All}
 use Rattle.std.proofs.lemmas.List.Folds.{find-append}
 use Rattle.std.proofs.lemmas.Option.{none-some, same_Some}
-use Rattle.mq_select.specs.Waiting.{message_at, without}
+use Rattle.mq_select.specs.Waiting.{message_at, without, Listed}
 use Rattle.mq_index.specs.Index.{some_wait, IsRising}
-use Rattle.mq_index.specs.Layered.{reaches}
-use Rattle.mq_index.proofs.Merging.{rising_append, rising_filter}
+use Rattle.mq_index.specs.Layered.{reaches, room_for}
+use Rattle.mq_index.specs.Same.{Same}
+use Rattle.mq_index.proofs.Merging.{int_eq-here, rising_append, rising_filter}
 use Rattle.mq_index.proofs.Sames.{none_found}
 
 -- what holds of both holds of each
@@ -118,3 +119,20 @@ pub rising_without : {X : Type 0} (place : ℕ) (all left : List (ℕ × X)) →
 rising_without {X} place all left rising is =
     let P : List (ℕ × X) → Type 0 = IsRising in
     subst P (sym is) (rising_filter (λ (m : ℕ × X). not (m.0 == place)) all rising)
+
+-- places that rise by index rise
+recursion_rise : {X : Type 0} (xs : List (ℕ × X)) → AllPairs (λ a b. a.0 < b.0) xs → IsRising xs
+recursion_rise [] h = tt
+recursion_rise {X} (x ∷ xs) h = (
+  recursion_from_All (λ (y : ℕ × X). x.0 < y.0) xs (λ k d l. h 0 (suc k) d (omega arith) (omega arith)),
+  recursion_rise xs (λ i j d l m. h (suc i) (suc j) d (omega arith) (omega arith)),
+)
+
+pub rising_alone : {X : Type 0} (xs ys : List (ℕ × X)) → AllPairs (λ a b. a.0 < b.0) xs → ys ≡ [] → IsRising (xs ++ ys)
+rising_alone {X} xs ys h none =
+    let P : List (ℕ × X) → Type 0 = IsRising in
+    subst P (sym (ap (λ zs. xs ++ zs) none ∙ append-nil xs)) (recursion_rise xs h)
+
+-- where none waits behind those of a type, there is room for it if they have some
+pub room_alone : {B : Type 0} (first : Same B) (rest : Listed B) (t : ℤ) → rest.messages ≡ [] → first.mtype ≡ t → first.prepared ≡ Some t → room_for first rest t ≡ Some t
+room_alone first rest t none is room = rw (none, is, int_eq-here t) room

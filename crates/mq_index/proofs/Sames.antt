@@ -1,9 +1,9 @@
 -- Waiting messages that are all of one type: what a selection picks of them.
-use Rattle.std.proofs.Common.{◌≡◌, ◌∙◌, ℕ, ℤ, pos, int_le, int_lt, List, [], ◌∷◌, All, find, filter, fold, map, Option, Some, None, Bool, true, false, cond, if◌then◌else◌, refl, sym, ap, subst, arith}
+use Rattle.std.proofs.Common.{◌≡◌, ◌∙◌, ℕ, ℤ, pos, int_le, int_lt, List, [], ◌∷◌, All, find, filter, fold, map, Option, Some, None, Bool, true, false, not, cond, if◌then◌else◌, refl, sym, ap, subst, arith}
 use Rattle.std.specs.Option.{option_map, option_map_or}
 use Rattle.std.specs.Ordering.{int_eq}
 use Rattle.std.proofs.lemmas.Int.{ints}
-use Rattle.std.proofs.lemmas.List.Elements.{All-head, All-tail, All-map}
+use Rattle.std.proofs.lemmas.List.Elements.{All-nil, All-cons, All-head, All-tail, All-map}
 use Rattle.mq_select.specs.declared.selection.Selection.{Selection}
 use Rattle.mq_select.specs.declared.selection.Selection.TheVariants.{Any, Exact, Except, UpTo}
 use Rattle.mq_select.specs.Selection.{eligible, least_of, lower_of, pick}
@@ -77,3 +77,19 @@ same_picks f t (x ∷ xs) selection h false e =
     let first = All-head (λ y. f y ≡ t) x xs h in
     let rest = All-tail (λ y. f y ≡ t) x xs h in
     picked_cons f x xs selection (λ k d l. rest k d l ∙ sym first) false (ap (λ u. picks selection u) first ∙ e)
+
+eq_holds : (a b : ℤ) → int_eq a b ≡ true → a ≡ b
+eq_holds a b e = grind (arith, ints)
+
+-- where no other type is found, all are of this one
+pub all_same : {X : Type 0} (f : X → ℤ) (t : ℤ) (xs : List X) → find (λ x. not (int_eq (f x) t)) xs ≡ None → All (λ x. f x ≡ t) xs
+all_same f t [] e = All-nil _
+all_same {X} f t (x ∷ xs) e = by (int_eq (f x) t) refl e (λ r. all_same f t xs r)
+  where
+    by : (b : Bool) → int_eq (f x) t ≡ b → cond (not b) (Some x) (find (λ y. not (int_eq (f y) t)) xs) ≡ None → (find (λ y. not (int_eq (f y) t)) xs ≡ None → All (λ y. f y ≡ t) xs) → All (λ y. f y ≡ t) (x ∷ xs)
+    by true g k r = All-cons (λ y. f y ≡ t) x xs (eq_holds (f x) t g) (r k)
+    by false g k r = let clash : Some x ≡ None = k in cc
+
+pub none_is : {X Y : Type 0} (f : X → Y) (o : Option X) → option_map f o ≡ None → o ≡ None
+none_is f None e = refl
+none_is f (Some x) e = let clash : Some (f x) ≡ None = e in cc

@@ -1,13 +1,13 @@
 //! How messages go over from a list to one in layers, and back.
 
-ghost use Rattle.std.specs.Prelude.{◌≡◌, ◌+◌, ◌<◌, ◌≤◌, ◌++◌, [], AllPairs, IfErr, IfOk, OnOk};
-ghost use Rattle.std.specs.Prelude.{Some, length, slice_get};
+ghost use Rattle.std.specs.Prelude.{◌≡◌, ◌+◌, ◌<◌, ◌≤◌, ◌++◌, [], All, AllPairs, IfErr, IfOk, OnOk};
+ghost use Rattle.std.specs.Prelude.{IsTrue, Some, length, slice_get};
 ghost use Rattle.std.specs.Option.{option_map};
 ghost use Rattle.std.specs.VecDeque.{deque_len, deque_capacity};
 
 use crate::Layered;
 use mq_message::Body;
-use mq_select::{ListWaiting, Placed, Waiting};
+use mq_select::{ListWaiting, Placed, Selection, Waiting};
 use std::alloc::{AllocError, Global};
 use std::collections::VecDeque;
 
@@ -65,9 +65,35 @@ fn come_back<B: Body>(index: &mut Layered<B>, messages: &mut VecDeque<Placed<B>>
     messages.rotate_left(left);
 }
 
-/// A list in layers of the messages of a list, with room for one more of this type. `Err` means out
+/// Whether all messages of a list are of this type.
+fn is_of<B: Body>(list: &ListWaiting<B>, mtype: i64) -> bool
+    ensures { IsTrue result → All (λ m. m.1.mtype ≡ mtype) list.now.messages }
+{
+    list.find(Selection::Except(mtype)).is_none()
+}
+
+/// A list of messages of this type as the first layer, with room for one more of it. `Err` means out
 /// of memory: then the list is as it was.
-pub(crate) fn layered<B: Body>(
+fn taken_over<B: Body>(
+    list: ListWaiting<B>,
+    alloc: Global,
+    mtype: i64,
+) -> Result<Layered<B>, ListWaiting<B>>
+    requires { All (λ m. m.1.mtype ≡ mtype) list.messages }
+    ensures messages { IfOk result (λ index. index.messages ≡ list.messages) }
+    ensures prepared { IfOk result (λ index. index.prepared ≡ Some mtype) }
+    ensures handed_back { IfErr result (λ same. same ≡ list) }
+{
+    let mut list = list;
+    match list.prepare(mtype) {
+        Ok(()) => Ok(Layered::of_one(list, alloc, mtype)),
+        Err(_) => Err(list),
+    }
+}
+
+/// A list in layers to which the messages of a list have moved, with room for one more of this type.
+/// `Err` means out of memory: then the list is as it was.
+fn moved<B: Body>(
     list: ListWaiting<B>,
     alloc: Global,
     mtype: i64,
@@ -89,6 +115,24 @@ pub(crate) fn layered<B: Body>(
             index.end();
             Err(ListWaiting::from_parts(messages, prepared))
         }
+    }
+}
+
+/// A list in layers of the messages of a list, with room for one more of this type. `Err` means out
+/// of memory: then the list is as it was.
+pub(crate) fn layered<B: Body>(
+    list: ListWaiting<B>,
+    alloc: Global,
+    mtype: i64,
+) -> Result<Layered<B>, ListWaiting<B>>
+    ensures messages { IfOk result (λ index. index.messages ≡ list.messages) }
+    ensures prepared { IfOk result (λ index. index.prepared ≡ Some mtype) }
+    ensures handed_back { IfErr result (λ same. same ≡ list) }
+{
+    if is_of(&list, mtype) {
+        taken_over(list, alloc, mtype)
+    } else {
+        moved(list, alloc, mtype)
     }
 }
 

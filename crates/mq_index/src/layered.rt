@@ -7,7 +7,7 @@ ghost use Rattle.mq_index.specs.Layered.{joins, prefers, reaches, room_for};
 
 use crate::{ByType, SameType};
 use mq_message::{Body, Message};
-use mq_select::{Header, Selection, Waiting};
+use mq_select::{Header, ListWaiting, Selection, Waiting};
 use std::alloc::{AllocError, Global};
 use std::marker::Model;
 
@@ -131,6 +131,23 @@ impl<B: Body> Layered<B> {
             first: SameType::new(alloc, mtype),
             rest: ByType::fresh(alloc),
             prepared: None,
+            alloc,
+        }
+    }
+
+    /// Of a list whose messages are all of this type, with room for one more.
+    pub fn of_one(list: ListWaiting<B>, alloc: Global, mtype: i64) -> Layered<B>
+        requires same { All (λ m. m.1.mtype ≡ mtype) list.messages }
+        requires prepared { list.prepared ≡ Some mtype }
+        ensures messages { result.messages ≡ list.messages }
+        ensures prepared { result.prepared ≡ Some mtype }
+    {
+        // The parts are what says that the places rise.
+        let (messages, prepared) = list.into_parts();
+        Layered {
+            first: SameType::of(ListWaiting::from_parts(messages, prepared), mtype),
+            rest: ByType::fresh(alloc),
+            prepared: Some(mtype),
             alloc,
         }
     }

@@ -1,6 +1,6 @@
 ghost use Rattle.std.specs.Prelude.{◌≡◌, ◌<◌, ◌++◌, ◌∷◌, [], All, IfOk, IfSome, IsSome};
 ghost use Rattle.std.specs.Prelude.{None, OnErr, OnOk, Some, length};
-ghost use Rattle.std.specs.Option.{option_map};
+ghost use Rattle.std.specs.Option.{option_map, ForSome};
 ghost use Rattle.mq_select.specs.Selection.{pick};
 ghost use Rattle.mq_select.specs.Waiting.{headers_of, message_at, without};
 ghost use Rattle.mq_index.specs.Same.{picks};
@@ -77,6 +77,17 @@ impl<B: Body> SameType<B> {
         }
     }
 
+    /// Of a list whose messages are all of this type.
+    pub fn of(list: ListWaiting<B>, mtype: i64) -> SameType<B>
+        requires same { All (λ m. m.1.mtype ≡ mtype) list.messages }
+        requires prepared { ForSome list.prepared (λ t. t ≡ mtype) }
+        ensures messages { result.messages ≡ list.messages }
+        ensures prepared { result.prepared ≡ list.prepared }
+        ensures mtype { result.mtype ≡ mtype }
+    {
+        SameType { list, mtype }
+    }
+
     /// The place of the message that the selection picks.
     pub fn find(&self, selection: Selection) -> Option<u64>
         ensures found { result ≡ option_map (λ m. m.0)
@@ -143,7 +154,7 @@ impl<B: Body> SameType<B> {
         ensures unchanged { self.new.messages ≡ self.old.messages }
         ensures mtype { self.new.mtype ≡ self.old.mtype }
     {
-        if self.list.len() == 0 {
+        if self.len() == 0 {
             mem::replace(&mut self.list, ListWaiting::fresh(alloc)).end();
         }
     }

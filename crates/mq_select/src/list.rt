@@ -1,5 +1,5 @@
 ghost use Rattle.std.specs.Prelude.{◌≡◌, ◌==◌, ◌<◌, ◌++◌, ◌∷◌, [], All, AllPairs, IfOk};
-ghost use Rattle.std.specs.Prelude.{find, int_le, length, map, not, pos, position};
+ghost use Rattle.std.specs.Prelude.{IsTrue, Some, find, int_le, length, map, not, pos, position};
 ghost use Rattle.std.specs.Option.{option_map, ForSome};
 ghost use Rattle.std.specs.Ordering.{int_eq};
 ghost use Rattle.std.specs.VecDeque.{deque_len, deque_capacity};
@@ -94,11 +94,24 @@ fn first_other<B>(messages: &VecDeque<Placed<B>>, other: i64) -> Option<u64>
     messages.iter().find(|m| m.1.mtype != other).map(|m| m.0)
 }
 
-/// The index of the message at this place, found by halves.
+/// Whether the first message is at this place.
+fn is_first<B>(messages: &VecDeque<Placed<B>>, place: u64) -> bool
+    ensures { IsTrue result → position (λ m. m.0 == place) messages.now.items ≡ Some 0 }
+{
+    match messages.front() {
+        Some(first) => first.0 == place,
+        None => false,
+    }
+}
+
+/// The index of the message at this place: the first, or else found by halves.
 fn index_of<B>(messages: &VecDeque<Placed<B>>, place: u64) -> Option<usize>
     requires { AllPairs (λ a b. a.0 < b.0) messages.now.items }
     ensures { result ≡ position (λ m. m.0 == place) messages.now.items }
 {
+    if is_first(messages, place) {
+        return Some(0);
+    }
     messages.binary_search_by_key(&place, |m| m.0).ok()
 }
 

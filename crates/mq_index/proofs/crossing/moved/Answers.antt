@@ -1,7 +1,7 @@
 use Rattle.std.proofs.Common.{◌∙◌, ℕ, ◌<◌, ◌++◌, List, AllPairs, ap, arith, length, length-append, subst, sym}
 use Rattle.std.proofs.lemmas.List.{append-nil}
 use Rattle.mq_message.specs.declared.message.Message.{Message}
-use Rattle.mq_index.proofs.crossing.layered.Goals as goal
+use Rattle.mq_index.proofs.crossing.moved.Goals as goal
 
 pub go_over-requires : goal.go_over-requires
 go_over-requires g c = record { rising = rw c.new-index.ensures.empty c.into_parts-messages.ensures.rising }
