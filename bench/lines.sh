@@ -2,7 +2,7 @@
 # Counts the instructions and the atomic operations of a text of no bytes, by function:
 # `bench/lines.sh [TEXTS] [PROGRAM WORD..]`, for one seat that sends and receives by turns, where the
 # queue is a list; and for two threads through one queue, of which the first sends and the second
-# receives, where it mostly is by type. A PROGRAM, as a peer, is counted in place of these; a word {}
+# receives, where that list is mostly long. A PROGRAM, as a peer, is counted in place of these; a word {}
 # stands for the number of texts. A figure is the difference of two runs, by the texts that one makes
 # more. An operation is atomic that locks its line; a load is a plain one, and a store that no load
 # may pass is an exchange. Wants valgrind and objdump.

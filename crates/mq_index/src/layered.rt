@@ -111,7 +111,7 @@ fn prepare_in<B: Body>(
 
 impl<B> Layered<B> {
     /// Whether more than so many messages wait.
-    #[inline(always)]
+    #[inline(never)]
     pub fn is_longer_than(&self, few: usize) -> bool
         ensures longer { result ≡ nat_lt few (length self.now.messages) }
         ensures rising { AllPairs (λ a b. a.0 < b.0) self.now.messages }
@@ -166,6 +166,7 @@ impl<B: Body> Layered<B> {
     }
 }
 
+// None of these is inlined: beside each stands that of a small list, which would cost more for it.
 impl<B: Body> Waiting<B> for Layered<B> {
     ghost messages = { λ w. w.messages };
 
@@ -175,6 +176,7 @@ impl<B: Body> Waiting<B> for Layered<B> {
         Layered::new(alloc, 1)
     }
 
+    #[inline(never)]
     fn find(&self, selection: Selection) -> Option<u64> {
         if self.rest.is_empty() {
             self.first.find(selection)
@@ -183,12 +185,14 @@ impl<B: Body> Waiting<B> for Layered<B> {
         }
     }
 
+    #[inline(never)]
     fn prepare(&mut self, mtype: i64) -> Result<(), AllocError> {
         prepare_in(&mut self.first, &mut self.rest, self.alloc, mtype)?;
         self.prepared = Some(mtype);
         Ok(())
     }
 
+    #[inline(never)]
     fn put_prepared(&mut self, place: u64, message: Message<B>)
         requires prepared { self.old.prepared ≡ Some message.mtype }
         requires above { All (λ m. m.0 < place) self.old.messages }
@@ -203,6 +207,7 @@ impl<B: Body> Waiting<B> for Layered<B> {
         }
     }
 
+    #[inline(never)]
     fn take(&mut self, place: u64) -> Message<B> {
         self.prepared = None;
         if is_behind(&self.rest, place) {
@@ -212,6 +217,7 @@ impl<B: Body> Waiting<B> for Layered<B> {
         }
     }
 
+    #[inline(never)]
     fn length_of(&self, place: u64) -> u64 {
         if is_behind(&self.rest, place) {
             self.rest.length_of(place)
