@@ -1,5 +1,5 @@
 -- Places that rise through two layers: in which of them a place is.
-use Rattle.std.proofs.Common.{◌≡◌, ◌∙◌, ℕ, ℤ, ◌<◌, ◌≤◌, ◌==◌, nat_le, nat_lt, ◌+◌, ◌-◌, List, [], ◌∷◌, ◌++◌, All, AllPairs, find, filter, get_or, length, Option, Some, None, Bool, true, false, not, if◌then◌else◌, refl, sym, ap, subst, arith, zero, suc}
+use Rattle.std.proofs.Common.{◌≡◌, ◌∙◌, ℕ, ℤ, ◌<◌, ◌≤◌, ◌==◌, nat_le, List, [], ◌∷◌, ◌++◌, All, AllPairs, find, get_or, Option, Some, None, Bool, true, false, not, if◌then◌else◌, refl, sym, ap, subst, arith, zero, suc}
 use Rattle.std.specs.List.{AllByRecursion}
 use Rattle.std.specs.Option.{option_map, option_or}
 use Rattle.std.proofs.lemmas.Bool.{ne_eqb}

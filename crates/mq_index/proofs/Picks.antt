@@ -1,5 +1,5 @@
 -- What a selection picks of messages of one type and those behind them.
-use Rattle.std.proofs.Common.{◌≡◌, ◌∙◌, ℕ, ℤ, pos, ◌<ℤ◌, ◌≤ℤ◌, int_le, int_lt, List, [], ◌∷◌, ◌++◌, All, find, filter, fold, map, Option, Some, None, Bool, true, false, cond, if◌then◌else◌, refl, sym, ap, subst, arith}
+use Rattle.std.proofs.Common.{◌≡◌, ◌∙◌, ℕ, ℤ, pos, ◌<ℤ◌, int_le, int_lt, List, [], ◌∷◌, ◌++◌, All, find, filter, fold, map, Option, Some, None, Bool, true, false, cond, if◌then◌else◌, refl, sym, ap, subst, arith}
 use Rattle.std.specs.Option.{option_map, option_map_or, option_or}
 use Rattle.std.specs.Ordering.{int_eq}
 use Rattle.std.proofs.lemmas.Int.{ints}

@@ -1,6 +1,6 @@
 -- Waiting messages in two layers: first those of one type, and behind them the others.
-use Rattle.std.specs.Prelude.{◌≡◌, ℕ, ℤ, ◌++◌, Bool, false, not, int_lt, nat_le, if◌then◌else◌}
-use Rattle.std.specs.Prelude.{Option, Some, None, List, [], ◌∷◌}
+use Rattle.std.specs.Prelude.{◌≡◌, ℕ, ℤ, ◌++◌, Bool, false, int_lt, nat_le, if◌then◌else◌}
+use Rattle.std.specs.Prelude.{Option, Some, List, [], ◌∷◌}
 use Rattle.std.specs.Option.{option_map_or}
 use Rattle.std.specs.Ordering.{int_eq}
 use Rattle.mq_message.specs.declared.message.Message.{Message}

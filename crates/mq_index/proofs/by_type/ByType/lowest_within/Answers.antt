@@ -1,4 +1,4 @@
-use Rattle.std.proofs.Common.{◌∙◌, sym, FitsSigned, w64}
+use Rattle.std.proofs.Common.{sym, FitsSigned, w64}
 use Rattle.std.proofs.lemmas.Int.{to_z-of_z}
 use Rattle.mq_index.specs.Index.{merged}
 use Rattle.mq_index.proofs.Lowests.{least_found}

@@ -1,4 +1,4 @@
-use Rattle.std.proofs.Common.{◌∙◌, ℕ, ◌<◌, List, AllPairs, Some, ap, subst, sym}
+use Rattle.std.proofs.Common.{◌∙◌, ℕ, ◌<◌, List, AllPairs, Some, subst, sym}
 use Rattle.std.proofs.lemmas.Int.{to_z-of_z}
 use Rattle.std.proofs.lemmas.Option.{same_Some}
 use Rattle.mq_message.specs.declared.message.Message.{Message}
