@@ -1,4 +1,4 @@
-use Rattle.std.proofs.Common.{◌≡◌, ◌∙◌, sym, rules, arith, None}
+use Rattle.std.proofs.Common.{◌≡◌, rules, arith, None}
 use Rattle.std.proofs.lemmas.Int.{to_z-of_z}
 use Rattle.mq_select.specs.declared.selection.Selection.TheVariants.{Except}
 use Rattle.mq_select.specs.Selection.{pick}
@@ -9,4 +9,4 @@ pub returns : goal.returns
 returns g c h =
     let none : c.find.result ≡ None = search (rules, arith, c.is_none.ensures, h) in
     let found = simp (to_z-of_z, c.ranges.mtype) at c.find.ensures in
-    all_same (λ m. m.1.mtype) c.args.mtype c.args.list.now.messages (none_is (λ m. m.0) (pick (λ m. m.1.mtype) c.args.list.now.messages (Except c.args.mtype)) (sym found ∙ none))
+    all_same (λ m. m.1.mtype) c.args.mtype c.args.list.now.messages (none_is (λ m. m.0) (pick (λ m. m.1.mtype) c.args.list.now.messages (Except c.args.mtype)) (cc (found, none)))

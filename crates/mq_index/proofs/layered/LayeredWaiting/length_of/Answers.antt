@@ -1,4 +1,4 @@
-use Rattle.std.proofs.Common.{◌∙◌, sym}
+use Rattle.std.proofs.Common.{◌∙◌, rules, sym}
 use Rattle.mq_index.proofs.Layers.{message_before, message_behind}
 use Rattle.mq_index.proofs.layered.LayeredWaiting.length_of.Goals as goal
 
@@ -14,8 +14,8 @@ length_of-requires-else-is_behind g c =
 
 pub returns-then-is_behind : goal.returns-then-is_behind
 returns-then-is_behind g c =
-    rw (← c.self.view_is, message_behind c.args.place c.self.inside.first.messages c.self.inside.rest.messages c.self.invariant.rising (sym c.is_behind.ensures.reached ∙ c.if-is_behind.true)) c.length_of.ensures
+    rw (← c.self.view_is, message_behind c.args.place c.self.inside.first.messages c.self.inside.rest.messages c.self.invariant.rising (sym c.is_behind.ensures.reached ∙ c.if-is_behind.true)) (search (rules, c.length_of.ensures))
 
 pub returns-else-is_behind : goal.returns-else-is_behind
 returns-else-is_behind g c =
-    rw (← c.self.view_is, message_before c.args.place c.self.inside.first.messages c.self.inside.rest.messages (c.is_behind.ensures.before c.if-is_behind.false)) c.length_of-else-is_behind.ensures
+    rw (← c.self.view_is, message_before c.args.place c.self.inside.first.messages c.self.inside.rest.messages (c.is_behind.ensures.before c.if-is_behind.false)) (search (rules, c.length_of-else-is_behind.ensures))

@@ -6,13 +6,13 @@ use Rattle.mq_index.proofs.same.SameType.find.Goals as goal
 pub returns-then-is_picked-clause-found : goal.returns-then-is_picked-clause-found
 returns-then-is_picked-clause-found g c =
     let tested = rw (← c.self.view_is) at c.is_picked.ensures in
-    let is = same_picks (λ m. m.1.mtype) c.self.inside.mtype c.self.inside.list.messages c.args.selection c.self.invariant.0 true (sym tested ∙ c.if-is_picked.true) in
+    let is = same_picks (λ m. m.1.mtype) c.self.inside.mtype c.self.inside.list.messages c.args.selection c.self.invariant.0 true (cc (tested, c.if-is_picked.true)) in
     rw (← c.self.view_is) (c.find.ensures ∙ ap (option_map (λ m. m.0)) (sym is))
 
 pub returns-else-is_picked-clause-found : goal.returns-else-is_picked-clause-found
 returns-else-is_picked-clause-found g c =
     let tested = rw (← c.self.view_is) at c.is_picked.ensures in
-    let is = same_picks (λ m. m.1.mtype) c.self.inside.mtype c.self.inside.list.messages c.args.selection c.self.invariant.0 false (sym tested ∙ c.if-is_picked.false) in
+    let is = same_picks (λ m. m.1.mtype) c.self.inside.mtype c.self.inside.list.messages c.args.selection c.self.invariant.0 false (cc (tested, c.if-is_picked.false)) in
     rw (← c.self.view_is) (ap (option_map (λ m. m.0)) (sym is))
 
 pub returns-then-is_picked-clause-same : goal.returns-then-is_picked-clause-same
