@@ -4,8 +4,9 @@ A crate's file planted/goals.txt says what was seen when it was written by `.ci/
 line `mistake NAME: GOAL` which goal fell, and a line `function FOLDER: GOAL ..` which goals the
 function had, whose proof is in that folder. They say no more than what to try first. A goal that
 they do not name is tried too, and where the named one does not fall, all are. A line `sources: SUM`
-says that all of the crate's mistakes were refused, and over which sources, and each line
-`toolchain: VERSION` with which toolchain.
+says that all of the crate's mistakes were refused, and over which sources, a line `own: SUM` over
+which of its own, without those of the crates that it stands on, and each line `toolchain: VERSION`
+with which toolchain.
 """
 import re
 
@@ -32,18 +33,22 @@ def kind_of(goal):
 class Recorded:
     """What a crate's planted/goals.txt says."""
 
-    def __init__(self, mistakes=(), functions=(), sources=None, toolchains=()):
+    def __init__(self, mistakes=(), functions=(), sources=None, own=None, toolchains=()):
         self.mistakes, self.functions = dict(mistakes), dict(functions)
-        self.sources, self.toolchains = sources, list(toolchains)
+        self.sources, self.own, self.toolchains = sources, own, list(toolchains)
 
     def holds(self, sources, toolchain):
         """Whether all of the crate's mistakes were refused over these sources with this toolchain."""
         return self.sources == sources and toolchain in self.toolchains
 
-    def add(self, sources, toolchain):
+    def holds_own(self, own, toolchain):
+        """Whether they were over these sources of its own, whatever it stands on."""
+        return self.own == own and toolchain in self.toolchains
+
+    def add(self, sources, own, toolchain):
         """All of the crate's mistakes are refused over these sources with this toolchain."""
         kept = self.toolchains if self.sources == sources else []
-        self.sources, self.toolchains = sources, sorted({*kept, toolchain})
+        self.sources, self.own, self.toolchains = sources, own, sorted({*kept, toolchain})
 
     def goal(self, edit):
         """The goal that an edit names, or else that fell by it, where that is known."""
@@ -56,6 +61,7 @@ class Recorded:
 
     def write(self, path):
         lines = [f"sources: {self.sources}"] if self.sources else []
+        lines += [f"own: {self.own}"] if self.own else []
         lines += [f"toolchain: {it}" for it in self.toolchains]
         lines += [f"mistake {name}: {goal}" for name, goal in sorted(self.mistakes.items())]
         lines += [f"function {place}: {' '.join(it)}" for place, it in sorted(self.functions.items())]
@@ -64,7 +70,7 @@ class Recorded:
 
 def recorded(path):
     """What this file says, or nothing where there is none."""
-    found, toolchains = {"sources": {}, "mistake": {}, "function": {}}, []
+    found, toolchains = {"sources": {}, "own": {}, "mistake": {}, "function": {}}, []
     for line in path.read_text().splitlines() if path.is_file() else ():
         head, _, said = line.partition(": ")
         kind, _, name = head.partition(" ")
@@ -72,7 +78,8 @@ def recorded(path):
             toolchains.append(said)
         else:
             found[kind][name] = said.split() if kind == "function" else said
-    return Recorded(found["mistake"], found["function"], found["sources"].get(""), toolchains)
+    sums = found["sources"].get(""), found["own"].get("")
+    return Recorded(found["mistake"], found["function"], *sums, toolchains)
 
 
 def cites(text, name):

@@ -38,8 +38,16 @@ class Crates:
     def sources(self, name):
         """A sum of all that a trial of this crate's planted mistakes reads beside the toolchain: the
         texts of the crate and of those that it stands on, and the mistakes but those of tests."""
+        return self.sum_of(name, {name, *self.below(name)})
+
+    def own(self, name):
+        """The same without the crates that it stands on."""
+        return self.sum_of(name, {name})
+
+    def sum_of(self, name, crates):
+        """A sum of the texts of these crates, and of the planted mistakes of this one."""
         texts = []
-        for it in sorted({name, *self.below(name)}):
+        for it in sorted(crates):
             crate = self.top / "crates" / it
             texts.append(" ".join([it, *self.uses[it]]).encode())
             for part in ("src", "specs", "proofs"):
