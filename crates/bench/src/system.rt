@@ -110,7 +110,7 @@ pub(crate) fn send<N: Names, R: Wait>(
     mtype: u32,
     bytes: &[u8],
 ) -> Result<(), Errno> {
-    let text = match system.draft_of(rt, bytes) {
+    let text = match system.draft_by(rt, seat, bytes) {
         Ok(text) => text,
         Err(refused) => return Err(refused.errno()),
     };
@@ -119,7 +119,7 @@ pub(crate) fn send<N: Names, R: Wait>(
         Ok(_) => Ok(()),
         Err(refusal) => {
             let SendRefused { refused, text } = refusal;
-            system.spend(rt, text);
+            system.spend_by(rt, seat, text);
             Err(refused.errno)
         }
     }
@@ -150,7 +150,7 @@ pub(crate) fn receive<N: Names, R: Wait>(
         length,
         text,
     } = received;
-    system.spend(rt, text);
+    system.spend_by(rt, seat, text);
     Ok(length)
 }
 

@@ -186,7 +186,7 @@ impl<'a, N: Names, R: Wait> Caller<'a, N, R> {
             self.old.seat.now self.new.seat.now (slot_of id)
             (send_verdict (seq_of id) mtype (length bytes.now)) errno) }
     {
-        let text = match system.draft_of(self.rt, bytes) {
+        let text = match system.draft_by(self.rt, self.seat, bytes) {
             Ok(text) => text,
             Err(error) => return Err(error.errno()),
         };
@@ -195,7 +195,7 @@ impl<'a, N: Names, R: Wait> Caller<'a, N, R> {
             Ok(entry) => Ok(entry),
             Err(refusal) => {
                 let SendRefused { refused, text } = refusal;
-                system.spend(self.rt, text);
+                system.spend_by(self.rt, self.seat, text);
                 Err(refused.errno)
             }
         }
@@ -292,7 +292,7 @@ impl<'a, N: Names, R: Wait> Caller<'a, N, R> {
             text,
         } = received;
         copy_out(&text, &mut bytes);
-        system.spend(self.rt, text);
+        system.spend_by(self.rt, self.seat, text);
         Ok(Delivered {
             entry,
             mtype,

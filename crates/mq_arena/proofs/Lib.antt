@@ -1,6 +1,7 @@
 pub mod Cuts
 pub mod Filling
 pub mod Kept
+pub mod Magazines
 pub mod Overwriting
 pub mod Places
 pub mod Shells

@@ -4,5 +4,6 @@ pub mod Halves
 pub mod Homes
 pub mod Lends
 pub mod Lent
+pub mod Magazine
 pub mod OwnedBlock
 pub mod Stocked

@@ -1,5 +1,5 @@
 //! A block: `2 ^ order` pages that one owner holds.
-ghost use Rattle.std.specs.Prelude.{◌≡◌, ◌+◌, ◌-◌, ◌*◌, ◌^◌, ◌<◌, ◌≤◌, [], ◌++◌, length, take, drop, slice_index_or};
+ghost use Rattle.std.specs.Prelude.{◌≡◌, ◌+◌, ◌-◌, ◌*◌, ◌^◌, ◌<◌, ◌≤◌, [], ◌++◌, length, take, drop, replicate, slice_index_or};
 ghost use Rattle.std.specs.List.{concat};
 ghost use Rattle.std.specs.Borrow.{sem};
 ghost use Rattle.mq_arena.specs.Bytes.{cut_parts, pages_with};
@@ -118,8 +118,21 @@ impl<L: Ledger> Block<L> {
         writes::fill(self.pages.as_mut_slice(), bytes);
     }
 
-    /// Writes the bytes over the first ones of the block, and zeros over the rest.
-    pub(crate) fn overwrite(&mut self, bytes: &[u8])
+    /// Writes the bytes over the first ones of the block, and zeros over the rest: each byte once.
+    pub fn overwrite(&mut self, bytes: &[u8])
+        ensures start { self.new.start ≡ self.old.start }
+        ensures order { self.new.order ≡ self.old.order }
+        ensures zero { bytes.now ≡ []
+            → self.new.pages ≡ replicate (2 ^ self.old.order) (replicate PAGE_LEN 0) }
+        ensures bytes { length bytes.now ≤ PAGE_LEN * 2 ^ self.old.order
+            → concat self.new.pages ≡ bytes.now
+            ++ replicate (PAGE_LEN * 2 ^ self.old.order - length bytes.now) 0 }
+    {
+        self.write_over(bytes);
+    }
+
+    /// What `overwrite` does, seen page by page.
+    pub(crate) fn write_over(&mut self, bytes: &[u8])
         ensures start { self.new.start ≡ self.old.start }
         ensures order { self.new.order ≡ self.old.order }
         ensures pages { self.new.pages ≡ pages_with (2 ^ self.old.order) bytes.now }

@@ -1,11 +1,12 @@
 //! The arena under its lock.
-ghost use Rattle.std.specs.Prelude.{ℕ, ◌≡◌, ◌*◌, ◌^◌, ◌<◌, ◌≤◌, ◌-◌, ◌++◌, length, replicate, IfOk, IsErrOf};
+ghost use Rattle.std.specs.Prelude.{ℕ, ◌≡◌, ◌*◌, ◌^◌, ◌<◌, ◌≤◌, ◌-◌, ◌++◌, [], length, replicate, IfOk, IsErrOf};
 ghost use Rattle.std.specs.List.{concat};
 ghost use Rattle.mq_arena.specs.Bytes.{pages_with};
 
 use crate::block::Block;
 use crate::homecoming::Homecoming;
 use crate::limits::{INLINE_ORDER, MAX_ORDER};
+use crate::magazine::Magazine;
 use crate::page::PAGE_LEN;
 use crate::state::ArenaState;
 use crate::take_error::TakeError;
@@ -83,13 +84,13 @@ impl<L: OfHeight> Arena<L> {
             ≡ bytes.now ++ replicate (PAGE_LEN * 2 ^ order - length bytes.now) 0) }
         ensures memory { IsErrOf result TakeError.Memory → INLINE_ORDER < order }
     {
-        let mut block = self.lent(rt, order)?;
-        block.overwrite(bytes);
+        let mut block = self.take_unwritten(rt, order)?;
+        block.write_over(bytes);
         Ok(block)
     }
 
-    /// Takes a block with the bytes that its pages had.
-    fn lent<R: Wait>(&self, rt: &R, order: u8) -> Result<Block<L>, TakeError>
+    /// Takes a block as `take` does, with the bytes that its pages had.
+    pub fn take_unwritten<R: Wait>(&self, rt: &R, order: u8) -> Result<Block<L>, TakeError>
         requires { order ≤ MAX_ORDER }
         ensures order { IfOk result (λ b. b.order ≡ order) }
         ensures memory { IsErrOf result TakeError.Memory → INLINE_ORDER < order }
@@ -100,6 +101,13 @@ impl<L: OfHeight> Arena<L> {
     /// Takes a block back, home or as a stray.
     pub fn put<R: Wait>(&self, rt: &R, block: Block<L>) -> Homecoming {
         self.held.lock(rt).state.put(block)
+    }
+
+    /// Takes all blocks of the magazine back.
+    pub fn put_all<R: Wait>(&self, rt: &R, magazine: &mut Magazine<L>)
+        ensures { magazine.new ≡ [] }
+    {
+        self.held.lock(rt).state.unload(magazine);
     }
 
     /// The arena without its lock. No thread has it any more, so nothing is waited for.

@@ -78,7 +78,7 @@ impl<L: Ledger> ArenaState<L> {
         ensures unchanged { OnErr result (self.new ≡ self.old) }
     {
         let mut block = self.take_block(order)?;
-        block.overwrite(bytes);
+        block.write_over(bytes);
         Ok(block)
     }
 

@@ -83,6 +83,13 @@ impl<J: Naming> BoardReader<J> {
         if self.kept.front().count() < self.bell.heard() {
             self.enter();
         }
+        self.known()
+    }
+
+    /// The row of the front, as it last learned or looked: it reads nothing that others write.
+    pub fn known(&self) -> BoardRow
+        ensures { result ≡ row self.now.events }
+    {
         self.kept.row()
     }
 

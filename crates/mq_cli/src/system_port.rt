@@ -105,7 +105,7 @@ impl<'a, N: Names> Port for SystemPort<'a, N> {
             return Err(DraftError::TooLong.errno());
         }
         let bytes = bytes_of(self.letters, self.seat.number(), tag, length);
-        let text = match system.draft_of(rt, bytes) {
+        let text = match system.draft_by(rt, self.seat, bytes) {
             Ok(text) => text,
             Err(refusal) => return Err(refusal.errno()),
         };
@@ -114,7 +114,7 @@ impl<'a, N: Names> Port for SystemPort<'a, N> {
             Ok(entry) => Ok(entry),
             Err(refusal) => {
                 let SendRefused { refused, text } = refusal;
-                system.spend(rt, text);
+                system.spend_by(rt, self.seat, text);
                 Err(refused.errno)
             }
         }
@@ -143,7 +143,7 @@ impl<'a, N: Names> Port for SystemPort<'a, N> {
                     length,
                     text,
                 } = delivered;
-                system.spend(rt, text);
+                system.spend_by(rt, self.seat, text);
                 Ok(Taken {
                     sender,
                     tag,

@@ -93,6 +93,14 @@ impl<J: Naming> Fronts<J> {
         self.readers[slot].learn(told)
     }
 
+    /// The row of the front of this slot: it reads nothing that others write.
+    pub fn known(&self, slot: usize) -> BoardRow
+        requires { slot < length self.now.fronts }
+        ensures { result ≡ row (front_at self.now slot) }
+    {
+        self.readers[slot].known()
+    }
+
     /// What the board of this slot shows, or the row of the front where it can't be entered: it is
     /// the row of the front then. It waits for nobody, and takes no lock and no memory.
     pub fn row(&mut self, slot: usize) -> BoardRow

@@ -10,13 +10,18 @@ use std::sync::atomic::{AtomicBool, Ordering};
 use std::sync::{Condvar, Mutex, MutexGuard, Wait};
 use std::time::Duration;
 
-/// How often a call tries to take a slot's lock before it sleeps for it, which is about as long as a
-/// sleep takes. Each try takes the lock's line away from who holds it, so the pauses between them
-/// grow.
-const TRIES: u32 = 100;
+/// How often a call tries to take a slot's lock before it sleeps for it. Each try takes the lock's
+/// line away from who holds it, so there are pauses between them.
+const TRIES: u32 = 30;
+
+/// The fewest messages that are plenty.
+const PLENTY: u64 = 32;
+
+/// How long a pause is where plenty waits and there is room.
+const LONG_PAUSE: u32 = 512;
 
 /// How often a call that waits looks for a change before it sleeps.
-const LOOKS: u32 = 1000;
+const LOOKS: u32 = 60;
 
 /// Those who wait for one kind of change in a slot.
 #[derive(Drop)]
@@ -52,13 +57,49 @@ impl Waiters {
         let seen = self.changes.notifications();
         self.came.store(true, Ordering::SeqCst);
         MutexGuard::unlock(held);
+        let backoff = Backoff::new();
         for _look in 0..LOOKS {
             if self.changes.notifications() != seen {
                 return;
             }
-            spin_loop();
+            backoff.snooze();
         }
         self.changes.sleep(rt, seen, Duration::MAX);
+    }
+}
+
+/// How long a call keeps away from a slot's lock that another holds.
+#[derive(Drop)]
+enum Pauses {
+    /// For long: it misses nothing, and who holds the lock can do several calls meanwhile.
+    Long,
+    /// Longer each time, and then it gives its processor away.
+    Growing(Backoff),
+}
+
+impl Pauses {
+    /// Those of a seat: long where plenty waited in the slot and there was room, as far as it knows.
+    fn of<N: Names>(seat: &Seat<N>, slot: u8) -> Pauses
+        requires { slot < N.slots }
+    {
+        let figures = seat.known(slot).figures;
+        let full = figures.qbytes - figures.qbytes / 8;
+        if PLENTY <= figures.qnum && figures.qnum <= full && figures.cbytes <= full {
+            Pauses::Long
+        } else {
+            Pauses::Growing(Backoff::new())
+        }
+    }
+
+    fn pause(&self) {
+        match self {
+            Pauses::Long => {
+                for _turn in 0..LONG_PAUSE {
+                    spin_loop();
+                }
+            }
+            Pauses::Growing(backoff) => backoff.snooze(),
+        }
     }
 }
 
@@ -109,7 +150,7 @@ impl<P: Pledge, N: Names> Place<P, N, Copies<N>> {
         ensures known { front_of seat.new number ≡ (mutex_guard_value result).events }
     {
         seat.holds();
-        let backoff = Backoff::new();
+        let pauses = Pauses::of(seat, number);
         for _try in 0..TRIES {
             if let Some(held) = self.held.try_lock() {
                 if held.enter(seat, number) {
@@ -117,7 +158,7 @@ impl<P: Pledge, N: Names> Place<P, N, Copies<N>> {
                 }
                 MutexGuard::unlock(held);
             }
-            backoff.spin();
+            pauses.pause();
         }
         for _ in rt.forever() {
             let held = self.held.lock(rt);

@@ -106,6 +106,14 @@ impl<N: Names> Seat<N> {
         self.fronts.learn(slot as usize, told)
     }
 
+    /// What the seat knows of the slot: it reads nothing that others write.
+    pub fn known(&self, slot: u8) -> BoardRow
+        requires { slot < N.slots }
+        ensures { result ≡ row (front_of self.now slot) }
+    {
+        self.fronts.known(slot as usize)
+    }
+
     /// What a report shows of the slot. It waits for nobody, and takes no lock and no memory.
     pub fn row(&mut self, slot: u8) -> BoardRow
         requires slot { slot < N.slots }

@@ -38,8 +38,9 @@ impl<N: Names> Model for Rest<N> {
 }
 
 impl<P: Pledge, N: Names> System<P, N, Copies<N>> {
-    /// Ends the system, once all seats are back. It takes no memory. The texts that waited go home;
-    /// one that is still outside is put into the arena by its block.
+    /// Ends the system, once all seats are back. It takes no memory. What the seats kept back goes
+    /// home, and so do the texts that waited; one that is still outside is put into the arena by its
+    /// block.
     pub fn close<R: Wait>(self, rt: &R, seats: Vec<Seat<N>>) -> Closed<Pages<N>>
         requires seats { vec_len seats ≡ N.seats }
         ensures slots { length result.slots.items ≡ N.slots }
@@ -55,6 +56,7 @@ impl<P: Pledge, N: Names> System<P, N, Copies<N>> {
             total,
             rest,
             arena,
+            magazines,
             last_seq: _,
             mut closed,
         } = self;
@@ -64,6 +66,7 @@ impl<P: Pledge, N: Names> System<P, N, Copies<N>> {
         } = rest.into_inner();
         let mut parts = unused.empty();
         gather(seats, &mut parts, &mut fronts);
+        magazines.end(rt, &arena);
         let mut arena = arena.into_state();
         while let Some(place) = places.pop() {
             let (slot, part) = place.into_slot().into_parts();

@@ -1,15 +1,20 @@
 //! The queues of several threads, each at a seat of its own: keys, ids, slots and texts by the
 //! calls of the manual, which wait where the manual says so.
 //!
-//! **Locks.** The key table has one, each slot has one, and the arena has one. The keys' is taken
-//! before a slot's; the arena's is taken with no other held, and none is taken twice at a time.
+//! **Locks.** The key table has one, each slot has one, each seat's magazine has one, and the arena
+//! has one. The keys' is taken before a slot's; a magazine's is taken with neither held, and before
+//! the arena's; none is taken twice at a time.
 //! - The keys' lock is held throughout a `msgget` and the change of an `rmid`, so that a key is
 //!   entered with its queue and forgotten with it. Slots are looked at one by one under it.
 //! - A slot's lock protects its slot list and what waits in its queue. A call holds it for one look
 //!   and one change. A call that waits lets it go, and looks at the id and the queue anew.
-//! - The arena's lock protects which pages are lent; it is held while a block leaves or comes home.
+//! - The arena's lock protects which pages are lent; it is held while blocks leave or come home.
 //!   Texts are drafted before a slot is locked, their pages are cleared and written with no lock,
 //!   and the texts of a removed queue go home after its slot's lock is let go.
+//! - A magazine's lock protects the blocks that its seat has spent and keeps back for its drafts: so
+//!   seats that draft and spend by turns seldom meet at the arena. A draft for which the arena has no
+//!   run takes the locks of all magazines, in the order of the seats, and lets all blocks go home
+//!   before it is refused.
 //!
 //! **Counts** want no lock. All entries that the seats can ever make are dealt out to them at the
 //! start, as amounts of a ledger that are not there when the program runs; a change moves one from
@@ -28,6 +33,7 @@ mod close;
 mod control;
 mod cut;
 mod get;
+mod magazines;
 mod messages;
 mod parts;
 mod system;

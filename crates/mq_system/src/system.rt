@@ -1,15 +1,17 @@
 ghost use Rattle.std.specs.Prelude.{◌≡◌, ◌↔◌, ◌<◌, ◌≤◌, ℕ, true, false, length, nat_lt, replicate};
 ghost use Rattle.std.specs.Prelude.{None, vec_len, IfOk, IsErrOf};
+ghost use Rattle.mq_message.specs.Text.{order_for};
 ghost use Rattle.mq_one_thread.specs.Limits.{keeps_limits};
 ghost use Rattle.mq_shared.specs.Sizes.{AreNames};
 ghost use Rattle.mq_system.specs.Started.{AreFresh};
 
 use crate::close::Rest;
+use crate::magazines::Magazines;
 use crate::parts::{fill_places, give_up, leave, make_seats, make_slots};
 use crate::{
     Blanks, Config, DraftError, Keys, Names, Pages, Place, Pledge, Seat, SysError, TextOf,
 };
-use mq_arena::{Arena, Homecoming, LEDGER_PARTS, Unopened};
+use mq_arena::{Arena, Block, Homecoming, LEDGER_PARTS, TakeError, Unopened};
 use mq_board::Copies;
 use mq_message::{INLINE_LEN, Text, order_for};
 use mq_one_thread::ClosedSlot;
@@ -30,6 +32,7 @@ pub struct System<P: Pledge, N: Names, W = Copies<N>> {
     /// Where `close` gathers them. Nobody locks it: no share is shared among threads.
     pub(crate) rest: Mutex<Rest<N>>,
     pub(crate) arena: Arena<Pages<N>>,
+    pub(crate) magazines: Magazines<N>,
     pub(crate) last_seq: u32,
     /// Room for what `close` answers.
     pub(crate) closed: Vec<ClosedSlot>,
@@ -101,6 +104,13 @@ impl<P: Pledge, N: Names> System<P, N, Copies<N>> {
             leave(seats);
             return Err(SysError::Memory);
         };
+        let arena = Arena::new(arena);
+        let Ok(magazines) = Magazines::new(alloc, rt, &arena, config.seats) else {
+            give_up(rt, &mut arena.into_state(), slots);
+            leave(seats);
+            places.destroy_empty();
+            return Err(SysError::Memory);
+        };
         fill_places(slots, &mut places, &mut tally);
         let (total, parts) = tally.close();
         let system = System {
@@ -108,7 +118,8 @@ impl<P: Pledge, N: Names> System<P, N, Copies<N>> {
             keys: Mutex::new(Keys::new(alloc)),
             total,
             rest: Mutex::new(Rest { parts, fronts }),
-            arena: Arena::new(arena),
+            arena,
+            magazines,
             last_seq: config.last_seq,
             closed,
         };
@@ -140,8 +151,11 @@ impl<P: Pledge, N: Names, W> System<P, N, W> {
         if len == 0 {
             return Ok(Text::empty());
         }
-        match self.arena.take(rt, order_for(len)) {
-            Ok(block) => Ok(Text::of(block, len)),
+        match self.magazines.take_any(rt, &self.arena, order_for(len)) {
+            Ok(mut block) => {
+                block.overwrite(&[]);
+                Ok(Text::of(block, len))
+            }
             Err(refusal) => Err(DraftError::from(refusal)),
         }
     }
@@ -160,10 +174,36 @@ impl<P: Pledge, N: Names, W> System<P, N, W> {
         if bytes.is_empty() {
             return Ok(Text::empty());
         }
-        match self.arena.take_filled(rt, order_for(bytes.len()), bytes) {
-            Ok(block) => Ok(Text::of(block, bytes.len())),
-            Err(refusal) => Err(DraftError::from(refusal)),
+        let found = self
+            .magazines
+            .take_any(rt, &self.arena, order_for(bytes.len()));
+        filled(found, bytes)
+    }
+
+    /// A text of these bytes as `draft_of` makes it, in a block that this seat has spent, if it
+    /// keeps one back that fits.
+    pub fn draft_by<R: Wait>(
+        &self,
+        rt: &R,
+        seat: &Seat<N>,
+        bytes: &[u8],
+    ) -> Result<TextOf<N>, DraftError>
+        ensures ok { IfOk result (λ text. text.bytes ≡ bytes.now) }
+        ensures too_long { IsErrOf result DraftError.TooLong
+            ↔ (nat_lt MSGMAX (length bytes.now) ≡ true) }
+        ensures no_run { IsErrOf result DraftError.NoRun → 0 < length bytes.now }
+        ensures memory { IsErrOf result DraftError.Memory → INLINE_LEN < length bytes.now }
+    {
+        if MSGMAX < bytes.len() as u64 {
+            return Err(DraftError::TooLong);
         }
+        if bytes.is_empty() {
+            return Ok(Text::empty());
+        }
+        seat.holds();
+        let order = order_for(bytes.len());
+        let taken = self.magazines.take(rt, &self.arena, seat.number(), order);
+        filled(taken, bytes)
     }
 
     /// Spends a text: its block goes home. A text without a block is at home.
@@ -174,5 +214,37 @@ impl<P: Pledge, N: Names, W> System<P, N, W> {
             Some(block) => self.arena.put(rt, block),
             None => Homecoming::Home,
         }
+    }
+
+    /// Spends a text, whose block this seat keeps back for its next drafts, up to `MAGAZINE_PAGES`
+    /// pages. A draft that finds no run takes what all seats keep back, before it is refused.
+    pub fn spend_by<R: Wait>(&self, rt: &R, seat: &Seat<N>, text: TextOf<N>) {
+        seat.holds();
+        match text.into_block() {
+            Some(block) => self.magazines.put(rt, &self.arena, seat.number(), block),
+            None => (),
+        }
+    }
+}
+
+/// The text of these bytes in the block that was taken for it.
+fn filled<N: Names>(
+    taken: Result<Block<Pages<N>>, TakeError>,
+    bytes: &[u8],
+) -> Result<TextOf<N>, DraftError>
+    requires some { 0 < length bytes.now }
+    requires most { length bytes.now ≤ MSGMAX }
+    requires order { IfOk taken (λ b. b.order ≡ order_for (length bytes.now)) }
+    requires memory { IsErrOf taken TakeError.Memory → INLINE_LEN < length bytes.now }
+    ensures ok { IfOk result (λ text. text.bytes ≡ bytes.now) }
+    ensures too_long { ¬ IsErrOf result DraftError.TooLong }
+    ensures memory { IsErrOf result DraftError.Memory → INLINE_LEN < length bytes.now }
+{
+    match taken {
+        Ok(mut block) => {
+            block.overwrite(bytes);
+            Ok(Text::of(block, bytes.len()))
+        }
+        Err(refusal) => Err(DraftError::from(refusal)),
     }
 }

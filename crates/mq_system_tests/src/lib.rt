@@ -15,6 +15,8 @@ mod limits;
 #[cfg(test)]
 mod list;
 #[cfg(test)]
+mod magazines;
+#[cfg(test)]
 mod seen;
 #[cfg(test)]
 mod shown;

@@ -7,6 +7,8 @@ mod arenas;
 #[cfg(test)]
 mod blocks;
 #[cfg(test)]
+mod magazines;
+#[cfg(test)]
 mod taking;
 #[cfg(test)]
 mod texts;

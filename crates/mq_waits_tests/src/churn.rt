@@ -1,4 +1,4 @@
-//! A slot whose queues come and go under those that use them.
+//! A slot whose queues come and go under those that use them, and one that many use at once.
 
 use crate::calls::{Nothing, queue, receive, remove, send};
 use crate::watch::Watch;
@@ -26,6 +26,12 @@ const TRIES: u32 = 100_000_000;
 
 const LOOKS: u32 = 1000;
 
+/// How many messages each worker passes on or takes, and how many wait before the first is taken: so
+/// many that who fails to get the slot's lock keeps away for long.
+const PASSED: u32 = 2000;
+
+const PLENTY: u64 = 64;
+
 /// How often who removes a queue under a receiver looks at it before, which takes some milliseconds:
 /// the receiver sleeps by then, and the next queue has its message before it looks again.
 const LONG: u32 = 500_000;
@@ -41,6 +47,10 @@ enum Part<'a> {
     Waits(&'a AtomicU32),
     /// Once that is said, removes the queue, makes another in its slot and sends type 5 to it.
     MakesAgain(&'a AtomicU32),
+    /// Sends `PASSED` empty texts.
+    Passes,
+    /// Once `PLENTY` wait, receives as many.
+    Takes,
 }
 
 /// How many messages a worker sent, and the sum of their entries.
@@ -134,6 +144,28 @@ fn makes_again<N: Names, R: Wait>(
     Ok((u64::from(second.seq()), 3))
 }
 
+fn passes<N: Names, R: Wait>(rt: &R, system: &System<Nothing, N>, seat: &mut Seat<N>) -> Done {
+    let id = queue(rt, system, seat, 1)?;
+    for _text in 0..PASSED {
+        send(rt, system, seat, id, 1, 0)?;
+    }
+    Ok((0, 0))
+}
+
+fn takes<N: Names, R: Wait>(rt: &R, system: &System<Nothing, N>, seat: &mut Seat<N>) -> Done {
+    let id = queue(rt, system, seat, 1)?;
+    for _ in rt.forever() {
+        if system.stat(seat, id)?.qnum >= PLENTY {
+            break;
+        }
+        spin_loop();
+    }
+    for _text in 0..PASSED {
+        receive(rt, system, seat, id, 0, 0)?;
+    }
+    Ok((0, 0))
+}
+
 impl<'a> Worker<Nothing> for Part<'a> {
     type Answer = Done;
 
@@ -149,6 +181,8 @@ impl<'a> Worker<Nothing> for Part<'a> {
             Part::Sends => sends(rt, system, seat),
             Part::Waits(ready) => waits(rt, system, seat, ready),
             Part::MakesAgain(ready) => makes_again(rt, system, seat, ready),
+            Part::Passes => passes(rt, system, seat),
+            Part::Takes => takes(rt, system, seat),
         }
     }
 }
@@ -239,4 +273,19 @@ fn who_waits_in_a_removed_queue_does_not_get_the_next_ones_message(rt: HostRunti
         panic!(rt; "no slot");
     };
     assert!(rt; slot.left == 1 && slot.past.len() == 2 && ended.free_pages == 4);
+}
+
+#[test]
+fn plenty_passes_through_a_queue_between_four_threads(rt: HostRuntime) {
+    let parts = [Part::Passes, Part::Takes, Part::Passes, Part::Takes];
+    let ended = ended(&rt, rt.alloc(), "all are sent and received", &parts);
+    assert!(rt; ended.answer.iter().all(|done| *done == Ok((0, 0))));
+    let Some(slot) = ended.slots.first() else {
+        panic!(rt; "no slot");
+    };
+    assert!(rt; slot.left == 0 && slot.past.is_empty() && ended.free_pages == 4);
+    assert!(rt;
+        slot.last.len() == 1 + 4 * PASSED as usize,
+        "each is sent and received once"
+    );
 }

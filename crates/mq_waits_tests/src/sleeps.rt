@@ -18,8 +18,8 @@ const SIZE: Config = Config {
 };
 
 /// The ticks of a processor, of which a second has 100, that two threads which wait may take in a
-/// second: one that does not sleep takes 100.
-const MOST: u64 = 40;
+/// second: one that does not sleep takes 100 where no other wants the processor.
+const MOST: u64 = 10;
 
 /// What a worker does once it has its queue.
 #[derive(Clone, Copy, Drop)]

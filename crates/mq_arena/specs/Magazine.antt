@@ -1,0 +1,11 @@
+-- Blocks that are kept back for the next draft.
+use Rattle.std.specs.Prelude.{◌≡◌, ℕ, ◌≤◌, List}
+use Rattle.mq_arena.specs.OwnedBlock.{OwnedBlock}
+use Rattle.mq_arena.specs.Account.{pages_of}
+use Rattle.mq_arena.specs.declared.magazine.TheConstants.{MAGAZINE_PAGES}
+
+-- the pages are counted, no more than a magazine may keep, and there is a place for each
+pub record IsMagazine (blocks : List OwnedBlock) (pages places : ℕ) : Type 0 where
+  pub counted : pages ≡ pages_of blocks
+  pub few : pages ≤ MAGAZINE_PAGES
+  pub room : MAGAZINE_PAGES ≤ places

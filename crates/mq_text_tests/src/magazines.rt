@@ -1,0 +1,113 @@
+//! Tests of magazines: what they keep, what they hand out, and that all of it comes home.
+ghost use Rattle.std.specs.Prelude.{◌≡◌, ◌^◌, ◌<◌};
+
+use mq_arena::{Arena, Block, LEDGER_PARTS, MAGAZINE_PAGES, Magazine, OfHeight, Unopened};
+use std::alloc::{AllocError, Global};
+use std::marker::Brand;
+use std::process::Abort;
+use std::sync::Wait;
+use std::sync::ledger::Blank;
+use std::test::Fail;
+
+/// A block of two pages.
+fn pair<L: OfHeight, R: Abort + Wait>(rt: &R, arena: &Arena<L>) -> Block<L> {
+    match arena.take_unwritten(rt, 1) {
+        Ok(block) => block,
+        Err(_) => panic!(rt; "no block"),
+    }
+}
+
+/// Hands a magazine a block for which it has room.
+fn put<L: OfHeight, R: Abort>(rt: &R, magazine: &mut Magazine<L>, block: Block<L>) {
+    match magazine.put(block) {
+        Ok(()) => (),
+        Err(_block) => panic!(rt; "it has no room"),
+    }
+}
+
+/// Looks for a block of one page, which a magazine has not.
+fn lacks_a_page<L: OfHeight, R: Abort>(rt: &R, magazine: &mut Magazine<L>) {
+    match magazine.take(0) {
+        None => (),
+        Some(_block) => panic!(rt; "it has a block of one page"),
+    }
+}
+
+/// Fills a magazine with pairs of pages, and then hands it one more, which it hands back.
+fn fills<L: OfHeight, R: Abort + Wait>(rt: &R, arena: &Arena<L>, magazine: &mut Magazine<L>) {
+    for _ in 0..MAGAZINE_PAGES / 2 {
+        put(rt, magazine, pair(rt, arena));
+    }
+    match magazine.put(pair(rt, arena)) {
+        Ok(()) => panic!(rt; "it keeps more than it may"),
+        Err(block) => {
+            arena.put(rt, block);
+        }
+    }
+}
+
+/// How many blocks of that order come out of a magazine, which go home.
+fn emptied<L: OfHeight, R: Abort + Wait>(
+    rt: &R,
+    arena: &Arena<L>,
+    magazine: &mut Magazine<L>,
+    order: u8,
+) -> u32
+    requires { order < 4 }
+{
+    let mut count = 0u32;
+    for _ in 0..=MAGAZINE_PAGES {
+        match magazine.take(order) {
+            Some(block) => {
+                arena.put(rt, block);
+                count = count.saturating_add(1);
+            }
+            None => return count,
+        }
+    }
+    panic!(rt; "it has more blocks than pages");
+}
+
+/// Does all that is done with a magazine, in an arena of 16 pages.
+fn kept<L: OfHeight, R: Abort + Wait>(
+    rt: &R,
+    alloc: Global,
+    unopened: Unopened,
+    ledger: Blank,
+) -> Result<(), AllocError>
+    requires name { ledger.name ≡ L.name }
+    requires parts { ledger.parts ≡ L.parts }
+    requires enough { 2 ^ unopened < ledger.parts }
+    requires height { unopened ≡ L.height }
+{
+    let arena = Arena::new(unopened.open::<L>(ledger));
+    let Ok(mut magazine) = Magazine::new(alloc) else {
+        return Err(AllocError);
+    };
+    lacks_a_page(rt, &mut magazine);
+    fills(rt, &arena, &mut magazine);
+    lacks_a_page(rt, &mut magazine);
+    assert!(rt;
+        emptied(rt, &arena, &mut magazine, 1) == 4,
+        "it kept eight pages"
+    );
+
+    fills(rt, &arena, &mut magazine);
+    let Some(block) = magazine.pop() else {
+        panic!(rt; "it is empty");
+    };
+    assert!(rt; block.order() == 1);
+    arena.put(rt, block);
+    arena.put_all(rt, &mut magazine);
+    magazine.end();
+    let state = arena.into_state();
+    assert!(rt; state.free_pages() == state.pages(), "all pages are home");
+    Ok(())
+}
+
+#[test]
+fn a_magazine_keeps_so_many_pages_and_all_come_home(rt: HostRuntime) -> Result<(), Fail> {
+    let unopened = Unopened::new(rt.alloc(), 4)?;
+    kept::<Brand, HostRuntime>(&rt, rt.alloc(), unopened, Blank::new(LEDGER_PARTS))?;
+    Ok(())
+}
