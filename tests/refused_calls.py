@@ -61,6 +61,9 @@ WAIT_FOR_OTHERS = {
 }
 # The tests that may make no allocation.
 MAKE_NONE = {
+    "mq_face_tests layout::a_call_has_the_numbers_of_the_struct",
+    "mq_face_tests layout::an_answer_has_the_numbers_of_the_struct",
+    "mq_face_tests layout::the_flags_and_commands_are_those_of_linux",
     "mq_one_thread_tests limits::a_configuration_past_a_bound_is_refused",
     "mq_one_thread_tests names::a_refusal_is_named_as_in_the_manual",
     "mq_one_thread_tests names::each_layers_refusal_has_its_errno",

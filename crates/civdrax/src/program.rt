@@ -1,0 +1,100 @@
+use mq_face::{
+    ANSWER_NUMBERS, Call, Done, EIGHT_BYTES, Kind, Received, Refusal, Shown, control,
+    cut_where_due, draft, from_bytes, get, receive, send, to_bytes, unknown,
+};
+use mq_message::Text;
+use mq_one_thread::OneThread;
+use std::sync::ledger::Ledger;
+
+/// Answers calls until they end.
+pub(crate) fn answer_all<L: Ledger>(queues: &mut OneThread<L>, calls: i32) {
+    for _ in 0..u64::MAX {
+        let mut bytes = [0; EIGHT_BYTES];
+        if io::read_full(calls, &mut bytes) < EIGHT_BYTES {
+            return;
+        }
+        if !answer(queues, calls, Call::read(from_bytes(&bytes))) {
+            return;
+        }
+    }
+}
+
+/// Whether the call was answered: else nobody takes answers any more.
+fn answer<L: Ledger>(queues: &mut OneThread<L>, calls: i32, call: Call) -> bool {
+    match call.kind {
+        Kind::Get => {
+            let outcome = get(queues, call);
+            tell(queues, calls, outcome)
+        }
+        Kind::Send => {
+            let outcome = send_read(queues, calls, call);
+            tell(queues, calls, outcome)
+        }
+        Kind::Receive => match receive(queues, call) {
+            Ok(message) => hand_out(queues, calls, message),
+            Err(refusal) => write_numbers(calls, refusal.numbers()),
+        },
+        Kind::Control => {
+            let outcome = control(queues, call);
+            tell(queues, calls, outcome)
+        }
+        Kind::Unknown => write_numbers(calls, unknown().numbers()),
+    }
+}
+
+fn tell<L: Ledger>(queues: &mut OneThread<L>, calls: i32, outcome: Result<Done, Refusal>) -> bool {
+    match outcome {
+        Ok(done) => {
+            cut_where_due(queues, done.slot, done.entry);
+            write_numbers(calls, done.numbers()) && write_shown(calls, done.shown)
+        }
+        Err(refusal) => write_numbers(calls, refusal.numbers()),
+    }
+}
+
+fn write_shown(calls: i32, shown: Shown) -> bool {
+    match shown {
+        Shown::Nothing => true,
+        _ => write_numbers(calls, shown.numbers()),
+    }
+}
+
+/// Reads the text into its pages, and sends it.
+fn send_read<L: Ledger>(
+    queues: &mut OneThread<L>,
+    calls: i32,
+    call: Call,
+) -> Result<Done, Refusal> {
+    let mut text = draft(queues, call)?;
+    read_text(calls, &mut text);
+    send(queues, call, text)
+}
+
+fn read_text<L: Ledger>(calls: i32, text: &mut Text<L>) {
+    for i in 0..text.count() {
+        if i < text.count() {
+            io::read_full(calls, text.part_mut(i));
+        }
+    }
+}
+
+/// Writes the message from its pages, which are then free.
+fn hand_out<L: Ledger>(queues: &mut OneThread<L>, calls: i32, message: Received<Text<L>>) -> bool {
+    let mut whole = write_numbers(calls, message.numbers());
+    let Received {
+        slot,
+        entry,
+        mtype: _,
+        text,
+    } = message;
+    for part in text.parts() {
+        whole = whole && io::write_all(calls, part);
+    }
+    queues.spend(text);
+    cut_where_due(queues, slot, Some(entry));
+    whole
+}
+
+fn write_numbers(calls: i32, numbers: [u64; ANSWER_NUMBERS]) -> bool {
+    io::write_all(calls, &to_bytes(numbers))
+}

@@ -1,0 +1,35 @@
+ghost use Rattle.std.specs.Prelude.{◌≡◌};
+ghost use Rattle.mq_face.specs.Commands.{command_of};
+
+use crate::manual::{IPC_INFO, IPC_RMID, IPC_SET, IPC_STAT, MSG_INFO, MSG_STAT, MSG_STAT_ANY};
+
+/// What msgctl(2) is asked for.
+#[derive(Clone, Copy, Debug, PartialEq, Eq)]
+pub enum Command {
+    /// IPC_RMID.
+    Remove,
+    /// IPC_SET.
+    Set,
+    /// IPC_STAT.
+    Stat,
+    /// MSG_STAT and MSG_STAT_ANY, by the number of a slot.
+    StatSlot,
+    /// IPC_INFO and MSG_INFO.
+    Info,
+}
+
+impl Command {
+    /// The command that has this number.
+    pub fn of(number: u32) -> Option<Command>
+        ensures { result ≡ command_of number }
+    {
+        match number {
+            IPC_RMID => Some(Command::Remove),
+            IPC_SET => Some(Command::Set),
+            IPC_STAT => Some(Command::Stat),
+            IPC_INFO | MSG_INFO => Some(Command::Info),
+            MSG_STAT | MSG_STAT_ANY => Some(Command::StatSlot),
+            _ => None,
+        }
+    }
+}

@@ -1,0 +1,118 @@
+ghost use Rattle.std.specs.Prelude.{◌≡◌, ◌<◌, ◌≤◌, ◌+◌, Ok, IfOk, IfErr, OnErr};
+ghost use Rattle.mq_table.specs.declared.limits.TheConstants.{MAX_SEQ, MAX_SLOTS};
+ghost use Rattle.mq_one_thread.specs.Calls.{stat as stat_answer};
+ghost use Rattle.mq_face.specs.Turns.{control_turn, refusal_or_memory, remove_turn, set_turn};
+ghost use Rattle.mq_face.specs.Commands.{info_reply, row_reply, show, slot_reply, stat_reply};
+
+use crate::manual::{EFAULT, SEAT};
+use crate::refusal::{gone, id_of};
+use crate::usage::usage_of;
+use crate::{Call, Command, Done, Refusal, Shown};
+use mq_one_thread::{Errno, OneThread, Removal};
+use mq_queue::BoardRow;
+use mq_table::{Id, MAX_SEQ, MAX_SLOTS};
+use std::sync::ledger::Ledger;
+
+/// Does what the command says (msgctl(2)).
+pub fn control<L: Ledger>(queues: &mut OneThread<L>, call: Call) -> Result<Done, Refusal>
+    ensures ok { IfOk result (λ done. control_turn queues.old call ≡ Ok (done, queues.new)) }
+    ensures refused { IfErr result (λ r. r ≡ refusal_or_memory (control_turn queues.old call)) }
+    ensures unchanged { OnErr result (queues.new ≡ queues.old) }
+{
+    let id = id_of(call.number)?;
+    match Command::of(call.flags) {
+        Some(Command::Remove) => remove(queues, call, id),
+        Some(Command::Set) => set(queues, call, id),
+        Some(Command::Stat) => stat(queues, call, id),
+        Some(Command::StatSlot) => stat_slot(queues, call, id),
+        Some(Command::Info) => info(queues, call),
+        None => Err(Refusal::of(Errno::EINVAL)),
+    }
+}
+
+fn remove<L: Ledger>(queues: &mut OneThread<L>, call: Call, id: Id) -> Result<Done, Refusal>
+    ensures ok { IfOk result (λ done. remove_turn queues.old call id ≡ Ok (done, queues.new)) }
+    ensures refused { IfErr result (λ r. r ≡ refusal_or_memory (remove_turn queues.old call id)) }
+    ensures unchanged { OnErr result (queues.new ≡ queues.old) }
+{
+    match queues.rmid(SEAT, id, call.moment) {
+        Ok(Removal { entry, log: _ }) => Ok(Done::changed(id.slot(), entry)),
+        Err(refused) => Err(gone(call, refused.errno)),
+    }
+}
+
+fn set<L: Ledger>(queues: &mut OneThread<L>, call: Call, id: Id) -> Result<Done, Refusal>
+    ensures ok { IfOk result (λ done. set_turn queues.old call id ≡ Ok (done, queues.new)) }
+    ensures refused { IfErr result (λ r. r ≡ refusal_or_memory (set_turn queues.old call id)) }
+    ensures unchanged { OnErr result (queues.new ≡ queues.old) }
+{
+    if !call.buffer {
+        return Err(Refusal::fault(EFAULT));
+    }
+    match queues.set(SEAT, id, call.size, call.moment) {
+        Ok(entry) => Ok(Done::changed(id.slot(), entry)),
+        Err(refused) => Err(gone(call, refused.errno)),
+    }
+}
+
+/// What is shown, where there is a buffer for it.
+fn show(call: Call, value: u64, slot: u8, shown: Shown) -> Result<Done, Refusal>
+    ensures { result ≡ show call value slot shown }
+{
+    if !call.buffer {
+        return Err(Refusal::fault(EFAULT));
+    }
+    Ok(Done {
+        value,
+        slot,
+        entry: None,
+        shown,
+    })
+}
+
+fn stat<L: Ledger>(queues: &OneThread<L>, call: Call, id: Id) -> Result<Done, Refusal>
+    ensures { result ≡ stat_reply call id (stat_answer queues.now id) }
+{
+    match queues.stat(id) {
+        Ok(figures) => show(call, 0, id.slot(), Shown::Queue(figures)),
+        Err(errno) => Err(gone(call, errno)),
+    }
+}
+
+/// What a slot shows by its number.
+fn stat_slot<L: Ledger>(queues: &OneThread<L>, call: Call, number: Id) -> Result<Done, Refusal>
+    ensures { result ≡ slot_reply queues.now call number }
+{
+    let number = number.number();
+    if number >= u32::from(queues.slots()) {
+        return Err(Refusal::of(Errno::EINVAL));
+    }
+    let slot = number as u8;
+    stat_row(call, slot, queues.row(slot))
+}
+
+/// A slot in which no queue is shows none.
+fn stat_row(call: Call, slot: u8, row: BoardRow) -> Result<Done, Refusal>
+    requires slot { slot < MAX_SLOTS }
+    requires made { row.made ≤ MAX_SEQ + 1 }
+    ensures { result ≡ row_reply call slot row }
+{
+    if !row.live {
+        return Err(Refusal::of(Errno::EINVAL));
+    }
+    let id = Id::of(slot, row.made.saturating_sub(1));
+    show(
+        call,
+        u64::from(id.number()),
+        slot,
+        Shown::Queue(row.figures),
+    )
+}
+
+/// All queues together; it returns the greatest slot in use.
+fn info<L: Ledger>(queues: &OneThread<L>, call: Call) -> Result<Done, Refusal>
+    ensures { result ≡ info_reply queues.now call }
+{
+    let usage = usage_of(queues);
+    show(call, u64::from(usage.greatest), 0, Shown::Usage(usage))
+}

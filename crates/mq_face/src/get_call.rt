@@ -1,0 +1,40 @@
+ghost use Rattle.std.specs.Prelude.{◌≡◌, Ok, IfOk, IfErr, OnErr};
+ghost use Rattle.mq_face.specs.Turns.{get_turn, got, refusal_or_memory};
+ghost use Rattle.mq_face.specs.Flags.{get_flags};
+
+use crate::manual::{IPC_CREAT, IPC_EXCL, SEAT};
+use crate::{Call, Done, Refusal, Shown};
+use mq_one_thread::{GetFlags, Got, OneThread};
+use std::sync::ledger::Ledger;
+
+/// The id of the queue with this key, or of a new queue (msgget(2)).
+pub fn get<L: Ledger>(queues: &mut OneThread<L>, call: Call) -> Result<Done, Refusal>
+    ensures ok { IfOk result (λ done. get_turn queues.old call ≡ Ok (done, queues.new)) }
+    ensures refused { IfErr result (λ r. r ≡ refusal_or_memory (get_turn queues.old call)) }
+    ensures unchanged { OnErr result (queues.new ≡ queues.old) }
+{
+    match queues.msgget(SEAT, call.number, get_flags(call), call.moment) {
+        Ok(found) => Ok(got(found)),
+        Err(errno) => Err(Refusal::of(errno)),
+    }
+}
+
+fn get_flags(call: Call) -> GetFlags
+    ensures { result ≡ get_flags call.flags }
+{
+    GetFlags {
+        create: call.has(IPC_CREAT),
+        exclusive: call.has(IPC_EXCL),
+    }
+}
+
+fn got(found: Got) -> Done
+    ensures { result ≡ got found }
+{
+    Done {
+        value: u64::from(found.id.number()),
+        slot: found.id.slot(),
+        entry: found.made,
+        shown: Shown::Nothing,
+    }
+}

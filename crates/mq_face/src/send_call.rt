@@ -1,0 +1,87 @@
+ghost use Rattle.std.specs.Prelude.{◌≡◌, Ok, IfOk, IfErr, OnErr};
+ghost use Rattle.mq_one_thread.specs.Calls.{stat as stat_answer};
+ghost use Rattle.mq_face.specs.Turns.{draft_turn, never_fits, refusal_or_memory};
+ghost use Rattle.mq_face.specs.Turns.{send_turn, spent, without_pages};
+
+use crate::manual::{EFAULT, IPC_NOWAIT, SEAT};
+use crate::refusal::{blocked, gone, id_of};
+use crate::{Call, Done, Refusal, Wait};
+use mq_arena::PAGE_LEN;
+use mq_message::Text;
+use mq_one_thread::{DraftError, Errno, OneThread, SendRefused};
+use mq_table::Id;
+use std::sync::ledger::Ledger;
+
+/// The text of a message that is to be sent (msgop(2), msgsnd), of as many zeros as it has bytes:
+/// the caller writes them in place, once, and sends it.
+pub fn draft<L: Ledger>(queues: &mut OneThread<L>, call: Call) -> Result<Text<L>, Refusal>
+    ensures ok { IfOk result (λ text. draft_turn queues.old call ≡ Ok (text, queues.new)) }
+    ensures refused { IfErr result (λ r. r ≡ refusal_or_memory (draft_turn queues.old call)) }
+    ensures unchanged { OnErr result (queues.new ≡ queues.old) }
+{
+    if !call.buffer {
+        return Err(Refusal::fault(EFAULT));
+    }
+    let id = id_of(call.number)?;
+    if call.mtype < 1 {
+        return Err(Refusal::of(Errno::EINVAL));
+    }
+    match queues.draft(call.size) {
+        Ok(text) => Ok(text),
+        Err(DraftError::NoRun) => Err(without_pages(queues, call, id)),
+        Err(error) => Err(Refusal::of(error.errno())),
+    }
+}
+
+/// Why a text for which no pages are free is not drafted: a queue that is not there is told first,
+/// and a text for which there are never pages does not wait.
+fn without_pages<L: Ledger>(queues: &OneThread<L>, call: Call, id: Id) -> Refusal
+    ensures { result ≡ without_pages queues.now call (stat_answer queues.now id) }
+{
+    match queues.stat(id) {
+        Err(errno) => gone(call, errno),
+        Ok(_) if call.has(IPC_NOWAIT) || never_fits(queues, call.size) => {
+            Refusal::of(Errno::ENOMEM)
+        }
+        Ok(_) => Refusal {
+            errno: Errno::ENOMEM.number(),
+            wait: Wait::Pages,
+        },
+    }
+}
+
+/// Whether a text is longer than all pages are.
+fn never_fits<L: Ledger>(queues: &OneThread<L>, size: u64) -> bool
+    ensures { result ≡ never_fits queues.now size }
+{
+    u64::from(queues.pages()) * (PAGE_LEN as u64) < size
+}
+
+/// Sends a text that was drafted for this call (msgop(2), msgsnd). Where it is refused, its pages
+/// are free again.
+pub fn send<L: Ledger>(
+    queues: &mut OneThread<L>,
+    call: Call,
+    text: Text<L>,
+) -> Result<Done, Refusal>
+    ensures ok { IfOk result (λ done. send_turn queues.old call text ≡ Ok (done, queues.new)) }
+    ensures refused { IfErr result (λ r.
+        r ≡ refusal_or_memory (send_turn queues.old call text)) }
+    ensures spent { OnErr result (queues.new ≡ spent text queues.old) }
+{
+    let id = match id_of(call.number) {
+        Ok(id) => id,
+        Err(refusal) => {
+            queues.spend(text);
+            return Err(refusal);
+        }
+    };
+    match queues.msgsnd(SEAT, id, call.mtype, 0, text, call.moment) {
+        Ok(entry) => Ok(Done::changed(id.slot(), entry)),
+        Err(refusal) => {
+            let SendRefused { refused, text } = refusal;
+            queues.spend(text);
+            Err(blocked(call, id, refused.errno))
+        }
+    }
+}

@@ -1,0 +1,114 @@
+//! The numbers of calls and answers, as the structs of face/civdrax.c have them.
+
+use mq_face::{
+    Call, Command, Done, IPC_CREAT, IPC_EXCL, IPC_INFO, IPC_NOWAIT, IPC_RMID, IPC_SET, IPC_STAT,
+    Kind, MSG_COPY, MSG_EXCEPT, MSG_INFO, MSG_NOERROR, MSG_STAT, MSG_STAT_ANY, Refusal, Shown,
+    Wait, from_bytes, to_bytes, unknown,
+};
+use mq_queue::Figures;
+
+#[test]
+fn a_call_has_the_numbers_of_the_struct(rt: HostRuntime) {
+    let call = Call {
+        kind: Kind::Receive,
+        number: -2,
+        flags: 0o24000,
+        mtype: -5,
+        size: 9,
+        moment: 1_700_000_000,
+        waited: true,
+        buffer: false,
+    };
+    let numbers = [
+        3,
+        0xffff_fffe,
+        10240,
+        0xffff_ffff_ffff_fffb,
+        9,
+        1_700_000_000,
+        1,
+        0,
+    ];
+    assert!(rt; call.numbers() == numbers);
+    assert!(rt; Call::read(numbers) == call);
+    let bytes = to_bytes(numbers);
+    assert!(rt; bytes[..9] == [3, 0, 0, 0, 0, 0, 0, 0, 0xfe] && bytes[32..34] == [9, 0]);
+    assert!(rt; from_bytes(&bytes) == numbers);
+    let filled = [u64::MAX; 8];
+    let read = Call::read(filled);
+    assert!(rt; read.kind == Kind::Unknown && read.number == -1 && read.flags == u32::MAX);
+    assert!(rt; read.mtype == -1 && read.size == u64::MAX && read.waited && read.buffer);
+    for kind in [
+        Kind::Get,
+        Kind::Send,
+        Kind::Receive,
+        Kind::Control,
+        Kind::Unknown,
+    ] {
+        assert!(rt; Kind::of(kind.number()) == kind);
+    }
+}
+
+#[test]
+fn the_flags_and_commands_are_those_of_linux(rt: HostRuntime) {
+    let flags = [
+        IPC_CREAT,
+        IPC_EXCL,
+        IPC_NOWAIT,
+        MSG_NOERROR,
+        MSG_EXCEPT,
+        MSG_COPY,
+    ];
+    assert!(rt; flags == [0x200, 0x400, 0x800, 0x1000, 0x2000, 0x4000]);
+    let commands = [
+        IPC_RMID,
+        IPC_SET,
+        IPC_STAT,
+        IPC_INFO,
+        MSG_STAT,
+        MSG_INFO,
+        MSG_STAT_ANY,
+    ];
+    assert!(rt; commands == [0, 1, 2, 3, 11, 12, 13]);
+    assert!(rt; Command::of(0) == Some(Command::Remove));
+    assert!(rt; Command::of(1) == Some(Command::Set));
+    assert!(rt; Command::of(2) == Some(Command::Stat));
+    for number in [3, 12] {
+        assert!(rt; Command::of(number) == Some(Command::Info), "{number}");
+    }
+    for number in [11, 13] {
+        assert!(rt; Command::of(number) == Some(Command::StatSlot), "{number}");
+    }
+    for number in [4, 10, 14, 258, u32::MAX] {
+        assert!(rt; Command::of(number).is_none(), "{number}");
+    }
+}
+
+#[test]
+fn an_answer_has_the_numbers_of_the_struct(rt: HostRuntime) {
+    let figures = Figures {
+        qnum: 1,
+        cbytes: 2,
+        qbytes: 3,
+        stime: 4,
+        rtime: 5,
+        ctime: 6,
+        lspid: 7,
+        lrpid: 8,
+    };
+    let done = Done {
+        value: 130,
+        slot: 2,
+        entry: None,
+        shown: Shown::Queue(figures),
+    };
+    assert!(rt; done.numbers() == [130, 0, 0, 2, 0, 0, 0, 1]);
+    assert!(rt; done.shown.numbers() == [1, 2, 3, 4, 5, 6, 7, 8]);
+    assert!(rt; Shown::Nothing.numbers() == [0; 8]);
+    let waits = Refusal {
+        errno: 11,
+        wait: Wait::Change(63),
+    };
+    assert!(rt; waits.numbers() == [u64::MAX, 11, 1, 63, 0, 0, 0, 0]);
+    assert!(rt; unknown().numbers() == [u64::MAX, 38, 0, 0, 0, 0, 0, 0]);
+}
