@@ -1,0 +1,384 @@
+/* The C side of the queues. `civdrax_serve`, which is proved, runs on a stack of its own for as long
+   as the process does. One lock is held over each call: it writes the call's numbers into `call`,
+   goes over to that stack, where `read` takes them and the bytes of a text, and `write` fills
+   `answer`, `shown` and the caller's buffer; where the next call is read it comes back.
+
+   All that waits does so here, outside of the proved part: a call that is told to wait does so on
+   the condition of its slot, or on that of the pages, and is then made again. A call that changed a
+   slot wakes who waits there. Between the answer and the wait the lock is held, so no wake is lost.
+
+   What is decided of a call is decided in the proved part. Kept here are the figures that it has no
+   place for: the owner, the mode and the two process ids of each slot's queue. */
+#define _GNU_SOURCE
+#include "civdrax.h"
+#include <errno.h>
+#include <pthread.h>
+#include <stdint.h>
+#include <stdio.h>
+#include <stdlib.h>
+#include <string.h>
+#include <sys/mman.h>
+#include <unistd.h>
+
+#ifndef __x86_64__
+#error "the proved part is built for x86-64"
+#endif
+
+#define MAX_HEIGHT 10
+#define MAX_SLOTS 64
+/* Beside the slots: the place of who waits for pages. */
+#define PAGES MAX_SLOTS
+#define STACK (1 << 20)
+#define GUARD 4096
+
+/* The numbers of the proved part. */
+enum { GET = 1, SEND, RECEIVE, CONTROL };
+enum { WAIT_CHANGE = 1, WAIT_PAGES };
+enum { SHOWN_QUEUE = 1, SHOWN_USAGE };
+
+struct call {
+  uint64_t kind, number, flags, type, size, moment, waited, buffer;
+};
+
+struct answer {
+  uint64_t value, error, wait, slot, changed, type, length, shown;
+};
+
+union shown {
+  struct {
+    uint64_t qnum, cbytes, qbytes, stime, rtime, ctime, lspid, lrpid;
+  } queue;
+  struct {
+    uint64_t queues, messages, bytes, slots, pages, msgmax, msgmnb, page;
+  } usage;
+};
+
+_Static_assert(sizeof(struct call) == 64, "a call");
+_Static_assert(sizeof(struct answer) == 64, "an answer");
+_Static_assert(sizeof(union shown) == 64, "what is shown");
+
+extern int32_t civdrax_serve(int32_t calls, uint8_t height, uint8_t slots);
+
+static pthread_mutex_t lock = PTHREAD_MUTEX_INITIALIZER;
+
+/* Who waits for a change in a slot, and for pages. */
+static pthread_cond_t changed[MAX_SLOTS + 1];
+static unsigned waiting[MAX_SLOTS + 1];
+
+static struct ipc_perm owner[MAX_SLOTS];
+static pid_t sent_by[MAX_SLOTS], received_by[MAX_SLOTS];
+/* This process, which a system call would tell each time. */
+static pid_t self;
+
+static enum { NEW, NONE, READY, RUNS } state;
+static int end_error, height, slots;
+
+/* The call that is made, how many of its bytes were given and of its answer taken, and how many of
+   the text in either way. */
+static struct call call;
+static struct answer answer;
+static union shown shown;
+static const char *text_in;
+static char *text_out;
+static size_t given, taken, text_at;
+
+/* Saves what a call has to keep on the stack that is left, and goes on where the other stopped. */
+void civdrax_switch(void **from, void *to) __attribute__((visibility("hidden")));
+__asm__(".text\n.globl civdrax_switch\n.hidden civdrax_switch\n"
+        ".type civdrax_switch,@function\ncivdrax_switch:\n"
+        "pushq %rbp\npushq %rbx\npushq %r12\npushq %r13\npushq %r14\npushq %r15\n"
+        "movq %rsp,(%rdi)\nmovq %rsi,%rsp\n"
+        "popq %r15\npopq %r14\npopq %r13\npopq %r12\npopq %rbx\npopq %rbp\nret\n"
+        ".size civdrax_switch,.-civdrax_switch\n");
+
+static void *outside, *inside;
+
+static void go_in(void) { civdrax_switch(&outside, inside); }
+
+static void come_out(void) { civdrax_switch(&inside, outside); }
+
+static size_t least(size_t a, size_t b) { return a < b ? a : b; }
+
+/* Gives the bytes of the text that is sent, once the call is given and before it is answered; else
+   those of the next call, for which it comes out. */
+ssize_t __wrap_read(int fd, void *to, size_t n) {
+  (void)fd;
+  if (given == sizeof call && call.kind == SEND && taken == 0 && text_at < call.size) {
+    n = least(n, call.size - text_at);
+    memcpy(to, text_in + text_at, n);
+    text_at += n;
+    return n;
+  }
+  if (given == sizeof call) come_out();
+  if (given == 0 && n == sizeof call) {
+    memcpy(to, &call, sizeof call);
+    return given = sizeof call;
+  }
+  n = least(n, sizeof call - given);
+  memcpy(to, (char *)&call + given, n);
+  given += n;
+  return n;
+}
+
+/* Takes the bytes of the answer, of what is shown, if something is, and of the text. */
+ssize_t __wrap_write(int fd, const void *from, size_t n) {
+  (void)fd;
+  size_t head = sizeof answer, end = head + (answer.shown ? sizeof shown : 0);
+  if (taken == 0 && n == sizeof answer) {
+    memcpy(&answer, from, sizeof answer);
+    taken = n;
+  } else if (taken < head) {
+    n = least(n, head - taken);
+    memcpy((char *)&answer + taken, from, n);
+    taken += n;
+  } else if (taken < end) {
+    n = least(n, end - taken);
+    memcpy((char *)&shown + (taken - head), from, n);
+    taken += n;
+  } else {
+    n = least(n, least(answer.length, call.size) - text_at);
+    memcpy(text_out + text_at, from, n);
+    text_at += n;
+  }
+  return n;
+}
+
+static void serve(void) {
+  end_error = civdrax_serve(0, height, slots);
+  state = READY;
+  for (;;) come_out();
+}
+
+/* A number of the environment within its limits, or -1 and a line that says so. */
+static int configured(const char *name, int low, int high, int otherwise) {
+  const char *text = secure_getenv(name);
+  char *end;
+  if (!text) return otherwise;
+  errno = 0;
+  long n = strtol(text, &end, 10);
+  if (text[0] >= '0' && text[0] <= '9' && !*end && !errno && n >= low && n <= high) return n;
+  dprintf(2, "civdrax: %s is '%.40s': a number from %d to %d is wanted\n", name, text, low, high);
+  return -1;
+}
+
+static void make_conditions(void) {
+  pthread_condattr_t by;
+  pthread_condattr_init(&by);
+  pthread_condattr_setclock(&by, CLOCK_MONOTONIC);
+  for (int place = 0; place <= PAGES; place++) pthread_cond_init(&changed[place], &by);
+  pthread_condattr_destroy(&by);
+}
+
+/* A child has a copy of the queues of its own, in which nobody waits. */
+static void before_fork(void) { pthread_mutex_lock(&lock); }
+
+static void in_parent(void) { pthread_mutex_unlock(&lock); }
+
+static void in_child(void) {
+  self = getpid();
+  memset(waiting, 0, sizeof waiting);
+  make_conditions();
+  pthread_mutex_unlock(&lock);
+}
+
+/* Makes the stack of the proved part, below which a page lies that cannot be touched, and what is
+   called first on it. */
+static int make_stack(void) {
+  static char *stack = MAP_FAILED;
+  if (stack == MAP_FAILED)
+    stack = mmap(NULL, STACK, PROT_READ | PROT_WRITE, MAP_PRIVATE | MAP_ANONYMOUS, -1, 0);
+  if (stack == MAP_FAILED || mprotect(stack, GUARD, PROT_NONE)) return ENOMEM;
+  void **top = (void **)(stack + STACK);
+  top[-2] = (void *)serve;
+  inside = top - 8;
+  return 0;
+}
+
+/* Reads the size. 0, or ENOMEM. */
+static int prepare(void) {
+  if (pthread_atfork(before_fork, in_parent, in_child)) return ENOMEM;
+  height = configured("CIVDRAX_HEIGHT", 0, MAX_HEIGHT, MAX_HEIGHT);
+  slots = configured("CIVDRAX_SLOTS", 1, MAX_SLOTS, MAX_SLOTS);
+  self = getpid();
+  make_conditions();
+  state = height < 0 || slots < 0 ? NONE : READY;
+  return 0;
+}
+
+/* Under the lock: begins the loop, which comes out where it reads its first call; `call` has that
+   call already. 0, or why no call is answered: where there was no memory the next call tries again. */
+static int begin(void) {
+  if (state == RUNS) return 0;
+  if (state == NEW && prepare()) return ENOMEM;
+  if (state == NONE) return ENOSYS;
+  int error = make_stack();
+  if (error) return error;
+  state = RUNS;
+  given = sizeof call;
+  taken = sizeof answer;
+  go_in();
+  return state == RUNS ? 0 : end_error;
+}
+
+/* Under the lock: has `call` answered. 0, or why it is refused. */
+static int ask(const void *in, void *out) {
+  int error = begin();
+  if (error) return error;
+  call.moment = time(NULL);
+  text_in = in;
+  text_out = out;
+  given = taken = text_at = 0;
+  answer.shown = answer.length = 0;
+  go_in();
+  if (taken < sizeof answer) return ENOMEM;
+  return answer.error;
+}
+
+static int refuse(int error) {
+  pthread_mutex_unlock(&lock);
+  errno = error;
+  return -1;
+}
+
+static void wake(int place) {
+  if (waiting[place]) pthread_cond_broadcast(&changed[place]);
+}
+
+/* A thread that is cancelled while it waits holds nobody up. */
+static void leave(void *place) {
+  waiting[*(int *)place]--;
+  pthread_mutex_unlock(&lock);
+}
+
+/* Under the lock, which others take meanwhile: waits for a change, or until the end. */
+static int wait_for(int place, const struct timespec *end) {
+  int error;
+  struct call kept = call;
+  waiting[place]++;
+  pthread_cleanup_push(leave, &place);
+  if (end) error = pthread_cond_timedwait(&changed[place], &lock, end);
+  else error = pthread_cond_wait(&changed[place], &lock);
+  pthread_cleanup_pop(0);
+  waiting[place]--;
+  call = kept;
+  return error;
+}
+
+/* Under the lock: makes a call, again after each wait. 0, or why it is refused. */
+static int make(const void *in, void *out, const struct timespec *end) {
+  for (;; call.waited = 1) {
+    int error = ask(in, out);
+    if (!error || !answer.wait) return error;
+    error = wait_for(answer.wait == WAIT_PAGES ? PAGES : (int)answer.slot, end);
+    if (error) return error;
+  }
+}
+
+int civdrax_msgget(key_t key, int flags) {
+  pthread_mutex_lock(&lock);
+  call = (struct call){.kind = GET, .number = (uint32_t)key, .flags = (uint32_t)flags};
+  int error = ask(NULL, NULL);
+  if (error) return refuse(error);
+  int id = answer.value;
+  if (answer.changed) {
+    int slot = answer.slot;
+    sent_by[slot] = received_by[slot] = 0;
+    owner[slot] = (struct ipc_perm){.__key = key, .uid = geteuid(), .gid = getegid(),
+                                    .cuid = geteuid(), .cgid = getegid(), .mode = flags & 0777,
+                                    .__seq = (unsigned)id / MAX_SLOTS};
+  }
+  pthread_mutex_unlock(&lock);
+  return id;
+}
+
+int civdrax_timedsnd(int id, const void *message, size_t size, int flags,
+                     const struct timespec *end) {
+  long type = 0;
+  if (message) memcpy(&type, message, sizeof type);
+  pthread_mutex_lock(&lock);
+  call = (struct call){.kind = SEND, .number = (uint32_t)id, .flags = (uint32_t)flags,
+                       .type = (uint64_t)type, .size = size, .buffer = !!message};
+  int error = make(message ? (const char *)message + sizeof type : NULL, NULL, end);
+  if (error) return refuse(error);
+  sent_by[answer.slot] = self;
+  wake(answer.slot);
+  pthread_mutex_unlock(&lock);
+  return 0;
+}
+
+int civdrax_msgsnd(int id, const void *message, size_t size, int flags) {
+  return civdrax_timedsnd(id, message, size, flags, NULL);
+}
+
+ssize_t civdrax_timedrcv(int id, void *message, size_t size, long type, int flags,
+                         const struct timespec *end) {
+  pthread_mutex_lock(&lock);
+  call = (struct call){.kind = RECEIVE, .number = (uint32_t)id, .flags = (uint32_t)flags,
+                       .type = (uint64_t)type, .size = size, .buffer = !!message};
+  int error = make(NULL, message ? (char *)message + sizeof type : NULL, end);
+  if (error) return refuse(error);
+  ssize_t length = answer.value;
+  type = (long)answer.type;
+  memcpy(message, &type, sizeof type);
+  received_by[answer.slot] = self;
+  wake(answer.slot);
+  wake(PAGES);
+  pthread_mutex_unlock(&lock);
+  return length;
+}
+
+ssize_t civdrax_msgrcv(int id, void *message, size_t size, long type, int flags) {
+  return civdrax_timedrcv(id, message, size, type, flags, NULL);
+}
+
+/* Under the lock: what `shown` says of the queue in a slot. */
+static void fill(struct msqid_ds *to, int slot) {
+  memset(to, 0, sizeof *to);
+  to->msg_perm = owner[slot];
+  to->msg_stime = shown.queue.stime;
+  to->msg_rtime = shown.queue.rtime;
+  to->msg_ctime = shown.queue.ctime;
+  to->__msg_cbytes = shown.queue.cbytes;
+  to->msg_qnum = shown.queue.qnum;
+  to->msg_qbytes = shown.queue.qbytes;
+  to->msg_lspid = shown.queue.lspid ? sent_by[slot] : 0;
+  to->msg_lrpid = shown.queue.lrpid ? received_by[slot] : 0;
+}
+
+/* Under the lock: the limits; of MSG_INFO three fields are what is in use. */
+static void inform(struct msginfo *to, int is_usage) {
+  memset(to, 0, sizeof *to);
+  to->msgmax = shown.usage.msgmax;
+  to->msgmnb = shown.usage.msgmnb;
+  to->msgmni = shown.usage.slots;
+  to->msgssz = shown.usage.page;
+  to->msgseg = shown.usage.pages;
+  to->msgpool = is_usage ? shown.usage.queues : shown.usage.pages * shown.usage.page / 1024;
+  to->msgmap = is_usage ? shown.usage.messages : shown.usage.msgmnb;
+  to->msgtql = is_usage ? shown.usage.bytes : shown.usage.msgmnb;
+}
+
+/* Under the lock: the owner and the mode, of which nothing is checked. */
+static void own(struct ipc_perm *its, const struct ipc_perm *wanted) {
+  its->uid = wanted->uid;
+  its->gid = wanted->gid;
+  its->mode = (its->mode & ~0777) | (wanted->mode & 0777);
+}
+
+int civdrax_msgctl(int id, int cmd, struct msqid_ds *buf) {
+  struct msqid_ds wanted = {0};
+  if (cmd == IPC_SET && buf) wanted = *buf;
+  pthread_mutex_lock(&lock);
+  call = (struct call){.kind = CONTROL, .number = (uint32_t)id, .flags = (uint32_t)cmd,
+                       .size = wanted.msg_qbytes, .buffer = !!buf};
+  int error = ask(NULL, NULL);
+  if (error) return refuse(error);
+  int slot = answer.slot, value = answer.value;
+  if (answer.shown == SHOWN_QUEUE) fill(buf, slot);
+  if (answer.shown == SHOWN_USAGE) inform((struct msginfo *)buf, cmd == MSG_INFO);
+  if (cmd == IPC_SET) own(&owner[slot], &wanted.msg_perm);
+  if (answer.changed) wake(slot);
+  if (answer.changed) wake(PAGES);
+  pthread_mutex_unlock(&lock);
+  return value;
+}

@@ -1,0 +1,36 @@
+/* System V message queues for the threads of one process, by the calls of the manual (msgget(2),
+   msgop(2), msgctl(2)). Each answers as its namesake: where it is refused, -1 and errno. */
+#ifndef CIVDRAX_H
+#define CIVDRAX_H
+
+#include <stddef.h>
+#include <sys/ipc.h>
+#include <sys/msg.h>
+#include <sys/types.h>
+#include <time.h>
+
+#ifdef __cplusplus
+extern "C" {
+#endif
+
+/* The environment gives the size, which is read at the first call: CIVDRAX_HEIGHT, 0 to 10, for
+   2 ^ height pages of 1,024 bytes (10), and CIVDRAX_SLOTS, 1 to 64, for as many queues (64). With
+   another value each call answers ENOSYS, and a line on standard error says so.
+
+   A call that waits is not ended by a signal: EINTR is never answered. None of these may be called
+   from a signal handler, nor left by a longjmp. A thread may be cancelled while it waits. */
+int civdrax_msgget(key_t key, int msgflg);
+int civdrax_msgsnd(int msqid, const void *msgp, size_t msgsz, int msgflg);
+ssize_t civdrax_msgrcv(int msqid, void *msgp, size_t msgsz, long msgtyp, int msgflg);
+int civdrax_msgctl(int msqid, int cmd, struct msqid_ds *buf);
+
+/* As msgsnd and msgrcv, and wait no longer than until this time of CLOCK_MONOTONIC: ETIMEDOUT. */
+int civdrax_timedsnd(int msqid, const void *msgp, size_t msgsz, int msgflg,
+                     const struct timespec *end);
+ssize_t civdrax_timedrcv(int msqid, void *msgp, size_t msgsz, long msgtyp, int msgflg,
+                         const struct timespec *end);
+
+#ifdef __cplusplus
+}
+#endif
+#endif

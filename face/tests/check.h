@@ -1,0 +1,77 @@
+/* What the tests share: a check that counts, and a watchdog. */
+#ifndef CHECK_H
+#define CHECK_H
+#define _GNU_SOURCE
+#include "../civdrax.h"
+#include <errno.h>
+#include <pthread.h>
+#include <signal.h>
+#include <stdint.h>
+#include <stdio.h>
+#include <stdlib.h>
+#include <string.h>
+#include <sys/wait.h>
+#include <unistd.h>
+
+#ifndef MSG_EXCEPT
+#define MSG_EXCEPT 020000
+#endif
+#ifndef MSG_COPY
+#define MSG_COPY 040000
+#endif
+#ifndef MSG_STAT_ANY
+#define MSG_STAT_ANY 13
+#endif
+
+static int passed, failed;
+
+/* One check, of any thread. */
+static inline void check(int holds, const char *what, int line) {
+  if (holds) __atomic_add_fetch(&passed, 1, __ATOMIC_SEQ_CST);
+  else __atomic_add_fetch(&failed, 1, __ATOMIC_SEQ_CST);
+  if (!holds) fprintf(stderr, "line %d: %s (errno %d)\n", line, what, errno);
+}
+
+#define CHECK(it) check(!!(it), #it, __LINE__)
+/* The call is refused by this number. */
+#define REFUSED(it, number) (errno = 0, check((it) == -1 && errno == (number), #it, __LINE__))
+
+static void hangs(int signal) {
+  (void)signal;
+  static const char text[] = "the watchdog ended it: it hangs\n";
+  if (write(2, text, sizeof text - 1) < 0) _exit(4);
+  _exit(3);
+}
+
+/* Ends the program after so many seconds. */
+static inline void watch(unsigned seconds) {
+  signal(SIGALRM, hangs);
+  alarm(seconds);
+}
+
+static inline int told(void) {
+  printf("%d passed, %d failed\n", passed, failed);
+  return failed != 0;
+}
+
+struct message {
+  long type;
+  char text[70000];
+};
+
+static inline struct timespec in_milliseconds(long count) {
+  struct timespec at;
+  clock_gettime(CLOCK_MONOTONIC, &at);
+  at.tv_sec += count / 1000;
+  at.tv_nsec += count % 1000 * 1000000;
+  if (at.tv_nsec >= 1000000000) {
+    at.tv_sec++;
+    at.tv_nsec -= 1000000000;
+  }
+  return at;
+}
+
+static inline int new_queue(void) { return civdrax_msgget(IPC_PRIVATE, IPC_CREAT | 0600); }
+
+static inline void remove_queue(int id) { CHECK(civdrax_msgctl(id, IPC_RMID, NULL) == 0); }
+#endif

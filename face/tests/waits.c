@@ -1,0 +1,199 @@
+/* Threads that wait: each kind of wait ends by what it waits for and by a removal, and who waits
+   holds up nobody. A thread is known to wait once it is asleep, as /proc says. */
+#include "check.h"
+#include <sys/syscall.h>
+
+struct job {
+  int id, error;
+  ssize_t result;
+  long type;
+  size_t size;
+  int is_send;
+  volatile pid_t tid;
+  volatile int ended;
+  pthread_t thread;
+  struct message message;
+};
+
+static void *run(void *its) {
+  struct job *job = its;
+  job->tid = syscall(SYS_gettid);
+  if (job->is_send) job->result = civdrax_msgsnd(job->id, &job->message, job->size, 0);
+  else job->result = civdrax_msgrcv(job->id, &job->message, job->size, job->type, 0);
+  job->error = job->result < 0 ? errno : 0;
+  job->ended = 1;
+  return NULL;
+}
+
+static int sleeps(pid_t tid) {
+  char name[64], text[512];
+  snprintf(name, sizeof name, "/proc/self/task/%d/stat", tid);
+  FILE *file = fopen(name, "r");
+  if (!file) return 0;
+  size_t n = fread(text, 1, sizeof text - 1, file);
+  fclose(file);
+  text[n] = 0;
+  char *state = strrchr(text, ')');
+  return state && state[2] == 'S';
+}
+
+/* Starts the thread, and returns once it waits. */
+static void start(struct job *job) {
+  job->tid = job->ended = 0;
+  CHECK(pthread_create(&job->thread, NULL, run, job) == 0);
+  for (int seen = 0; seen < 20 && !job->ended;) {
+    usleep(1000);
+    seen = job->tid && sleeps(job->tid) ? seen + 1 : 0;
+  }
+  CHECK(!job->ended);
+}
+
+static void end(struct job *job) { CHECK(pthread_join(job->thread, NULL) == 0); }
+
+static struct job *receiver(int id, long type) {
+  struct job *job = calloc(1, sizeof *job);
+  job->id = id;
+  job->type = type;
+  job->size = 100;
+  start(job);
+  return job;
+}
+
+static struct job *sender(int id, size_t size) {
+  struct job *job = calloc(1, sizeof *job);
+  job->id = id;
+  job->is_send = 1;
+  job->size = size;
+  job->message.type = 7;
+  start(job);
+  return job;
+}
+
+static void send(int id, long type, size_t size) {
+  static struct message m;
+  m.type = type;
+  CHECK(civdrax_msgsnd(id, &m, size, IPC_NOWAIT) == 0);
+}
+
+static void set_quota(int id, unsigned long quota) {
+  struct msqid_ds ds;
+  CHECK(civdrax_msgctl(id, IPC_STAT, &ds) == 0);
+  ds.msg_qbytes = quota;
+  CHECK(civdrax_msgctl(id, IPC_SET, &ds) == 0);
+}
+
+/* While another waits in `id`, messages go through a queue of their own. */
+static void goes_on(void) {
+  static struct message m;
+  int id = new_queue(), right = 0;
+  for (int i = 0; i < 1000; i++) {
+    m.type = i + 1;
+    right += civdrax_msgsnd(id, &m, 10, 0) == 0 && civdrax_msgrcv(id, &m, 10, 0, 0) == 10;
+  }
+  CHECK(right == 1000);
+  remove_queue(id);
+}
+
+static void a_message_comes(void) {
+  int id = new_queue();
+  struct job *job = receiver(id, 5);
+  goes_on();
+  send(id, 4, 10);
+  usleep(20000);
+  CHECK(!job->ended);
+  send(id, 5, 11);
+  end(job);
+  CHECK(job->result == 11 && job->message.type == 5);
+  remove_queue(id);
+  free(job);
+}
+
+static void room_comes(void) {
+  static struct message m;
+  int id = new_queue();
+  set_quota(id, 10);
+  send(id, 1, 10);
+  struct job *by_receipt = sender(id, 5);
+  goes_on();
+  CHECK(civdrax_msgrcv(id, &m, 10, 0, 0) == 10);
+  end(by_receipt);
+  CHECK(by_receipt->result == 0);
+  struct job *by_quota = sender(id, 6);
+  set_quota(id, 11);
+  end(by_quota);
+  CHECK(by_quota->result == 0);
+  remove_queue(id);
+  free(by_receipt);
+  free(by_quota);
+}
+
+/* Takes all pages by as many texts, in three queues. */
+static void take_pages(int ids[3]) {
+  static struct message m;
+  m.type = 1;
+  for (int i = 0; i < 3; i++) ids[i] = new_queue();
+  int sent = 0;
+  while (civdrax_msgsnd(ids[sent / 400], &m, 1, IPC_NOWAIT) == 0) sent++;
+  CHECK(sent == 1024 && errno == ENOMEM);
+}
+
+static void pages_come(void) {
+  static struct message m;
+  int ids[3], other = new_queue();
+  take_pages(ids);
+  struct job *job = sender(other, 1);
+  CHECK(civdrax_msgrcv(ids[0], &m, 1, 0, 0) == 1);
+  end(job);
+  CHECK(job->result == 0);
+  struct job *by_removal = sender(other, 1000);
+  remove_queue(ids[2]);
+  end(by_removal);
+  CHECK(by_removal->result == 0);
+  for (int i = 0; i < 2; i++) remove_queue(ids[i]);
+  remove_queue(other);
+  free(job);
+  free(by_removal);
+}
+
+static void removals_end_waits(void) {
+  int ids[3], id = new_queue(), full = new_queue(), other = new_queue();
+  set_quota(full, 0);
+  struct job *jobs[6];
+  for (int i = 0; i < 3; i++) jobs[i] = receiver(id, i - 1);
+  jobs[3] = sender(full, 1);
+  jobs[4] = sender(full, 100);
+  goes_on();
+  take_pages(ids);
+  jobs[5] = sender(other, 1);
+  remove_queue(id);
+  remove_queue(full);
+  remove_queue(other);
+  for (int i = 0; i < 6; i++) {
+    end(jobs[i]);
+    CHECK(jobs[i]->result == -1 && jobs[i]->error == EIDRM);
+    free(jobs[i]);
+  }
+  for (int i = 0; i < 3; i++) remove_queue(ids[i]);
+}
+
+/* A thread that is cancelled in its wait lets the others go on. */
+static void a_cancelled_wait_holds_up_nobody(void) {
+  int id = new_queue();
+  struct job *job = receiver(id, 1);
+  CHECK(pthread_cancel(job->thread) == 0);
+  end(job);
+  goes_on();
+  send(id, 1, 3);
+  remove_queue(id);
+  free(job);
+}
+
+int main(void) {
+  watch(120);
+  a_message_comes();
+  room_comes();
+  pages_come();
+  removals_end_waits();
+  a_cancelled_wait_holds_up_nobody();
+  return told();
+}

@@ -1,0 +1,220 @@
+#!/usr/bin/env bash
+# The C part in face/: builds it from nothing and runs the C programs of face/tests against the
+# static and the shared library, also with the sanitizers of the compiler; then random scripts of
+# calls of each client, in C, Perl, PHP and Python, over the kernel and over these queues by the
+# preloaded library: the answers must be the same, each client must fail where the preloaded calls
+# answer ENOSYS, and each must have made its calls here. A client whose package is not there is left
+# out, and said to be, in a line of its own and in the last but one; tests/face_clients.sh installs
+# them. Wants the crates to be proved (`rt lib` does what is left) and `cc`. Prints the runs that
+# fail; the last line counts.
+set -uo pipefail
+cd "$(dirname "$0")/.."
+folder=$(mktemp -d)
+trap 'rm -rf "$folder"' EXIT
+passed=0
+failed=0
+left_out=0
+# The seconds after which a run counts as one that hangs.
+seconds=300
+# The random scripts of each client, and the random calls with damaged arguments.
+scripts=300
+damaged=1000000
+messages=10000000
+# The most lines that the C part may have.
+most_lines=600
+warnings=(-std=gnu11 -Wall -Wextra -Werror -Wno-nonnull)
+
+# Counts a case, which passed if $1 is 0, and else is told by the words from $2 on.
+count() {
+    if [ "$1" -eq 0 ]; then
+        passed=$((passed + 1))
+    else
+        failed=$((failed + 1))
+        echo "face: ${*:2}"
+    fi
+}
+
+# Runs a test program, with its words, and adds the checks that it counts in its last line.
+checks() {
+    local status=0
+    timeout "$seconds" "$@" > "$folder/out" 2> "$folder/err" || status=$?
+    if [[ $(tail -n 1 "$folder/out") =~ ^([0-9]+)\ passed,\ ([0-9]+)\ failed$ ]]; then
+        passed=$((passed + BASH_REMATCH[1]))
+        failed=$((failed + BASH_REMATCH[2]))
+        [ "${BASH_REMATCH[2]}" -eq 0 ] || head -n 5 "$folder/err"
+    else
+        head -n 5 "$folder/err"
+    fi
+    count "$status" "$*: status $status"
+}
+
+build() {
+    rm -rf face/out
+    make -C face > "$folder/made" 2>&1
+    local status=$?
+    count $status "make -C face: $(tail -n 3 "$folder/made")"
+    [ $status -eq 0 ] || { echo "$passed passed, $failed failed"; exit 1; }
+    local lines
+    lines=$(cat face/*.c face/*.h | wc -l)
+    [ "$lines" -le "$most_lines" ]
+    count $? "the C part has $lines lines"
+}
+
+# Wants that just these names are seen of the library $1.
+names() {
+    local seen
+    seen=$(nm "${@:2}" --defined-only "$1" | grep ' T ' | cut -d ' ' -f 3 | sort | tr '\n' ' ')
+    [ "$seen" = "$wanted" ]
+    count $? "$1 shows $seen"
+}
+
+library_names() {
+    local own='civdrax_msgctl civdrax_msgget civdrax_msgrcv civdrax_msgsnd civdrax_timedrcv civdrax_timedsnd '
+    wanted=$own names face/out/libcivdrax.a
+    wanted=$own names face/out/libcivdrax.so -D
+    wanted="${own}dlopen msgctl msgget msgrcv msgsnd " names face/out/libcivdrax_preload.so -D
+}
+
+# Compiles the test $1 as $2, with the words from $3 on.
+compile() {
+    cc "${warnings[@]}" -O1 -g -o "$2" "face/tests/$1.c" "${@:3}" -pthread
+    count $? "face/tests/$1.c does not compile"
+}
+
+programs() {
+    local test
+    for test in calls waits forks threads memory damaged many; do
+        compile "$test" "$folder/$test" face/out/libcivdrax.a
+    done
+    for test in calls waits forks threads memory; do
+        checks "$folder/$test"
+    done
+    checks "$folder/damaged" "$damaged"
+    checks "$folder/many" "$messages"
+    compile calls "$folder/shared" -Lface/out -lcivdrax "-Wl,-rpath,$PWD/face/out"
+    checks "$folder/shared"
+    # The test of several threads is right over the kernel too.
+    compile threads "$folder/kernel_threads" -Dcivdrax_msgget=msgget -Dcivdrax_msgsnd=msgsnd \
+        -Dcivdrax_msgrcv=msgrcv -Dcivdrax_msgctl=msgctl
+    checks "$folder/kernel_threads"
+    checks env LD_PRELOAD="$PWD/face/out/libcivdrax_preload.so" "$folder/kernel_threads"
+}
+
+# With the address and undefined-behaviour sanitizers in the C part and in the tests.
+sanitized() {
+    local test heap
+    heap="$(dirname "$(rt doc)")/c/liblibc_c.a"
+    local flags=(-O1 -g -fsanitize=address,undefined -fno-sanitize-recover=all)
+    mkdir "$folder/sanitized"
+    cc "${warnings[@]}" "${flags[@]}" -fcf-protection=none -fPIC -shared \
+        -o "$folder/sanitized/libcivdrax.so" face/civdrax.c crates/civdrax/out/libcivdrax.a \
+        "$heap" -Wl,--wrap=read,--wrap=write -Wl,--version-script=face/civdrax.map -pthread
+    count $? "the C part does not compile with the sanitizers"
+    for test in calls waits forks threads memory damaged; do
+        cc "${warnings[@]}" "${flags[@]}" -o "$folder/sanitized/$test" "face/tests/$test.c" \
+            -L"$folder/sanitized" -lcivdrax "-Wl,-rpath,$folder/sanitized" -pthread
+        count $? "face/tests/$test.c does not compile with the sanitizers"
+        checks "$folder/sanitized/$test" $([ "$test" != damaged ] || echo "$damaged")
+    done
+}
+
+# With each allocation refused in turn.
+allocations() {
+    local n status
+    cc -shared -fPIC -O1 -o "$folder/refuse.so" tests/refuse_nth.c -ldl || exit 1
+    for ((n = 1; n < 1000; n++)); do
+        status=0
+        rm -f "$folder/mark"
+        REFUSE_NTH=$n REFUSE_MARK="$folder/mark" LD_PRELOAD="$folder/refuse.so" \
+            timeout "$seconds" "$folder/memory" > "$folder/out" 2> "$folder/err" || status=$?
+        count "$status" "allocation $n refused: $(head -n 1 "$folder/err")"
+        [ -e "$folder/mark" ] || break
+    done
+    [ "$n" -gt 20 ]
+    count $? "only $n allocations were refused"
+}
+
+# Wants that with the size $1=$2 no call is answered, and a line says why.
+refuses_size() {
+    env "$1=$2" "$folder/calls" > "$folder/out" 2> "$folder/err"
+    [ $? -eq 1 ] && grep -q "^civdrax: $1 is '$2': a number from" "$folder/err" \
+        && grep -q 'errno 38' "$folder/err"
+    count $? "$1='$2': $(head -n 1 "$folder/err")"
+}
+
+sizes() {
+    local value
+    for value in 11 x -1 '' 3x ' 3' 99999999999999999999; do
+        refuses_size CIVDRAX_HEIGHT "$value"
+    done
+    for value in 0 65 -1 '' y; do
+        refuses_size CIVDRAX_SLOTS "$value"
+    done
+    CIVDRAX_SLOTS=4 CIVDRAX_HEIGHT=6 checks "$folder/threads"
+    CIVDRAX_SLOTS=1 CIVDRAX_HEIGHT=2 checks "$folder/threads"
+}
+
+# The scripts of the client $1, which the words from $2 on run: over the kernel, over these queues,
+# and where each call answers ENOSYS.
+client() {
+    local status=0 calls
+    rm -f "$folder/count"
+    timeout "$seconds" "${@:2}" 1 "$scripts" > "$folder/kernel" 2> "$folder/err"
+    count $? "$1 over the kernel: $(head -n 1 "$folder/err")"
+    timeout "$seconds" env CIVDRAX_COUNT="$folder/count" \
+        LD_PRELOAD="$PWD/face/out/libcivdrax_preload.so" "${@:2}" 1 "$scripts" \
+        > "$folder/here" 2> "$folder/err"
+    count $? "$1 over these queues: $(head -n 1 "$folder/err")"
+    python3 - "$folder/kernel" "$folder/here" > "$folder/compared" <<'PYTHON'
+import sys
+
+parts = [open(name, encoding="utf-8").read().split("seed ")[1:] for name in sys.argv[1:]]
+same = sum(one == other for one, other in zip(*parts))
+print(same, max(map(len, parts)) - same)
+PYTHON
+    read -r same other < "$folder/compared"
+    passed=$((passed + same))
+    failed=$((failed + other))
+    [ "$same" -ge "$scripts" ]
+    count $? "$1: $same scripts are answered alike, $other are not"
+    calls=$(cat "$folder/count")
+    [ "${calls:-0}" -ge $((scripts * 20)) ]
+    count $? "$1 has made only ${calls:-0} calls here"
+    timeout "$seconds" env LD_PRELOAD="$folder/enosys.so" "${@:2}" 1 1 > "$folder/out" 2>&1 \
+        || status=$?
+    [ "$status" -ne 0 ] && [ "$status" -lt 124 ]
+    count $? "$1 does not fail where each call answers ENOSYS"
+    echo "face: $1: $same scripts alike, $calls calls here"
+}
+
+# A client whose package is there, as the words from $3 on say; else it is left out.
+client_of() {
+    if "${@:3}" > "$folder/out" 2>&1; then
+        client "$1" $2
+    else
+        left_out=$((left_out + 1))
+        echo "face: LEFT OUT: $scripts scripts of $1: its package is not here"
+    fi
+}
+
+clients() {
+    cc "${warnings[@]}" -shared -fPIC -o "$folder/enosys.so" face/tests/enosys.c -ldl
+    count $? "face/tests/enosys.c does not compile"
+    compile script "$folder/script"
+    client C "$folder/script"
+    client_of Perl 'perl face/tests/script.pl' perl -MIPC::SysV -MIPC::Msg -e 1
+    client_of PHP 'php face/tests/script.php' \
+        php -r 'exit(function_exists("msg_get_queue") ? 0 : 1);'
+    client_of Python '/usr/bin/python3 face/tests/script.py' /usr/bin/python3 -c 'import sysv_ipc'
+}
+
+build
+library_names
+programs
+sanitized
+allocations
+sizes
+clients
+echo "face: $left_out clients left out"
+echo "face: $passed passed, $failed failed"
+[ "$failed" -eq 0 ]
