@@ -27,6 +27,11 @@ fn drafted<N: Names, R: Abort + Wait>(
     }
 }
 
+/// Whether this part of a text has these bytes.
+fn has_part<N: Names>(text: &TextOf<N>, index: usize, bytes: &[u8]) -> bool {
+    index < text.count() && text.part(index) == bytes
+}
+
 fn spent<N: Names, R: Abort + Wait>(
     rt: &R,
     system: &System<Anything, N>,
@@ -63,7 +68,7 @@ impl Day<Anything> for Withholds {
     ) {
         seat_1_keeps_pages(rt, system, seats);
         let whole = drafted(rt, system, seats, 2, &WHOLE);
-        holds(rt, whole.part(7) == &WHOLE[..1024], "its last page");
+        holds(rt, has_part(&whole, 7, &WHOLE[..1024]), "its last page");
         spent(rt, system, seats, 2, whole);
 
         let page = drafted(rt, system, seats, 1, b"page");
@@ -76,12 +81,12 @@ impl Day<Anything> for Withholds {
         let Ok(whole) = system.draft(rt, 8192) else {
             panic!(rt; "a draft of eight pages is refused");
         };
-        holds(rt, whole.part(0) == [0; 1024].as_slice(), "it is zero");
+        holds(rt, has_part(&whole, 0, &[0; 1024]), "it is zero");
         spent(rt, system, seats, 2, whole);
         let Ok(page) = system.draft_of(rt, b"page") else {
             panic!(rt; "a draft of a page is refused");
         };
-        holds(rt, page.part(0) == b"page".as_slice(), "its bytes");
+        holds(rt, has_part(&page, 0, b"page"), "its bytes");
         system.spend(rt, page);
         seat_1_keeps_pages(rt, system, seats);
     }
@@ -123,7 +128,7 @@ impl Day<Anything> for Reuses {
         holds(rt, pair.start() == two, "the two pages that were spent");
         let fourth = drafted(rt, system, seats, 1, b"4th");
         holds(rt, fourth.start() == start, "the page that was spent");
-        holds(rt, fourth.part(0) == b"4th".as_slice(), "its new bytes");
+        holds(rt, has_part(&fourth, 0, b"4th"), "its new bytes");
         holds(rt, fourth.order() == Some(0), "one page");
         spent(rt, system, seats, 1, TextOf::<N>::empty());
         spent(rt, system, seats, 1, first);
