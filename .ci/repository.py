@@ -64,10 +64,10 @@ class Crates:
     def rlib(self, name):
         return self.top / "crates" / name / "out" / "rlib"
 
-    def command(self, name, functions, kept):
-        """A check of these functions of a crate."""
+    def words(self, verb, name):
+        """The toolchain's call on a crate, over the libraries that lie in the crates' folders."""
         root = "src/main.rt" if self.is_program(name) else "src/lib.rt"
-        words = [self.kit / "bin" / "rattle", "check", "--crate-name", name, root]
+        words = [self.kit / "bin" / "rattle", verb, "--crate-name", name, root]
         for dep in ["std", *self.uses[name]]:
             of_ours = dep in self.uses
             place = self.rlib(dep) if of_ours else self.kit / "rlibs"
@@ -77,8 +77,12 @@ class Crates:
             words += ["-L", f"dependency={self.rlib(dep)}"]
         words += ["--antt-project", f"{self.kit}/rattle/logic/antt-project.json"]
         words += ["--logic-built", f"{self.kit}/logic_built", "--jobs", "1", "--links", f"{name}="]
-        words += ["--incremental", kept]
-        return [*map(str, words), *(f"--only={it}" for it in functions)]
+        return [*map(str, words)]
+
+    def command(self, name, functions, kept):
+        """A check of these functions of a crate."""
+        only = (f"--only={it}" for it in functions)
+        return [*self.words("check", name), "--incremental", str(kept), *only]
 
     def lowest_first(self):
         """All crates, each after those that it stands on."""

@@ -7,8 +7,7 @@
 #   an option that was read is passed over
 #     (`Config { height: SCRIPT_DEFAULTS.height, ..options_of(given) }`);
 #   the parser's range of an option is narrower (`.range(1..=63)`);
-#   words without a subcommand have another default
-#     (`None => Config { height: 5, ..SCRIPT_DEFAULTS }`).
+#   words without a subcommand have another default.
 source "$(dirname "$0")/cases.sh"
 
 # Counts a run with the words from $2 on, which was right if $1 is 0.
@@ -19,8 +18,9 @@ ran() {
 
 # The table of the words, on a script of the one line `arena`: the status; what is on standard
 # output, `none`, `help`, or `pages N`, the arena that the script saw; what is on standard error,
-# `none`, `error` (the parser's) or `fault` (the program's own); and the words. Where no script is
-# run, standard input must not have been read.
+# `none`, `error` (the parser's), `fault` (the program's own) or `file` (of a script's file that
+# cannot be opened); and the words. Where no script is run, or the words name its file, standard
+# input must not have been read.
 echo arena > "$seen/script"
 
 # Whether the file $2 has what $1 says.
@@ -30,21 +30,32 @@ has() {
         help) grep -q '^Usage: mqsim' "$2" ;;
         error) grep -q '^error: ' "$2" ;;
         fault) grep -q '^mqsim: command line: ' "$2" ;;
+        file) grep -q '^mqsim: .*: ' "$2" ;;
         pages\ *) [ "$(wc -l < "$2")" -eq 1 ] && grep -q "^$1 " "$2" ;;
     esac
 }
 
 run() {
     local left=$seen/script
+    [[ $2 == pages* ]] && left=/dev/null
+    leaves "$left" "$@"
+}
+
+# The same, of words that name the script's file, or one that cannot be opened.
+file() {
+    leaves "$seen/script" "$@"
+}
+
+# The same, where of standard input what the file $1 has must be left.
+leaves() {
     {
-        "$program" "${@:4}" > "$seen/out" 2> "$seen/err"
+        "$program" "${@:5}" > "$seen/out" 2> "$seen/err"
         status=$?
         cat > "$seen/left"
     } < "$seen/script"
-    [[ $2 == pages* ]] && left=/dev/null
-    [ "$status" -eq "$1" ] && has "$2" "$seen/out" && has "$3" "$seen/err" \
-        && cmp -s "$seen/left" "$left"
-    ran $? "${@:4}"
+    [ "$status" -eq "$2" ] && has "$3" "$seen/out" && has "$4" "$seen/err" \
+        && cmp -s "$seen/left" "$1"
+    ran $? "${@:5}"
 }
 
 #   status  output       error  words
@@ -60,6 +71,43 @@ run 0       'pages 8'    none   serial --height +3
 run 0       'pages 128'  none   serial --height 007
 run 0       'pages 64'   none   --
 run 0       'pages 64'   none   serial --
+run 0       'pages 64'   none   -
+run 0       'pages 64'   none   serial -
+run 0       'pages 8'    none   serial --height 3 -
+
+# Scripts in files, one with a name that a subcommand has, and one with a name like an option's.
+for name in file serial -file; do
+    cp "$seen/script" "$seen/$name"
+done
+: > "$seen/empty"
+cd "$seen"
+file 0      'pages 64'   none   file
+file 0      'pages 64'   none   "$seen/file"
+file 0      'pages 64'   none   ./serial
+file 0      'pages 64'   none   -- serial
+file 0      'pages 64'   none   -- -file
+file 0      'pages 64'   none   serial file
+file 0      'pages 64'   none   serial serial
+file 0      'pages 8'    none   serial --height 3 file
+file 0      'pages 8'    none   serial file --height 3
+file 0      none         none   empty
+file 0      'pages 64'   none   threads empty
+file 0      'pages 8'    none   threads --height 3 empty
+file 2      none         file   missing
+file 2      none         file   Serial
+file 2      none         file   ''
+file 2      none         file   serial missing
+file 2      none         file   threads missing
+file 2      none         file   threads serial/script
+file 2      none         file   .
+file 2      none         file   serial .
+file 2      none         error  file extra
+file 2      none         error  file serial
+file 2      none         error  file --height 3
+file 2      none         error  -file
+file 2      none         error  serial file extra
+file 2      none         error  serial --height 11 file
+cd - > /dev/null
 
 run 2       none         error  serial --height 11
 run 2       none         error  serial --slots 0
@@ -75,22 +123,13 @@ run 2       none         error  serial --height
 run 2       none         error  serial --height 3 --height 3
 run 2       none         error  serial --seats 16
 run 2       none         error  serial -H 3
-run 2       none         error  serial extra
-run 2       none         error  serial serial
-run 2       none         error  serial threads
-run 2       none         error  threads serial
 run 2       none         error  threads --height 11
 run 2       none         error  threads --slots 0
 run 2       none         error  threads --last-seq 32768
 run 2       none         error  threads --height
-run 2       none         error  threads extra
 run 2       none         error  --height 3 threads
-run 2       none         error  serial -- extra
 run 2       none         error  --height 3 serial
 run 2       none         error  --height 3
-run 2       none         error  Serial
-run 2       none         error  nonsense
-run 2       none         error  ''
 run 2       none         fault  serial $'\xff'
 run 2       none         error  --version
 run 2       none         error  help nonsense
@@ -105,15 +144,42 @@ run 0       help         none   help threads
 run 0       help         none   threads --help
 run 0       help         none   threads --slots 3 --help
 
-# What the help names.
-for words in --help -h help; do
-    "$program" "$words" > "$seen/out" 2> "$seen/err"
+# What the help has, of the command line and of both kinds of scripts.
+shows() {
+    "$program" $1 > "$seen/out" 2> "$seen/err"
     status=$?
-    for name in --height --slots --last-seq threads 'waits for good' docs/SCRIPT.md Ctrl-D; do
+    for name in "${@:2}"; do
         grep -q -e "$name" "$seen/out"
-        ran $? "$words" "($name)"
+        ran $? "$1" "($name)"
     done
+}
+serial=('get KEY' 'snd ID' 'rcv ID' 'stat ID' 'set ID' 'rm ID' 'cut SLOT' ipcs arena 'seat S')
+sections=(worker 'put ID' 'take ID' 'rm ID' 'waits for good' 'within MS' Ctrl-D)
+causes=('^  long ' '^  byte ' '^  words ' '^  number ')
+for words in --help -h help; do
+    shows "$words" SCRIPT --height --slots --last-seq serial threads docs/SCRIPT.md "${serial[@]}" \
+        "${sections[@]}" "${causes[@]}"
 done
+shows 'serial --help' SCRIPT --height --slots --last-seq
+shows 'threads --help' SCRIPT --height --slots --last-seq "${sections[@]}"
+
+# The example that the help has can be pasted.
+example=$("$program" --help | sed -n 's/^ *\(printf .*\) | mqsim$/\1/p')
+eval "$example" | "$program" > "$seen/out" 2> "$seen/err"
+status=$?
+printf '%s\n' 'id 0' 'at 1' 'msg 1 seat 1 tag 2 len 5 =hello' | cmp -s - "$seen/out"
+ran $? "after $example"
+
+# An unknown option is answered by the one that is close to it, which is the first word here.
+close() {
+    "$program" "${@:2}" < /dev/null > "$seen/out" 2> "$seen/err"
+    status=$?
+    [ "$status" -eq 2 ] && grep -q -e "^  tip: a similar argument exists: '$1'" "$seen/err"
+    ran $? "${@:2}"
+}
+close --height    serial --heigth 3
+close --slots     threads --slot 3
+close --last-seq  serial --lastseq 3
 
 # What each option does. The words from $1 on run a script that is in the file `script`, and must
 # answer what is in the file `wanted`.
@@ -178,6 +244,7 @@ done
 : > "$seen/script"
 echo 'pages 64 free 64' > "$seen/wanted"
 effect threads
+effect threads -
 echo 'pages 8 free 8' > "$seen/wanted"
 effect threads --height 3
 yes 'get 0 c' | head -3 > "$seen/script"

@@ -62,7 +62,7 @@ put 0 2 100 1000
 worker
 take 0 1 100
 worker
-take 0 2 100
+take 0 2 100 within 1000000
 """
 
 PAIRS_TOLD = b"""id 0

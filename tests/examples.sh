@@ -1,8 +1,10 @@
 #!/usr/bin/env bash
 # Runs mqsim over each script of examples/ and wants the answers beside it, with the words of
 # NAME.args where there are some; and wants the README's first script, examples/first and the
-# script that the gate runs the program on to be the same.
-# Wants mqsim to be built. Prints the cases that fail; the last line counts.
+# script that the gate runs the program on to be the same. Then it has tests/blocks.py try each code
+# block of README.md and docs/, and wants the pages to be no longer than they may be.
+# Wants mqsim to be built, and builds face/ where it is not. Prints the cases that fail; the last line
+# counts.
 source "$(dirname "$0")/cases.sh"
 
 for script in examples/*; do
@@ -28,6 +30,29 @@ for pair in 'first stdin' 'first.stdout stdout'; do
     count $? "crates/mqsim/$given is not the README's first script"
 done
 
-at_least 11
+[ -e face/out/libcivdrax.a ] && [ -e face/out/libcivdrax_preload.so ] \
+    || make -C face > "$seen/made" 2>&1
+count $? "make -C face: $(tail -n 3 "$seen/made" 2> "$seen/err")"
+tests/blocks.py > "$seen/blocks" 2>&1
+cat "$seen/blocks"
+if [[ $(tail -n 1 "$seen/blocks") =~ ^blocks:\ ([0-9]+)\ passed,\ ([0-9]+)\ failed$ ]]; then
+    passed=$((passed + BASH_REMATCH[1]))
+    failed=$((failed + BASH_REMATCH[2]))
+else
+    count 1 "tests/blocks.py did not come to its end"
+fi
+
+# Wants that what stands on standard input has at most $1 lines, words or bytes, as $2 counts them.
+at_most() {
+    local length
+    length=$(wc "$2")
+    [ "$length" -le "$1" ]
+    count $? "$3 has $length by wc $2, of at most $1"
+}
+at_most 190 -l README.md < README.md
+at_most 11264 -c README.md < README.md
+at_most 20000 -w 'docs/*.md' < <(cat docs/*.md)
+
+at_least 25
 echo "examples: $passed passed, $failed failed"
 [ "$failed" -eq 0 ]

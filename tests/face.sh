@@ -5,8 +5,8 @@
 # preloaded library: the answers must be the same, each client must fail where the preloaded calls
 # answer ENOSYS, and each must have made its calls here. A client whose package is not there is left
 # out, and said to be, in a line of its own and in the last but one; tests/face_clients.sh installs
-# them. Wants the crates to be proved (`rt lib` does what is left) and `cc`. Prints the runs that
-# fail; the last line counts.
+# them. Wants the crates to be proved by `rt ci`, and `cc`. Prints the runs that fail; the last line
+# counts.
 set -uo pipefail
 cd "$(dirname "$0")/.."
 folder=$(mktemp -d)
@@ -50,7 +50,7 @@ checks() {
 
 build() {
     rm -rf face/out
-    make -C face > "$folder/made" 2>&1
+    make -C face prove='../.ci/static-library civdrax' > "$folder/made" 2>&1
     local status=$?
     count $status "make -C face: $(tail -n 3 "$folder/made")"
     [ $status -eq 0 ] || { echo "$passed passed, $failed failed"; exit 1; }

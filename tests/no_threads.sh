@@ -55,35 +55,41 @@ runs() {
     count $? "at most $1 threads: ${*:4}: status $status, $(head -c 200 "$folder/err")"
 }
 
-# With the Nth allocation refused, for N from 1 until a run makes fewer, the program must end, and
-# write all or nothing.
+# With the Nth allocation refused the words from $2 on must end, and write the file $1 or nothing: each
+# of the first hundred, and each from the 2,001st on, where nearly all pages of the arena are
+# made, until a run makes fewer. Some must be refused to the calls of workers.
 allocations() {
-    local status n
-    for ((n = 1; n < 1000; n++)); do
+    local status n calls=0
+    for ((n = 1; n < 10000; n += n == 100 ? 1901 : 1)); do
         status=0
         rm -f "$folder/mark"
         REFUSE_NTH=$n REFUSE_MARK="$folder/mark" LD_PRELOAD="$folder/refuse.so" \
-            timeout "$seconds" "$2" < /dev/null > "$folder/out" 2> "$folder/err" || status=$?
+            timeout "$seconds" "${@:2}" < /dev/null > "$folder/out" 2> "$folder/err" || status=$?
         if [ "$status" -eq 0 ]; then
             cmp -s "$folder/out" "$1"
         else
             [ "$status" -lt 124 ] && [ ! -s "$folder/out" ]
         fi
-        count $? "allocation $n refused: $2: status $status, $(head -c 200 "$folder/err")"
+        count $? "allocation $n refused: ${*:2}: status $status, $(head -c 200 "$folder/err")"
         [ -e "$folder/mark" ] || break
+        ! grep -q '^Error: Call(' "$folder/err" || calls=$((calls + 1))
     done
+    [ "$calls" -ge 20 ] && [ "$n" -lt 10000 ]
+    count $? "of $n allocations only $calls were refused to calls of workers"
 }
 
-place hello_threads || exit 1
-hello=$folder/hello_threads
-stored=crates/hello_threads/stdout
+# A server and two who ask, of ten requests, each of whose logs is cut after five entries.
+place hello_server || exit 1
+hello=("$folder/hello_server" 10 5)
+stored=$folder/stored
+echo '10 requests, 42 entries' > "$stored"
 cc -shared -fPIC -O1 -o "$folder/refuse.so" tests/refuse_nth.c -ldl || exit 1
-allocations "$stored" "$hello"
+allocations "$stored" "${hello[@]}"
 if [ "$(id -u)" -eq 0 ]; then
-    for threads in 1 2; do
-        refuses "$threads" 1 'Error: Workers(Thread)' /dev/null /dev/null "$hello"
+    for threads in 1 2 3; do
+        refuses "$threads" 1 'Error: Workers(Thread)' /dev/null /dev/null "${hello[@]}"
     done
-    runs 3 "$stored" /dev/null "$hello"
+    runs 4 "$stored" /dev/null "${hello[@]}"
 fi
 
 # mqsim, where it runs scripts of workers: fifteen, of whom fourteen wait for what the last one

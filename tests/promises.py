@@ -1,12 +1,12 @@
 #!/usr/bin/env python3
-"""Compares docs/PROMISES.md with the repository. It must name each planted mistake, and no other; and
-each function, clause and test that it names must be there.
+"""Compares docs/PROMISES.md with the sources. Each function, clause and test that it names must be
+there, and each planted mistake must be in a function, or seen by a test, that a row names.
 
-A row has four columns: the promise, the functions with their clauses, the mistakes and the tests. In
-the second, each part up to a `;` names functions, or the type or module that has them, and behind a
-colon clauses, of which one of them has each; a type may have functions there. They are looked for
-in the crates that the part names, and then in those that the section has named so far, and a clause
-with no function among the functions that it has named. The last line counts the names.
+A row has three columns: the promise, the functions with their clauses, and the tests. In the second,
+each part up to a `;` names crates, or means those of the part before; then functions, where a type, a
+trait or a module stands for all that it has; and behind a colon clauses. Each of the crates has each
+of the functions, and in one of them each clause. A mistake that must not compile names no function:
+a row names one of its file. The last line counts the names and the mistakes.
 """
 import re
 import sys
@@ -15,181 +15,121 @@ from pathlib import Path
 TOP = Path(__file__).parent.parent
 sys.dont_write_bytecode = True
 sys.path.insert(0, str(TOP / ".ci"))
+from edits import edits_below, read  # noqa: E402
 from functions import closing, masked  # noqa: E402
 
 FOLDERS = ("must-fail", "planted", "must-not-compile")
 CRATES = {path.name: path for path in sorted(TOP.glob("crates/*"))}
 NAME = re.compile(r"`([^`]+)`")
-BLOCK = re.compile(r"(?m)^ *(?:pub(?:\(\w+\))? )?(impl|trait)\b([^{;]*)\{")
+BLOCK = re.compile(r"(?m)^ *(?:pub(?:\(\w+\))? )?(?:impl|trait)\b([^{;]*)\{")
 FUNCTION = re.compile(r"\bfn\s+(\w+)")
 CLAUSE = re.compile(r"\b(?:ensures|requires)\*?\s+(\w+)\s*\{")
 TEST = re.compile(r"#\[test\]\s*(?:#\[[^\]]*\]\s*)*(?:pub )?fn (\w+)")
 TABLE = re.compile(r"(?m)^table (\w+)$")
-ITEM = re.compile(r"(?m)^ *(?:pub(?:\(\w+\))? )?(?:struct|enum|trait|type|const|ghost) (\w+)")
-WORD = re.compile(r"(?m)^(?:unfoldable |abbrev )?(?:pub )?(?:record |data )?(\w+)\b")
 
 
 class Function:
-    """A function: its crate, module, type and trait, and the clauses that its text has."""
+    """A function: its file, its module, type and trait, its name, and the clauses that it has."""
 
-    def __init__(self, crate, module, owner, of_trait, name, clauses):
-        self.crate, self.module, self.owner, self.of_trait = crate, module, owner, of_trait
-        self.name, self.clauses = name, clauses
+    def __init__(self, file, homes, name, clauses):
+        self.file, self.homes, self.name, self.clauses = file, homes, name, clauses
 
-    def is_of(self, home):
-        """Whether this is the type, the trait or the module that has it."""
-        return home in (self.owner, self.of_trait, self.module)
+    def is_called(self, path):
+        """Whether this path of the page is its own, or that of a home of it."""
+        *front, last = path.split("::")
+        return last in self.homes or last == self.name and self.homes.issuperset(front)
+
+    def is_printed(self, path):
+        """Whether this is its path as a check prints it, where a trait's name, or arguments, may
+        stand behind the type's."""
+        *front, last = path.split("::")
+        return last == self.name and any(not front or front[-1].startswith(it) for it in self.homes)
 
 
-def owners_of(kind, head):
+def homes_of(head):
     """The type and the trait of a block with this head."""
     head = re.sub(r"\bwhere\b.*", "", head, flags=re.S)
     while re.search(r"<[^<>]*>", head):
         head = re.sub(r"<[^<>]*>", " ", head)
-    words = re.findall(r"[\w:]+", head)
-    if kind == "trait":
-        return "", words[0].rstrip(":")
-    if "for" in words:
-        return words[words.index("for") + 1].rpartition("::")[2], words[0].rpartition("::")[2]
-    return words[0].rpartition("::")[2], ""
+    return {it.rpartition("::")[2] for it in re.findall(r"\w+(?:::\w+)*", head)} - {"for"}
 
 
 def functions_in(crate, path):
     """The functions of a file, those of traits with no body too."""
     text = masked(path.read_text())
-    blocks = [
-        (it.start(), closing(text, it.end() - 1), owners_of(*it.groups()))
-        for it in BLOCK.finditer(text)
-    ]
+    blocks = [(it.start(), closing(text, it.end() - 1), homes_of(it[1])) for it in BLOCK.finditer(text)]
     found = list(FUNCTION.finditer(text))
     for it, following in zip(found, [*found[1:], None]):
-        owner, of_trait = next((by for start, end, by in blocks if start < it.start() < end), ("", ""))
-        said = text[it.end() : following.start() if following else len(text)]
-        yield Function(crate, path.stem, owner, of_trait, it[1], set(CLAUSE.findall(said)))
-
-
-class Sources:
-    """What the crates have that a row may name."""
-
-    def __init__(self):
-        files = [(name, path) for name, crate in CRATES.items() for path in crate.glob("src/**/*.rt")]
-        self.functions = [it for name, path in files for it in functions_in(name, path)]
-        self.tests = {(name, path.stem, it) for name, path in files for it in TEST.findall(path.read_text())}
-        self.tables = {it for path in TOP.glob("tests/*.sh") for it in TABLE.findall(path.read_text())}
-        self.items = {(name, it) for name, path in files for it in ITEM.findall(path.read_text())}
-        for name, crate in CRATES.items():
-            for path in crate.glob("specs/**/*.antt"):
-                self.items |= {(name, it) for it in WORD.findall(path.read_text())}
-        # A method of a type has the clauses of its trait's too.
-        of_traits = [it for it in self.functions if it.of_trait and not it.owner]
-        for it in self.functions:
-            if it.owner and it.of_trait:
-                same = (by for by in of_traits if (by.of_trait, by.name) == (it.of_trait, it.name))
-                it.clauses = it.clauses.union(*(by.clauses for by in same))
-
-    def called_in(self, name, crates):
-        """The functions of these crates that a name stands for, or those of the type or module that
-        it names."""
-        *homes, last = name.split("::")
-        if homes and homes[0] in CRATES:
-            crates, homes = {homes[0]}, homes[1:]
-        ours = [it for it in self.functions if it.crate in crates]
-        exact = [it for it in ours if it.name == last and all(it.is_of(home) for home in homes[-1:])]
-        return exact or [it for it in ours if it.is_of(last)]
-
-    def called(self, name, near, far):
-        """The functions that a name stands for, in the near crates if it is there, else in the far."""
-        return self.called_in(name, near) or self.called_in(name, far)
-
-    def has_item(self, name, crates):
-        """Whether a type, a trait, a constant or a definition that is no function has this name."""
-        *homes, last = name.split("::")
-        crates = {homes[0]} if homes and homes[0] in CRATES else crates
-        return last[0].isupper() and any((crate, last) in self.items for crate in crates)
-
-    def has_test(self, name):
-        """Whether this is a test, named with its crate and module or without, or a table of scripts."""
-        *homes, last = name.split("::")
-        return name in self.tables or any(
-            test == last and all(home in (crate, module) for home in homes)
-            for crate, module, test in self.tests
-        )
+        homes = next((homes for start, end, homes in blocks if start < it.start() < end), set())
+        said = set(CLAUSE.findall(text, it.end(), following.start() if following else len(text)))
+        file = str(path.relative_to(CRATES[crate]))
+        yield Function(file, homes | {path.stem}, it[1], said)
 
 
 def rows():
     """The rows of all tables, as their columns."""
     for line in (TOP / "docs" / "PROMISES.md").read_text().splitlines():
-        if line.startswith("## "):
-            yield None
-        elif line.startswith("| ") and not line.startswith("| Promise |"):
-            yield [it.strip() for it in line.strip().strip("|").split("|")]
+        if line.startswith("| ") and not line.startswith("| Promise |"):
+            yield [it.strip() for it in line.strip("|").split("|")]
 
 
-def halves(part):
+def read_part(part):
     """The names of a part before its colon, and those behind it."""
     plain = NAME.sub(lambda found: found[0].replace(":", "."), part)
-    before = part[: plain.index(":")] if ":" in plain else part
-    return NAME.findall(before), NAME.findall(part[len(before) :])
+    at = plain.find(":") if ":" in plain else len(part)
+    return NAME.findall(part[:at]), NAME.findall(part[at:])
 
 
-def unknown_in(cell, crates, sources, section):
-    """The functions and clauses of a row's second column that are not there. The crates and the
-    functions that it names are added to those of its section. A clause with no function is one of
-    those that the section has named."""
+def read_functions(cell, functions, named):
+    """What a row's second column names that is not there. What is there is added to the named."""
+    crates = []
     for part in cell.split(";"):
-        before, behind = halves(part)
-        near = {it for it in [*before, *behind] if it in CRATES}
-        crates |= near
-        before, behind = [[it for it in names if it not in CRATES] for names in (before, behind)]
-        called = [it for name in before for it in sources.called(name, near, crates)]
-        ours = [it for it in sources.functions if it.crate in crates] if " of " in part else section
-        for name in before:
-            of_one = any(name in it.clauses for it in ours)
-            if not (sources.called(name, near, crates) or of_one or sources.has_item(name, crates)):
-                yield f"no function or clause {name}"
-        section += called
-        called = called if before else section
-        homes = {home for it in called for home in (it.owner or it.of_trait, it.module)}
-        for name in behind:
-            also = sources.called(name, near, crates)
-            of_homes = any(it.owner in homes or it.module in homes or it.crate in near for it in also)
-            of_one = any(name in it.clauses for it in called)
-            if not (of_one or of_homes or sources.has_item(name, crates)):
-                yield f"no clause {name} of {', '.join(before) or 'the functions before'}"
+        names, clauses = read_part(part)
+        crates = [it for it in names if it in CRATES] or crates
+        names = [it for it in names if it not in CRATES]
+        for crate in crates:
+            called = [it for it in functions[crate] if any(it.is_called(name) for name in names)]
+            named.update(called)
+            yield from (f"{crate} {it}" for it in names if not any(by.is_called(it) for by in called))
+            yield from (f"{crate} {it}" for it in clauses if not any(it in by.clauses for by in called))
 
 
-def missing_tests(cell, sources):
-    """The tests and files of a row's last column that are not there."""
-    for name in NAME.findall(cell):
-        there = name in CRATES or sources.has_test(name) or ("/" in name and (TOP / name).exists())
-        if not there:
-            yield f"no test {name}"
+def is_promised(edit, functions, named, tests):
+    """Whether a row names the function of a mistake, or the test that sees it."""
+    if "test" in edit.head:
+        return edit.head["test"].rpartition("::")[2] in tests
+    ours = functions[edit.crate]
+    near = [it for it in ours if it.file == edit.file]
+    if "function" in edit.head:
+        near, ours = ([it for it in by if it.is_printed(edit.head["function"])] for by in (near, ours))
+    return not named.isdisjoint(near or ours)
 
 
 def main():
-    edits = {path.stem for folder in FOLDERS for path in TOP.glob(f"crates/*/{folder}/*.edit")}
-    sources, mistakes, crates, section = Sources(), set(), set(), []
-    names, wrong = 0, []
+    files = [(name, path) for name, crate in CRATES.items() for path in crate.glob("src/**/*.rt")]
+    functions = {name: [] for name in CRATES}
+    for name, path in files:
+        functions[name] += functions_in(name, path)
+    there = {it for _, path in files for it in TEST.findall(path.read_text())}
+    there |= {it for path in TOP.glob("tests/*.sh") for it in TABLE.findall(path.read_text())}
+    named, tests, names, wrong = set(), set(), 0, []
     for row in rows():
-        if row is None:
-            crates, section = set(), []
-            continue
-        if len(row) != 4:
+        if len(row) != 3:
             wrong.append(f"a row has {len(row)} columns: {row[0]}")
             continue
-        promise, functions, refused, tests = row
-        mistakes |= {it for it in NAME.findall(refused) if re.fullmatch(r"[a-z0-9_]+", it)} - set(CRATES)
-        missing = [
-            *unknown_in(functions, crates, sources, section),
-            *missing_tests(tests, sources),
-        ]
-        names += len(NAME.findall(functions)) + len(NAME.findall(tests)) - len(missing)
-        wrong += [f"there is {it}, of which a row speaks: {promise}" for it in missing]
-    wrong += [f"{name} is planted, and no promise names it" for name in sorted(edits - mistakes)]
-    wrong += [f"{name} is named, and not planted" for name in sorted(mistakes - edits)]
+        promise, functions_named, seen_by = row
+        missing = [*read_functions(functions_named, functions, named)]
+        of_tests = NAME.findall(seen_by)
+        missing += [it for it in of_tests if it not in there and not (TOP / it).is_file()]
+        tests.update(of_tests)
+        names += len(NAME.findall(functions_named)) + len(of_tests) - len(missing)
+        wrong += [f"there is no {it}, of which a row speaks: {promise}" for it in missing]
+    edits = [read(path) for folder in FOLDERS for path in edits_below(TOP, folder)]
+    without = [it for it in edits if not is_promised(it, functions, named, tests)]
+    wrong += [f"no row names what {it.label} is planted in" for it in without]
     for line in wrong:
         print(f"promises: {line}")
-    print(f"promises: {names + len(edits & mistakes)} passed, {len(wrong)} failed")
+    print(f"promises: {names + len(edits) - len(without)} passed, {len(wrong)} failed")
     return not wrong
 
 

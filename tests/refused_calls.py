@@ -58,6 +58,8 @@ HANGS = 124
 WAIT_FOR_OTHERS = {
     "mq_cli_thread_tests worked::two_pairs_of_workers_hand_on_all",
     "mq_cli_thread_tests worked::a_removal_ends_who_waits",
+    "mq_cli_thread_tests worked::a_removal_ends_who_waits_within_an_end",
+    "mq_cli_thread_tests worked::a_step_that_is_served_before_its_end_is_done",
 }
 # The tests that may make no allocation.
 MAKE_NONE = {
@@ -69,6 +71,9 @@ MAKE_NONE = {
     "mq_one_thread_tests names::each_layers_refusal_has_its_errno",
     "mq_queue_tests lists::a_msgtyp_is_read_as_the_manual_says",
     "mq_shared_tests shared::no_parts_are_opened_for_no_slot",
+    "mq_shared_tests waiters::a_patience_says_how_long_it_waits",
+    "mq_shared_tests waiters::who_is_woken_before_it_sleeps_does_not_sleep",
+    "mq_shared_tests waiters::who_waited_until_its_time_is_not_woken_twice",
     "mq_system_tests worked::a_size_out_of_its_limits_is_refused",
     "mq_table_tests cuts::a_slot_without_a_queue_hands_out_an_empty_cut",
     "mq_table_tests keys::an_id_is_told_by_slot_and_seq_up_to_the_bounds",

@@ -56,6 +56,27 @@ ended 'a directory as standard input' 3 '' 'mqsim: read failed\n'
 "$program" <&- > "$seen/out" 2> "$seen/err"
 ended 'no standard input' 3 '' 'mqsim: read failed\n'
 
+# A script's file: it is run as standard input is, with the same faults, and where it cannot be
+# opened the fault has its name. A second line says which words are subcommands.
+missing="mqsim: $seen/missing: No such file or directory (os error 2)\\n"
+missing+="mqsim: a word that is not serial or threads names a script's file\\n"
+for words in '' serial; do
+    printf 'get 0 c\nget\n' > "$seen/file"
+    "$program" $words "$seen/file" > "$seen/out" 2> "$seen/err"
+    ended "a file with a fault, after '$words'" 1 'id 0\n' 'mqsim: line 2: words\n'
+    : > "$seen/file"
+    "$program" $words "$seen/file" > "$seen/out" 2> "$seen/err"
+    ended "an empty file, after '$words'" 0 '' ''
+    "$program" $words "$seen/script" > "$seen/out" 2> "$seen/err"
+    ended "a file of 1,048,577 bytes, after '$words'" 1 '' 'mqsim: script too long\n'
+    "$program" $words "$seen/missing" > "$seen/out" 2> "$seen/err"
+    ended "a file that is not there, after '$words'" 2 '' "$missing"
+    "$program" $words "$seen" > "$seen/out" 2> "$seen/err"
+    ended "a directory, after '$words'" 2 '' "mqsim: $seen: is a directory\n"
+    "$program" $words /proc/self/mem > "$seen/out" 2> "$seen/err"
+    ended "a file whose read fails, after '$words'" 3 '' 'mqsim: read failed\n'
+done
+
 # A write that fails: of one answer, of many, after a fault of the script, and of the help.
 yes ipcs | head -1000 > "$seen/many"
 for script in 'get 0 c\n' 'get 0 c\nget\n' "$(cat "$seen/many")"; do
@@ -81,6 +102,11 @@ told='id 0\nworker 2 sent 3 received 0 order yes end done\n'
 told+='worker 3 sent 0 received 3 order yes end done\n'
 told+='slot 0 events 7 sent 3 received 3 left 0\npages 64 free 64\n'
 run "$pair" threads;            ended 'a run of threads' 0 "$told" ''
+printf "$pair" > "$seen/file"
+"$program" threads "$seen/file" > "$seen/out" 2> "$seen/err"
+ended 'a run of threads of a file' 0 "$told" ''
+"$program" threads "$seen" > "$seen/out" 2> "$seen/err"
+ended 'a directory after threads' 2 '' "mqsim: $seen: is a directory\n"
 run '' threads;                 ended 'an empty threads script' 0 'pages 64 free 64\n' ''
 run 'put 0 1 1 1\n' threads;    ended 'put in the main part' 1 '' 'mqsim: line 1: words\n'
 run "${pair}get 0 c\n" threads; ended 'get in a section' 1 '' 'mqsim: line 6: words\n'
@@ -94,6 +120,48 @@ ended 'threads to a full device' 4 '' 'mqsim: write failed\n'
 { echo 'get 0 c'; yes worker | head -15; } > "$seen/script"
 (ulimit -v 60000; exec "$program" threads < "$seen/script" > "$seen/out" 2> "$seen/err")
 ended 'no room for threads' 6 'id 0\n' 'mqsim: thread not started\n'
+
+# Who types a script at a terminal is told how it ends, and of a serial one has a prompt. Prints what the terminal shows of a script
+# that is typed there, of the program with the words of the table, and ends with its status.
+typed() {
+    python3 - crates/mqsim/out/mqsim "$@" <<'PYTHON'
+import os, pty, signal, sys
+child, terminal = pty.fork()
+if child == 0:
+    signal.alarm(60)
+    os.execv(sys.argv[1], sys.argv[1:])
+os.write(terminal, b"get 0 c\n\x04")
+shown = b""
+while True:
+    try:
+        part = os.read(terminal, 4096)
+    except OSError:
+        break
+    if not part:
+        break
+    shown += part
+sys.stdout.buffer.write(shown.replace(b"\r", b""))
+sys.exit(os.waitstatus_to_exitcode(os.waitpid(child, 0)[1]))
+PYTHON
+}
+hint='^mqsim: type .*, then Ctrl-D (their lines: mqsim --help)$'
+echo arena > "$seen/file"
+#   hints  answer      words
+while read -r hints answer words; do
+    typed $words > "$seen/out"
+    status=$?
+    [ "$status" -eq 0 ] && [ "$(grep -c "$hint" "$seen/out")" -eq "$hints" ] \
+        && grep -q "^\(> \)\?${answer/_/ }" "$seen/out"
+    count $? "typed, with '$words': status $status, shown: $(head -c 300 "$seen/out")"
+done <<END
+    1      id_0
+    1      id_0        -
+    1      id_0        serial --height 3
+    1      id_0        threads
+    0      pages_64    $seen/file
+END
+: > "$seen/out"
+: > "$seen/err"
 
 # A standard error that takes nothing changes no status and no answer.
 printf 'get 0 c\nget\n' > "$seen/script"

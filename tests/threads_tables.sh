@@ -290,8 +290,9 @@ done
 printf '%s' "${line:0:1048576-k}" >&7
 
 table a_worker_ends_at_its_first_refusal
-# By no other errno than these can a worker end: it waits where a serial script answers EAGAIN or
-# ENOMSG, takes texts of any size, and neither makes a queue nor sets a quota.
+# By no other errno than these can a worker end whose lines have no `within`: it waits where a
+# serial script answers EAGAIN or ENOMSG, takes texts of any size, and neither makes a queue nor sets
+# a quota.
 case_of threads
 queues 1
 for line in 'put 0 0 1 0' 'put 0 -1 1 1' 'put 0 -9223372036854775808 1 1' 'put 1 1 1 1' \
@@ -318,6 +319,109 @@ queues 1
 worker 1 0 ENOMEM 'put 0 1 1 1' 'put 9 0 1 1'
 slot 0 2 1 0 1
 pages 1
+
+table a_step_ends_where_its_waits_do
+# Fifteen who wait in vain: for a message, for room, and with no time to wait at all. The lines
+# behind are not run.
+case_of threads
+queues 1
+for k in {1..7}; do
+    worker 0 0 ENOMSG "take 0 $k 5 within 20" 'put 0 9 1 1' 'rm 0'
+    worker 0 0 ENOMSG "take 0 -$k 1 within 0" 'put 0 9 1 1' 'rm 0'
+done
+worker 0 0 ENOMSG 'take 0 0 100000 within 1' 'rm 0'
+slot 0 1 0 0 0
+pages 64
+case_of threads
+main 'get 0 c' 'id 0' 'set 0 0' 'at 1'
+for k in {1..7}; do
+    worker 0 0 EAGAIN "put 0 $k 5 1024 within 20" 'rm 0'
+    worker 0 0 EAGAIN "put 0 $k 1 0 within 0" 'rm 0'
+done
+slot 0 2 0 0 0
+pages 64
+# What is there in time is received, and one end holds for the whole line.
+case_of threads
+queues 1
+for k in {1..15}; do
+    worker 3 3 ENOMSG "put 0 $k 3 10" "take 0 $k 100000 within 20" 'rm 0'
+done
+slot 0 91 45 45 0
+pages 64
+# Room for three messages of fifty bytes.
+case_of threads
+main 'get 0 c' 'id 0' 'set 0 150' 'at 1'
+worker 3 0 EAGAIN 'put 0 1 100000 50 within 20' 'rm 0'
+slot 0 5 3 0 3
+pages 64
+# Who need not wait need not hurry, and a refusal that no wait can mend comes at once.
+case_of threads
+queues 1
+worker 5 5 done 'put 0 1 5 1000 within 0' 'take 0 1 5 within 0' 'take 0 7 0 within 0'
+worker 0 0 EINVAL 'put 0 0 1 1 within 1000000'
+worker 0 0 EINVAL 'put 0 1 1 65537 within 1000000'
+worker 0 0 EINVAL 'take 64 0 1 within 1000000'
+slot 0 11 5 5 0
+pages 64
+# Pages that do not come in time, and an arena that never has as many.
+case_of 'threads --height 0'
+queues 1
+worker 1 0 ENOMEM 'put 0 1 1 1' 'put 0 1 1 1 within 20' 'rm 0'
+slot 0 2 1 0 1
+pages 1
+case_of 'threads --height 3'
+queues 1
+worker 1 0 ENOMEM 'put 0 1 1 8192 within 0' 'put 0 1 1 8192 within 20'
+worker 0 0 ENOMEM 'put 0 1 1 8193 within 1000000'
+slot 0 2 1 0 1
+pages 8
+# And pages, room and messages that do.
+case_of 'threads --height 0'
+queues 1
+for k in {1..7}; do
+    worker 50 0 done "put 0 $k 50 1024 within 1000000"
+    worker 0 50 done "take 0 $k 50 within 1000000"
+done
+slot 0 701 350 350 0
+pages 1
+case_of threads
+queues 1 16384
+for k in {1..7}; do
+    worker 200 0 done "put 0 $k 200 1000 within 1000000"
+    worker 0 200 done "take 0 $k 200 within 1000000"
+done
+slot 0 2802 1400 1400 0
+pages 64
+case_of threads
+queues 1
+worker 50 0 done 'put 0 1 50 65536 within 1000000'
+worker 0 50 done 'take 0 1 50 within 1000000'
+slot 0 101 50 50 0
+pages 64
+# A queue is removed while fourteen wait who could wait long, and while others come and go who
+# cannot.
+case_of threads
+main 'get 0 c' 'id 0' 'set 0 0' 'at 1'
+for k in {1..7}; do
+    worker 0 0 EIDRM "take 0 $k 1 within 1000000"
+    worker 0 0 EIDRM "put 0 $k 1 1000 within 1000000"
+done
+worker 0 0 done 'rm 0'
+slot 0 3 0 0 0
+pages 64
+case_of threads parts 20 done EIDRM EAGAIN ENOMSG
+queues 2 16384
+worker - - - 'put 1 2 100 0' 'take 1 2 100' 'put 1 1 1 0' 'put 0 1 100000 1000 within 1'
+for _ in {1..6}; do
+    worker - - - 'put 0 1 1000 1000 within 1'
+done
+for _ in {1..7}; do
+    worker - - - 'take 0 1 100000 within 1'
+done
+worker - - - 'take 1 1 1' 'rm 0'
+slot 0 3 - - 0
+slot 1 2 - - 0
+pages 64
 
 table an_arena_is_used_up
 # Fifteen who put into queues with room for all, until there is no page for the next text.

@@ -1,89 +1,45 @@
-//! One thread waits for a message, and another sends it. Whoever sends pledges that a text begins
-//! with the last digit of its seat's number: so the receiver knows who has written it.
-
+//! Three threads in a ring: each sends its number to the next, and waits for a text of one byte.
 #![tactic(auto)]
 
-ghost use Rattle.std.specs.Prelude.{◌≡◌, ◌+◌, ◌%◌, IfOk, slice_index_or};
+ghost use Rattle.std.specs.Prelude.{◌≡◌, length};
 
-use mq::{
-    Caller, DEFAULTS, Delivered, Errno, Names, Pledge, Seat, System, Worker, WorkersError, with_two,
-};
+use anyhow::Result;
+use mq::{Caller, DEFAULTS, Errno, Names, Pledge, Seat, System, Worker, with_workers};
 use std::alloc::Global;
-use std::io;
 use std::sync::Wait;
 
-struct Signed;
+struct OneByte;
 
-impl Pledge for Signed {
-    ghost kept = { λ seat tag mtype bytes. slice_index_or bytes 0 0 ≡ 48 + seat % 10 };
+impl Pledge for OneByte {
+    ghost kept = { λ _seat _tag _mtype bytes. length bytes ≡ 1 };
 }
 
 #[derive(Drop)]
-struct Receiver;
+struct Player;
 
-impl Worker<Signed> for Receiver {
-    type Answer = Result<Delivered<Vec<u8>>, Errno>;
-
-    ghost after = { λ _ _ answer. IfOk answer (λ d.
-        slice_index_or d.text.items 0 0 ≡ 48 + d.sender % 10) };
+impl Worker<OneByte> for Player {
+    type Answer = Result<u8, Errno>;
 
     fn work<N: Names, R: Wait>(
         self,
         rt: &R,
         alloc: Global,
-        system: &System<Signed, N>,
+        system: &System<OneByte, N>,
         seat: &mut Seat<N>,
-    ) -> Result<Delivered<Vec<u8>>, Errno> {
+    ) -> Result<u8, Errno> {
         let mut caller = Caller::new(rt, alloc, seat);
+        let own = caller.number();
         let id = caller.queue(system, 1234)?;
-        caller.receive(system, id, 100, 0)
+        let text = [(own % 10) as u8];
+        caller.send(system, id, i64::from(own % 3 + 1), 0, &text)?;
+        Ok(caller.receive(system, id, 1, i64::from(own))?.text[0])
     }
 }
 
-#[derive(Drop)]
-struct Sender;
-
-impl Worker<Signed> for Sender {
-    type Answer = Result<u64, Errno>;
-
-    fn work<N: Names, R: Wait>(
-        self,
-        rt: &R,
-        alloc: Global,
-        system: &System<Signed, N>,
-        seat: &mut Seat<N>,
-    ) -> Result<u64, Errno> {
-        let mut caller = Caller::new(rt, alloc, seat);
-        // The receiver waits for a text: what finds no memory is done once more.
-        let id = match caller.queue(system, 1234) {
-            Ok(id) => id,
-            Err(_) => caller.queue(system, 1234)?,
-        };
-        let mut text = *b"0 says hello";
-        text[0] = b'0' + (caller.number() % 10) as u8;
-        if let Ok(entry) = caller.send(system, id, 7, 0, &text) {
-            return Ok(entry);
-        }
-        let sent = caller.send(system, id, 7, 0, &text);
-        if sent.is_err() {
-            // Then the queue goes, and whoever waits in it is answered EIDRM.
-            caller.remove(system, id)?;
-        }
-        sent
+fn main(rt: HostRuntime) -> Result<()> {
+    let players = vec![in rt.alloc(); Player, Player, Player]?;
+    for answer in with_workers(&rt, rt.alloc(), DEFAULTS, players)?.answer {
+        println!(rt; "{}", answer?)?;
     }
-}
-
-/// Why nothing is printed.
-#[derive(Debug, Drop)]
-enum Fault {
-    Workers(WorkersError),
-    Call(Errno),
-    Output(io::Error),
-}
-
-fn main(rt: HostRuntime) -> Result<(), Fault> {
-    let ended = with_two(&rt, rt.alloc(), DEFAULTS, Receiver, Sender).map_err(Fault::Workers)?;
-    let (received, _entry) = ended.answer;
-    let delivered = received.map_err(Fault::Call)?;
-    println!(rt; "{}", delivered.text.escape_ascii()).map_err(Fault::Output)
+    Ok(())
 }

@@ -1,6 +1,7 @@
 -- What a caller of bytes knows: of them, of its seat, and of why a call is refused.
 use Rattle.std.specs.Prelude.{◌≡◌, ◌⊎◌, ℕ, ℤ, ◌<◌, ◌≤◌, nat_lt, Bool, false, true, List, None, Option}
-use Rattle.mq_message.specs.Text.{PlainText}
+use Rattle.mq_message.specs.Text.{PlainText, order_for}
+use Rattle.mq_message.specs.declared.order.TheConstants.{INLINE_LEN}
 use Rattle.mq_queue.specs.declared.limits.TheConstants.{MSGMAX}
 use Rattle.mq_one_thread.specs.declared.errno.Errno.{Errno}
 use Rattle.mq_one_thread.specs.declared.errno.Errno.TheVariants.{EINVAL, ENOMEM}
@@ -61,3 +62,13 @@ MayNotDraft n _ = ⊥
 -- no text was drafted of so many bytes, and the system was not asked
 abbrev pub IsNotDrafted : ℕ → SeatState → SeatState → Errno → Type 0
 IsNotDrafted n old new errno = MayNotDraft n errno × IsUnasked old new
+
+-- why a draft that waits found no pages or no memory: its patience ends, or the arena is too small,
+-- or it wants memory
+abbrev pub MayWaitInVain : Bool → ℕ → ℕ → Type 0
+MayWaitInVain ends height n = (ends ≡ true) ⊎ (height < order_for n) ⊎ (INLINE_LEN < n)
+
+-- no text was drafted of so many bytes, though it was waited for pages
+abbrev pub IsNotDraftedWithin : Bool → ℕ → ℕ → SeatState → SeatState → Errno → Type 0
+IsNotDraftedWithin ends height n old new errno =
+    IsNotDrafted n old new errno × (errno ≡ ENOMEM → MayWaitInVain ends height n)

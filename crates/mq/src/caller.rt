@@ -1,4 +1,4 @@
-ghost use Rattle.std.specs.Prelude.{◌≡◌, ◌⊎◌, ◌+◌, ◌<◌, ◌≤◌, false, length, slice_index, take};
+ghost use Rattle.std.specs.Prelude.{◌≡◌, ◌⊎◌, ◌||◌, ◌+◌, ◌<◌, ◌≤◌, false, length, slice_index, take};
 ghost use Rattle.std.specs.Prelude.{IfOk, IfErr, OnOk, MatchResult};
 ghost use Rattle.mq_queue.specs.Queue.{rest_of};
 ghost use Rattle.mq_queue.specs.Row.{last_log};
@@ -12,11 +12,11 @@ ghost use Rattle.mq_shared.specs.Seat.{IsCounted, IsLater, IsSame, front_of};
 ghost use Rattle.mq_shared.specs.Seen.{IsDone, IsReceipt, receive_verdict, remove_verdict, send_verdict};
 ghost use Rattle.mq_shared.specs.Shown.{IsRemoval};
 ghost use Rattle.mq_system.specs.Get.{IsNotGot, MayRefuse};
-ghost use Rattle.mq.specs.Caller.{creating, HasNoRoom, IsGotId, IsNotDrafted, IsRefusal, MayCount, MeetsCut, with_bytes};
+ghost use Rattle.mq.specs.Caller.{creating, HasNoRoom, IsGotId, IsNotDrafted, IsNotDraftedWithin, IsRefusal, MayCount, MeetsCut, with_bytes};
 
 use crate::bytes::copy_out;
 use mq_one_thread::{Delivered, Errno, GetFlags, Removal, SendRefused};
-use mq_system::{Names, Pledge, RecvFlags, Seat, SendFlags, System};
+use mq_system::{Forever, Names, Patience, Pledge, RecvFlags, Seat, SendFlags, System, TextOf};
 use mq_table::{Cut, Id};
 use std::alloc::Global;
 use std::sync::Wait;
@@ -186,11 +186,84 @@ impl<'a, N: Names, R: Wait> Caller<'a, N, R> {
             self.old.seat.now self.new.seat.now (slot_of id)
             (send_verdict (seq_of id) mtype (length bytes.now)) errno) }
     {
-        let text = match system.draft_by(self.rt, self.seat, bytes) {
-            Ok(text) => text,
-            Err(error) => return Err(error.errno()),
-        };
-        let sent = system.msgsnd(self.rt, self.seat, id, mtype, tag, text, flags, self.moment);
+        match system.draft_by(self.rt, self.seat, bytes) {
+            Ok(text) => self.send_text(system, id, mtype, tag, text, flags, &mut Forever),
+            Err(error) => Err(error.errno()),
+        }
+    }
+
+    /// Sends these bytes, and waits for pages, and then for room, until the patience ends: one end
+    /// holds for both. Then it answers ENOMEM or EAGAIN.
+    pub fn send_within<P: Pledge, T: Patience>(
+        &mut self,
+        system: &System<P, N>,
+        id: Id,
+        mtype: i64,
+        tag: u64,
+        bytes: &[u8],
+        patience: &mut T,
+    ) -> Result<u64, Errno>
+        requires pledge { P.kept self.old.seat.now.number tag mtype bytes.now }
+        ensures ok { OnOk result (never_sent N.slots id mtype ≡ false) }
+        ensures refused { IfErr result (MaySend T.ends) }
+        ensures counted { MatchResult result
+            (λ _. IsCounted self.old.seat.now self.new.seat.now (slot_of id))
+            (λ _. IsSame self.old.seat.now self.new.seat.now) }
+        ensures moment { self.new.moment ≡ self.old.moment }
+        ensures later { IsLater self.old.seat.now self.new.seat.now }
+        ensures done { IfOk result (λ entry. IsDone self.old.seat.now self.new.seat.now (slot_of id)
+            (send_verdict (seq_of id) mtype (length bytes.now)) entry
+            (Sent self.old.seat.now.number self.old.moment tag mtype (length bytes.now))) }
+        ensures decided { IfErr result (λ errno. IsNotDraftedWithin T.ends N.height
+            (length bytes.now) self.old.seat.now self.new.seat.now errno
+            ⊎ IsRefusal (never_sent N.slots id mtype) (MaySend T.ends)
+            self.old.seat.now self.new.seat.now (slot_of id)
+            (send_verdict (seq_of id) mtype (length bytes.now)) errno) }
+    {
+        let flags = SendFlags { nowait: false };
+        match system.draft_by_within(self.rt, self.seat, bytes, patience) {
+            Ok(text) => self.send_text(system, id, mtype, tag, text, flags, patience),
+            Err(error) => Err(error.errno()),
+        }
+    }
+
+    /// Sends a text, which is spent where it is refused.
+    fn send_text<P: Pledge, T: Patience>(
+        &mut self,
+        system: &System<P, N>,
+        id: Id,
+        mtype: i64,
+        tag: u64,
+        text: TextOf<N>,
+        flags: SendFlags,
+        patience: &mut T,
+    ) -> Result<u64, Errno>
+        requires pledge { P.kept self.old.seat.now.number tag mtype text.bytes }
+        ensures ok { OnOk result (never_sent N.slots id mtype ≡ false) }
+        ensures counted { MatchResult result
+            (λ _. IsCounted self.old.seat.now self.new.seat.now (slot_of id))
+            (λ _. IsSame self.old.seat.now self.new.seat.now) }
+        ensures moment { self.new.moment ≡ self.old.moment }
+        ensures later { IsLater self.old.seat.now self.new.seat.now }
+        ensures done { IfOk result (λ entry. IsDone self.old.seat.now self.new.seat.now (slot_of id)
+            (send_verdict (seq_of id) mtype (length text.bytes)) entry
+            (Sent self.old.seat.now.number self.old.moment tag mtype (length text.bytes))) }
+        ensures decided { IfErr result (IsRefusal (never_sent N.slots id mtype)
+            (MaySend (T.ends || flags.nowait))
+            self.old.seat.now self.new.seat.now (slot_of id)
+            (send_verdict (seq_of id) mtype (length text.bytes))) }
+    {
+        let sent = system.msgsnd_within(
+            self.rt,
+            self.seat,
+            id,
+            mtype,
+            tag,
+            text,
+            flags,
+            patience,
+            self.moment,
+        );
         match sent {
             Ok(entry) => Ok(entry),
             Err(refusal) => {
@@ -268,16 +341,53 @@ impl<'a, N: Names, R: Wait> Caller<'a, N, R> {
             (receive_verdict (seq_of id) size (selection_of msgtyp flags.except) flags.noerror)
             errno) }
     {
+        self.receive_within(system, id, size, msgtyp, flags, &mut Forever)
+    }
+
+    /// Receives bytes as `receive_with` does, and waits for a message no longer than until the
+    /// patience ends. Then it answers ENOMSG.
+    pub fn receive_within<P: Pledge, T: Patience>(
+        &mut self,
+        system: &System<P, N>,
+        id: Id,
+        size: u64,
+        msgtyp: i64,
+        flags: RecvFlags,
+        patience: &mut T,
+    ) -> Result<Delivered<Vec<u8>>, Errno>
+        ensures ok { OnOk result (out_of_slots N.slots id ≡ false) }
+        ensures fits { IfOk result (λ d. length d.text.items ≤ size) }
+        ensures pledge { IfOk result (λ d.
+            flags.noerror ≡ false → P.kept d.sender d.tag d.mtype d.text.items) }
+        ensures cut { IfOk result (λ d. MeetsCut P.kept size d d.text.items) }
+        ensures refused { IfErr result (MayReceive (T.ends || flags.nowait) flags.noerror) }
+        ensures counted { MatchResult result
+            (λ _. IsCounted self.old.seat.now self.new.seat.now (slot_of id))
+            (λ _. IsSame self.old.seat.now self.new.seat.now) }
+        ensures moment { self.new.moment ≡ self.old.moment }
+        ensures later { IsLater self.old.seat.now self.new.seat.now }
+        ensures done { IfOk result (λ d. IsReceipt self.old.seat.now self.new.seat.now (slot_of id)
+            (seq_of id) size (selection_of msgtyp flags.except) flags.noerror self.old.moment
+            (with_bytes d d.text.items)) }
+        ensures decided { IfErr result (λ errno. HasNoRoom size
+            self.old.seat.now self.new.seat.now errno
+            ⊎ IsRefusal (out_of_slots N.slots id)
+            (MayReceive (T.ends || flags.nowait) flags.noerror)
+            self.old.seat.now self.new.seat.now (slot_of id)
+            (receive_verdict (seq_of id) size (selection_of msgtyp flags.except) flags.noerror)
+            errno) }
+    {
         let Ok(mut bytes) = Vec::with_capacity(self.alloc, size as usize) else {
             return Err(Errno::ENOMEM);
         };
-        let received = match system.msgrcv(
+        let received = match system.msgrcv_within(
             self.rt,
             self.seat,
             id,
             size,
             msgtyp,
             flags,
+            patience,
             self.moment,
         ) {
             Ok(received) => received,

@@ -32,7 +32,10 @@ pub use mq_queue::{
     Base, BaseEntries, BaseEntry, BoardRow, Event, Figures, Log, MSGMAX, MSGMNB, Received,
 };
 pub use mq_select::Selection;
-pub use mq_system::{Blanks, Names, Pages, Pledge, RecvFlags, Seat, SendFlags, System, TextOf};
+pub use mq_system::{
+    Blanks, Forever, Names, NoWait, Pages, Patience, Pledge, RecvFlags, Seat, SendFlags, System,
+    TextOf, Until,
+};
 pub use mq_table::{Cut, Id, MAX_SEQ, MAX_SLOTS};
 pub use mq_tree::MAX_HEIGHT;
 pub use program::{QueueProgram, with_queues};

@@ -101,19 +101,19 @@ module _ {Q : Type 0} (eq : Stream → Stream → Bool) (puts : Puts Q) (takes :
   }
 
   -- one message more was received, and is noted
-  pub come_more : ((a b : Stream) → eq a b ≡ same_stream a b) → (id : ℕ) (msgtyp : ℤ) (k moment : ℕ) (taken : Taken) (old mid new : Q) (start before roomy after : Notes)
-      (stream : Stream) → HaveCome eq puts takes removes (replicate k (receive id msgtyp moment)) old k start before mid
+  pub come_more : ((a b : Stream) → eq a b ≡ same_stream a b) → (id : ℕ) (msgtyp : ℤ) (k : ℕ) (ends : Bool) (moment : ℕ) (taken : Taken) (old mid new : Q) (start before roomy after : Notes)
+      (stream : Stream) → HaveCome eq puts takes removes (replicate k (receive id msgtyp ends moment)) old k start before mid
       → ((q : Stream) → get eq roomy.last q ≡ get eq before.last q) → roomy.ordered ≡ before.ordered
-      → takes mid id msgtyp moment (Ok taken) new → stream ≡ stream_of (record { id = id; taken = taken })
+      → takes mid id msgtyp ends moment (Ok taken) new → stream ≡ stream_of (record { id = id; taken = taken })
       → after.ordered ≡ (roomy.ordered && rises (get eq roomy.last stream) taken.tag) → Updates eq roomy.last after.last stream (Some taken.tag)
-      → HaveCome eq puts takes removes (replicate (k + 1) (receive id msgtyp moment)) old (k + 1) start after new
-  come_more same id msgtyp k moment taken old mid new start before roomy after stream has last ordered done is rose noted =
+      → HaveCome eq puts takes removes (replicate (k + 1) (receive id msgtyp ends moment)) old (k + 1) start after new
+  come_more same id msgtyp k ends moment taken old mid new start before roomy after stream has last ordered done is rose noted =
       let one : Receipt = record { id = id; taken = taken } in
       let rose_one = rw is at rose in
       let noted_one = rw is at noted in
       record {
         received = has.received ++ one ∷ [];
-        called = received_more puts takes removes id msgtyp k moment taken has.received old mid new has.called done;
+        called = received_more puts takes removes id msgtyp k ends moment taken has.received old mid new has.called done;
         count_is = omega (arith, has.count_is, length-append has.received (one ∷ []));
         noted = λ so_far had.
             let far = noted_same eq (so_far ++ has.received) before roomy last ordered (has.noted so_far had) in

@@ -13,6 +13,7 @@ pub mod MainLemmas
 pub mod NumberLemmas
 pub mod PartsLemmas
 pub mod PortLemmas
+pub mod PromptLemmas
 pub mod ReportLemmas
 pub mod Runs
 pub mod Seats

@@ -1,11 +1,12 @@
-use Rattle.std.proofs.Common.{◌≡◌, ℕ, ℤ, ◌+◌, ◌^◌, ◌<◌, ◌≤◌, true, false, List, [], ◌∷◌, Some, Result, Ok, Err, codes, refl, ap, subst, ◌∙◌, arith, lit≤}
+use Rattle.std.proofs.Common.{◌≡◌, ℕ, ℤ, ◌+◌, ◌^◌, ◌<◌, ◌≤◌, true, false, List, [], ◌∷◌, Option, None, Some, Result, Ok, Err, codes, refl, ap, subst, ◌∙◌, arith, lit≤}
 use Rattle.std.specs.Fmt.{decimal, signed_decimal}
 use Rattle.std.specs.Int.{w64}
 use Rattle.std.specs.Int.RustNames.{FitsSigned}
 use Rattle.std.specs.List.{list_all}
 use Rattle.std.specs.Str.{bytes_eq}
 use Rattle.std.proofs.lemmas.Bool.{cond-true, cond-false, eqb-true, lt-ltb, ltb-true, ne_eqb, eqb-false}
-use Rattle.mq_cli.specs.declared.limits.TheConstants.{MAX_COUNT, MAX_WORKERS}
+use Rattle.std.proofs.lemmas.Slice.Eq.{bytes_eq-Decides}
+use Rattle.mq_cli.specs.declared.limits.TheConstants.{MAX_COUNT, MAX_WITHIN, MAX_WORKERS}
 use Rattle.mq_cli.specs.declared.fault.Cause.{Cause}
 use Rattle.mq_cli.specs.declared.fault.Cause.TheVariants.{Words}
 use Rattle.mq_cli.specs.declared.step.Step.TheVariants.{Put, Take, Remove}
@@ -16,8 +17,8 @@ use Rattle.mq_cli.specs.Commands.{Call, sit, show, get, snd, rcv, set, rm, stat,
 use Rattle.mq_cli.specs.Laws.{Spells}
 use Rattle.mq_cli.specs.Lines.{line_of, words_of}
 use Rattle.mq_cli.specs.Numbers.{number_of, under}
-use Rattle.mq_cli.specs.ThreadsLaws.{line_spelling, CanStand, Says, ThreadsReadBack, ThreadsSpelledOneWay}
-use Rattle.mq_cli.specs.ThreadsScript.{main_call, asked, main_of, put_of, take_of, drop_of, section_of, worker_of, part_of, line_said, threads_reading}
+use Rattle.mq_cli.specs.ThreadsLaws.{within_words, CanWait, line_spelling, CanStand, Says, ThreadsReadBack, ThreadsSpelledOneWay}
+use Rattle.mq_cli.specs.ThreadsScript.{main_call, asked, main_of, within_of, with_end, put_of, take_of, drop_of, section_of, worker_of, part_of, line_said, threads_reading}
 use Rattle.mq_cli.proofs.NumberLemmas.{number_of-decimal, number_of-Some}
 use Rattle.mq_cli.proofs.SpellingLemmas.{all_filled, bind_ok, changed, chosen, decimal_word, got, integer_of-Some, integer_of-signed_decimal, key_again, name_word, needed, reading-Ok, reads_words, rejoined, signed_word, under-Some, under-decimal}
 
@@ -32,16 +33,20 @@ in_section : (sections n : ℕ) (name : List ℕ) (words : List (List ℕ)) → 
 in_section sections n name words some other filled =
     cond-true _ _ _ filled ∙ cond-false _ _ _ other ∙ cond-false _ _ _ (ne_eqb sections 0 (λ e. omega (arith, some, e)))
 
--- the words of put are read back
-put_again : (n id : ℕ) (z : ℤ) (count len : ℕ) → id < 2 ^ 32 → FitsSigned w64 z → count ≤ MAX_COUNT → len < 2 ^ 64
-    → put_of n (decimal id ∷ signed_decimal z ∷ decimal count ∷ decimal len ∷ []) ≡ Ok (Section (Put id z count len n))
-put_again n id z count len id_fits z_fits count_fits len_fits =
-    rw (under-decimal (2 ^ 32) id (lit≤ tt) id_fits, integer_of-signed_decimal z z_fits, under-decimal (MAX_COUNT + 1) count (lit≤ tt) (omega arith), number_of-decimal len len_fits) refl
+-- the words for the end of a step's waits are read back
+span_again : (span : ℕ) → span ≤ MAX_WITHIN → within_of (codes "within" ∷ decimal span ∷ []) ≡ Ok (Some span)
+span_again span fits = rw (under-decimal (MAX_WITHIN + 1) span (lit≤ tt) (omega arith)) refl
 
-take_again : (n id : ℕ) (z : ℤ) (count : ℕ) → id < 2 ^ 32 → FitsSigned w64 z → count ≤ MAX_COUNT
-    → take_of n (decimal id ∷ signed_decimal z ∷ decimal count ∷ []) ≡ Ok (Section (Take id z count n))
-take_again n id z count id_fits z_fits count_fits =
-    rw (under-decimal (2 ^ 32) id (lit≤ tt) id_fits, integer_of-signed_decimal z z_fits, under-decimal (MAX_COUNT + 1) count (lit≤ tt) (omega arith)) refl
+-- the words of put are read back
+put_again : (n id : ℕ) (z : ℤ) (count len : ℕ) (words : List (List ℕ)) (within : Option ℕ) → within_of words ≡ Ok within → id < 2 ^ 32 → FitsSigned w64 z → count ≤ MAX_COUNT → len < 2 ^ 64
+    → put_of n (decimal id ∷ signed_decimal z ∷ decimal count ∷ decimal len ∷ words) ≡ Ok (Section (Put id z count len within n))
+put_again n id z count len words within read id_fits z_fits count_fits len_fits =
+    rw (read, under-decimal (2 ^ 32) id (lit≤ tt) id_fits, integer_of-signed_decimal z z_fits, under-decimal (MAX_COUNT + 1) count (lit≤ tt) (omega arith), number_of-decimal len len_fits) refl
+
+take_again : (n id : ℕ) (z : ℤ) (count : ℕ) (words : List (List ℕ)) (within : Option ℕ) → within_of words ≡ Ok within → id < 2 ^ 32 → FitsSigned w64 z → count ≤ MAX_COUNT
+    → take_of n (decimal id ∷ signed_decimal z ∷ decimal count ∷ words) ≡ Ok (Section (Take id z count within n))
+take_again n id z count words within read id_fits z_fits count_fits =
+    rw (read, under-decimal (2 ^ 32) id (lit≤ tt) id_fits, integer_of-signed_decimal z z_fits, under-decimal (MAX_COUNT + 1) count (lit≤ tt) (omega arith)) refl
 
 drop_again : (n id : ℕ) → id < 2 ^ 32 → drop_of n (decimal id ∷ []) ≡ Ok (Section (Remove id n))
 drop_again n id fits = rw (under-decimal (2 ^ 32) id (lit≤ tt) fits) refl
@@ -67,28 +72,55 @@ reads_there sections n (Main (Set id qbytes moment)) can =
     let again = reads_words (line_said 0 n) (codes "set" ∷ decimal id ∷ []) (decimal qbytes) (Main (Set id qbytes n)) (name, (id_word, tt)) last (lit≤ tt) refl
     (in_main n (codes "set") words refl (all_filled (codes "set" ∷ words) (name, (id_word, (last, tt)))) ∙ ap (asked n) (set_is id qbytes can.2.0 can.2.1)) in
     rw (can.0, can.1) again
-reads_there sections n (Section (Put id z count len moment)) can =
+reads_there sections n (Section (Put id z count len None moment)) can =
     let id_word = decimal_word id (omega (arith, can.2)) in
     let type_word = signed_word z can.3 in
     let count_word = decimal_word count (omega (arith, can.4)) in
     let last = decimal_word len can.5 in
     let words = decimal id ∷ signed_decimal z ∷ decimal count ∷ decimal len ∷ [] in
     let name = name_word (codes "put") refl in
-    let again = reads_words (line_said sections n) (codes "put" ∷ decimal id ∷ signed_decimal z ∷ decimal count ∷ []) (decimal len) (Section (Put id z count len n))
+    let again = reads_words (line_said sections n) (codes "put" ∷ decimal id ∷ signed_decimal z ∷ decimal count ∷ []) (decimal len) (Section (Put id z count len None n))
     (name, (id_word, (type_word, (count_word, tt)))) last (lit≤ tt) refl
     (in_section sections n (codes "put") words can.0 refl (all_filled (codes "put" ∷ words) (name, (id_word, (type_word, (count_word, (last, tt))))))
-    ∙ put_again n id z count len can.2 can.3 can.4 can.5) in
+    ∙ put_again n id z count len [] None refl can.2 can.3 can.4 can.5) in
     rw (can.1) again
-reads_there sections n (Section (Take id z count moment)) can =
+reads_there sections n (Section (Put id z count len (Some span) moment)) can =
+    let id_word = decimal_word id (omega (arith, can.2)) in
+    let type_word = signed_word z can.3 in
+    let count_word = decimal_word count (omega (arith, can.4)) in
+    let len_word = decimal_word len can.5 in
+    let last = decimal_word span (omega (arith, can.6)) in
+    let words = decimal id ∷ signed_decimal z ∷ decimal count ∷ decimal len ∷ codes "within" ∷ decimal span ∷ [] in
+    let name = name_word (codes "put") refl in
+    let within = name_word (codes "within") refl in
+    let again = reads_words (line_said sections n) (codes "put" ∷ decimal id ∷ signed_decimal z ∷ decimal count ∷ decimal len ∷ codes "within" ∷ []) (decimal span)
+    (Section (Put id z count len (Some span) n)) (name, (id_word, (type_word, (count_word, (len_word, (within, tt)))))) last (lit≤ tt) refl
+    (in_section sections n (codes "put") words can.0 refl (all_filled (codes "put" ∷ words) (name, (id_word, (type_word, (count_word, (len_word, (within, (last, tt))))))))
+    ∙ put_again n id z count len (codes "within" ∷ decimal span ∷ []) (Some span) (span_again span can.6) can.2 can.3 can.4 can.5) in
+    rw (can.1) again
+reads_there sections n (Section (Take id z count None moment)) can =
     let id_word = decimal_word id (omega (arith, can.2)) in
     let type_word = signed_word z can.3 in
     let last = decimal_word count (omega (arith, can.4)) in
     let words = decimal id ∷ signed_decimal z ∷ decimal count ∷ [] in
     let name = name_word (codes "take") refl in
-    let again = reads_words (line_said sections n) (codes "take" ∷ decimal id ∷ signed_decimal z ∷ []) (decimal count) (Section (Take id z count n))
+    let again = reads_words (line_said sections n) (codes "take" ∷ decimal id ∷ signed_decimal z ∷ []) (decimal count) (Section (Take id z count None n))
     (name, (id_word, (type_word, tt))) last (lit≤ tt) refl
     (in_section sections n (codes "take") words can.0 refl (all_filled (codes "take" ∷ words) (name, (id_word, (type_word, (last, tt)))))
-    ∙ take_again n id z count can.2 can.3 can.4) in
+    ∙ take_again n id z count [] None refl can.2 can.3 can.4) in
+    rw (can.1) again
+reads_there sections n (Section (Take id z count (Some span) moment)) can =
+    let id_word = decimal_word id (omega (arith, can.2)) in
+    let type_word = signed_word z can.3 in
+    let count_word = decimal_word count (omega (arith, can.4)) in
+    let last = decimal_word span (omega (arith, can.5)) in
+    let words = decimal id ∷ signed_decimal z ∷ decimal count ∷ codes "within" ∷ decimal span ∷ [] in
+    let name = name_word (codes "take") refl in
+    let within = name_word (codes "within") refl in
+    let again = reads_words (line_said sections n) (codes "take" ∷ decimal id ∷ signed_decimal z ∷ decimal count ∷ codes "within" ∷ []) (decimal span)
+    (Section (Take id z count (Some span) n)) (name, (id_word, (type_word, (count_word, (within, tt))))) last (lit≤ tt) refl
+    (in_section sections n (codes "take") words can.0 refl (all_filled (codes "take" ∷ words) (name, (id_word, (type_word, (count_word, (within, (last, tt)))))))
+    ∙ take_again n id z count (codes "within" ∷ decimal span ∷ []) (Some span) (span_again span can.5) can.2 can.3 can.4) in
     rw (can.1) again
 reads_there sections n (Section (Remove id moment)) can =
     let last = decimal_word id (omega (arith, can.2)) in
@@ -139,46 +171,69 @@ mains n text name words line are e =
     let sets = needed _ _ _ _ rest in
     asked_ok n text (set_of words) line (λ call read. changed text words call (rejoined text name (codes "set") words are sets.0) read) sets.1)
 
+-- the end of a step's waits is read from its words alone
+ended : (words : List (List ℕ)) (within : Option ℕ) → within_of words ≡ Ok within → (words ≡ within_words within) × CanWait within
+ended [] within e =
+    let same : None ≡ within = cc e in
+    subst (λ (w : Option ℕ). ([] ≡ within_words w) × CanWait w) same (refl, tt)
+ended (word ∷ span ∷ []) within e =
+    let named = needed _ _ _ _ e in
+    bind_ok (under (MAX_WITHIN + 1) (number_of span)) (λ s. Ok (Some s)) within named.1 (λ s read done.
+    let spelled = under-Some (MAX_WITHIN + 1) span s read in
+    let is = (bytes_eq-Decides word (codes "within")).0 named.0 in
+    let same : Some s ≡ within = cc done in
+    subst (λ (w : Option ℕ). (word ∷ span ∷ [] ≡ within_words w) × CanWait w) same (cc (is, spelled.0), omega (arith, spelled.1)))
+ended (word ∷ []) within e = absurd (cc e)
+ended (word ∷ span ∷ more ∷ words) within e = absurd (cc e)
+
+-- and it was read where its step is said
+end_read : {P : Type 0} (r : Result (Option ℕ) Cause) (step : Option ℕ → Result ThreadsLine Cause) (line : ThreadsLine) → with_end r step ≡ Ok line
+    → ((w : Option ℕ) → r ≡ Ok w → step w ≡ Ok line → P) → P
+end_read (Ok w) step line e then = then w refl e
+end_read (Err cause) step line e then = absurd (cc e)
+
 -- put is read from its spelling alone
 puts : (sections n : ℕ) (text : List ℕ) (words : List (List ℕ)) (line : ThreadsLine) → 0 < sections → text ≡ line_of (codes "put" ∷ words) → put_of n words ≡ Ok line → Says sections n text line
-puts sections n text (id ∷ mtype ∷ count ∷ len ∷ []) line some is e =
-    bind_ok _ _ line e (λ i read_id typed.
+puts sections n text (id ∷ mtype ∷ count ∷ len ∷ words) line some is e =
+    end_read (within_of words) _ line e (λ w read_end numbered.
+    bind_ok _ _ line numbered (λ i read_id typed.
     bind_ok _ _ line typed (λ z read_type counted.
     bind_ok _ _ line counted (λ c read_count sized.
-    bind_ok (number_of len) (λ l. Ok (Section (Put i z c l n))) line sized (λ l read_len done.
+    bind_ok (number_of len) (λ l. Ok (Section (Put i z c l w n))) line sized (λ l read_len done.
     let spelled_id = under-Some (2 ^ 32) id i read_id in
     let spelled_type = integer_of-Some mtype z read_type in
     let spelled_count = under-Some (MAX_COUNT + 1) count c read_count in
     let spelled_len = number_of-Some len l read_len in
-    let same : Section (Put i z c l n) ≡ line = cc done in
+    let spelled_end = ended words w read_end in
+    let same : Section (Put i z c l w n) ≡ line = cc done in
     subst (Says sections n text) same (
-      cc (is, spelled_id.0, spelled_type.0, spelled_count.0, spelled_len.0),
-      (some, refl, spelled_id.1, spelled_type.1, omega (arith, spelled_count.1), spelled_len.1),
-    )))))
+      cc (is, spelled_id.0, spelled_type.0, spelled_count.0, spelled_len.0, spelled_end.0),
+      (some, refl, spelled_id.1, spelled_type.1, omega (arith, spelled_count.1), spelled_len.1, spelled_end.1),
+    ))))))
 puts sections n text [] line some is e = absurd (cc e)
 puts sections n text (id ∷ []) line some is e = absurd (cc e)
 puts sections n text (id ∷ mtype ∷ []) line some is e = absurd (cc e)
 puts sections n text (id ∷ mtype ∷ count ∷ []) line some is e = absurd (cc e)
-puts sections n text (id ∷ mtype ∷ count ∷ len ∷ more ∷ words) line some is e = absurd (cc e)
 
 -- and take
 takes : (sections n : ℕ) (text : List ℕ) (words : List (List ℕ)) (line : ThreadsLine) → 0 < sections → text ≡ line_of (codes "take" ∷ words) → take_of n words ≡ Ok line → Says sections n text line
-takes sections n text (id ∷ mtype ∷ count ∷ []) line some is e =
-    bind_ok _ _ line e (λ i read_id typed.
+takes sections n text (id ∷ mtype ∷ count ∷ words) line some is e =
+    end_read (within_of words) _ line e (λ w read_end numbered.
+    bind_ok _ _ line numbered (λ i read_id typed.
     bind_ok _ _ line typed (λ z read_type counted.
-    bind_ok (under (MAX_COUNT + 1) (number_of count)) (λ c. Ok (Section (Take i z c n))) line counted (λ c read_count done.
+    bind_ok (under (MAX_COUNT + 1) (number_of count)) (λ c. Ok (Section (Take i z c w n))) line counted (λ c read_count done.
     let spelled_id = under-Some (2 ^ 32) id i read_id in
     let spelled_type = integer_of-Some mtype z read_type in
     let spelled_count = under-Some (MAX_COUNT + 1) count c read_count in
-    let same : Section (Take i z c n) ≡ line = cc done in
+    let spelled_end = ended words w read_end in
+    let same : Section (Take i z c w n) ≡ line = cc done in
     subst (Says sections n text) same (
-      cc (is, spelled_id.0, spelled_type.0, spelled_count.0),
-      (some, refl, spelled_id.1, spelled_type.1, omega (arith, spelled_count.1)),
-    ))))
+      cc (is, spelled_id.0, spelled_type.0, spelled_count.0, spelled_end.0),
+      (some, refl, spelled_id.1, spelled_type.1, omega (arith, spelled_count.1), spelled_end.1),
+    )))))
 takes sections n text [] line some is e = absurd (cc e)
 takes sections n text (id ∷ []) line some is e = absurd (cc e)
 takes sections n text (id ∷ mtype ∷ []) line some is e = absurd (cc e)
-takes sections n text (id ∷ mtype ∷ count ∷ more ∷ words) line some is e = absurd (cc e)
 
 -- and rm
 drops : (sections n : ℕ) (text : List ℕ) (words : List (List ℕ)) (line : ThreadsLine) → 0 < sections → text ≡ line_of (codes "rm" ∷ words) → drop_of n words ≡ Ok line → Says sections n text line

@@ -43,8 +43,8 @@ length-onto_last step (steps ∷ []) = refl
 length-onto_last step (steps ∷ next ∷ sections) = ap suc (length-onto_last step (next ∷ sections))
 
 step_small : (k n : ℕ) (step : Step) → CanStand k n (Section step) → puts_of step + takes_of step ≤ MAX_COUNT
-step_small k n (Put id mtype count len moment) can = omega (arith, can.4)
-step_small k n (Take id msgtyp count moment) can = omega (arith, can.4)
+step_small k n (Put id mtype count len within moment) can = omega (arith, can.4)
+step_small k n (Take id msgtyp count within moment) can = omega (arith, can.4)
 step_small k n (Remove id moment) can = omega arith
 
 line_small : (n m : ℕ) (w : Wanted) (line : ThreadsLine) → IsSmall n w → CanStand (length w.sections) m line → IsSmall (n + 1) (with_line w line)

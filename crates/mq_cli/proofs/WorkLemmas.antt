@@ -1,5 +1,5 @@
 -- The calls of a plan, one after the other.
-use Rattle.std.proofs.Common.{◌≡◌, ℕ, ℤ, ◌+◌, ◌-◌, ◌<◌, suc, List, [], ◌∷◌, ◌++◌, map, replicate, cond, Option, None, Some, Ok, Err, refl, sym, ap, ◌∙◌, subst, append_assoc, append-nil, arith}
+use Rattle.std.proofs.Common.{◌≡◌, ℕ, ℤ, Bool, ◌+◌, ◌-◌, ◌<◌, suc, List, [], ◌∷◌, ◌++◌, map, replicate, cond, Option, None, Some, Ok, Err, refl, sym, ap, ◌∙◌, subst, append_assoc, append-nil, arith}
 use Rattle.std.proofs.lemmas.List.{replicate-append-replicate}
 use Rattle.std.proofs.lemmas.List.FromFn.{map-range_with_len_more}
 use Rattle.std.proofs.lemmas.List.Sums.{sum_by-append}
@@ -110,55 +110,55 @@ module _ {Q : Type 0} (puts : Puts Q) (takes : Takes Q) (removes : Removals Q) w
   }
 
   -- one message more was sent
-  pub sent_more : (before id : ℕ) (mtype : ℤ) (k n moment tag entry : ℕ) (old mid new : Q) → before + 1 + k ≡ tag
-      → AreCalled puts takes removes (sends_after before id mtype k n moment) old k [] None mid → puts mid id mtype tag n moment (Ok entry) new
-      → AreCalled puts takes removes (sends_after before id mtype (k + 1) n moment) old (k + 1) [] None new
-  sent_more before id mtype k n moment tag entry old mid new next so done =
-      let call = send id mtype tag n moment in
-      let more = map-range_with_len_more (λ t. send id mtype t n moment) (before + 1) k tag next in
-      rw more (called_then (sends_after before id mtype k n moment) (call ∷ []) old mid new k 1 [] [] None so
+  pub sent_more : (before id : ℕ) (mtype : ℤ) (k n : ℕ) (ends : Bool) (moment tag entry : ℕ) (old mid new : Q) → before + 1 + k ≡ tag
+      → AreCalled puts takes removes (sends_after before id mtype k n ends moment) old k [] None mid → puts mid id mtype tag n ends moment (Ok entry) new
+      → AreCalled puts takes removes (sends_after before id mtype (k + 1) n ends moment) old (k + 1) [] None new
+  sent_more before id mtype k n ends moment tag entry old mid new next so done =
+      let call = send id mtype tag n ends moment in
+      let more = map-range_with_len_more (λ t. send id mtype t n ends moment) (before + 1) k tag next in
+      rw more (called_then (sends_after before id mtype k n ends moment) (call ∷ []) old mid new k 1 [] [] None so
       (called_one call mid new 1 [] refl (refl, (entry, done))))
 
   -- the next message was refused
-  pub sent_until : (before id : ℕ) (mtype : ℤ) (k count n moment tag : ℕ) (errno : Errno) (old mid new : Q) → before + 1 + k ≡ tag → k < count
-      → AreCalled puts takes removes (sends_after before id mtype k n moment) old k [] None mid → puts mid id mtype tag n moment (Err errno) new
-      → AreCalled puts takes removes (sends_after before id mtype count n moment) old k [] (Some errno) new
-  sent_until before id mtype k count n moment tag errno old mid new next within so failed =
-      let f : ℕ → Call = λ t. send id mtype t n moment in
-      let call = send id mtype tag n moment in
+  pub sent_until : (before id : ℕ) (mtype : ℤ) (k count n : ℕ) (ends : Bool) (moment tag : ℕ) (errno : Errno) (old mid new : Q) → before + 1 + k ≡ tag → k < count
+      → AreCalled puts takes removes (sends_after before id mtype k n ends moment) old k [] None mid → puts mid id mtype tag n ends moment (Err errno) new
+      → AreCalled puts takes removes (sends_after before id mtype count n ends moment) old k [] (Some errno) new
+  sent_until before id mtype k count n ends moment tag errno old mid new next within so failed =
+      let f : ℕ → Call = λ t. send id mtype t n ends moment in
+      let call = send id mtype tag n ends moment in
       let left = count - (k + 1) in
       let rest = map f (range_with_len (before + 1 + k + 1) left) in
-      let here = called_then (sends_after before id mtype k n moment) (call ∷ []) old mid new k 0 [] [] (Some errno) so
+      let here = called_then (sends_after before id mtype k n ends moment) (call ∷ []) old mid new k 0 [] [] (Some errno) so
       (called_refused call mid new errno failed) in
-      let all = called_within (sends_after before id mtype k n moment ++ call ∷ []) rest old new (k + 0) ([] ++ []) errno here in
+      let all = called_within (sends_after before id mtype k n ends moment ++ call ∷ []) rest old new (k + 0) ([] ++ []) errno here in
       let number : k + suc left ≡ count = omega arith in
       let none : k + 0 ≡ k = omega arith in
-      let first : map f (range_with_len (before + 1) k) ++ f (before + 1 + k) ∷ rest ≡ sends_after before id mtype count n moment =
+      let first : map f (range_with_len (before + 1) k) ++ f (before + 1 + k) ∷ rest ≡ sends_after before id mtype count n ends moment =
       sym (in_two f (before + 1) k (suc left)) ∙ ap (λ (c : ℕ). map f (range_with_len (before + 1) c)) number in
-      let same : (sends_after before id mtype k n moment ++ call ∷ []) ++ rest ≡ sends_after before id mtype count n moment =
-      append_assoc (sends_after before id mtype k n moment) (call ∷ []) rest
-      ∙ ap (λ (t : ℕ). sends_after before id mtype k n moment ++ f t ∷ rest) (sym next) ∙ first in
+      let same : (sends_after before id mtype k n ends moment ++ call ∷ []) ++ rest ≡ sends_after before id mtype count n ends moment =
+      append_assoc (sends_after before id mtype k n ends moment) (call ∷ []) rest
+      ∙ ap (λ (t : ℕ). sends_after before id mtype k n ends moment ++ f t ∷ rest) (sym next) ∙ first in
       subst (λ (calls : List Call). AreCalled puts takes removes calls old k [] (Some errno) new) same
-      (subst (λ (s : ℕ). AreCalled puts takes removes ((sends_after before id mtype k n moment ++ call ∷ []) ++ rest) old s [] (Some errno) new) none all)
+      (subst (λ (s : ℕ). AreCalled puts takes removes ((sends_after before id mtype k n ends moment ++ call ∷ []) ++ rest) old s [] (Some errno) new) none all)
 
   -- one message more was received
-  pub received_more : (id : ℕ) (msgtyp : ℤ) (k moment : ℕ) (taken : Taken) (received : List Receipt) (old mid new : Q)
-      → AreCalled puts takes removes (replicate k (receive id msgtyp moment)) old 0 received None mid → takes mid id msgtyp moment (Ok taken) new
-      → AreCalled puts takes removes (replicate (k + 1) (receive id msgtyp moment)) old 0 (received ++ record { id = id; taken = taken } ∷ []) None new
-  received_more id msgtyp k moment taken received old mid new so done =
-      let call = receive id msgtyp moment in
+  pub received_more : (id : ℕ) (msgtyp : ℤ) (k : ℕ) (ends : Bool) (moment : ℕ) (taken : Taken) (received : List Receipt) (old mid new : Q)
+      → AreCalled puts takes removes (replicate k (receive id msgtyp ends moment)) old 0 received None mid → takes mid id msgtyp ends moment (Ok taken) new
+      → AreCalled puts takes removes (replicate (k + 1) (receive id msgtyp ends moment)) old 0 (received ++ record { id = id; taken = taken } ∷ []) None new
+  received_more id msgtyp k ends moment taken received old mid new so done =
+      let call = receive id msgtyp ends moment in
       let one : List Receipt = record { id = id; taken = taken } ∷ [] in
       let behind = called_then (replicate k call) (call ∷ []) old mid new 0 0 received one None so
       (called_one call mid new 0 one refl (taken, refl, done)) in
       subst (λ (calls : List Call). AreCalled puts takes removes calls old 0 (received ++ one) None new) (replicate-append-replicate k 1 call) behind
 
   -- the next message was not
-  pub received_until : (id : ℕ) (msgtyp : ℤ) (k count moment : ℕ) (errno : Errno) (received : List Receipt) (old mid new : Q) → k < count
-      → AreCalled puts takes removes (replicate k (receive id msgtyp moment)) old 0 received None mid
-      → Fails puts takes removes (receive id msgtyp moment) mid errno new
-      → AreCalled puts takes removes (replicate count (receive id msgtyp moment)) old 0 received (Some errno) new
-  received_until id msgtyp k count moment errno received old mid new within so failed =
-      let call = receive id msgtyp moment in
+  pub received_until : (id : ℕ) (msgtyp : ℤ) (k count : ℕ) (ends : Bool) (moment : ℕ) (errno : Errno) (received : List Receipt) (old mid new : Q) → k < count
+      → AreCalled puts takes removes (replicate k (receive id msgtyp ends moment)) old 0 received None mid
+      → Fails puts takes removes (receive id msgtyp ends moment) mid errno new
+      → AreCalled puts takes removes (replicate count (receive id msgtyp ends moment)) old 0 received (Some errno) new
+  received_until id msgtyp k count ends moment errno received old mid new within so failed =
+      let call = receive id msgtyp ends moment in
       let left = count - (k + 1) in
       let rest : List Call = replicate left call in
       let here = called_then (replicate k call) (call ∷ []) old mid new 0 0 received [] (Some errno) so (called_refused call mid new errno failed) in

@@ -1,5 +1,5 @@
 -- The calls that a plan asks for, each with all that the port is told, and what was received.
-use Rattle.std.specs.Prelude.{ℕ, ◌+◌, ◌==◌, ℤ, Bool, true, false, ◌&&◌, if◌then◌else◌}
+use Rattle.std.specs.Prelude.{ℕ, ◌+◌, ◌==◌, ℤ, Bool, true, false, ◌&&◌, if◌then◌else◌, is_some}
 use Rattle.std.specs.Prelude.{List, [], ◌∷◌, ◌++◌, map, replicate, Option, None, Some}
 use Rattle.std.specs.List.{range_with_len}
 use Rattle.std.specs.Ordering.{int_eq}
@@ -9,27 +9,29 @@ use Rattle.mq_cli.specs.declared.step.Step.TheVariants.{Put, Take, Remove}
 use Rattle.mq_cli.specs.declared.taken.Taken.{Taken}
 use Rattle.mq_cli.specs.Plans.{puts_of, rises}
 
--- a call of a port
+-- a call of a port; `ends` tells whether its waits have an end
 pub data Call : Type 0 where
-  send : (id : ℕ) (mtype : ℤ) (tag n moment : ℕ) → Call
-  receive : (id : ℕ) (msgtyp : ℤ) (moment : ℕ) → Call
+  send : (id : ℕ) (mtype : ℤ) (tag n : ℕ) (ends : Bool) (moment : ℕ) → Call
+  receive : (id : ℕ) (msgtyp : ℤ) (ends : Bool) (moment : ℕ) → Call
   remove : (id moment : ℕ) → Call
 
 -- whether a call sends
 abbrev pub is_send : Call → Bool
-is_send (send id mtype tag n moment) = true
-is_send (receive id msgtyp moment) = false
+is_send (send id mtype tag n ends moment) = true
+is_send (receive id msgtyp ends moment) = false
 is_send (remove id moment) = false
 
 -- so many messages of n bytes, where so many were sent before: the tags go on from there
-abbrev pub sends_after : ℕ → ℕ → ℤ → ℕ → ℕ → ℕ → List Call
-sends_after sent id mtype count n moment =
-    map (λ tag. send id mtype tag n moment) (range_with_len (sent + 1) count)
+abbrev pub sends_after : ℕ → ℕ → ℤ → ℕ → ℕ → Bool → ℕ → List Call
+sends_after sent id mtype count n ends moment =
+    map (λ tag. send id mtype tag n ends moment) (range_with_len (sent + 1) count)
 
 -- the calls of a step
 abbrev pub calls_of : ℕ → Step → List Call
-calls_of sent (Put id mtype count len moment) = sends_after sent id mtype count len moment
-calls_of sent (Take id msgtyp count moment) = replicate count (receive id msgtyp moment)
+calls_of sent (Put id mtype count len within moment) =
+    sends_after sent id mtype count len (is_some within) moment
+calls_of sent (Take id msgtyp count within moment) =
+    replicate count (receive id msgtyp (is_some within) moment)
 calls_of sent (Remove id moment) = remove id moment ∷ []
 
 -- the calls of a plan

@@ -12,6 +12,7 @@ pub mod Parts
 pub mod Plans
 pub mod Ports
 pub mod Progress
+pub mod Prompt
 pub mod Reports
 pub mod Seen
 pub mod Serial

@@ -8,20 +8,20 @@ use Rattle.mq_cli.specs.declared.outcome.Outcome.{Outcome}
 
 -- how many messages a step sends
 abbrev pub puts_of : Step → ℕ
-puts_of (Put id mtype count length moment) = count
-puts_of (Take id msgtyp count moment) = 0
+puts_of (Put id mtype count length within moment) = count
+puts_of (Take id msgtyp count within moment) = 0
 puts_of (Remove id moment) = 0
 
 -- how many messages a step receives
 abbrev pub takes_of : Step → ℕ
-takes_of (Put id mtype count length moment) = 0
-takes_of (Take id msgtyp count moment) = count
+takes_of (Put id mtype count length within moment) = 0
+takes_of (Take id msgtyp count within moment) = count
 takes_of (Remove id moment) = 0
 
 -- how many queues a step removes
 abbrev pub removes_of : Step → ℕ
-removes_of (Put id mtype count length moment) = 0
-removes_of (Take id msgtyp count moment) = 0
+removes_of (Put id mtype count length within moment) = 0
+removes_of (Take id msgtyp count within moment) = 0
 removes_of (Remove id moment) = 1
 
 abbrev pub puts_in : List Step → ℕ

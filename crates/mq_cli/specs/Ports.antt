@@ -38,25 +38,27 @@ MayNotDraft n EINVAL = MSGMAX < n
 MayNotDraft n ENOMEM = (0 < n) × (n ≤ MSGMAX)
 MayNotDraft n _ = ⊥
 
--- a text of n bytes was sent; or none was drafted, and no call was made; or the call was refused
-abbrev pub Sends : ℕ → SeatState → SeatState → ℕ → ℤ → ℕ → ℕ → ℕ → Result ℕ Errno → Type 0
-Sends slots old new id mtype tag n moment (Ok entry) = IsChange old new (slot_of id)
+-- a text of n bytes was sent; or none was drafted, and no call was made; or the call was refused,
+-- with EAGAIN only where its waits end
+abbrev pub Sends : ℕ → SeatState → SeatState → ℕ → ℤ → ℕ → ℕ → Bool → ℕ → Result ℕ Errno → Type 0
+Sends slots old new id mtype tag n ends moment (Ok entry) = IsChange old new (slot_of id)
     (send_verdict (seq_of id) mtype n) entry (Sent old.number moment tag mtype n)
-Sends slots old new id mtype tag n moment (Err errno) = ((new ≡ old) × MayNotDraft n errno)
-    ⊎ IsRefusal (never_sent slots id mtype) (MaySend false) old new (slot_of id)
+Sends slots old new id mtype tag n ends moment (Err errno) = ((new ≡ old) × MayNotDraft n errno)
+    ⊎ IsRefusal (never_sent slots id mtype) (MaySend ends) old new (slot_of id)
     (send_verdict (seq_of id) mtype n) errno
 
 -- what is told of a message that was received
 abbrev pub taken_of : Delivered PlainText → Taken
 taken_of d = record { sender = d.sender; tag = d.tag; mtype = d.mtype; length = d.length }
 
--- the message that the selection names was received whole, and is told; or the call was refused
-abbrev pub Receives : ℕ → SeatState → SeatState → ℕ → ℤ → ℕ → Result Taken Errno → Type 0
-Receives slots old new id msgtyp moment (Ok taken) = IsCounted old new (slot_of id)
+-- the message that the selection names was received whole, and is told; or the call was refused,
+-- with ENOMSG only where its waits end
+abbrev pub Receives : ℕ → SeatState → SeatState → ℕ → ℤ → Bool → ℕ → Result Taken Errno → Type 0
+Receives slots old new id msgtyp ends moment (Ok taken) = IsCounted old new (slot_of id)
     × IsLater old new × ((d : Delivered PlainText) × (taken ≡ taken_of d)
     × IsReceipt old new (slot_of id) (seq_of id) MSGMAX (selection_of msgtyp false) false moment d)
-Receives slots old new id msgtyp moment (Err errno) =
-    IsRefusal (out_of_slots slots id) (MayReceive false false) old new (slot_of id)
+Receives slots old new id msgtyp ends moment (Err errno) =
+    IsRefusal (out_of_slots slots id) (MayReceive ends false) old new (slot_of id)
     (receive_verdict (seq_of id) MSGMAX (selection_of msgtyp false) false) errno
 
 -- the queue was removed, or the call refused

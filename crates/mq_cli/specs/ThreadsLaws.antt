@@ -1,9 +1,9 @@
 -- The spelling of a line of a threads script, which is its only one.
 use Rattle.std.specs.Prelude.{◌≡◌, ◌<◌, ◌≤◌, ◌^◌, ℕ, FitsSigned, List, [], ◌∷◌, codes}
-use Rattle.std.specs.Prelude.{Some, Ok}
+use Rattle.std.specs.Prelude.{Option, None, Some, Ok}
 use Rattle.std.specs.Fmt.{decimal, signed_decimal}
 use Rattle.std.specs.Int.{w64}
-use Rattle.mq_cli.specs.declared.limits.TheConstants.{MAX_COUNT, MAX_WORKERS}
+use Rattle.mq_cli.specs.declared.limits.TheConstants.{MAX_COUNT, MAX_WITHIN, MAX_WORKERS}
 use Rattle.mq_cli.specs.declared.step.Step.TheVariants.{Put, Take, Remove}
 use Rattle.mq_cli.specs.declared.threads_script.MainCall.{MainCall}
 use Rattle.mq_cli.specs.declared.threads_script.MainCall.TheVariants.{Get, Set}
@@ -23,14 +23,26 @@ abbrev pub moment_of : MainCall → ℕ
 moment_of (Get key flags moment) = moment
 moment_of (Set id qbytes moment) = moment
 
+-- the words behind a step's numbers, where its waits have an end
+abbrev pub within_words : Option ℕ → List (List ℕ)
+within_words None = []
+within_words (Some span) = codes "within" ∷ decimal span ∷ []
+
+-- how long the waits of a step may be
+abbrev pub CanWait : Option ℕ → Type 0
+CanWait None = Unit {0}
+CanWait (Some span) = span ≤ MAX_WITHIN
+
 -- the one line that says it
 abbrev pub line_spelling : ThreadsLine → List ℕ
 line_spelling Worker = codes "worker"
 line_spelling (Main call) = spelling (call_asked call)
-line_spelling (Section (Put id mtype count len moment)) =
-    line_of (codes "put" ∷ decimal id ∷ signed_decimal mtype ∷ decimal count ∷ decimal len ∷ [])
-line_spelling (Section (Take id msgtyp count moment)) =
-    line_of (codes "take" ∷ decimal id ∷ signed_decimal msgtyp ∷ decimal count ∷ [])
+line_spelling (Section (Put id mtype count len within moment)) =
+    line_of (codes "put" ∷ decimal id ∷ signed_decimal mtype ∷ decimal count ∷ decimal len
+    ∷ within_words within)
+line_spelling (Section (Take id msgtyp count within moment)) =
+    line_of (codes "take" ∷ decimal id ∷ signed_decimal msgtyp ∷ decimal count
+    ∷ within_words within)
 line_spelling (Section (Remove id moment)) = line_of (codes "rm" ∷ decimal id ∷ [])
 
 -- what can stand in line n, where so many sections were begun before: it is of its part, its moment
@@ -39,11 +51,12 @@ abbrev pub CanStand : ℕ → ℕ → ThreadsLine → Type 0
 CanStand sections n Worker = sections < MAX_WORKERS
 CanStand sections n (Main call) =
     (sections ≡ 0) × (moment_of call ≡ n) × CanBeSpelled (call_asked call)
-CanStand sections n (Section (Put id mtype count len moment)) =
+CanStand sections n (Section (Put id mtype count len within moment)) =
     (0 < sections) × (moment ≡ n) × (id < 2 ^ 32) × FitsSigned w64 mtype × (count ≤ MAX_COUNT)
-    × (len < 2 ^ 64)
-CanStand sections n (Section (Take id msgtyp count moment)) =
+    × (len < 2 ^ 64) × CanWait within
+CanStand sections n (Section (Take id msgtyp count within moment)) =
     (0 < sections) × (moment ≡ n) × (id < 2 ^ 32) × FitsSigned w64 msgtyp × (count ≤ MAX_COUNT)
+    × CanWait within
 CanStand sections n (Section (Remove id moment)) =
     (0 < sections) × (moment ≡ n) × (id < 2 ^ 32)
 

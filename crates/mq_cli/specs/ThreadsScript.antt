@@ -3,7 +3,7 @@ use Rattle.std.specs.Prelude.{ℕ, ◌+◌, ◌^◌, ◌==◌, nat_lt, if◌then
 use Rattle.std.specs.Prelude.{length, codes, Option, Some, None, Result, Ok, Err}
 use Rattle.std.specs.List.{list_all}
 use Rattle.std.specs.Str.{bytes_eq}
-use Rattle.mq_cli.specs.declared.limits.TheConstants.{MAX_COUNT, MAX_WORKERS}
+use Rattle.mq_cli.specs.declared.limits.TheConstants.{MAX_COUNT, MAX_WITHIN, MAX_WORKERS}
 use Rattle.mq_cli.specs.declared.fault.Cause.{Cause}
 use Rattle.mq_cli.specs.declared.fault.Cause.TheVariants.{Words}
 use Rattle.mq_cli.specs.declared.step.Step.{Step}
@@ -34,23 +34,39 @@ main_of n name words =
     else (if bytes_eq name (codes "set") then asked n (set_of words)
     else Err Words)
 
+-- within how many milliseconds the waits of a step end, by the words behind its numbers; without
+-- such words they have no end
+abbrev pub within_of : List (List ℕ) → Result (Option ℕ) Cause
+within_of [] = Ok None
+within_of (word ∷ span ∷ []) =
+    if bytes_eq word (codes "within")
+    then (under (MAX_WITHIN + 1) (number_of span) >>= λ s. Ok (Some s))
+    else Err Words
+within_of _ = Err Words
+
+-- a step, where the words behind its numbers say how its waits end
+abbrev pub with_end : Result (Option ℕ) Cause → (Option ℕ → Result ThreadsLine Cause)
+    → Result ThreadsLine Cause
+with_end (Ok within) step = step within
+with_end (Err cause) step = Err cause
+
 -- so many messages are sent, of this type and length
 abbrev pub put_of : ℕ → List (List ℕ) → Result ThreadsLine Cause
-put_of n (id ∷ mtype ∷ count ∷ len ∷ []) = do
+put_of n (id ∷ mtype ∷ count ∷ len ∷ words) = with_end (within_of words) (λ w. do
   i ← under (2 ^ 32) (number_of id)
   z ← integer_of mtype
   c ← under (MAX_COUNT + 1) (number_of count)
   l ← number_of len
-  Ok (Section (Put i z c l n))
+  Ok (Section (Put i z c l w n)))
 put_of n _ = Err Words
 
 -- so many are received
 abbrev pub take_of : ℕ → List (List ℕ) → Result ThreadsLine Cause
-take_of n (id ∷ mtype ∷ count ∷ []) = do
+take_of n (id ∷ mtype ∷ count ∷ words) = with_end (within_of words) (λ w. do
   i ← under (2 ^ 32) (number_of id)
   z ← integer_of mtype
   c ← under (MAX_COUNT + 1) (number_of count)
-  Ok (Section (Take i z c n))
+  Ok (Section (Take i z c w n)))
 take_of n _ = Err Words
 
 -- the queue is removed

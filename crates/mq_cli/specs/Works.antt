@@ -1,5 +1,5 @@
 -- What a worker did by its plan: which calls its port made, and how they ended.
-use Rattle.std.specs.Prelude.{◌≡◌, ◌⊎◌, ℕ, ℤ, List, [], ◌∷◌, ◌++◌, length, reverse, count_by}
+use Rattle.std.specs.Prelude.{◌≡◌, ◌⊎◌, ℕ, ℤ, Bool, List, [], ◌∷◌, ◌++◌, length, reverse, count_by}
 use Rattle.std.specs.Prelude.{Option, None, Some, Result, Ok, Err}
 use Rattle.mq_one_thread.specs.declared.errno.Errno.{Errno}
 use Rattle.mq_one_thread.specs.declared.errno.Errno.TheVariants.{ENOMEM}
@@ -10,10 +10,10 @@ use Rattle.mq_cli.specs.Calls.{Call, send, receive, remove, Receipt, calls_in, i
 
 -- what the calls of a port do: before, what it was told, the answer, after
 abbrev pub Puts : Type 0 → Type 1
-Puts Q = Q → ℕ → ℤ → ℕ → ℕ → ℕ → Result ℕ Errno → Q → Type 0
+Puts Q = Q → ℕ → ℤ → ℕ → ℕ → Bool → ℕ → Result ℕ Errno → Q → Type 0
 
 abbrev pub Takes : Type 0 → Type 1
-Takes Q = Q → ℕ → ℤ → ℕ → Result Taken Errno → Q → Type 0
+Takes Q = Q → ℕ → ℤ → Bool → ℕ → Result Taken Errno → Q → Type 0
 
 abbrev pub Removals : Type 0 → Type 1
 Removals Q = Q → ℕ → ℕ → Result ℕ Errno → Q → Type 0
@@ -21,20 +21,20 @@ Removals Q = Q → ℕ → ℕ → Result ℕ Errno → Q → Type 0
 -- a call succeeded, and received these
 abbrev pub Succeeds : {Q : Type 0} → Puts Q → Takes Q → Removals Q → Call → Q → List Receipt → Q
     → Type 0
-Succeeds puts takes removes (send id mtype tag n moment) old received new =
-    (received ≡ []) × ((entry : ℕ) × puts old id mtype tag n moment (Ok entry) new)
-Succeeds puts takes removes (receive id msgtyp moment) old received new = (taken : Taken)
+Succeeds puts takes removes (send id mtype tag n ends moment) old received new =
+    (received ≡ []) × ((entry : ℕ) × puts old id mtype tag n ends moment (Ok entry) new)
+Succeeds puts takes removes (receive id msgtyp ends moment) old received new = (taken : Taken)
     × (received ≡ record { id = id; taken = taken } ∷ [])
-    × takes old id msgtyp moment (Ok taken) new
+    × takes old id msgtyp ends moment (Ok taken) new
 Succeeds puts takes removes (remove id moment) old received new =
     (received ≡ []) × ((entry : ℕ) × removes old id moment (Ok entry) new)
 
 -- a call was refused; one that receives may not be made, for want of memory for its note
 abbrev pub Fails : {Q : Type 0} → Puts Q → Takes Q → Removals Q → Call → Q → Errno → Q → Type 0
-Fails puts takes removes (send id mtype tag n moment) old errno new =
-    puts old id mtype tag n moment (Err errno) new
-Fails puts takes removes (receive id msgtyp moment) old errno new =
-    takes old id msgtyp moment (Err errno) new ⊎ ((errno ≡ ENOMEM) × (new ≡ old))
+Fails puts takes removes (send id mtype tag n ends moment) old errno new =
+    puts old id mtype tag n ends moment (Err errno) new
+Fails puts takes removes (receive id msgtyp ends moment) old errno new =
+    takes old id msgtyp ends moment (Err errno) new ⊎ ((errno ≡ ENOMEM) × (new ≡ old))
 Fails puts takes removes (remove id moment) old errno new = removes old id moment (Err errno) new
 
 -- the calls succeeded one after the other, and received these

@@ -26,6 +26,9 @@ pub(crate) const MAX_WORKERS: usize = 15;
 /// How many messages a line of a section sends or receives at most.
 pub(crate) const MAX_COUNT: u32 = 100_000;
 
+/// Within how many milliseconds the waits of a line end at most, where it says so.
+pub(crate) const MAX_WITHIN: u64 = 1_000_000;
+
 /// The limits as numbers.
 pub fn the_limits()
     ensures height { SCRIPT_DEFAULTS.height ≡ 6 }
@@ -34,4 +37,5 @@ pub fn the_limits()
     ensures reads { READ_CALLS ≡ 2097152 }
     ensures workers { MAX_WORKERS ≡ 15 }
     ensures count { MAX_COUNT ≡ 100000 }
+    ensures within { MAX_WITHIN ≡ 1000000 }
 {}

@@ -35,7 +35,7 @@ impl<'a> Iterator for Lines<'a> {
 }
 
 /// A line without the CR that may end it.
-fn trimmed(line: &[u8]) -> &[u8]
+pub fn trimmed(line: &[u8]) -> &[u8]
     ensures { result.now ≡ without_return line.now }
 {
     match line {

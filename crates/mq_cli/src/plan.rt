@@ -7,14 +7,18 @@ ghost use Rattle.mq_cli.specs.Works.{HasWorked};
 use crate::notes::{Notes, Stream};
 use crate::{Outcome, Port, Step};
 use mq_one_thread::Errno;
+use mq_system::{Forever, Patience, Until};
 use mq_table::Id;
 use std::alloc::Global;
 use std::sync::Wait;
+use std::time::{Clock, Duration};
 
 /// Runs a plan, in the order of its steps, until its end or its first refusal. The tags of what it
-/// sends run from 1. Where its own notes find no memory it ends with ENOMEM.
-pub fn work<Q: Port, R: Wait>(
+/// sends run from 1. Where its own notes find no memory it ends with ENOMEM. Steps that wait within
+/// an end wait by this clock.
+pub fn work<Q: Port, R: Wait, C: Clock>(
     rt: &R,
+    clock: &C,
     alloc: Global,
     shared: &Q::Shared,
     port: &mut Q,
@@ -31,11 +35,16 @@ pub fn work<Q: Port, R: Wait>(
         notes: Notes::new(alloc),
     };
     for step in plan {
-        if let Err(errno) = progress.step(rt, shared, port, *step) {
+        if let Err(errno) = progress.step(rt, clock, shared, port, *step) {
             return progress.outcome(Some(errno));
         }
     }
     progress.outcome(None)
+}
+
+/// The end of a step's waits: so many milliseconds from when one of its calls first has to wait.
+fn until_end<'a, C: Clock>(clock: &'a C, span: u64) -> Until<'a, C> {
+    Until::within(clock, Duration::from_millis(span))
 }
 
 /// How far a worker is.
@@ -62,9 +71,10 @@ impl Progress {
     }
 
     /// Makes the calls of one step. Each message that was sent or received is counted.
-    fn step<Q: Port, R: Wait>(
+    fn step<Q: Port, R: Wait, C: Clock>(
         &mut self,
         rt: &R,
+        clock: &C,
         shared: &Q::Shared,
         port: &mut Q,
         step: Step,
@@ -88,14 +98,38 @@ impl Progress {
                 mtype,
                 count,
                 length,
+                within,
                 moment,
-            } => self.put_all(rt, shared, port, id, mtype, count, length, moment),
+            } => match within {
+                None => {
+                    let forever = &mut Forever;
+                    self.put_all(
+                        rt, shared, port, id, mtype, count, length, false, forever, moment,
+                    )
+                }
+                Some(span) => {
+                    let until = &mut until_end(clock, span);
+                    self.put_all(
+                        rt, shared, port, id, mtype, count, length, true, until, moment,
+                    )
+                }
+            },
             Step::Take {
                 id,
                 msgtyp,
                 count,
+                within,
                 moment,
-            } => self.take_all(rt, shared, port, id, msgtyp, count, moment),
+            } => match within {
+                None => {
+                    let forever = &mut Forever;
+                    self.take_all(rt, shared, port, id, msgtyp, count, forever, moment)
+                }
+                Some(span) => {
+                    let until = &mut until_end(clock, span);
+                    self.take_all(rt, shared, port, id, msgtyp, count, until, moment)
+                }
+            },
             Step::Remove { id, moment } => match port.remove(rt, shared, id, moment) {
                 Ok(_) => Ok(()),
                 Err(errno) => Err(errno),
@@ -103,8 +137,8 @@ impl Progress {
         }
     }
 
-    /// Sends so many messages, each with the next tag.
-    fn put_all<Q: Port, R: Wait>(
+    /// Sends so many messages, each with the next tag, until the patience ends.
+    fn put_all<Q: Port, R: Wait, T: Patience>(
         &mut self,
         rt: &R,
         shared: &Q::Shared,
@@ -113,6 +147,8 @@ impl Progress {
         mtype: i64,
         count: u32,
         length: u64,
+        pages: bool,
+        patience: &mut T,
         moment: u64,
     ) -> Result<(), Errno>
         requires { self.old.sent + count < 2 ^ 64 }
@@ -121,11 +157,21 @@ impl Progress {
         ensures received { self.new.received ≡ self.old.received }
         ensures calls { Q.calls port.new + self.old.sent ≡ Q.calls port.old + self.new.sent }
         ensures called { GoesOn ⟦<Stream as PartialEq>⟧.eq Q.puts Q.takes Q.removes
-            (sends_after self.old.sent id mtype count length moment)
+            (sends_after self.old.sent id mtype count length T.ends moment)
             port.old port.new self.old self.new (end_of result) }
     {
         for _ in 0..count {
-            match port.put(rt, shared, id, mtype, self.sent + 1, length, moment) {
+            match port.put(
+                rt,
+                shared,
+                id,
+                mtype,
+                self.sent + 1,
+                length,
+                pages,
+                patience,
+                moment,
+            ) {
                 Ok(_) => self.sent += 1,
                 Err(errno) => return Err(errno),
             }
@@ -133,8 +179,9 @@ impl Progress {
         Ok(())
     }
 
-    /// Receives so many messages, for each of which a note can be made before it comes.
-    fn take_all<Q: Port, R: Wait>(
+    /// Receives so many messages, for each of which a note can be made before it comes, until the
+    /// patience ends.
+    fn take_all<Q: Port, R: Wait, T: Patience>(
         &mut self,
         rt: &R,
         shared: &Q::Shared,
@@ -142,6 +189,7 @@ impl Progress {
         id: Id,
         msgtyp: i64,
         count: u32,
+        patience: &mut T,
         moment: u64,
     ) -> Result<(), Errno>
         requires { self.old.received + count < 2 ^ 64 }
@@ -151,7 +199,7 @@ impl Progress {
         ensures calls { Q.calls port.new + self.old.received
             ≡ Q.calls port.old + self.new.received }
         ensures called { GoesOn ⟦<Stream as PartialEq>⟧.eq Q.puts Q.takes Q.removes
-            (replicate count (receive id msgtyp moment))
+            (replicate count (receive id msgtyp T.ends moment))
             port.old port.new self.old self.new (end_of result) }
     {
         for _ in 0..count {
@@ -159,7 +207,7 @@ impl Progress {
                 Ok(()) => (),
                 Err(errno) => return Err(errno),
             }
-            let taken = match port.take(rt, shared, id, msgtyp, moment) {
+            let taken = match port.take(rt, shared, id, msgtyp, patience, moment) {
                 Ok(taken) => taken,
                 Err(errno) => return Err(errno),
             };

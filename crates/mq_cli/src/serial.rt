@@ -5,11 +5,12 @@ ghost use Rattle.mq_cli.specs.Serial.{AppendsPrefix, ReadsMoreThan, ReadsUpTo, R
 ghost use Rattle.mq_one_thread.specs.Limits.{keeps_limits};
 ghost use Rattle.mq_cli.specs.Commands.{reading};
 ghost use Rattle.mq_cli.specs.Lines.{lines_of};
+ghost use Rattle.mq_cli.specs.Seen.{call_of};
 ghost use Rattle.mq_cli.specs.Transcript.{fault_of, run_from, run_of, said, transcript};
 ghost use Rattle.mq_cli.specs.declared.fault.Cause.{Cause};
 
 use crate::answer::answer;
-use crate::command::read_line;
+use crate::command::{Command, read_line};
 use crate::lines::Lines;
 use crate::output::{WriteFailed, write_bytes};
 use crate::script::read_script;
@@ -113,7 +114,7 @@ fn run_lines<L: Ledger, W: Write>(
     Ok(())
 }
 
-/// Runs one line, and writes its answer, which is made in the buffer first.
+/// Runs one line, and writes its answer.
 fn run_line<L: Ledger, W: Write>(
     session: &mut Session<L>,
     number: u64,
@@ -124,14 +125,27 @@ fn run_line<L: Ledger, W: Write>(
     ensures { RunsLine (W.contents writer.old) (W.contents writer.new) number
         (said number session.old (reading line.now)) session.new result }
 {
-    let command = match read_line(line) {
-        Ok(Some(command)) => command,
-        Ok(None) => return Ok(()),
-        Err(cause) => return Err(RunFault::Script {
+    match read_line(line) {
+        Ok(Some(command)) => run_command(session, number, command, out, writer),
+        Ok(None) => Ok(()),
+        Err(cause) => Err(RunFault::Script {
             line: number,
             cause,
         }),
-    };
+    }
+}
+
+/// Makes the call of a line, and writes its answer, which is made in the buffer first.
+pub fn run_command<L: Ledger, W: Write>(
+    session: &mut Session<L>,
+    number: u64,
+    command: Command<'_>,
+    out: &mut Vec<u8>,
+    writer: &mut W,
+) -> Result<(), RunFault>
+    ensures { RunsLine (W.contents writer.old) (W.contents writer.new) number
+        (said number session.old (Ok (Some (call_of command.entry)))) session.new result }
+{
     out.clear();
     if let Err(AllocError) = answer(session, number, command, out) {
         return Err(RunFault::Memory);

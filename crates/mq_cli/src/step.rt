@@ -1,14 +1,17 @@
 use mq_table::Id;
 
-/// A line of a worker's section. The moment of each of its calls is the number of the line.
+/// A line of a worker's section. The moment of each of its calls is the number of the line. They
+/// wait `within` so many milliseconds together, from when one of them first has to wait.
 #[derive(Clone, Copy, Debug, PartialEq, Eq)]
 pub enum Step {
-    /// Sends so many messages of this type and length, and waits where the queue is full.
+    /// Sends so many messages of this type and length, and waits where the queue is full; within
+    /// an end it waits for pages too.
     Put {
         id: Id,
         mtype: i64,
         count: u32,
         length: u64,
+        within: Option<u64>,
         moment: u64,
     },
     /// Receives so many messages, and waits where none fits.
@@ -16,6 +19,7 @@ pub enum Step {
         id: Id,
         msgtyp: i64,
         count: u32,
+        within: Option<u64>,
         moment: u64,
     },
     /// IPC_RMID.

@@ -1,4 +1,5 @@
-ghost use Rattle.std.specs.Prelude.{◌≡◌, ◌+◌, ◌≤◌, IfOk, length, map};
+ghost use Rattle.std.specs.Prelude.{◌≡◌, ◌+◌, ◌<◌, ◌≤◌, ◌↔◌, true, nat_lt, length, map};
+ghost use Rattle.std.specs.Prelude.{IfOk, IsErrOf};
 ghost use Rattle.std.specs.List.{range_with_len, sum};
 ghost use Rattle.mq_queue.specs.declared.limits.TheConstants.{MSGMAX};
 ghost use Rattle.mq_cli.specs.Drafts.{letter};
@@ -11,7 +12,7 @@ use crate::{Port, Taken};
 use mq_board::Copies;
 use mq_one_thread::{Delivered, DraftError, Errno, Removal, SendRefused};
 use mq_queue::MSGMAX;
-use mq_system::{Names, Pledge, RecvFlags, Seat, SendFlags, System};
+use mq_system::{Names, Patience, Pledge, RecvFlags, Seat, SendFlags, System, TextOf};
 use mq_table::Id;
 use std::alloc::{AllocError, Global};
 use std::sync::Wait;
@@ -27,7 +28,7 @@ impl Pledge for Letters {
 /// The number of letters from which each text is cut: the longest one may begin with any.
 pub(crate) const LETTERS: u64 = MSGMAX + 26;
 
-/// The calls of a worker at its seat, each of which waits where it has to.
+/// The calls of a worker at its seat, each of which waits where it has to, until its patience ends.
 #[derive(Drop)]
 pub struct SystemPort<'a, N: Names> {
     seat: &'a mut Seat<N>,
@@ -77,21 +78,43 @@ fn bytes_of(letters: &[u8], seat: u16, tag: u64, count: u64) -> &[u8]
     &letters[start..start + count as usize]
 }
 
+/// The text of these bytes. With `pages` it waits for pages until the patience ends.
+fn draft<N: Names, R: Wait, T: Patience>(
+    rt: &R,
+    system: &System<Letters, N, Copies<N>>,
+    seat: &Seat<N>,
+    bytes: &[u8],
+    pages: bool,
+    patience: &mut T,
+) -> Result<TextOf<N>, DraftError>
+    ensures ok { IfOk result (λ text. text.bytes ≡ bytes.now) }
+    ensures too_long { IsErrOf result DraftError.TooLong
+        ↔ (nat_lt MSGMAX (length bytes.now) ≡ true) }
+    ensures no_run { IsErrOf result DraftError.NoRun → 0 < length bytes.now }
+    ensures memory { IsErrOf result DraftError.Memory → 0 < length bytes.now }
+{
+    if pages {
+        system.draft_by_within(rt, seat, bytes, patience)
+    } else {
+        system.draft_by(rt, seat, bytes)
+    }
+}
+
 impl<'a, N: Names> Port for SystemPort<'a, N> {
     type Shared = System<Letters, N, Copies<N>>;
 
     ghost calls = { λ p. sum p.seat.now.by_slot };
 
-    ghost puts = { λ old id mtype tag n moment answer new.
-        Sends N.slots old.seat.now new.seat.now id mtype tag n moment answer };
+    ghost puts = { λ old id mtype tag n ends moment answer new.
+        Sends N.slots old.seat.now new.seat.now id mtype tag n ends moment answer };
 
-    ghost takes = { λ old id msgtyp moment answer new.
-        Receives N.slots old.seat.now new.seat.now id msgtyp moment answer };
+    ghost takes = { λ old id msgtyp ends moment answer new.
+        Receives N.slots old.seat.now new.seat.now id msgtyp ends moment answer };
 
     ghost removes = { λ old id moment answer new.
         Removes N.slots old.seat.now new.seat.now id moment answer };
 
-    fn put<R: Wait>(
+    fn put<R: Wait, T: Patience>(
         &mut self,
         rt: &R,
         system: &System<Letters, N, Copies<N>>,
@@ -99,18 +122,20 @@ impl<'a, N: Names> Port for SystemPort<'a, N> {
         mtype: i64,
         tag: u64,
         length: u64,
+        pages: bool,
+        patience: &mut T,
         moment: u64,
     ) -> Result<u64, Errno> {
         if length > MSGMAX {
             return Err(DraftError::TooLong.errno());
         }
         let bytes = bytes_of(self.letters, self.seat.number(), tag, length);
-        let text = match system.draft_by(rt, self.seat, bytes) {
+        let text = match draft(rt, system, self.seat, bytes, pages, patience) {
             Ok(text) => text,
             Err(refusal) => return Err(refusal.errno()),
         };
         let flags = SendFlags { nowait: false };
-        match system.msgsnd(rt, self.seat, id, mtype, tag, text, flags, moment) {
+        match system.msgsnd_within(rt, self.seat, id, mtype, tag, text, flags, patience, moment) {
             Ok(entry) => Ok(entry),
             Err(refusal) => {
                 let SendRefused { refused, text } = refusal;
@@ -120,12 +145,13 @@ impl<'a, N: Names> Port for SystemPort<'a, N> {
         }
     }
 
-    fn take<R: Wait>(
+    fn take<R: Wait, T: Patience>(
         &mut self,
         rt: &R,
         system: &System<Letters, N, Copies<N>>,
         id: Id,
         msgtyp: i64,
+        patience: &mut T,
         moment: u64,
     ) -> Result<Taken, Errno> {
         let flags = RecvFlags {
@@ -133,7 +159,7 @@ impl<'a, N: Names> Port for SystemPort<'a, N> {
             noerror: false,
             except: false,
         };
-        match system.msgrcv(rt, self.seat, id, MSGMAX, msgtyp, flags, moment) {
+        match system.msgrcv_within(rt, self.seat, id, MSGMAX, msgtyp, flags, patience, moment) {
             Ok(delivered) => {
                 let Delivered {
                     entry: _,

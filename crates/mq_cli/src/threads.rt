@@ -29,12 +29,13 @@ use std::io::{Read, Write};
 use std::marker::Brand;
 use std::sync::Wait;
 use std::thread::Threads;
+use std::time::Clock;
 
 /// Reads a threads script whole and makes the calls of its main part, whose answers it writes. Then
 /// it runs each section on a thread of its own, and tells at the end what each of them did, what is
 /// in each slot and how many pages are free. A line that is not well formed is found before
 /// anything is run.
-pub fn run_threads<T: Threads + Wait + Sync, R: Read, W: Write>(
+pub fn run_threads<T: Threads + Wait + Clock + Sync, R: Read, W: Write>(
     rt: &T,
     alloc: Global,
     reader: &mut R,
@@ -91,7 +92,7 @@ pub fn run_threads<T: Threads + Wait + Sync, R: Read, W: Write>(
 
 /// Runs a script that has been read, on a system of so many seats, and flushes the writer. However
 /// the run ends, all texts have then given their pages back.
-fn run_wanted<N: Names + Send + Sync, T: Threads + Wait + Sync, W: Write>(
+fn run_wanted<N: Names + Send + Sync, T: Threads + Wait + Clock + Sync, W: Write>(
     rt: &T,
     alloc: Global,
     config: Config,
@@ -126,7 +127,7 @@ fn run_wanted<N: Names + Send + Sync, T: Threads + Wait + Sync, W: Write>(
 
 /// Makes the calls of the main part by its seat, and then runs each section at the seat of its
 /// place among the others.
-fn run_parts<N: Names + Send + Sync, T: Threads + Wait + Sync, W: Write>(
+fn run_parts<N: Names + Send + Sync, T: Threads + Wait + Clock + Sync, W: Write>(
     rt: &T,
     alloc: Global,
     system: &System<Letters, N>,
@@ -149,7 +150,7 @@ fn run_parts<N: Names + Send + Sync, T: Threads + Wait + Sync, W: Write>(
 }
 
 /// Runs each section at a seat of its own.
-fn run_sections<N: Names + Send + Sync, T: Threads + Wait + Sync>(
+fn run_sections<N: Names + Send + Sync, T: Threads + Wait + Clock + Sync>(
     rt: &T,
     alloc: Global,
     system: &System<Letters, N>,

@@ -4,11 +4,12 @@ ghost use Rattle.mq_cli.specs.Numbers.{number_of, under};
 ghost use Rattle.mq_cli.specs.Parts.{parts_left};
 ghost use Rattle.mq_cli.specs.Seen.{seen};
 ghost use Rattle.mq_cli.specs.ThreadsScript.{asked, drop_of, line_said, main_of, part_of, put_of};
-ghost use Rattle.mq_cli.specs.ThreadsScript.{section_of, take_of, threads_reading, worker_of};
+ghost use Rattle.mq_cli.specs.ThreadsScript.{section_of, take_of, threads_reading, within_of};
+ghost use Rattle.mq_cli.specs.ThreadsScript.{worker_of};
 
 use crate::command::{Command, id_of, read_get, read_set};
 use crate::form::{are_filled, says_something};
-use crate::limits::{MAX_COUNT, MAX_WORKERS};
+use crate::limits::{MAX_COUNT, MAX_WITHIN, MAX_WORKERS};
 use crate::number::{integer, number};
 use crate::threads_script::{MainCall, ThreadsLine};
 use crate::words::Words;
@@ -121,8 +122,7 @@ fn read_section(line_number: u64, name: &[u8], words: Words<'_>) -> Result<Threa
 fn read_put(line_number: u64, mut words: Words<'_>) -> Result<ThreadsLine, Cause>
     ensures { result ≡ put_of line_number (parts_left 32 words.entry.rest) }
 {
-    let (Some(id), Some(mtype), Some(count), Some(length), None) = (
-        words.next(),
+    let (Some(id), Some(mtype), Some(count), Some(length)) = (
         words.next(),
         words.next(),
         words.next(),
@@ -130,6 +130,7 @@ fn read_put(line_number: u64, mut words: Words<'_>) -> Result<ThreadsLine, Cause
     ) else {
         return Err(Cause::Words);
     };
+    let within = read_within(words)?;
     match (id_of(id), integer(mtype), count_of(count), number(length)) {
         (Some(id), Some(mtype), Some(count), Some(length)) => {
             Ok(ThreadsLine::Section(Step::Put {
@@ -137,6 +138,7 @@ fn read_put(line_number: u64, mut words: Words<'_>) -> Result<ThreadsLine, Cause
                 mtype,
                 count,
                 length,
+                within,
                 moment: line_number,
             }))
         }
@@ -147,22 +149,33 @@ fn read_put(line_number: u64, mut words: Words<'_>) -> Result<ThreadsLine, Cause
 fn read_take(line_number: u64, mut words: Words<'_>) -> Result<ThreadsLine, Cause>
     ensures { result ≡ take_of line_number (parts_left 32 words.entry.rest) }
 {
-    let (Some(id), Some(msgtyp), Some(count), None) = (
-        words.next(),
-        words.next(),
-        words.next(),
-        words.next(),
-    ) else {
+    let (Some(id), Some(msgtyp), Some(count)) = (words.next(), words.next(), words.next()) else {
         return Err(Cause::Words);
     };
+    let within = read_within(words)?;
     match (id_of(id), integer(msgtyp), count_of(count)) {
         (Some(id), Some(msgtyp), Some(count)) => Ok(ThreadsLine::Section(Step::Take {
             id: Id::from_number(id),
             msgtyp,
             count,
+            within,
             moment: line_number,
         })),
         _ => Err(Cause::Number),
+    }
+}
+
+/// Within how many milliseconds the waits of a step end: without more words they have no end.
+fn read_within(mut words: Words<'_>) -> Result<Option<u64>, Cause>
+    ensures { result ≡ within_of (parts_left 32 words.entry.rest) }
+{
+    match (words.next(), words.next(), words.next()) {
+        (None, _, _) => Ok(None),
+        (Some(word), Some(span), None) if word == b"within".as_slice() => match span_of(span) {
+            Some(span) => Ok(Some(span)),
+            None => Err(Cause::Number),
+        },
+        _ => Err(Cause::Words),
     }
 }
 
@@ -187,6 +200,16 @@ fn count_of(word: &[u8]) -> Option<u32>
 {
     match number(word) {
         Some(count) if count <= u64::from(MAX_COUNT) => Some(count as u32),
+        _ => None,
+    }
+}
+
+/// How many milliseconds: at most `MAX_WITHIN`.
+fn span_of(word: &[u8]) -> Option<u64>
+    ensures { result ≡ under (MAX_WITHIN + 1) (number_of word.now) }
+{
+    match number(word) {
+        Some(span) if span <= MAX_WITHIN => Some(span),
         _ => None,
     }
 }

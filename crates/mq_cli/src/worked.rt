@@ -1,6 +1,7 @@
 //! Examples of threads scripts, by their lines: each is proved of the definitions alone.
 
-ghost use Rattle.std.specs.Prelude.{◌≡◌, ◌∷◌, [], codes, pos, replicate, true, false, Ok, Err};
+ghost use Rattle.std.specs.Prelude.{◌≡◌, ◌∷◌, [], codes, pos, replicate, true, false, None, Some};
+ghost use Rattle.std.specs.Prelude.{Ok, Err};
 ghost use Rattle.mq_cli.specs.ThreadsScript.{nothing, wanted_from};
 ghost use Rattle.mq_cli.specs.declared.fault.Cause.TheVariants.{Number, Words};
 ghost use Rattle.mq_cli.specs.declared.step.Step.TheVariants.{Put, Remove, Take};
@@ -12,8 +13,8 @@ pub fn parts_of_a_threads_script()
         ∷ [] ∷ codes "rm 0" ∷ codes "worker" ∷ codes "take 0 1 100" ∷ [])
         ≡ Ok (record {
           calls = Get (pos 9) (record { create = true; exclusive = false }) 1 ∷ [];
-          sections = (Put 0 (pos 1) 100 1000 3 ∷ Remove 0 5 ∷ [])
-              ∷ (Take 0 (pos 1) 100 7 ∷ []) ∷ [];
+          sections = (Put 0 (pos 1) 100 1000 None 3 ∷ Remove 0 5 ∷ [])
+              ∷ (Take 0 (pos 1) 100 None 7 ∷ []) ∷ [];
         }) }
 {}
 
@@ -33,5 +34,24 @@ pub fn causes_in_a_section()
     ensures count { wanted_from 1 nothing (codes "worker" ∷ codes "take 0 1 100001" ∷ [])
         ≡ Err (2, Number) }
     ensures all { wanted_from 1 nothing (codes "worker" ∷ codes "take 0 1 100000" ∷ [])
-        ≡ Ok (record { calls = []; sections = (Take 0 (pos 1) 100000 2 ∷ []) ∷ [] }) }
+        ≡ Ok (record { calls = []; sections = (Take 0 (pos 1) 100000 None 2 ∷ []) ∷ [] }) }
+{}
+
+/// Behind the numbers of a put and of a take may stand within how many milliseconds its waits end,
+/// at most 1,000,000, and in no other place.
+pub fn steps_with_an_end()
+    ensures both { wanted_from 1 nothing (codes "worker" ∷ codes "put 0 1 2 3 within 0"
+        ∷ codes "take 0 1 5 within 1000000" ∷ [])
+        ≡ Ok (record {
+          calls = [];
+          sections = (Put 0 (pos 1) 2 3 (Some 0) 2 ∷ Take 0 (pos 1) 5 (Some 1000000) 3 ∷ []) ∷ [];
+        }) }
+    ensures place { wanted_from 1 nothing (codes "worker" ∷ codes "take 0 1 within 5 5" ∷ [])
+        ≡ Err (2, Words) }
+    ensures missing { wanted_from 1 nothing (codes "worker" ∷ codes "put 0 1 2 3 within" ∷ [])
+        ≡ Err (2, Words) }
+    ensures most { wanted_from 1 nothing (codes "worker" ∷ codes "take 0 1 5 within 1000001" ∷ [])
+        ≡ Err (2, Number) }
+    ensures removal { wanted_from 1 nothing (codes "worker" ∷ codes "rm 0 within 5" ∷ [])
+        ≡ Err (2, Words) }
 {}

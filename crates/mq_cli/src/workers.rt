@@ -8,11 +8,12 @@ use mq_jobs::{Job, JobsError, run_jobs};
 use std::alloc::{AllocError, Global};
 use std::sync::Wait;
 use std::thread::Threads;
+use std::time::Clock;
 
 /// Runs each plan on a thread of its own, through the port of its place, and answers the outcomes
 /// in the order of the plans. No plan begins before there is a thread for each; where the answer is
 /// `Err`, none has begun. `Memory`, then `Thread`.
-pub fn run_workers<Q: Port + Send, R: Threads + Wait + Sync>(
+pub fn run_workers<Q: Port + Send, R: Threads + Wait + Clock + Sync>(
     rt: &R,
     alloc: Global,
     shared: &Q::Shared,
@@ -27,7 +28,7 @@ where
         AllZip (λ plan outcome. IsDone plan.items outcome) plans.now all.items) }
     ensures fault { IfErr result IsMakingFault }
 {
-    let Ok(jobs) = at_ports(alloc, plans, ports) else {
+    let Ok(jobs) = at_ports(rt, alloc, plans, ports) else {
         return Err(RunFault::Memory);
     };
     match run_jobs(rt, alloc, shared, jobs) {
@@ -37,15 +38,16 @@ where
     }
 }
 
-/// A plan, and the port through which its calls are made.
+/// A plan, the port through which its calls are made, and the clock by which they wait.
 #[derive(Drop)]
-struct AtPort<'a, Q> {
+struct AtPort<'a, Q, C> {
+    clock: &'a C,
     alloc: Global,
     plan: &'a [Step],
     port: &'a mut Q,
 }
 
-impl<'a, Q: Port> Job for AtPort<'a, Q> {
+impl<'a, Q: Port, C: Clock> Job for AtPort<'a, Q, C> {
     type Shared = Q::Shared;
 
     type Answer = Outcome;
@@ -55,17 +57,23 @@ impl<'a, Q: Port> Job for AtPort<'a, Q> {
     ghost after = { λ job outcome. IsDone job.plan.now outcome };
 
     fn run<R: Wait>(self, rt: &R, shared: &Q::Shared) -> Outcome {
-        let AtPort { alloc, plan, port } = self;
-        work(rt, alloc, shared, port, plan)
+        let AtPort {
+            clock,
+            alloc,
+            plan,
+            port,
+        } = self;
+        work(rt, clock, alloc, shared, port, plan)
     }
 }
 
 /// Each plan with the port of its place.
-fn at_ports<'a, Q: Port>(
+fn at_ports<'a, Q: Port, C: Clock>(
+    clock: &'a C,
     alloc: Global,
     plans: &'a [Vec<Step>],
     ports: &'a mut [Q],
-) -> Result<Vec<AtPort<'a, Q>>, AllocError>
+) -> Result<Vec<AtPort<'a, Q, C>>, AllocError>
     requires { length plans.now ≡ length ports.old }
     ensures { IfOk result (λ jobs.
         map (λ job. job.plan.now) jobs.items ≡ map (λ plan. plan.items) plans.now) }
@@ -73,6 +81,7 @@ fn at_ports<'a, Q: Port>(
     let mut jobs = Vec::with_capacity(alloc, plans.len())?;
     for (place, port) in ports.iter_mut().enumerate() {
         jobs.push_reserved(AtPort {
+            clock,
             alloc,
             plan: plans[place].as_slice(),
             port,

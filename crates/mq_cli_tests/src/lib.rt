@@ -1,4 +1,5 @@
-//! Tests of `run_serial` over readers and writers of their own, and of what is long.
+//! Tests of `run_serial` and `run_prompt` over readers and writers of their own, and of what is
+//! long.
 
 #![tactic(auto)]
 
@@ -10,6 +11,8 @@ mod faults;
 mod flushes;
 #[cfg(test)]
 mod long;
+#[cfg(test)]
+mod prompt;
 #[cfg(test)]
 mod sizes;
 #[cfg(test)]

@@ -4,12 +4,16 @@ use std::process::Abort;
 use std::sync::Wait;
 use std::test::Fail;
 use std::thread::Threads;
+use std::time::Clock;
 
 /// A script, what it writes, and how it ends.
 type Case = (&'static str, &'static str, Result<(), RunFault>);
 
 /// Runs the script, which must write this and end so.
-fn is_told<R: AllocGlobal + Abort + Threads + Wait + Sync>(rt: &R, case: Case) -> Result<(), Fail> {
+fn is_told<R: AllocGlobal + Abort + Threads + Wait + Clock + Sync>(
+    rt: &R,
+    case: Case,
+) -> Result<(), Fail> {
     let (script, told, end) = case;
     let mut written = Vec::with_capacity(rt.alloc(), 1000)?;
     let ended = run_threads(
@@ -62,6 +66,96 @@ pages 64 free 64
 #[test]
 fn a_removal_ends_who_waits(rt: HostRuntime) -> Result<(), Fail> {
     is_told(&rt, (REMOVED, REMOVED_TOLD, Ok(())))?;
+    Ok(())
+}
+
+const ENDED: &str = "\
+get 0 c
+set 0 0
+worker
+take 0 1 5 within 20
+rm 0
+worker
+put 0 1 5 10 within 20
+rm 0
+worker
+take 0 2 1 within 0
+rm 0
+worker
+put 0 2 1 0 within 0
+rm 0
+";
+
+const ENDED_TOLD: &str = "\
+id 0
+at 1
+worker 2 sent 0 received 0 order yes end ENOMSG
+worker 3 sent 0 received 0 order yes end EAGAIN
+worker 4 sent 0 received 0 order yes end ENOMSG
+worker 5 sent 0 received 0 order yes end EAGAIN
+slot 0 events 2 sent 0 received 0 left 0
+pages 64 free 64
+";
+
+const PART: &str = "\
+get 0 c
+worker
+put 0 1 3 10 within 0
+take 0 1 5 within 20
+";
+
+const PART_TOLD: &str = "\
+id 0
+worker 2 sent 3 received 3 order yes end ENOMSG
+slot 0 events 7 sent 3 received 3 left 0
+pages 64 free 64
+";
+
+/// A queue without room, and one with three messages where five are wanted.
+#[test]
+fn a_step_ends_where_its_waits_do(rt: HostRuntime) -> Result<(), Fail> {
+    is_told(&rt, (ENDED, ENDED_TOLD, Ok(())))?;
+    is_told(&rt, (PART, PART_TOLD, Ok(())))?;
+    Ok(())
+}
+
+const SERVED: &str = "\
+get 0 c
+worker
+put 0 1 50 65536 within 100000
+worker
+take 0 1 50 within 100000
+";
+
+const SERVED_TOLD: &str = "\
+id 0
+worker 2 sent 50 received 0 order yes end done
+worker 3 sent 0 received 50 order yes end done
+slot 0 events 101 sent 50 received 50 left 0
+pages 64 free 64
+";
+
+/// Each text takes all pages, for which the next one waits.
+#[test]
+fn a_step_that_is_served_before_its_end_is_done(rt: HostRuntime) -> Result<(), Fail> {
+    is_told(&rt, (SERVED, SERVED_TOLD, Ok(())))?;
+    Ok(())
+}
+
+const REMOVED_WITHIN: &str = "\
+get 0 c
+set 0 0
+worker
+take 0 5 1 within 100000
+worker
+put 0 1 1 10 within 100000
+worker
+rm 0
+";
+
+#[test]
+fn a_removal_ends_who_waits_within_an_end(rt: HostRuntime) -> Result<(), Fail> {
+    is_told(&rt, (REMOVED_WITHIN, REMOVED_TOLD, Ok(())))?;
     Ok(())
 }
 
@@ -218,6 +312,16 @@ fn causes_come_in_their_order(rt: HostRuntime) -> Result<(), Fail> {
         ("take 0 1", Cause::Words),
         ("take 0 1 1 n", Cause::Words),
         ("rm 0 0", Cause::Words),
+        ("put 0 1 1 1 within 1000001", Cause::Number),
+        ("take 0 1 1 within 1000001", Cause::Number),
+        ("take 0 1 1 within 05", Cause::Number),
+        ("take 0 1 1 within -1", Cause::Number),
+        ("put 0 1 100001 1 within 5", Cause::Number),
+        ("put 0 1 1 1 within", Cause::Words),
+        ("put x 1 1 1 within 5 5", Cause::Words),
+        ("take 0 1 1 for 5", Cause::Words),
+        ("take 0 1 within 5 1", Cause::Words),
+        ("rm 0 within 5", Cause::Words),
         ("put x  1 1", Cause::Words),
         ("put\t0 x", Cause::Byte),
     ] {

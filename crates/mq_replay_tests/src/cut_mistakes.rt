@@ -141,30 +141,50 @@ fn cut_behind(alloc: Global, base: Base, last: &[Event]) -> Result<Cut, AllocErr
 
 fn right(alloc: Global) -> Result<Tale, AllocError> {
     let both = base(alloc, 3, BOTH, &[FIRST, SECOND])?;
-    let one = base(alloc, 4, RECEIVED, &[FIRST])?;
-    let rest = [EVENTS[4], REMOVED];
+    let second = cut_behind(alloc, both, &EVENTS[3..4])?;
+    let third = cut_behind(alloc, after_four(alloc)?, &[])?;
+    Ok(Tale {
+        first: first_cut(alloc)?,
+        entries: 3,
+        second,
+        third,
+        log: kept_log(alloc)?,
+        end: end(alloc)?,
+    })
+}
+
+/// What the first three events leave out of the log.
+fn first_cut(alloc: Global) -> Result<Cut, AllocError> {
+    let last = EVENTS[..3].to_vec(alloc)?;
+    Ok(Cut {
+        first: 0,
+        made: 0,
+        base: None,
+        past: Vec::new(alloc),
+        last,
+    })
+}
+
+/// The base behind the first four.
+fn after_four(alloc: Global) -> Result<Base, AllocError> {
+    base(alloc, 4, RECEIVED, &[FIRST])
+}
+
+/// The log that the removal hands out.
+fn kept_log(alloc: Global) -> Result<KeptLog, AllocError> {
+    let base = after_four(alloc)?;
+    let tail = [EVENTS[4], REMOVED].to_vec(alloc)?;
+    Ok(KeptLog { base, tail })
+}
+
+/// The slot as it is closed.
+fn end(alloc: Global) -> Result<ClosedSlot, AllocError> {
     let mut end = closed(alloc, &[], 0)?;
     end.first = 4;
     end.made = 1;
-    end.base = Some(base(alloc, 4, RECEIVED, &[FIRST])?);
-    end.past = rest.to_vec(alloc)?;
-    Ok(Tale {
-        first: Cut {
-            first: 0,
-            made: 0,
-            base: None,
-            past: Vec::new(alloc),
-            last: EVENTS[..3].to_vec(alloc)?,
-        },
-        entries: 3,
-        second: cut_behind(alloc, both, &EVENTS[3..4])?,
-        third: cut_behind(alloc, one, &[])?,
-        log: KeptLog {
-            base: base(alloc, 4, RECEIVED, &[FIRST])?,
-            tail: rest.to_vec(alloc)?,
-        },
-        end,
-    })
+    end.base = Some(after_four(alloc)?);
+    end.past = [EVENTS[4], REMOVED].to_vec(alloc)?;
+    Ok(end)
 }
 
 /// Tells one thing otherwise.
@@ -251,24 +271,52 @@ fn scene_of(alloc: Global, tale: Tale) -> Result<Scene, AllocError> {
         log,
         end,
     } = tale;
+    let slots = slots_of(alloc, end)?;
+    let two = told_of_two(alloc, second, third, log)?;
+    let one = told_of_one(alloc, first, entries)?;
+    let mut all = Vec::with_capacity(alloc, 2)?;
+    all.push_reserved(two);
+    all.push_reserved(one);
+    Ok(Scene { slots, all })
+}
+
+/// The slots, of which the first ends so.
+fn slots_of(alloc: Global, end: ClosedSlot) -> Result<Vec<ClosedSlot>, AllocError> {
     let mut slots = Vec::with_capacity(alloc, SLOTS)?;
     slots.push_reserved(end);
     slots.push_reserved(closed(alloc, &[], 0)?);
     slots.push_reserved(closed(alloc, &[], 0)?);
+    Ok(slots)
+}
+
+/// What seat 2 was answered.
+fn told_of_two(alloc: Global, second: Cut, third: Cut, log: KeptLog) -> Result<Told, AllocError> {
+    let cuts = two_cuts(alloc, second, third)?;
+    let logs = one_log(alloc, log)?;
     let mut calls = with_cut(alloc, &SECOND_SEAT, 4, 4)?;
     calls.push(REMOVAL)?;
+    Ok(told(alloc, 2, calls, cuts, logs))
+}
+
+/// What seat 1 was answered.
+fn told_of_one(alloc: Global, first: Cut, entries: u64) -> Result<Told, AllocError> {
+    let mut cuts = Vec::with_capacity(alloc, 1)?;
+    cuts.push_reserved(of_slot_0(first));
+    let calls = with_cut(alloc, &FIRST_SEAT, 2, entries)?;
+    Ok(told(alloc, 1, calls, cuts, Vec::new(alloc)))
+}
+
+fn two_cuts(alloc: Global, second: Cut, third: Cut) -> Result<Vec<KeptCut>, AllocError> {
     let mut cuts = Vec::with_capacity(alloc, 2)?;
     cuts.push_reserved(of_slot_0(second));
     cuts.push_reserved(of_slot_0(third));
+    Ok(cuts)
+}
+
+fn one_log(alloc: Global, log: KeptLog) -> Result<Vec<KeptLog>, AllocError> {
     let mut logs = Vec::with_capacity(alloc, 1)?;
     logs.push_reserved(log);
-    let mut all = Vec::with_capacity(alloc, 2)?;
-    all.push_reserved(told(alloc, 2, calls, cuts, logs));
-    let calls = with_cut(alloc, &FIRST_SEAT, 2, entries)?;
-    let mut cuts = Vec::with_capacity(alloc, 1)?;
-    cuts.push_reserved(of_slot_0(first));
-    all.push_reserved(told(alloc, 1, calls, cuts, Vec::new(alloc)));
-    Ok(Scene { slots, all })
+    Ok(logs)
 }
 
 fn found_by(alloc: Global, mistake: Mistake) -> Result<(), Flaw> {

@@ -1,5 +1,5 @@
 -- Which refusals a send may have, and what a removal tells.
-use Rattle.std.proofs.Common.{◌≡◌, ℕ, ℤ, pos, ◌+◌, int_lt, nat_le, nat_lt, if◌then◌else◌, Bool, true, false, List, [], ◌∷◌, ◌++◌, length, Option, None, Some, Result, Ok, Err, refl, sym, ap, subst, ◌∙◌}
+use Rattle.std.proofs.Common.{◌≡◌, ℕ, ℤ, pos, ◌+◌, int_lt, nat_le, nat_lt, if◌then◌else◌, ◌||◌, Bool, true, false, List, [], ◌∷◌, ◌++◌, length, Option, None, Some, Result, Ok, Err, refl, sym, ap, subst, ◌∙◌}
 use Rattle.std.specs.Prelude.{IsSome}
 use Rattle.std.proofs.lemmas.List.{length_push}
 use Rattle.std.proofs.lemmas.List.Sums.{fold-append}
@@ -35,6 +35,10 @@ use Rattle.mq_one_thread.specs.declared.results.Removal.{Removal}
 use Rattle.mq_shared.specs.Answer.{SlotAnswer, answered, by_id, in_queue, looks, receive, refused_or_memory, remove, send}
 use Rattle.mq_shared.specs.Refusals.{MayReceive, MaySend}
 use Rattle.mq_shared.specs.Shown.{IsRemoval}
+
+pub or_right : (a b : Bool) → b ≡ true → (a || b) ≡ true
+or_right true b h = refl
+or_right false b h = h
 
 -- what refuses a send in its queue
 abbrev RefusesSend : Option QueueError → Type 0

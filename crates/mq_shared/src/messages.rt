@@ -1,5 +1,5 @@
 //! The calls that wait for a message or for room.
-ghost use Rattle.std.specs.Prelude.{◌≡◌, ◌<◌, pos, int_lt, false, length, IfOk, IfErr, MatchResult};
+ghost use Rattle.std.specs.Prelude.{◌≡◌, ◌<◌, ◌||◌, pos, int_lt, false, length, IfOk, IfErr, MatchResult};
 ghost use Rattle.mq_queue.specs.declared.event.Event.TheVariants.{Sent};
 ghost use Rattle.mq_select.specs.Selection.{selection_of};
 ghost use Rattle.mq_table.specs.Ids.{seq_of, slot_of};
@@ -8,7 +8,7 @@ ghost use Rattle.mq_shared.specs.Refusals.{Refuses, MayReceive, MaySend};
 ghost use Rattle.mq_shared.specs.Seat.{IsCounted, IsLater, IsSame};
 ghost use Rattle.mq_shared.specs.Seen.{IsDecided, IsDone, IsReceipt, receive_verdict, send_verdict};
 
-use crate::{Names, Place, Pledge, RecvFlags, Seat, SendFlags, TextOf};
+use crate::{Names, Patience, Place, Pledge, RecvFlags, Seat, SendFlags, TextOf};
 use mq_board::Copies;
 use mq_one_thread::{Delivered, Errno, Refused, SendRefused};
 use mq_select::Selection;
@@ -17,9 +17,9 @@ use std::sync::{MutexGuard, Wait};
 
 impl<P: Pledge, N: Names> Place<P, N, Copies<N>> {
     /// Sends a text of a type above 0 (msgop(2), msgsnd), and answers the entry. Where the queue is
-    /// full it waits for room, unless the flags say not to. EINVAL, EIDRM, EAGAIN, then ENOMEM; the
-    /// text is then handed back.
-    pub fn send<R: Wait>(
+    /// full it waits for room, unless the flags say not to, until the patience ends: then EAGAIN is
+    /// what its last look saw. EINVAL, EIDRM, EAGAIN, then ENOMEM; the text is then handed back.
+    pub fn send<R: Wait, T: Patience>(
         &self,
         rt: &R,
         seat: &mut Seat<N>,
@@ -28,12 +28,14 @@ impl<P: Pledge, N: Names> Place<P, N, Copies<N>> {
         tag: u64,
         text: TextOf<N>,
         flags: SendFlags,
+        patience: &mut T,
         moment: u64,
     ) -> Result<u64, SendRefused<TextOf<N>>>
         requires within { slot_of id < N.slots }
         requires positive { int_lt mtype (pos 1) ≡ false }
         requires pledge { P.kept seat.old.number tag mtype text.bytes }
-        ensures refused { IfErr result (λ r. Refuses false (MaySend flags.nowait) r.refused) }
+        ensures refused { IfErr result (λ r.
+            Refuses false (MaySend (T.ends || flags.nowait)) r.refused) }
         ensures handed_back { IfErr result (λ r. r.text ≡ text) }
         ensures counted { MatchResult result (λ _. IsCounted seat.old seat.new (slot_of id))
             (λ _. IsSame seat.old seat.new) }
@@ -58,9 +60,14 @@ impl<P: Pledge, N: Names> Place<P, N, Copies<N>> {
                         MutexGuard::unlock(held);
                         return Err(refusal);
                     }
+                    let seen = self.room.come();
+                    MutexGuard::unlock(held);
+                    let Some(longest) = patience.left() else {
+                        return Err(refusal);
+                    };
                     let (_, again) = refusal.into_text();
                     text = again;
-                    self.room.wait(rt, held);
+                    self.room.wait(rt, seen, longest);
                 }
             }
         }
@@ -68,8 +75,9 @@ impl<P: Pledge, N: Names> Place<P, N, Copies<N>> {
     }
 
     /// Receives the first message that the selection names (msgop(2), msgrcv). Where there is none
-    /// it waits for one, unless the flags say not to. EINVAL, EIDRM, ENOMSG, E2BIG, then ENOMEM.
-    pub fn receive<R: Wait>(
+    /// it waits for one, unless the flags say not to, until the patience ends: then ENOMSG is what
+    /// its last look saw. EINVAL, EIDRM, ENOMSG, E2BIG, then ENOMEM.
+    pub fn receive<R: Wait, T: Patience>(
         &self,
         rt: &R,
         seat: &mut Seat<N>,
@@ -77,13 +85,14 @@ impl<P: Pledge, N: Names> Place<P, N, Copies<N>> {
         size: u64,
         msgtyp: i64,
         flags: RecvFlags,
+        patience: &mut T,
         moment: u64,
     ) -> Result<Delivered<TextOf<N>>, Refused>
         requires within { slot_of id < N.slots }
         ensures pledge { IfOk result (MeetsPledge P.kept size) }
         ensures whole { IfOk result (λ d. flags.noerror ≡ false → MeetsWhole P.kept d) }
         ensures refused { IfErr result
-            (Refuses false (MayReceive flags.nowait flags.noerror)) }
+            (Refuses false (MayReceive (T.ends || flags.nowait) flags.noerror)) }
         ensures counted { MatchResult result (λ _. IsCounted seat.old seat.new (slot_of id))
             (λ _. IsSame seat.old seat.new) }
         ensures later { IsLater seat.old seat.new }
@@ -106,7 +115,12 @@ impl<P: Pledge, N: Names> Place<P, N, Copies<N>> {
                         MutexGuard::unlock(held);
                         return Err(refused);
                     }
-                    self.arrived.wait(rt, held);
+                    let seen = self.arrived.come();
+                    MutexGuard::unlock(held);
+                    let Some(longest) = patience.left() else {
+                        return Err(refused);
+                    };
+                    self.arrived.wait(rt, seen, longest);
                 }
             }
         }

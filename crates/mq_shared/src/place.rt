@@ -2,13 +2,11 @@ ghost use Rattle.std.specs.Prelude.{◌≡◌, ◌<◌, length};
 ghost use Rattle.std.specs.Sync.Mutex.{mutex_guard_value};
 ghost use Rattle.mq_shared.specs.Seat.{IsLater, IsSame, front_of};
 
-use crate::{Names, Pledge, Seat, SharedSlot};
+use crate::{Names, Pledge, Seat, SharedSlot, Waiters};
 use crossbeam_utils::{Backoff, CachePadded};
 use mq_board::Copies;
 use std::hint::spin_loop;
-use std::sync::atomic::{AtomicBool, Ordering};
-use std::sync::{Condvar, Mutex, MutexGuard, Wait};
-use std::time::Duration;
+use std::sync::{Mutex, MutexGuard, Wait};
 
 /// How often a call tries to take a slot's lock before it sleeps for it. Each try takes the lock's
 /// line away from who holds it, so there are pauses between them.
@@ -19,54 +17,6 @@ const PLENTY: u64 = 32;
 
 /// How long a pause is where plenty waits and there is room.
 const LONG_PAUSE: u32 = 512;
-
-/// How often a call that waits looks for a change before it sleeps.
-const LOOKS: u32 = 60;
-
-/// Those who wait for one kind of change in a slot.
-#[derive(Drop)]
-pub(crate) struct Waiters {
-    changes: Condvar,
-    /// Whether anyone came since all were last woken.
-    came: AtomicBool,
-}
-
-impl Waiters {
-    pub const fn new() -> Waiters {
-        Waiters {
-            changes: Condvar::new(),
-            came: AtomicBool::new(false),
-        }
-    }
-
-    /// Wakes all that wait, once the change is made and the slot's lock was let go. Where nobody came
-    /// since they were last woken, this writes nothing: who comes later finds the change.
-    pub fn wake(&self) {
-        if self.came.load(Ordering::SeqCst) && self.came.swap(false, Ordering::SeqCst) {
-            self.changes.notify_all();
-        }
-    }
-
-    /// Lets the lock go, and waits for a change after what was seen under it. It looks for a while
-    /// before it sleeps, and may end with no change.
-    pub fn wait<R: Wait, P: Pledge, N: Names>(
-        &self,
-        rt: &R,
-        held: MutexGuard<'_, SharedSlot<P, N, Copies<N>>>,
-    ) {
-        let seen = self.changes.notifications();
-        self.came.store(true, Ordering::SeqCst);
-        MutexGuard::unlock(held);
-        let backoff = Backoff::new();
-        for _look in 0..LOOKS {
-            if self.changes.notifications() != seen {
-                return;
-            }
-            backoff.snooze();
-        }
-        self.changes.sleep(rt, seen, Duration::MAX);
-    }
-}
 
 /// How long a call keeps away from a slot's lock that another holds.
 #[derive(Drop)]

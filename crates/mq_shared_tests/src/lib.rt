@@ -11,3 +11,5 @@ mod parts;
 mod place;
 #[cfg(test)]
 mod shared;
+#[cfg(test)]
+mod waiters;

@@ -6,7 +6,9 @@ use crate::parts::{Anything, drafted, emptied, has, holds, spent};
 use crate::shared::{Day, apart_once};
 use mq_arena::ArenaState;
 use mq_one_thread::{Config, Delivered, Errno, Refused, Removal, SendRefused};
-use mq_shared::{Keys, Names, Pages, Place, RecvFlags, Seat, SendFlags, SharedSlot, TextOf};
+use mq_shared::{
+    Forever, Keys, Names, Pages, Place, RecvFlags, Seat, SendFlags, SharedSlot, TextOf,
+};
 use mq_table::{Cut, Id, IdRefusal, MAX_SEQ};
 use std::process::Abort;
 use std::sync::Wait;
@@ -105,7 +107,7 @@ fn sent<N: Names, R: Abort + Wait>(
     requires slots { N.slots ≡ 1 }
 {
     let flags = SendFlags { nowait: false };
-    match place.send(rt, seat, Id::of(0, 0), 1, 7, text, flags, 6) {
+    match place.send(rt, seat, Id::of(0, 0), 1, 7, text, flags, &mut Forever, 6) {
         Ok(entry) => holds(rt, entry == 2, "it is sent by entry 2"),
         Err(_refused) => panic!(rt; "out of memory"),
     }
@@ -123,7 +125,7 @@ fn handed_back<N: Names, R: Abort + Wait>(
     requires slots { N.slots ≡ 1 }
 {
     let flags = SendFlags { nowait: true };
-    match place.send(rt, seat, Id::of(0, 0), 1, 8, text, flags, 6) {
+    match place.send(rt, seat, Id::of(0, 0), 1, 8, text, flags, &mut Forever, 6) {
         Ok(_) => panic!(rt; "a text was sent that is refused"),
         Err(SendRefused { refused, text }) => {
             holds(rt, is(refused, errno, entries), "why it is not sent");
@@ -143,7 +145,7 @@ fn not_received<N: Names, R: Abort + Wait>(
 )
     requires slots { N.slots ≡ 1 }
 {
-    match place.receive(rt, seat, Id::of(0, 0), 1, 0, AT_ONCE, 7) {
+    match place.receive(rt, seat, Id::of(0, 0), 1, 0, AT_ONCE, &mut Forever, 7) {
         Ok(_delivered) => panic!(rt; "a text was received that is refused"),
         Err(refused) => holds(rt, is(refused, errno, entries), "why nothing is received"),
     }
@@ -157,7 +159,7 @@ fn received<N: Names, R: Abort + Wait>(
 ) -> TextOf<N>
     requires slots { N.slots ≡ 1 }
 {
-    match place.receive(rt, seat, Id::of(0, 0), 1, 0, CUT, 7) {
+    match place.receive(rt, seat, Id::of(0, 0), 1, 0, CUT, &mut Forever, 7) {
         Ok(
             Delivered {
                 entry,

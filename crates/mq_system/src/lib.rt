@@ -22,8 +22,9 @@
 //!
 //! **Who is woken**, each after the lock is let go: a send wakes the receivers of its queue; a
 //! receipt and a new quota wake its senders; a removal wakes both, who then answer EIDRM. A making
-//! wakes none, for nobody waits for an id that was never given. All that wait are woken: the first
-//! of them may want another message, or less room, than the one that the change can serve.
+//! wakes none, for nobody waits for an id that was never given. A text that is spent wakes those who
+//! wait for pages, by whatever way its pages come back. All that wait are woken: the first of them may
+//! want another message, or less room, than the one that the change can serve.
 //!
 //! No contract says that a thread runs, wakes or comes first.
 
@@ -42,8 +43,10 @@ pub use mq_one_thread::{
     Closed, ClosedSlot, Config, DEFAULTS, Delivered, DraftError, Errno, GetFlags, Got, MAX_HEIGHT,
     MAX_SEATS, MAX_SEQ, MAX_SLOTS, OneThread, Refused, Removal, SendRefused, SysError,
 };
+pub(crate) use mq_shared::Waiters;
 pub use mq_shared::{
-    Blanks, Keys, Names, Pages, Place, Pledge, RecvFlags, Seat, SendFlags, TextOf, WaitingOf,
+    Blanks, Forever, Keys, Names, NoWait, Pages, Patience, Place, Pledge, RecvFlags, Seat,
+    SendFlags, TextOf, Until, WaitingOf,
 };
 pub use mq_table::Cut;
 pub use system::System;

@@ -1,10 +1,11 @@
 //! What the seats have spent, kept back for their next drafts.
-ghost use Rattle.std.specs.Prelude.{◌≡◌, ◌<◌, ◌≤◌, IfErr, IfOk, IfSome, IsErrOf};
+ghost use Rattle.std.specs.Prelude.{◌≡◌, ◌<◌, ◌≤◌, ◌⊎◌, true, IfErr, IfOk, IfSome, IsErrOf};
 
-use crate::{Names, Pages};
+use crate::{Names, Pages, Patience, Waiters};
 use crossbeam_utils::CachePadded;
 use mq_arena::{Arena, Block, INLINE_ORDER, MAX_ORDER, Magazine, TakeError};
 use std::alloc::{AllocError, Global};
+use std::marker::Model;
 use std::sync::{Mutex, MutexGuard, Wait};
 
 /// A seat's magazine under its lock, which another seat takes only where the arena has no run.
@@ -14,6 +15,21 @@ type Own<N> = CachePadded<Mutex<Magazine<Pages<N>>>>;
 /// several takes them in the order of their seats.
 pub(crate) struct Magazines<N: Names> {
     each: Vec<Own<N>>,
+    /// Those who wait for pages: woken where a text was spent, whether its pages went home or are
+    /// kept back.
+    waiters: CachePadded<Waiters>,
+    /// The order of a block that has all pages.
+    height: u8,
+}
+
+impl<N: Names> Model for Magazines<N> {
+    ghost use Rattle.std.specs.Prelude.{◌≡◌, ℕ};
+
+    ghost Value = { ℕ };
+
+    ghost view = { λ m. m.height };
+
+    ghost invariant = { λ m. m.height ≡ N.height };
 }
 
 impl<N: Names> Magazines<N> {
@@ -23,22 +39,37 @@ impl<N: Names> Magazines<N> {
         rt: &R,
         arena: &Arena<Pages<N>>,
         count: u16,
-    ) -> Result<Magazines<N>, AllocError> {
+        height: u8,
+    ) -> Result<Magazines<N>, AllocError>
+        requires { height ≡ N.height }
+    {
         let mut each = Vec::with_capacity(alloc, count as usize)?;
         for _ in 0..count {
             let Ok(magazine) = Magazine::new(alloc) else {
-                let made = Magazines { each };
+                let made = Magazines {
+                    each,
+                    waiters: CachePadded::new(Waiters::new()),
+                    height,
+                };
                 made.end(rt, arena);
                 return Err(AllocError);
             };
             each.push_reserved(CachePadded::new(Mutex::new(magazine)));
         }
-        Ok(Magazines { each })
+        Ok(Magazines {
+            each,
+            waiters: CachePadded::new(Waiters::new()),
+            height,
+        })
     }
 
     /// Ends them: all that they keep goes home.
     pub(crate) fn end<R: Wait>(self, rt: &R, arena: &Arena<Pages<N>>) {
-        let Magazines { mut each } = self;
+        let Magazines {
+            mut each,
+            waiters: _,
+            height: _,
+        } = self;
         while let Some(own) = each.pop() {
             let mut left = CachePadded::into_inner(own).into_inner();
             arena.put_all(rt, &mut left);
@@ -49,21 +80,24 @@ impl<N: Names> Magazines<N> {
 
     /// A block with the bytes that its pages had: of the magazine of the seat with this number, else
     /// as `take_any` answers it.
-    pub(crate) fn take<R: Wait>(
+    pub(crate) fn take<R: Wait, T: Patience>(
         &self,
         rt: &R,
         arena: &Arena<Pages<N>>,
         seat: u16,
         order: u8,
+        patience: &mut T,
     ) -> Result<Block<Pages<N>>, TakeError>
         requires seat { 1 ≤ seat }
         requires order { order ≤ MAX_ORDER }
         ensures order { IfOk result (λ b. b.order ≡ order) }
         ensures memory { IsErrOf result TakeError.Memory → INLINE_ORDER < order }
+        ensures ended { IsErrOf result TakeError.NoRun →
+            (T.ends ≡ true) ⊎ (N.height < order) }
     {
         match self.take_kept(rt, seat, order) {
             Some(block) => Ok(block),
-            None => self.take_any(rt, arena, order),
+            None => self.take_any(rt, arena, order, patience),
         }
     }
 
@@ -80,9 +114,62 @@ impl<N: Names> Magazines<N> {
         found
     }
 
-    /// A block of the arena with the bytes that its pages had. `NoRun` where none fitted after all
-    /// magazines were emptied, then `Memory`.
-    pub(crate) fn take_any<R: Wait>(
+    /// A block of the arena with the bytes that its pages had. Where there is none it waits for one
+    /// until the patience ends, if the arena could ever lend it. `NoRun`, then `Memory`.
+    pub(crate) fn take_any<R: Wait, T: Patience>(
+        &self,
+        rt: &R,
+        arena: &Arena<Pages<N>>,
+        order: u8,
+        patience: &mut T,
+    ) -> Result<Block<Pages<N>>, TakeError>
+        requires { order ≤ MAX_ORDER }
+        ensures order { IfOk result (λ b. b.order ≡ order) }
+        ensures memory { IsErrOf result TakeError.Memory → INLINE_ORDER < order }
+        ensures ended { IsErrOf result TakeError.NoRun →
+            (T.ends ≡ true) ⊎ (N.height < order) }
+    {
+        match self.take_now(rt, arena, order) {
+            Err(TakeError::NoRun) => {
+                if self.height < order || patience.left().is_none() {
+                    return Err(TakeError::NoRun);
+                }
+                self.wait_for(rt, arena, order, patience)
+            }
+            taken => taken,
+        }
+    }
+
+    /// Waits until there is a block of that order, or the patience ends.
+    fn wait_for<R: Wait, T: Patience>(
+        &self,
+        rt: &R,
+        arena: &Arena<Pages<N>>,
+        order: u8,
+        patience: &mut T,
+    ) -> Result<Block<Pages<N>>, TakeError>
+        requires { order ≤ MAX_ORDER }
+        ensures order { IfOk result (λ b. b.order ≡ order) }
+        ensures memory { IsErrOf result TakeError.Memory → INLINE_ORDER < order }
+        ensures ended { IsErrOf result TakeError.NoRun → T.ends ≡ true }
+    {
+        for _ in rt.forever() {
+            let seen = self.waiters.come();
+            match self.take_now(rt, arena, order) {
+                Err(TakeError::NoRun) => (),
+                taken => return taken,
+            }
+            let Some(longest) = patience.left() else {
+                return Err(TakeError::NoRun);
+            };
+            self.waiters.wait(rt, seen, longest);
+        }
+        unreachable!()
+    }
+
+    /// A block of the arena, or `NoRun` where none fitted after all magazines were emptied, then
+    /// `Memory`.
+    fn take_now<R: Wait>(
         &self,
         rt: &R,
         arena: &Arena<Pages<N>>,
@@ -96,6 +183,11 @@ impl<N: Names> Magazines<N> {
             Err(TakeError::NoRun) => take_emptied(rt, arena, &self.each, order),
             taken => taken,
         }
+    }
+
+    /// Wakes all that wait for pages, once some came back.
+    pub(crate) fn wake(&self) {
+        self.waiters.wake();
     }
 
     /// Keeps a block in the magazine of the seat with this number, while it has room; else the block
@@ -112,6 +204,7 @@ impl<N: Names> Magazines<N> {
         if let Err(block) = self.keep(rt, seat, block) {
             arena.put(rt, block);
         }
+        self.wake();
     }
 
     /// Keeps a block in the magazine of this seat, or hands it back where that has no room.
@@ -149,7 +242,10 @@ fn take_emptied<N: Names, R: Wait>(
     match magazines.split_first() {
         Some((first, rest)) => {
             let mut magazine = first.lock(rt);
-            arena.put_all(rt, &mut magazine);
+            if let Some(block) = magazine.pop() {
+                arena.put(rt, block);
+                arena.put_all(rt, &mut magazine);
+            }
             let taken = take_emptied(rt, arena, rest, order);
             MutexGuard::unlock(magazine);
             taken

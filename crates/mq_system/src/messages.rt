@@ -1,4 +1,4 @@
-ghost use Rattle.std.specs.Prelude.{◌≡◌, false, length, IfOk, IfErr, OnOk, MatchResult};
+ghost use Rattle.std.specs.Prelude.{◌≡◌, ◌||◌, false, length, IfOk, IfErr, OnOk, MatchResult};
 ghost use Rattle.mq_queue.specs.declared.event.Event.TheVariants.{Sent};
 ghost use Rattle.mq_select.specs.Selection.{selection_of};
 ghost use Rattle.mq_table.specs.Ids.{seq_of, slot_of};
@@ -10,8 +10,8 @@ ghost use Rattle.mq_shared.specs.Seat.{IsCounted, IsLater, IsSame};
 ghost use Rattle.mq_shared.specs.Seen.{IsDecided, IsDone, IsReceipt, receive_verdict, send_verdict};
 
 use crate::{
-    Delivered, Errno, Names, Pledge, RecvFlags, Refused, Seat, SendFlags, SendRefused, System,
-    TextOf,
+    Delivered, Errno, Forever, Names, Patience, Pledge, RecvFlags, Refused, Seat, SendFlags,
+    SendRefused, System, TextOf,
 };
 use mq_board::Copies;
 use mq_table::Id;
@@ -21,7 +21,6 @@ impl<P: Pledge, N: Names> System<P, N, Copies<N>> {
     /// Sends a text (msgop(2), msgsnd), and answers the entry. Where the queue is full it waits for
     /// room, unless the flags say not to. EINVAL for the type, EINVAL for the id, EIDRM, EAGAIN,
     /// then ENOMEM; the text is then handed back.
-    #[tactic(auto, using(mq_shared::proofs::LaterLemmas::same_self, mq_shared::proofs::LaterLemmas::later_self))]
     pub fn msgsnd<R: Wait>(
         &self,
         rt: &R,
@@ -47,17 +46,50 @@ impl<P: Pledge, N: Names> System<P, N, Copies<N>> {
         ensures decided { IfErr result (λ r. IsDecided seat.old seat.new (slot_of id)
             (send_verdict (seq_of id) mtype (length text.bytes)) r.refused) }
     {
+        let patience = &mut Forever;
+        self.msgsnd_within(rt, seat, id, mtype, tag, text, flags, patience, moment)
+    }
+
+    /// Sends a text as `msgsnd` does, and waits for room no longer than until the patience ends. Then
+    /// it answers EAGAIN, which is what it saw last, as with IPC_NOWAIT.
+    #[tactic(auto, using(mq_shared::proofs::LaterLemmas::same_self, mq_shared::proofs::LaterLemmas::later_self))]
+    pub fn msgsnd_within<R: Wait, T: Patience>(
+        &self,
+        rt: &R,
+        seat: &mut Seat<N>,
+        id: Id,
+        mtype: i64,
+        tag: u64,
+        text: TextOf<N>,
+        flags: SendFlags,
+        patience: &mut T,
+        moment: u64,
+    ) -> Result<u64, SendRefused<TextOf<N>>>
+        requires pledge { P.kept seat.old.number tag mtype text.bytes }
+        ensures ok { OnOk result (never_sent N.slots id mtype ≡ false) }
+        ensures refused { IfErr result (λ r.
+            Refuses (never_sent N.slots id mtype)
+            (MaySend (T.ends || flags.nowait)) r.refused) }
+        ensures handed_back { IfErr result (λ r. r.text ≡ text) }
+        ensures counted { MatchResult result (λ _. IsCounted seat.old seat.new (slot_of id))
+            (λ _. IsSame seat.old seat.new) }
+        ensures later { IsLater seat.old seat.new }
+        ensures done { IfOk result (λ entry. IsDone seat.old seat.new (slot_of id)
+            (send_verdict (seq_of id) mtype (length text.bytes)) entry
+            (Sent seat.old.number moment tag mtype (length text.bytes))) }
+        ensures decided { IfErr result (λ r. IsDecided seat.old seat.new (slot_of id)
+            (send_verdict (seq_of id) mtype (length text.bytes)) r.refused) }
+    {
         let number = id.slot() as usize;
         if mtype < 1 || number >= self.places.len() {
             let refused = too_early();
             return Err(SendRefused { refused, text });
         }
-        self.places[number].send(rt, seat, id, mtype, tag, text, flags, moment)
+        self.places[number].send(rt, seat, id, mtype, tag, text, flags, patience, moment)
     }
 
     /// Receives the first message that the selection names (msgop(2), msgrcv). Where there is none
     /// it waits for one, unless the flags say not to. EINVAL, EIDRM, ENOMSG, E2BIG, then ENOMEM.
-    #[tactic(auto, using(mq_shared::proofs::LaterLemmas::same_self, mq_shared::proofs::LaterLemmas::later_self))]
     pub fn msgrcv<R: Wait>(
         &self,
         rt: &R,
@@ -81,11 +113,42 @@ impl<P: Pledge, N: Names> System<P, N, Copies<N>> {
         ensures decided { IfErr result (IsDecided seat.old seat.new (slot_of id)
             (receive_verdict (seq_of id) size (selection_of msgtyp flags.except) flags.noerror)) }
     {
+        self.msgrcv_within(rt, seat, id, size, msgtyp, flags, &mut Forever, moment)
+    }
+
+    /// Receives a message as `msgrcv` does, and waits for one no longer than until the patience ends.
+    /// Then it answers ENOMSG, which is what it saw last, as with IPC_NOWAIT.
+    #[tactic(auto, using(mq_shared::proofs::LaterLemmas::same_self, mq_shared::proofs::LaterLemmas::later_self))]
+    pub fn msgrcv_within<R: Wait, T: Patience>(
+        &self,
+        rt: &R,
+        seat: &mut Seat<N>,
+        id: Id,
+        size: u64,
+        msgtyp: i64,
+        flags: RecvFlags,
+        patience: &mut T,
+        moment: u64,
+    ) -> Result<Delivered<TextOf<N>>, Refused>
+        ensures ok { OnOk result (out_of_slots N.slots id ≡ false) }
+        ensures pledge { IfOk result (MeetsPledge P.kept size) }
+        ensures whole { IfOk result (λ d. flags.noerror ≡ false → MeetsWhole P.kept d) }
+        ensures refused { IfErr result
+            (Refuses (out_of_slots N.slots id)
+            (MayReceive (T.ends || flags.nowait) flags.noerror)) }
+        ensures counted { MatchResult result (λ _. IsCounted seat.old seat.new (slot_of id))
+            (λ _. IsSame seat.old seat.new) }
+        ensures later { IsLater seat.old seat.new }
+        ensures done { IfOk result (IsReceipt seat.old seat.new (slot_of id) (seq_of id) size
+            (selection_of msgtyp flags.except) flags.noerror moment) }
+        ensures decided { IfErr result (IsDecided seat.old seat.new (slot_of id)
+            (receive_verdict (seq_of id) size (selection_of msgtyp flags.except) flags.noerror)) }
+    {
         let number = id.slot() as usize;
         if number >= self.places.len() {
             return Err(too_early());
         }
-        self.places[number].receive(rt, seat, id, size, msgtyp, flags, moment)
+        self.places[number].receive(rt, seat, id, size, msgtyp, flags, patience, moment)
     }
 }
 

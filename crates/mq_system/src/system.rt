@@ -1,4 +1,4 @@
-ghost use Rattle.std.specs.Prelude.{◌≡◌, ◌↔◌, ◌<◌, ◌≤◌, ℕ, true, false, length, nat_lt, replicate};
+ghost use Rattle.std.specs.Prelude.{◌≡◌, ◌↔◌, ◌⊎◌, ◌<◌, ◌≤◌, ℕ, true, false, length, nat_lt, replicate};
 ghost use Rattle.std.specs.Prelude.{None, vec_len, IfOk, IsErrOf};
 ghost use Rattle.mq_message.specs.Text.{order_for};
 ghost use Rattle.mq_one_thread.specs.Limits.{keeps_limits};
@@ -9,7 +9,8 @@ use crate::close::Rest;
 use crate::magazines::Magazines;
 use crate::parts::{fill_places, give_up, leave, make_seats, make_slots};
 use crate::{
-    Blanks, Config, DraftError, Keys, Names, Pages, Place, Pledge, Seat, SysError, TextOf,
+    Blanks, Config, DraftError, Keys, Names, NoWait, Pages, Patience, Place, Pledge, Seat,
+    SysError, TextOf,
 };
 use mq_arena::{Arena, Block, Homecoming, LEDGER_PARTS, TakeError, Unopened};
 use mq_board::Copies;
@@ -105,7 +106,7 @@ impl<P: Pledge, N: Names> System<P, N, Copies<N>> {
             return Err(SysError::Memory);
         };
         let arena = Arena::new(arena);
-        let Ok(magazines) = Magazines::new(alloc, rt, &arena, config.seats) else {
+        let Ok(magazines) = Magazines::new(alloc, rt, &arena, config.seats, config.height) else {
             give_up(rt, &mut arena.into_state(), slots);
             leave(seats);
             places.destroy_empty();
@@ -144,6 +145,24 @@ impl<P: Pledge, N: Names, W> System<P, N, W> {
         ensures no_run { IsErrOf result DraftError.NoRun → 0 < len }
         ensures memory { IsErrOf result DraftError.Memory → INLINE_LEN < len }
     {
+        self.draft_within(rt, len, &mut NoWait)
+    }
+
+    /// A text as `draft` makes it. Where no run of pages is free it waits until one is, or the
+    /// patience ends; a text that is greater than the arena is not waited for.
+    pub fn draft_within<R: Wait, T: Patience>(
+        &self,
+        rt: &R,
+        len: u64,
+        patience: &mut T,
+    ) -> Result<TextOf<N>, DraftError>
+        ensures ok { IfOk result (λ text. text.bytes ≡ replicate len 0) }
+        ensures too_long { IsErrOf result DraftError.TooLong ↔ (nat_lt MSGMAX len ≡ true) }
+        ensures no_run { IsErrOf result DraftError.NoRun → 0 < len }
+        ensures ended { IsErrOf result DraftError.NoRun →
+            (T.ends ≡ true) ⊎ (N.height < order_for len) }
+        ensures memory { IsErrOf result DraftError.Memory → INLINE_LEN < len }
+    {
         if len > MSGMAX {
             return Err(DraftError::TooLong);
         }
@@ -151,7 +170,8 @@ impl<P: Pledge, N: Names, W> System<P, N, W> {
         if len == 0 {
             return Ok(Text::empty());
         }
-        match self.magazines.take_any(rt, &self.arena, order_for(len)) {
+        let order = order_for(len);
+        match self.magazines.take_any(rt, &self.arena, order, patience) {
             Ok(mut block) => {
                 block.overwrite(&[]);
                 Ok(Text::of(block, len))
@@ -168,15 +188,32 @@ impl<P: Pledge, N: Names, W> System<P, N, W> {
         ensures no_run { IsErrOf result DraftError.NoRun → 0 < length bytes.now }
         ensures memory { IsErrOf result DraftError.Memory → INLINE_LEN < length bytes.now }
     {
+        self.draft_of_within(rt, bytes, &mut NoWait)
+    }
+
+    /// A text of these bytes as `draft_of` makes it, which waits for pages as `draft_within` does.
+    pub fn draft_of_within<R: Wait, T: Patience>(
+        &self,
+        rt: &R,
+        bytes: &[u8],
+        patience: &mut T,
+    ) -> Result<TextOf<N>, DraftError>
+        ensures ok { IfOk result (λ text. text.bytes ≡ bytes.now) }
+        ensures too_long { IsErrOf result DraftError.TooLong
+            ↔ (nat_lt MSGMAX (length bytes.now) ≡ true) }
+        ensures no_run { IsErrOf result DraftError.NoRun → 0 < length bytes.now }
+        ensures ended { IsErrOf result DraftError.NoRun →
+            (T.ends ≡ true) ⊎ (N.height < order_for (length bytes.now)) }
+        ensures memory { IsErrOf result DraftError.Memory → INLINE_LEN < length bytes.now }
+    {
         if bytes.len() as u64 > MSGMAX {
             return Err(DraftError::TooLong);
         }
         if bytes.is_empty() {
             return Ok(Text::empty());
         }
-        let found = self
-            .magazines
-            .take_any(rt, &self.arena, order_for(bytes.len()));
+        let order = order_for(bytes.len());
+        let found = self.magazines.take_any(rt, &self.arena, order, patience);
         filled(found, bytes)
     }
 
@@ -194,6 +231,25 @@ impl<P: Pledge, N: Names, W> System<P, N, W> {
         ensures no_run { IsErrOf result DraftError.NoRun → 0 < length bytes.now }
         ensures memory { IsErrOf result DraftError.Memory → INLINE_LEN < length bytes.now }
     {
+        self.draft_by_within(rt, seat, bytes, &mut NoWait)
+    }
+
+    /// A text of these bytes as `draft_by` makes it, which waits for pages as `draft_within` does.
+    pub fn draft_by_within<R: Wait, T: Patience>(
+        &self,
+        rt: &R,
+        seat: &Seat<N>,
+        bytes: &[u8],
+        patience: &mut T,
+    ) -> Result<TextOf<N>, DraftError>
+        ensures ok { IfOk result (λ text. text.bytes ≡ bytes.now) }
+        ensures too_long { IsErrOf result DraftError.TooLong
+            ↔ (nat_lt MSGMAX (length bytes.now) ≡ true) }
+        ensures no_run { IsErrOf result DraftError.NoRun → 0 < length bytes.now }
+        ensures ended { IsErrOf result DraftError.NoRun →
+            (T.ends ≡ true) ⊎ (N.height < order_for (length bytes.now)) }
+        ensures memory { IsErrOf result DraftError.Memory → INLINE_LEN < length bytes.now }
+    {
         if MSGMAX < bytes.len() as u64 {
             return Err(DraftError::TooLong);
         }
@@ -202,16 +258,23 @@ impl<P: Pledge, N: Names, W> System<P, N, W> {
         }
         seat.holds();
         let order = order_for(bytes.len());
-        let taken = self.magazines.take(rt, &self.arena, seat.number(), order);
+        let taken = self
+            .magazines
+            .take(rt, &self.arena, seat.number(), order, patience);
         filled(taken, bytes)
     }
 
-    /// Spends a text: its block goes home. A text without a block is at home.
+    /// Spends a text: its block goes home, and who waits for pages is woken. A text without a block
+    /// is at home.
     pub fn spend<R: Wait>(&self, rt: &R, text: TextOf<N>) -> Homecoming
         ensures none { text.block ≡ None → result ≡ Homecoming.Home }
     {
         match text.into_block() {
-            Some(block) => self.arena.put(rt, block),
+            Some(block) => {
+                let came = self.arena.put(rt, block);
+                self.magazines.wake();
+                came
+            }
             None => Homecoming::Home,
         }
     }
@@ -238,6 +301,7 @@ fn filled<N: Names>(
     requires memory { IsErrOf taken TakeError.Memory → INLINE_LEN < length bytes.now }
     ensures ok { IfOk result (λ text. text.bytes ≡ bytes.now) }
     ensures too_long { ¬ IsErrOf result DraftError.TooLong }
+    ensures no_run { IsErrOf result DraftError.NoRun → IsErrOf taken TakeError.NoRun }
     ensures memory { IsErrOf result DraftError.Memory → INLINE_LEN < length bytes.now }
 {
     match taken {

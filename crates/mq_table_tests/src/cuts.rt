@@ -2,7 +2,7 @@
 
 use crate::plays::{Answer, sent};
 use crate::slots::{Place, close, make, message, remove};
-use mq_queue::{Base, Event};
+use mq_queue::{Base, BoardRow, Event};
 use mq_table::{Cut, Id, KeyTable};
 use std::alloc::AllocError;
 use std::process::Abort;
@@ -10,13 +10,17 @@ use std::test::Fail;
 
 /// Cuts the slot's list, at the second try where there was no memory: then nothing has changed.
 fn cut(rt: &impl Abort, slot: &mut Place) -> Result<Cut, AllocError> {
-    let before = (slot.first(), slot.events(), slot.made(), slot.row());
+    let before = shown(slot);
     if let Ok(cut) = slot.cut() {
         return Ok(cut);
     }
-    let after = (slot.first(), slot.events(), slot.made(), slot.row());
-    assert!(rt; after == before, "a refused cut changes the slot");
+    assert!(rt; shown(slot) == before, "a refused cut changes the slot");
     slot.cut()
+}
+
+/// What a slot shows of its list.
+fn shown(slot: &Place) -> (u64, u64, u32, BoardRow) {
+    (slot.first(), slot.events(), slot.made(), slot.row())
 }
 
 /// Where a cut begins, how many makings are before it, how many entries it has of removed queues and

@@ -7,6 +7,12 @@ mod calls;
 #[cfg(test)]
 mod churn;
 #[cfg(test)]
+mod crowd;
+#[cfg(test)]
+mod drafts;
+#[cfg(test)]
+mod ends;
+#[cfg(test)]
 mod pages;
 #[cfg(test)]
 mod places;

@@ -19,7 +19,7 @@ const SIZE: Config = Config {
 };
 
 /// How often a worker looks at the queue before it changes it.
-const LOOKS: u32 = 20_000;
+const LOOKS: u32 = 200_000;
 
 /// What a worker does next.
 #[derive(Clone, Copy, Drop)]

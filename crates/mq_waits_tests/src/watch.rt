@@ -1,7 +1,7 @@
 //! A bound on the time of a test whose threads wait for one another.
 
 use std::process::Abort;
-use std::sync::atomic::{AtomicBool, Ordering};
+use std::sync::atomic::{AtomicBool, AtomicU64, Ordering};
 use std::sync::{Condvar, Wait};
 use std::time::Duration;
 
@@ -29,6 +29,11 @@ impl Watch {
         self.ended.notify_all();
     }
 
+    /// Whether this was said.
+    pub(crate) fn is_said(&self) -> bool {
+        self.over.load(Ordering::SeqCst)
+    }
+
     /// Waits until the test says that it has come to its end; whether it has in time.
     pub(crate) fn is_over<R: Wait>(&self, rt: &R) -> bool {
         for _second in 0..SECONDS {
@@ -39,6 +44,19 @@ impl Watch {
             self.ended.sleep(rt, seen, Duration::from_secs(1));
         }
         self.over.load(Ordering::SeqCst)
+    }
+
+    /// Waits until the test has come to its end, however long it goes on. Where this count stands
+    /// still for so long, the test fails, and tells what has not come.
+    pub(crate) fn keeps_on<R: Abort + Wait>(&self, rt: &R, done: &AtomicU64, what: &str) {
+        for _ in rt.forever() {
+            let before = done.load(Ordering::SeqCst);
+            if self.is_over(rt) {
+                return;
+            }
+            let stands = done.load(Ordering::SeqCst) == before;
+            assert!(rt; !stands, "not come in time: {what}, after {before}");
+        }
     }
 
     /// Waits until the test has come to its end. Where it does not in time, the test fails, and

@@ -7,6 +7,7 @@ use mq_jobs::{Job, JobsError, run_jobs};
 use std::alloc::{AllocError, Global};
 use std::sync::Wait;
 use std::thread::Threads;
+use std::time::Clock;
 
 /// Answers its number.
 #[derive(Drop)]
@@ -98,7 +99,7 @@ fn ports<'a>(alloc: Global, wanted: &'a [Call], count: u32) -> Result<Vec<Wantin
     Ok(ports)
 }
 
-fn outcomes<R: Threads + Wait + Sync>(
+fn outcomes<R: Threads + Wait + Clock + Sync>(
     rt: &R,
     alloc: Global,
     count: u32,

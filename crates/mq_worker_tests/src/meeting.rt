@@ -4,11 +4,13 @@ ghost use Rattle.mq_cli.specs.Plans.{IsCountable};
 use crate::plans::{Call, TAKE, one_take};
 use mq_cli::{Outcome, Port, RunFault, Step, Taken, run_workers};
 use mq_one_thread::Errno;
+use mq_system::Patience;
 use mq_table::Id;
 use std::alloc::{AllocError, Global};
 use std::sync::Wait;
 use std::sync::atomic::{AtomicBool, Ordering};
 use std::thread::Threads;
+use std::time::Clock;
 
 /// Turns that a worker makes until the other has come.
 const TURNS: u32 = 2_000_000_000;
@@ -26,13 +28,13 @@ impl<'a> Port for Meeting<'a> {
 
     ghost calls = { λ port. port.calls };
 
-    ghost puts = { λ old id mtype tag n moment answer new. Unit {0} };
+    ghost puts = { λ old id mtype tag n ends moment answer new. Unit {0} };
 
-    ghost takes = { λ old id msgtyp moment answer new. Unit {0} };
+    ghost takes = { λ old id msgtyp ends moment answer new. Unit {0} };
 
     ghost removes = { λ old id moment answer new. Unit {0} };
 
-    fn put<R: Wait>(
+    fn put<R: Wait, T: Patience>(
         &mut self,
         _rt: &R,
         _shared: &(),
@@ -40,22 +42,26 @@ impl<'a> Port for Meeting<'a> {
         _mtype: i64,
         _tag: u64,
         _length: u64,
+        _pages: bool,
+        _patience: &mut T,
         _moment: u64,
     ) -> Result<u64, Errno> {
         Err(Errno::EPERM)
     }
 
-    fn take<R: Wait>(
+    fn take<R: Wait, T: Patience>(
         &mut self,
         _rt: &R,
         _shared: &(),
         id: Id,
         msgtyp: i64,
+        patience: &mut T,
         moment: u64,
     ) -> Result<Taken, Errno> {
         let call = Call::Take {
             id: id.number(),
             msgtyp,
+            left: patience.left(),
             moment,
         };
         if call != TAKE {
@@ -129,7 +135,7 @@ fn two_takes(alloc: Global) -> Result<Vec<Vec<Step>>, AllocError>
 }
 
 /// Two workers, each of which receives one message at the meeting.
-fn meet<R: Threads + Wait + Sync>(rt: &R, alloc: Global) -> Result<Vec<Outcome>, RunFault> {
+fn meet<R: Threads + Wait + Clock + Sync>(rt: &R, alloc: Global) -> Result<Vec<Outcome>, RunFault> {
     let first = AtomicBool::new(false);
     let second = AtomicBool::new(false);
     let (Ok(plans), Ok(mut ports)) = (two_takes(alloc), both(alloc, &first, &second)) else {

@@ -1,8 +1,9 @@
 ghost use Rattle.std.specs.Prelude.{◌≡◌, ◌+◌};
 
-use crate::plans::{Call, TAKE, take};
+use crate::plans::{Call, Stopped, TAKE, take};
 use mq_cli::{Port, Taken, work};
 use mq_one_thread::Errno;
+use mq_system::Patience;
 use mq_table::Id;
 use std::alloc::Global;
 use std::sync::Wait;
@@ -19,13 +20,13 @@ impl<'a> Port for Told<'a> {
 
     ghost calls = { λ port. port.calls };
 
-    ghost puts = { λ old id mtype tag n moment answer new. Unit {0} };
+    ghost puts = { λ old id mtype tag n ends moment answer new. Unit {0} };
 
-    ghost takes = { λ old id msgtyp moment answer new. Unit {0} };
+    ghost takes = { λ old id msgtyp ends moment answer new. Unit {0} };
 
     ghost removes = { λ old id moment answer new. Unit {0} };
 
-    fn put<R: Wait>(
+    fn put<R: Wait, T: Patience>(
         &mut self,
         _rt: &R,
         _shared: &(),
@@ -33,22 +34,26 @@ impl<'a> Port for Told<'a> {
         _mtype: i64,
         _tag: u64,
         _length: u64,
+        _pages: bool,
+        _patience: &mut T,
         _moment: u64,
     ) -> Result<u64, Errno> {
         Err(Errno::EPERM)
     }
 
-    fn take<R: Wait>(
+    fn take<R: Wait, T: Patience>(
         &mut self,
         _rt: &R,
         _shared: &(),
         id: Id,
         msgtyp: i64,
+        patience: &mut T,
         moment: u64,
     ) -> Result<Taken, Errno> {
         let call = Call::Take {
             id: id.number(),
             msgtyp,
+            left: patience.left(),
             moment,
         };
         if call != TAKE || self.calls >= self.taken.len() as u64 {
@@ -83,7 +88,7 @@ fn from(sender: u16, tag: u64, mtype: i64) -> Taken {
 fn ordered<R: Wait>(rt: &R, alloc: Global, taken: &[Taken; 3]) -> Option<bool> {
     for _ in 0..2 {
         let mut port = Told { taken, calls: 0 };
-        let outcome = work(rt, alloc, &(), &mut port, &[take(3)]);
+        let outcome = work(rt, &Stopped, alloc, &(), &mut port, &[take(3)]);
         match outcome.end {
             None if outcome.received == 3 => return Some(outcome.ordered),
             _ => (),

@@ -5,11 +5,30 @@ ghost use Rattle.mq_cli.specs.Plans.{IsCountable, puts_of, takes_of};
 
 use mq_cli::{Port, Step, Taken};
 use mq_one_thread::Errno;
+use mq_system::Patience;
 use mq_table::Id;
 use std::alloc::{AllocError, Global};
+use std::io;
 use std::sync::Wait;
+use std::time::{Clock, Duration};
 
-/// A call of a port, with all that it is told.
+/// A clock that stands still.
+pub(crate) struct Stopped;
+
+impl Clock for Stopped {
+    fn monotonic(&self) -> io::Result<Duration> {
+        Ok(Duration::ZERO)
+    }
+
+    fn since_1970(&self) -> io::Result<Duration> {
+        Ok(Duration::ZERO)
+    }
+}
+
+/// How much longer a patience without an end lasts.
+pub(crate) const FOREVER: Option<Duration> = Some(Duration::MAX);
+
+/// A call of a port, with all that it is told, and how much longer its patience lasts.
 #[derive(Clone, Copy, Debug, PartialEq, Eq)]
 pub(crate) enum Call {
     Put {
@@ -17,11 +36,14 @@ pub(crate) enum Call {
         mtype: i64,
         tag: u64,
         length: u64,
+        pages: bool,
+        left: Option<Duration>,
         moment: u64,
     },
     Take {
         id: u32,
         msgtyp: i64,
+        left: Option<Duration>,
         moment: u64,
     },
     Remove {
@@ -61,13 +83,13 @@ impl<'a> Port for Wanting<'a> {
 
     ghost calls = { λ port. port.calls };
 
-    ghost puts = { λ old id mtype tag n moment answer new. Unit {0} };
+    ghost puts = { λ old id mtype tag n ends moment answer new. Unit {0} };
 
-    ghost takes = { λ old id msgtyp moment answer new. Unit {0} };
+    ghost takes = { λ old id msgtyp ends moment answer new. Unit {0} };
 
     ghost removes = { λ old id moment answer new. Unit {0} };
 
-    fn put<R: Wait>(
+    fn put<R: Wait, T: Patience>(
         &mut self,
         _rt: &R,
         _shared: &(),
@@ -75,6 +97,8 @@ impl<'a> Port for Wanting<'a> {
         mtype: i64,
         tag: u64,
         length: u64,
+        pages: bool,
+        patience: &mut T,
         moment: u64,
     ) -> Result<u64, Errno> {
         self.call(Call::Put {
@@ -82,21 +106,25 @@ impl<'a> Port for Wanting<'a> {
             mtype,
             tag,
             length,
+            pages,
+            left: patience.left(),
             moment,
         })
     }
 
-    fn take<R: Wait>(
+    fn take<R: Wait, T: Patience>(
         &mut self,
         _rt: &R,
         _shared: &(),
         id: Id,
         msgtyp: i64,
+        patience: &mut T,
         moment: u64,
     ) -> Result<Taken, Errno> {
         let call = Call::Take {
             id: id.number(),
             msgtyp,
+            left: patience.left(),
             moment,
         };
         match self.call(call) {
@@ -133,6 +161,7 @@ pub(crate) fn put(count: u32) -> Step
         mtype: 7,
         count,
         length: 10,
+        within: None,
         moment: 4,
     }
 }
@@ -143,6 +172,8 @@ pub(crate) fn put_call(tag: u64) -> Call {
         mtype: 7,
         tag,
         length: 10,
+        pages: false,
+        left: FOREVER,
         moment: 4,
     }
 }
@@ -156,6 +187,7 @@ pub(crate) fn long_put(count: u32) -> Step
         mtype: i64::MAX,
         count,
         length: 300,
+        within: None,
         moment: 5,
     }
 }
@@ -166,6 +198,8 @@ pub(crate) fn long_put_call(tag: u64) -> Call {
         mtype: i64::MAX,
         tag,
         length: 300,
+        pages: false,
+        left: FOREVER,
         moment: 5,
     }
 }
@@ -177,6 +211,7 @@ pub(crate) fn take(count: u32) -> Step
         id: Id::from_number(129),
         msgtyp: -7,
         count,
+        within: None,
         moment: 6,
     }
 }
@@ -184,6 +219,7 @@ pub(crate) fn take(count: u32) -> Step
 pub(crate) const TAKE: Call = Call::Take {
     id: 129,
     msgtyp: -7,
+    left: FOREVER,
     moment: 6,
 };
 

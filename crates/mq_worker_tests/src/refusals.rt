@@ -1,5 +1,5 @@
 use crate::plans::{
-    Call, REMOVE, TAKE, Wanting, long_put, long_put_call, put, put_call, remove, take,
+    Call, REMOVE, Stopped, TAKE, Wanting, long_put, long_put_call, put, put_call, remove, take,
 };
 use mq_cli::{Outcome, work};
 use mq_one_thread::Errno;
@@ -29,7 +29,7 @@ fn outcome<R: Wait>(rt: &R, alloc: Global, lets: u64) -> (Outcome, u64) {
         calls: 0,
         lets,
     };
-    let first = work(rt, alloc, &(), &mut port, &plan);
+    let first = work(rt, &Stopped, alloc, &(), &mut port, &plan);
     if first.end != Some(Errno::ENOMEM) {
         return (first, port.calls);
     }
@@ -38,7 +38,7 @@ fn outcome<R: Wait>(rt: &R, alloc: Global, lets: u64) -> (Outcome, u64) {
         calls: 0,
         lets,
     };
-    let second = work(rt, alloc, &(), &mut port, &plan);
+    let second = work(rt, &Stopped, alloc, &(), &mut port, &plan);
     (second, port.calls)
 }
 
@@ -78,7 +78,7 @@ fn an_empty_plan_makes_no_call(rt: HostRuntime) {
         calls: 0,
         lets: 9,
     };
-    let outcome = work(&rt, rt.alloc(), &(), &mut port, &[]);
+    let outcome = work(&rt, &Stopped, rt.alloc(), &(), &mut port, &[]);
     assert!(rt; outcome.end == None && outcome.ordered, "done");
     assert!(rt;
         outcome.sent == 0 && outcome.received == 0 && port.calls == 0,

@@ -6,14 +6,15 @@ ghost use Rattle.mq_cli.specs.Drafts.{letter};
 ghost use Rattle.mq_queue.specs.declared.limits.TheConstants.{MSGMAX};
 ghost use Rattle.mq_shared.specs.Sizes.{AreNames};
 
-use crate::plans::Call;
+use crate::plans::{Call, FOREVER};
 use mq_arena::LEDGER_PARTS;
 use mq_board::Copies;
 use mq_cli::{Letters, Port, SystemPort, Taken, letters_of_ports};
 use mq_queue::{Event, MSGMAX};
 use mq_select::Selection;
 use mq_system::{
-    Blanks, Closed, ClosedSlot, Config, Errno, GetFlags, Names, Seat, SysError, System,
+    Blanks, Closed, ClosedSlot, Config, Errno, Forever, GetFlags, Names, NoWait, Seat, SysError,
+    System,
 };
 use mq_table::Id;
 use std::alloc::Global;
@@ -57,12 +58,41 @@ fn put(id: u32, mtype: i64, tag: u64, length: u64, moment: u64) -> Call {
         mtype,
         tag,
         length,
+        pages: false,
+        left: FOREVER,
         moment,
     }
 }
 
 fn take(id: u32, msgtyp: i64, moment: u64) -> Call {
-    Call::Take { id, msgtyp, moment }
+    Call::Take {
+        id,
+        msgtyp,
+        left: FOREVER,
+        moment,
+    }
+}
+
+/// A message that waits neither for pages nor for room.
+fn put_at_once(id: u32, mtype: i64, tag: u64, length: u64, moment: u64) -> Call {
+    Call::Put {
+        id,
+        mtype,
+        tag,
+        length,
+        pages: true,
+        left: None,
+        moment,
+    }
+}
+
+fn take_at_once(id: u32, msgtyp: i64, moment: u64) -> Call {
+    Call::Take {
+        id,
+        msgtyp,
+        left: None,
+        moment,
+    }
 }
 
 fn remove(id: u32, moment: u64) -> Call {
@@ -82,15 +112,17 @@ fn traffic() -> [Turn; 9] {
         at(2, put(65, 7, 1, 3, 23), 3),
         got(2, take(2, i64::MAX, 24), 3, 12, i64::MAX, 0),
         got(2, take(2, -7, 25), 2, TAG, 5, 5000),
-        got(1, take(2, 0, 26), 2, 11, 7, 30),
+        got(1, take_at_once(2, 0, 26), 2, 11, 7, 30),
         got(0, take(65, 7, 27), 3, 1, 7, 3),
-        at(1, put(2, 9, 14, 1, 28), 7),
+        at(1, put_at_once(2, 9, 14, 1, 28), 7),
     ]
 }
 
-/// Calls that are refused, and a removal between them.
-fn ends() -> [Turn; 9] {
+/// Calls that are refused, and a removal between them. Queue 0 has room for nothing.
+fn ends() -> [Turn; 11] {
     [
+        refused(1, put_at_once(0, 1, 15, 0, 29), Errno::EAGAIN),
+        refused(1, take_at_once(0, 0, 29), Errno::ENOMSG),
         refused(1, put(2, 0, 15, 1, 29), Errno::EINVAL),
         refused(1, put(2, 1, 15, 65_537, 29), Errno::EINVAL),
         refused(1, put(1, 1, 15, 1, 29), Errno::EIDRM),
@@ -195,6 +227,26 @@ fn queue<N: Names, R: Abort + Wait>(
     }
 }
 
+/// The quota of queue 0 is 0 from now on; set once more where there was no memory.
+fn narrowed<N: Names, R: Abort + Wait>(
+    rt: &R,
+    system: &System<Letters, N>,
+    seats: &mut [Seat<N>],
+    moment: u64,
+) {
+    let id = Id::from_number(0);
+    let seat = seat_at(rt, seats, 0);
+    let first = system.set(rt, seat, id, 0, moment);
+    let set = match first {
+        Err(refused) if refused.errno == Errno::ENOMEM => system.set(rt, seat, id, 0, moment),
+        answer => answer,
+    };
+    match set {
+        Ok(entry) => assert!(rt; entry == 1, "behind its making"),
+        Err(refused) => panic!(rt; "{refused}"),
+    }
+}
+
 /// What a port answers.
 fn called<P: Port, R: Wait>(rt: &R, port: &mut P, shared: &P::Shared, call: Call) -> Answer {
     match call {
@@ -203,10 +255,34 @@ fn called<P: Port, R: Wait>(rt: &R, port: &mut P, shared: &P::Shared, call: Call
             mtype,
             tag,
             length,
+            pages,
+            left,
             moment,
-        } => entry(port.put(rt, shared, Id::from_number(id), mtype, tag, length, moment)),
-        Call::Take { id, msgtyp, moment } => {
-            match port.take(rt, shared, Id::from_number(id), msgtyp, moment) {
+        } => {
+            let id = Id::from_number(id);
+            entry(match left {
+                Some(_) => {
+                    let forever = &mut Forever;
+                    port.put(rt, shared, id, mtype, tag, length, pages, forever, moment)
+                }
+                None => {
+                    let at_once = &mut NoWait;
+                    port.put(rt, shared, id, mtype, tag, length, pages, at_once, moment)
+                }
+            })
+        }
+        Call::Take {
+            id,
+            msgtyp,
+            left,
+            moment,
+        } => {
+            let id = Id::from_number(id);
+            let taken = match left {
+                Some(_) => port.take(rt, shared, id, msgtyp, &mut Forever, moment),
+                None => port.take(rt, shared, id, msgtyp, &mut NoWait, moment),
+            };
+            match taken {
                 Ok(taken) => Answer::Got(taken),
                 Err(errno) => Answer::Refused(errno),
             }
@@ -254,7 +330,8 @@ fn moment_of(call: Call) -> u64 {
     }
 }
 
-/// Three queues, of which the second is removed and its slot used once more; then the traffic.
+/// Three queues, of which the second is removed and its slot used once more, and the first has no
+/// room; then the traffic.
 fn turns<N: Names, R: Abort + Wait>(
     rt: &R,
     system: &System<Letters, N>,
@@ -270,6 +347,7 @@ fn turns<N: Names, R: Abort + Wait>(
     takes_turn(rt, system, seats, letters, at(0, remove(1, 4), 1));
     let id = queue(rt, system, seats, 5);
     assert!(rt; id == 65, "the second queue of slot 1");
+    narrowed(rt, system, seats, 6);
     for one in traffic() {
         takes_turn(rt, system, seats, letters, one);
     }
@@ -345,7 +423,14 @@ fn each_call_of_a_port_is_that_of_its_seat(rt: HostRuntime) {
     assert!(rt; free_pages == 64, "all pages are home");
     assert!(rt; slots.len() == 4, "four slots");
     let (before, one, two) = (slot_one_before(), slot_one(), slot_two());
-    let zero = [made(1, 1)];
+    let zero = [
+        made(1, 1),
+        Event::Changed {
+            seat: 1,
+            moment: 6,
+            qbytes: 0,
+        },
+    ];
     for (number, slot) in slots.iter().enumerate() {
         let past: &[Event] = match number {
             1 => &before,

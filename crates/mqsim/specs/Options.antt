@@ -1,5 +1,7 @@
 -- What the options of the command line mean.
-use Rattle.std.specs.Prelude.{◌≡◌, ◌≤◌, ℕ, List, Option, Some, None}
+use Rattle.std.specs.Prelude.{◌≡◌, ◌≤◌, ℕ, List, Option, Some, None, if◌then◌else◌, codes}
+use Rattle.std.specs.Prelude.{false}
+use Rattle.std.specs.Str.{bytes_eq}
 use Rattle.std.specs.Str.Parse.{IsNumeral, digits_value, without_leading_plus}
 use Rattle.mq_one_thread.specs.declared.config.Config.{Config}
 use Rattle.mqsim.specs.declared.command_line.Kind.TheVariants.{Serial}
@@ -11,7 +13,7 @@ defaults = record { height = 6; slots = 16; seats = 16; last_seq = 32767 }
 
 -- what no words at all ask for
 abbrev pub bare_request : Request
-bare_request = record { kind = Serial; config = defaults }
+bare_request = record { kind = Serial; config = defaults; script = None; prompt = false }
 
 -- the number that a text spells, with or without a plus before it
 abbrev pub number_in : List ℕ → ℕ
@@ -26,3 +28,8 @@ IsIn least most text =
 abbrev pub Means : ℕ → ℕ → ℕ → Option (List ℕ) → ℕ → Type 0
 Means least most standard None value = value ≡ standard
 Means least most standard (Some text) value = IsIn least most text → value ≡ number_in text
+
+-- the file that a word names: - alone is standard input, and so is no word
+abbrev pub file_named : Option (List ℕ) → Option (List ℕ)
+file_named None = None
+file_named (Some name) = if bytes_eq name (codes "-") then None else Some name

@@ -1,24 +1,16 @@
 //! The words after the program's name.
 
-ghost use Rattle.std.specs.Prelude.{◌≡◌, ◌≤◌, true, length, codes, IfOk, Ok};
-ghost use Rattle.clap.specs.Matches.{found_of, one_text};
+ghost use Rattle.std.specs.Prelude.{◌≡◌, ◌≤◌, true, false, length, codes, option_map, IfOk, Ok};
+ghost use Rattle.std.specs.Prelude.{None, Some};
+ghost use Rattle.clap.specs.Matches.{first_value, found_of, one_text};
 ghost use Rattle.mq_one_thread.specs.Limits.{keeps_limits};
-ghost use Rattle.mqsim.specs.Options.{Means, bare_request};
+ghost use Rattle.mqsim.specs.Options.{Means, bare_request, file_named};
 
-use clap::{Arg, ArgMatches, Command, Error, value_parser};
+use crate::help::{NOTES, SERIAL_NOTES, THREADS_NOTES};
+use clap::{Arg, ArgAction, ArgMatches, Command, Error, value_parser};
 use mq_cli::SCRIPT_DEFAULTS;
 use mq_one_thread::{Config, MAX_HEIGHT, MAX_SEATS, MAX_SEQ, MAX_SLOTS};
 use std::alloc::{AllocError, Global};
-
-/// The end of the help.
-const NOTES: &str = "\
-Options of serial and threads: --height <H>, --slots <S>, --last-seq <Q>. What each
-means, its range and its default: mqsim serial --help.
-
-The script is read to its end before the first answer is written: at a terminal,
-type its lines and then Ctrl-D. A put or take of a threads script whose queue never
-gets room, or a message that fits, waits for good. docs/SCRIPT.md has the lines, the
-answers, the faults and the exit statuses.";
 
 /// The two kinds of scripts.
 #[derive(Clone, Copy)]
@@ -31,14 +23,18 @@ pub enum Kind {
 
 /// What the words ask for: a run of a script of this kind, over queues of this size.
 #[derive(Clone, Copy)]
-pub struct Request {
+pub struct Request<'a> {
     pub kind: Kind,
     pub config: Config,
+    /// The name of the script's file, where it is not standard input.
+    pub script: Option<&'a str>,
+    /// Whether each line is answered before the next is read.
+    pub prompt: bool,
 }
 
 /// Reads the words, of which the first is the program's name. An `Err` is a mistake in them, a call
 /// for the help, or no memory.
-pub fn request_of(alloc: Global, words: &[String]) -> Result<Request, Error>
+pub fn request_of<'a>(alloc: Global, words: &'a [String]) -> Result<Request<'a>, Error>
     ensures bare { length words.now ≤ 1 → result ≡ Ok bare_request }
     ensures limits { IfOk result (λ request. keeps_limits request.config ≡ true) }
     ensures seats { IfOk result (λ request. request.config.seats ≡ 16) }
@@ -47,6 +43,8 @@ pub fn request_of(alloc: Global, words: &[String]) -> Result<Request, Error>
         return Ok(Request {
             kind: Kind::Serial,
             config: SCRIPT_DEFAULTS,
+            script: None,
+            prompt: false,
         });
     }
     let matches = command(alloc)?.try_get_matches_from(words)?;
@@ -54,16 +52,45 @@ pub fn request_of(alloc: Global, words: &[String]) -> Result<Request, Error>
         return Ok(Request {
             kind: Kind::Threads,
             config: options_of(given),
+            script: script_of(given),
+            prompt: false,
         });
     }
-    let config = match matches.subcommand_matches("serial") {
-        Some(given) => options_of(given),
-        None => SCRIPT_DEFAULTS,
-    };
+    if let Some(given) = matches.subcommand_matches("serial") {
+        return Ok(Request {
+            kind: Kind::Serial,
+            config: options_of(given),
+            script: script_of(given),
+            prompt: asks_for_a_prompt(given),
+        });
+    }
     Ok(Request {
         kind: Kind::Serial,
-        config,
+        config: SCRIPT_DEFAULTS,
+        script: script_of(&matches),
+        prompt: asks_for_a_prompt(&matches),
     })
+}
+
+/// The name of the script's file; `-` names standard input, as no word does.
+fn script_of<'a>(given: &ArgMatches<'a>) -> Option<&'a str>
+    ensures { option_map (λ name. name.now) result
+        ≡ file_named (first_value (found_of given.now) (codes "script")) }
+{
+    let name = given.get_str("script")?;
+    if name == "-" {
+        return None;
+    }
+    Some(name)
+}
+
+/// Whether `-i` is there.
+fn asks_for_a_prompt(given: &ArgMatches<'_>) -> bool
+    ensures none { one_text (found_of given.now) (codes "interactive") ≡ None → result ≡ false }
+    ensures given { one_text (found_of given.now) (codes "interactive") ≡ Some (codes "true")
+        → result ≡ true }
+{
+    given.get_flag("interactive")
 }
 
 /// What the words after a subcommand give, and the defaults for the rest.
@@ -115,8 +142,11 @@ fn last_seq_of(given: &ArgMatches<'_>) -> u32
 /// The whole command line.
 fn command<'a>(alloc: Global) -> Result<Command<'a>, AllocError> {
     Command::new(alloc, "mqsim")
-        .about("Runs a script of message queue calls from standard input, one answer line a call")
+        .about("Runs a script of message queue calls, one answer line a call")
         .after_help(NOTES)
+        .args_conflicts_with_subcommands(true)
+        .arg(interactive(alloc)?)?
+        .arg(script(alloc))?
         .subcommand(serial(alloc)?)?
         .subcommand(threads(alloc)?)
 }
@@ -124,8 +154,9 @@ fn command<'a>(alloc: Global) -> Result<Command<'a>, AllocError> {
 /// The subcommand `serial`.
 fn serial<'a>(alloc: Global) -> Result<Command<'a>, AllocError> {
     let command = Command::new(alloc, "serial")
-        .about("Makes the calls one after the other (this is what no words at all do)")
-        .after_help("The script is read to its end before the first answer: see mqsim --help.");
+        .about("Makes the calls one after the other (as mqsim does without this word)")
+        .after_help(SERIAL_NOTES)
+        .arg(interactive(alloc)?)?;
     with_options(alloc, command)
 }
 
@@ -133,11 +164,28 @@ fn serial<'a>(alloc: Global) -> Result<Command<'a>, AllocError> {
 fn threads<'a>(alloc: Global) -> Result<Command<'a>, AllocError> {
     let command = Command::new(alloc, "threads")
         .about("Runs each section on a thread of its own; a put or take may wait for good")
-        .after_help("The script is read to its end before the first answer: see mqsim --help.");
+        .after_help(THREADS_NOTES);
     with_options(alloc, command)
 }
 
-/// A subcommand, which the options follow.
+/// The flag of a prompt.
+fn interactive<'a>(alloc: Global) -> Result<Arg<'a>, AllocError> {
+    Arg::new(alloc, "interactive")
+        .short('i')
+        .long("interactive")
+        .action(ArgAction::SetTrue)
+        .help("Answers each line before the next is read, as at a terminal")
+        .conflicts_with("script")
+}
+
+/// The word that names the script's file.
+fn script<'a>(alloc: Global) -> Arg<'a> {
+    Arg::new(alloc, "script")
+        .value_name("SCRIPT")
+        .help("The script's file [default: standard input, as for -]")
+}
+
+/// A subcommand, which the options and the script's file follow.
 fn with_options<'a>(alloc: Global, command: Command<'a>) -> Result<Command<'a>, AllocError> {
     let height = Arg::new(alloc, "height")
         .long("height")
@@ -154,5 +202,9 @@ fn with_options<'a>(alloc: Global, command: Command<'a>) -> Result<Command<'a>, 
         .value_name("Q")
         .value_parser(value_parser!(u32).range(0..=i64::from(MAX_SEQ)))
         .help("A slot has Q + 1 queues in turn; Q is 0 to 32767 [default: 32767]");
-    command.arg(height)?.arg(slots)?.arg(last_seq)
+    command
+        .arg(height)?
+        .arg(slots)?
+        .arg(last_seq)?
+        .arg(script(alloc))
 }

@@ -9,26 +9,33 @@ ghost use Rattle.clap.specs.declared.error.kind.ErrorKind.TheVariants.{DisplayHe
 ghost use Rattle.mqsim.specs.Status.{run_status, status};
 
 mod command_line;
+mod help;
+mod kinds;
+mod script_file;
 mod serial;
 mod threads;
 
 use clap::Error;
 use command_line::{Kind, Request, request_of};
-use mq_cli::RunFault;
-use serial::run;
+use kinds::run_kind;
+use mq_cli::{RunFault, run_prompt};
+use script_file::open_script;
 use std::env::Env;
+use std::io::{ErrorKind, IsTerminal, Write};
 use std::process::ExitCode;
+use std::rt::Files;
 use std::sync::Wait;
 use std::thread::Threads;
+use std::time::Clock;
 use std::{env, io};
-use threads::run_in_threads;
 
-/// The status of a fault in the command line, and of no memory to read it.
+/// The status of a fault in the command line, of no memory to read it, and of a script's file that
+/// cannot be opened.
 const COMMAND_LINE: u8 = 2;
 
 fn main(rt: HostRuntime) -> ExitCode {
     let status = match words(&rt) {
-        Ok(words) => answered(&rt, &words),
+        Ok(words) => answered(&rt, &words, is_typed(&rt), &mut rt.stderr()),
         Err(fault) => {
             let _ = eprintln!(rt; "mqsim: command line: {fault}");
             COMMAND_LINE
@@ -42,24 +49,61 @@ fn words(rt: &(impl AllocGlobal + Env)) -> io::Result<Vec<String>> {
     Ok(env::args(rt)?.collect(rt.alloc())?)
 }
 
-/// Does what the words say, and gives the exit status.
+/// Whether standard input is typed at a terminal, and standard error is shown at one.
+fn is_typed(rt: &HostRuntime) -> bool {
+    rt.stdin().is_terminal() && rt.stderr().is_terminal()
+}
+
+/// Does what the words say, and gives the exit status. Who types is told how to end, and is answered
+/// line by line where the script is a serial one.
 fn answered(
-    rt: &(impl AllocGlobal + Input + Print + Eprint + Threads + Wait + Sync),
+    rt: &(impl AllocGlobal + Files + Input + Print + Eprint + Threads + Wait + Clock + Sync),
     words: &[String],
+    is_typed: bool,
+    prompts: &mut impl Write,
 ) -> u8 {
-    let Request { kind, config } = match request_of(rt.alloc(), words) {
+    let Request {
+        kind,
+        config,
+        script,
+        prompt,
+    } = match request_of(rt.alloc(), words) {
         Ok(request) => request,
         Err(error) => return shown(rt, &error),
     };
-    let mut reader = rt.reader();
-    let writer = io::writer(rt);
-    match kind {
-        Kind::Serial => told(rt, run(rt.alloc(), &mut reader, writer, config)),
-        Kind::Threads => told(
-            rt,
-            run_in_threads(rt, rt.alloc(), &mut reader, writer, config),
-        ),
+    let Some(name) = script else {
+        let mut reader = rt.reader();
+        let is_serial = matches!(kind, Kind::Serial);
+        if is_typed {
+            let what = if is_serial {
+                "calls"
+            } else {
+                "a threads script"
+            };
+            let _ = eprintln!(rt; "mqsim: type {what}, then Ctrl-D (their lines: mqsim --help)");
+        }
+        if prompt || (is_typed && is_serial) {
+            let mut writer = io::writer(rt);
+            let ended = run_prompt(rt.alloc(), &mut reader, &mut writer, prompts, config);
+            return told(rt, ended);
+        }
+        return told(rt, run_kind(rt, kind, &mut reader, config));
+    };
+    match open_script(rt, name) {
+        Ok(mut file) => told(rt, run_kind(rt, kind, &mut file, config)),
+        Err(fault) => unopened(rt, name, &fault),
     }
+}
+
+/// Names the script's file and why it is not open on standard error, and gives the exit status.
+fn unopened(rt: &impl Eprint, name: &str, fault: &io::Error) -> u8
+    ensures { result ≡ 2 }
+{
+    let _ = eprintln!(rt; "mqsim: {name}: {fault}");
+    if fault.kind() == ErrorKind::NotFound {
+        let _ = eprintln!(rt; "mqsim: a word that is not serial or threads names a script's file");
+    }
+    COMMAND_LINE
 }
 
 /// Prints the help, or what is wrong with the words, and gives the exit status.

@@ -14,10 +14,11 @@ use std::alloc::Global;
 use std::io::{BufWriter, Read, Write};
 use std::sync::Wait;
 use std::thread::Threads;
+use std::time::Clock;
 
 /// Runs the threads script of the reader, and writes to the writer what it tells, many lines at a
 /// time.
-pub fn run_in_threads<T: Threads + Wait + Sync, R: Read, W: Write + Drop>(
+pub fn run_in_threads<T: Threads + Wait + Clock + Sync, R: Read, W: Write + Drop>(
     rt: &T,
     alloc: Global,
     reader: &mut R,

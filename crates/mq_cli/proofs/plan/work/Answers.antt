@@ -1,4 +1,4 @@
-use Rattle.std.proofs.Common.{rules, ◌≡◌, ◌+◌, ◌++◌, ◌∷◌, [], List, take, drop, ap, ◌∙◌, append_assoc, arith}
+use Rattle.std.proofs.Common.{rules, ◌≡◌, ◌+◌, ◌^◌, ◌<◌, ◌++◌, ◌∷◌, [], List, take, drop, refl, ap, ◌∙◌, append_assoc, arith}
 use Rattle.std.proofs.lemmas.Grind.{common_steps}
 use Rattle.std.proofs.lemmas.List.Sums.{sum_by_more_le}
 use Rattle.mq_cli.specs.declared.step.Step.{Step}
@@ -6,7 +6,36 @@ use Rattle.mq_cli.specs.Plans.{puts_of, takes_of}
 use Rattle.mq_cli.specs.contracts.notes.StreamPartialEq.TheImpl.{eq-value}
 use Rattle.mq_cli.proofs.FarLemmas.{far_more, far_until}
 use Rattle.mq_cli.proofs.MainLemmas.{cut_at, taken_more}
+use Rattle.mq_cli.proofs.WorkLemmas.{none_called}
 use Rattle.mq_cli.proofs.plan.work.Goals as goal
+
+pub loop-step-init : goal.loop-step-init
+loop-step-init g c =
+    let p = g.Q.Port in (
+      refl,
+      refl,
+      omega arith,
+      record {
+        received = [];
+        called = none_called p.puts p.takes p.removes c.args.port.now;
+        count = refl;
+        notes = record { last = c.new.ensures.last; ordered = c.new.ensures.ordered };
+      },
+    )
+
+pub step-requires-clause-sent : goal.step-requires-clause-sent
+step-requires-clause-sent g c =
+    let puts = sum_by_more_le puts_of c.args.plan.now c.loop-step.step-index c.step-item.result (search rules) in
+    let item = ap puts_of c.step-item.is in
+    let fits : c.loop-step.progress.sent + puts_of c.step-item.result < 2 ^ 64 = omega (arith, puts, item, c.loop-step.invariant.0, c.requires) in
+    fits
+
+pub step-requires-clause-received : goal.step-requires-clause-received
+step-requires-clause-received g c =
+    let takes = sum_by_more_le takes_of c.args.plan.now c.loop-step.step-index c.step-item.result (search rules) in
+    let item = ap takes_of c.step-item.is in
+    let fits : c.loop-step.progress.received + takes_of c.step-item.result < 2 ^ 64 = omega (arith, takes, item, c.loop-step.invariant.1, c.requires) in
+    fits
 
 pub returns-in-Err-clause-done : goal.returns-in-Err-clause-done
 returns-in-Err-clause-done g c =

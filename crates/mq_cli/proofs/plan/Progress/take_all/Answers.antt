@@ -17,12 +17,12 @@ returns-in-Err-clause-called g c =
     let p = g.Q.Port in
     let before = c.args.self.now in
     let has = simp (to_z-of_z, c.ranges.msgtyp) at c.loop.invariant.4 in
-    let calls = replicate c.args.count (receive c.args.id c.args.msgtyp c.args.moment) in
+    let calls = replicate c.args.count (receive c.args.id c.args.msgtyp g.T.Patience.ends c.args.moment) in
     let count : c.loop.self.received ≡ before.received + length has.received = omega (arith, c.loop.invariant.1, has.count_is) in
     let told = λ (failed : c.in-Err.errno ≡ ENOMEM).
     goes_receiving eq-value.it p.puts p.takes p.removes calls c.args.port.now c.loop.port before
     (record { sent = c.loop.self.sent; received = c.loop.self.received; notes = c.reserve.new.self }) has.received (Some c.in-Err.errno) c.loop.invariant.2 count
-    (received_until p.puts p.takes p.removes c.args.id c.args.msgtyp c.loop.counter c.args.count c.args.moment c.in-Err.errno has.received
+    (received_until p.puts p.takes p.removes c.args.id c.args.msgtyp c.loop.counter c.args.count g.T.Patience.ends c.args.moment c.in-Err.errno has.received
     c.args.port.now c.loop.port c.loop.port c.loop-test.true has.called (inr (failed, refl)))
     (λ so_far had. noted_same eq-value.it (so_far ++ has.received) c.loop.self.notes c.reserve.new.self c.reserve.ensures.last c.reserve.ensures.ordered
     (has.noted so_far had)) in
@@ -33,12 +33,12 @@ returns-in-Err-take-clause-called g c =
     let p = g.Q.Port in
     let before = c.args.self.now in
     let has = simp (to_z-of_z, c.ranges.msgtyp) at c.loop.invariant.4 in
-    let calls = replicate c.args.count (receive c.args.id c.args.msgtyp c.args.moment) in
+    let calls = replicate c.args.count (receive c.args.id c.args.msgtyp g.T.Patience.ends c.args.moment) in
     let count : c.loop.self.received ≡ before.received + length has.received = omega (arith, c.loop.invariant.1, has.count_is) in
-    let told = λ (failed : p.takes c.loop.port c.args.id c.args.msgtyp c.args.moment (Err c.in-Err-take.errno) c.take.new.self).
+    let told = λ (failed : p.takes c.loop.port c.args.id c.args.msgtyp g.T.Patience.ends c.args.moment (Err c.in-Err-take.errno) c.take.new.self).
     goes_receiving eq-value.it p.puts p.takes p.removes calls c.args.port.now c.take.new.self before
     (record { sent = c.loop.self.sent; received = c.loop.self.received; notes = c.reserve.new.self }) has.received (Some c.in-Err-take.errno) c.loop.invariant.2 count
-    (received_until p.puts p.takes p.removes c.args.id c.args.msgtyp c.loop.counter c.args.count c.args.moment c.in-Err-take.errno has.received
+    (received_until p.puts p.takes p.removes c.args.id c.args.msgtyp c.loop.counter c.args.count g.T.Patience.ends c.args.moment c.in-Err-take.errno has.received
     c.args.port.now c.loop.port c.take.new.self c.loop-test.true has.called (inl failed))
     (λ so_far had. noted_same eq-value.it (so_far ++ has.received) c.loop.self.notes c.reserve.new.self c.reserve.ensures.last c.reserve.ensures.ordered
     (has.noted so_far had)) in
@@ -52,7 +52,7 @@ loop-preserved g c =
     let done = simp (to_z-of_z, c.ranges.msgtyp) at c.in-Ok-take.ensures.done in
     let one : Receipt = record { id = c.args.id; taken = c.in-Ok-take.taken } in
     let is : c.of.result ≡ stream_of one = stream_is c.of.result one (search (rules, c.of.ensures.id)) (search (rules, c.of.ensures.sender)) (search (rules, c.of.ensures.mtype)) in
-    let told = come_more eq-value.it p.puts p.takes p.removes stream_eq c.args.id c.args.msgtyp c.loop.counter c.args.moment c.in-Ok-take.taken
+    let told = come_more eq-value.it p.puts p.takes p.removes stream_eq c.args.id c.args.msgtyp c.loop.counter g.T.Patience.ends c.args.moment c.in-Ok-take.taken
     c.args.port.now c.loop.port c.take.new.self c.args.self.now.notes c.loop.self.notes c.reserve.new.self c.note.new.self c.of.result has
     c.reserve.ensures.last c.reserve.ensures.ordered in (
       omega arith,

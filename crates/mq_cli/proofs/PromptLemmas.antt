@@ -1,0 +1,215 @@
+use Rattle.std.proofs.Common.{◌≡◌, ◌==◌, ℕ, ◌+◌, Bool, true, false, cond, ◌⊎◌, inl, inr, List, [], ◌∷◌, ◌++◌, map, Option, Some, None, IfSome, slice_index_or, Result, Ok, Err, refl, sym, ap, ◌∙◌, subst, append_assoc, append-nil}
+use Rattle.std.specs.Io.BufRead.{drop_through, take_through}
+use Rattle.std.specs.Io.KnownBytes.{Appends, Keeps}
+use Rattle.std.specs.List.{onto_first}
+use Rattle.std.proofs.KnownBytes.{Appends-kept, Appends-nil, Appends-trans}
+use Rattle.std.proofs.lemmas.List.Splits.{slice_split-cons_no, slice_split-cons_yes}
+use Rattle.mq_cli.specs.declared.fault.RunFault.{RunFault}
+use Rattle.mq_cli.specs.declared.fault.RunFault.TheVariants.{Script, Size, Read, Write, Memory, Thread}
+use Rattle.mq_cli.specs.Lines.{lines_of, parts_of, without_return}
+use Rattle.mq_cli.specs.Prompt.{Answers, AnswersNext, Writes, answer_of, answers_from, first_line_of}
+use Rattle.mq_cli.specs.Serial.{AppendsPrefix, RunsLine}
+use Rattle.mq_cli.specs.Session.{State}
+use Rattle.mq_cli.proofs.Runs.{prefix_kept}
+
+-- the bytes through the first LF are the first line of a text, and what follows them the others
+pub record Through (xs : List ℕ) : Type 0 where
+  pub first : List ℕ
+  pub others : List (List ℕ)
+  pub whole : parts_of 10 xs ≡ first ∷ others
+  pub none : List (List ℕ)
+  pub front : parts_of 10 (take_through 10 xs) ≡ first ∷ none
+  pub left : (others ≡ parts_of 10 (drop_through 10 xs)) ⊎ ((others ≡ []) × (drop_through 10 xs ≡ []))
+
+through_one : (x : ℕ) (xs : List ℕ) (b : Bool) → (x == 10) ≡ b → Through xs → Through (x ∷ xs)
+through_one x xs true e t = record {
+  first = [];
+  others = parts_of 10 xs;
+  whole = slice_split-cons_yes (λ b. b == 10) x xs e;
+  none = [] ∷ [];
+  front = ap (λ c. parts_of 10 (cond c (x ∷ []) (x ∷ take_through 10 xs))) e ∙ slice_split-cons_yes (λ b. b == 10) x [] e;
+  left = inl (ap (λ c. parts_of 10 (cond c xs (drop_through 10 xs))) (sym e));
+}
+through_one x xs false e t = record {
+  first = x ∷ t.first;
+  others = t.others;
+  whole = slice_split-cons_no (λ b. b == 10) x xs e ∙ ap (onto_first x) t.whole;
+  none = t.none;
+  front = ap (λ c. parts_of 10 (cond c (x ∷ []) (x ∷ take_through 10 xs))) e
+      ∙ slice_split-cons_no (λ b. b == 10) x (take_through 10 xs) e ∙ ap (onto_first x) t.front;
+  left = subst (λ (l : List ℕ). (t.others ≡ parts_of 10 l) ⊎ ((t.others ≡ []) × (l ≡ [])))
+      (ap (λ c. cond c xs (drop_through 10 xs)) (sym e)) t.left;
+}
+
+pub through : (xs : List ℕ) → Through xs
+through [] = record { first = []; others = []; whole = refl; none = []; front = refl; left = inr (refl, refl) }
+through (x ∷ xs) = through_one x xs (x == 10) refl (through xs)
+
+-- the first line of a text, as it is read
+pub first_line_is : (xs : List ℕ) → first_line_of xs ≡ without_return (through xs).first
+first_line_is xs = ap (λ (ps : List (List ℕ)). slice_index_or (map without_return ps) 0 []) (through xs).whole
+
+-- the answers to a text are that to its first line, and those to what follows
+pub answers_line : (n : ℕ) (s : State) (xs : List ℕ) → answers_from n s (lines_of xs)
+    ≡ (answer_of n s (first_line_of xs)).0 ++ answers_from (n + 1) (answer_of n s (first_line_of xs)).1 (lines_of (drop_through 10 xs))
+unfolding answers_from
+answers_line n s xs =
+    let t = through xs in
+    at t.first t.others t.whole t.left
+  where
+    at : (first : List ℕ) (others : List (List ℕ)) → parts_of 10 xs ≡ first ∷ others
+        → (others ≡ parts_of 10 (drop_through 10 xs)) ⊎ ((others ≡ []) × (drop_through 10 xs ≡ []))
+        → answers_from n s (lines_of xs)
+        ≡ (answer_of n s (first_line_of xs)).0 ++ answers_from (n + 1) (answer_of n s (first_line_of xs)).1 (lines_of (drop_through 10 xs))
+    at first others whole (inl more) = rw (whole, more) refl
+    at first others whole (inr end) = rw (whole, end.0, end.1) refl
+
+-- what was answered stands before what is answered to the text that is left
+pub record SoFarAnswered (left old now : Option (List ℕ)) (all : List ℕ) (n : ℕ) (s : State) : Type 0 where
+  pub rest : List ℕ
+  pub left_is : left ≡ Some rest
+  pub text : List ℕ
+  pub all_is : all ≡ text ++ answers_from n s (lines_of rest)
+  pub taken : Appends old now text
+
+pub nothing_answered : (now : Option (List ℕ)) (rest : List ℕ) (n : ℕ) (s : State) → SoFarAnswered (Some rest) now now (answers_from n s (lines_of rest)) n s
+nothing_answered now rest n s = record { rest = rest; left_is = refl; text = []; all_is = refl; taken = Appends-nil now }
+
+-- a line that was answered is one line less
+pub one_answered : (read left old now new : Option (List ℕ)) (all : List ℕ) (n : ℕ) (s t : State) → SoFarAnswered read old now all n s
+    → AnswersNext read left now new n s t (Ok true) → SoFarAnswered left old new all (n + 1) t
+one_answered read left old now new all n s t so next =
+    let step = subst (λ (r : Option (List ℕ)). AnswersNext r left now new n s t (Ok true)) so.left_is next in
+    let turn = answer_of n s (first_line_of so.rest) in record {
+      rest = drop_through 10 so.rest;
+      left_is = step.0;
+      text = so.text ++ turn.0;
+      all_is = so.all_is ∙ ap (λ (l : List ℕ). so.text ++ l) (answers_line n s so.rest)
+          ∙ sym (append_assoc so.text turn.0 (answers_from (n + 1) turn.1 (lines_of (drop_through 10 so.rest))))
+          ∙ ap (λ (u : State). (so.text ++ turn.0) ++ answers_from (n + 1) u (lines_of (drop_through 10 so.rest))) (sym step.1);
+      taken = Appends-trans old now new so.text turn.0 so.taken step.2;
+    }
+
+-- a front of an answer is a front of all answers
+pub front_answered : (read left old now new : Option (List ℕ)) (all : List ℕ) (n : ℕ) (s t : State) (e : RunFault) → SoFarAnswered read old now all n s
+    → AnswersNext read left now new n s t (Err e) → AppendsPrefix old new all
+front_answered read left old now new all n s t e so next =
+    let front = subst (λ (r : Option (List ℕ)). AnswersNext r left now new n s t (Err e)) so.left_is next in
+    let turn = answer_of n s (first_line_of so.rest) in
+    let others = answers_from (n + 1) turn.1 (lines_of (drop_through 10 so.rest)) in
+    let rest = front.1.0 in (
+      so.text ++ front.0,
+      (
+        rest ++ others,
+        so.all_is ∙ ap (λ (l : List ℕ). so.text ++ l) (answers_line n s so.rest)
+            ∙ ap (λ (p : List ℕ). so.text ++ (p ++ others)) front.1.1
+            ∙ ap (λ (l : List ℕ). so.text ++ l) (append_assoc front.0 rest others)
+            ∙ sym (append_assoc so.text front.0 (rest ++ others)),
+      ),
+      Appends-trans old now new so.text front.0 so.taken front.2,
+    )
+
+-- where nothing is left all is answered
+pub all_answered : (read left old now new : Option (List ℕ)) (all : List ℕ) (n : ℕ) (s t : State) → SoFarAnswered read old now all n s
+    → AnswersNext read left now new n s t (Ok false) → (left ≡ Some []) × Appends old new all
+unfolding answers_from
+all_answered read left old now new all n s t so next =
+    let end = subst (λ (r : Option (List ℕ)). AnswersNext r left now new n s t (Ok false)) so.left_is next in
+    let whole : all ≡ so.text = so.all_is ∙ ap (λ (l : List ℕ). so.text ++ answers_from n s (lines_of l)) end.0 ∙ append-nil so.text in
+    (end.1, subst (λ (l : List ℕ). Appends old new l) (ap (λ (l : List ℕ). l ++ []) (sym whole) ∙ append-nil all) (Appends-trans old now new so.text [] so.taken end.2))
+
+-- a call that was made is answered by its reply
+pub answered_call : (old new : Option (List ℕ)) (n : ℕ) (t : State) (turn : List ℕ × State) (outcome : Result (Unit {0}) RunFault)
+    → RunsLine old new n (Ok turn) t outcome → Answers old new turn t outcome
+answered_call old new n t turn (Ok _) ran = ran
+answered_call old new n t turn (Err Write) ran = (tt, ran)
+answered_call old new n t turn (Err Memory) ran = (tt, ran)
+answered_call old new n t turn (Err (Script line cause)) ran = absurd ran
+answered_call old new n t turn (Err Size) ran = absurd ran
+answered_call old new n t turn (Err Read) ran = absurd ran
+answered_call old new n t turn (Err Thread) ran = absurd ran
+
+-- and a line that is not well formed by its name
+pub answered_fault : (old new : Option (List ℕ)) (text : List ℕ) (s : State) (outcome : Result (Unit {0}) RunFault)
+    → Writes old new text outcome → Answers old new (text, s) s outcome
+answered_fault old new text s (Ok _) wrote = (refl, wrote)
+answered_fault old new text s (Err fault) wrote = (tt, wrote)
+
+-- the line that is answered is the first of what was to be read
+pub line_read : (read : Option (List ℕ)) (before items line typed trimmed : List ℕ) (others : List (List ℕ)) → before ≡ []
+    → IfSome read (λ xs. items ≡ before ++ take_through 10 xs) → line ≡ items → parts_of 10 line ≡ typed ∷ others → trimmed ≡ without_return typed
+    → IfSome read (λ xs. trimmed ≡ first_line_of xs)
+line_read None before items line typed trimmed others empty given whole split cut = tt
+line_read (Some xs) before items line typed trimmed others empty given whole split cut =
+    let t = through xs in
+    let read : line ≡ take_through 10 xs = whole ∙ given ∙ ap (λ (l : List ℕ). l ++ take_through 10 xs) empty in
+    let same : typed ∷ others ≡ t.first ∷ t.none = sym split ∙ ap (parts_of 10) read ∙ t.front in
+    cut ∙ ap (λ (ps : List (List ℕ)). without_return (slice_index_or ps 0 [])) same ∙ sym (first_line_is xs)
+
+writes_prefix : (old new : Option (List ℕ)) (text : List ℕ) (outcome : Result (Unit {0}) RunFault) → Writes old new text outcome → AppendsPrefix old new text
+writes_prefix old new text (Ok _) wrote = (text, ([], sym (append-nil text)), wrote)
+writes_prefix old new text (Err Write) wrote = wrote
+writes_prefix old new text (Err Memory) wrote = wrote
+writes_prefix old new text (Err (Script line cause)) wrote = absurd wrote
+writes_prefix old new text (Err Size) wrote = absurd wrote
+writes_prefix old new text (Err Read) wrote = absurd wrote
+writes_prefix old new text (Err Thread) wrote = absurd wrote
+
+-- an answer that was not written whole is a front of it
+pub next_failed : (read old new : Option (List ℕ)) (n : ℕ) (s t : State) (line : List ℕ) (outcome : Result (Unit {0}) RunFault)
+    → IfSome read (λ xs. line ≡ first_line_of xs) → Answers old new (answer_of n s line) t outcome
+    → IfSome read (λ xs. AppendsPrefix old new (answer_of n s (first_line_of xs)).0)
+next_failed None old new n s t line outcome same answered = tt
+next_failed (Some xs) old new n s t line outcome same answered =
+    subst (λ (l : List ℕ). AppendsPrefix old new (answer_of n s l).0) same (writes_prefix old new (answer_of n s line).0 outcome answered.1)
+
+-- and a flush that fails keeps it so
+pub next_unflushed : (read old now new : Option (List ℕ)) (n : ℕ) (s t : State) (line : List ℕ)
+    → IfSome read (λ xs. line ≡ first_line_of xs) → Answers old now (answer_of n s line) t (Ok tt) → Keeps now new
+    → IfSome read (λ xs. AppendsPrefix old new (answer_of n s (first_line_of xs)).0)
+next_unflushed None old now new n s t line same answered kept = tt
+next_unflushed (Some xs) old now new n s t line same answered kept =
+    prefix_kept old now new (answer_of n s (first_line_of xs)).0 (next_failed (Some xs) old now n s t line (Ok tt) same answered) kept
+
+-- one that was written and flushed is the answer to the line
+pub next_answered : (read left old now new : Option (List ℕ)) (n : ℕ) (s t : State) (line : List ℕ)
+    → IfSome read (λ xs. line ≡ first_line_of xs) → IfSome read (λ xs. left ≡ Some (drop_through 10 xs))
+    → Answers old now (answer_of n s line) t (Ok tt) → Keeps now new → AnswersNext read left old new n s t (Ok true)
+next_answered None left old now new n s t line same rest answered kept = tt
+next_answered (Some xs) left old now new n s t line same rest answered kept = (
+  rest,
+  answered.0 ∙ ap (λ (l : List ℕ). (answer_of n s l).1) same,
+  Appends-kept old now new (answer_of n s (first_line_of xs)).0
+      (subst (λ (l : List ℕ). Appends old now (answer_of n s l).0) same answered.1) kept,
+)
+
+-- the same of a text that may not be known, of which so much was answered
+abbrev pub IsAnsweredUpTo : (typed left old now : Option (List ℕ)) → State → ℕ → State → Type 0
+IsAnsweredUpTo typed left old now first n s = IfSome typed (λ text. SoFarAnswered left old now (answers_from 1 first (lines_of text)) n s)
+
+pub none_yet : (typed now : Option (List ℕ)) (first : State) → IsAnsweredUpTo typed typed now now first 1 first
+none_yet None now first = tt
+none_yet (Some text) now first = nothing_answered now text 1 first
+
+pub one_more : (typed read left old now new : Option (List ℕ)) (first : State) (n : ℕ) (s t : State) (b : Bool) → b ≡ true
+    → IsAnsweredUpTo typed read old now first n s → AnswersNext read left now new n s t (Ok b) → IsAnsweredUpTo typed left old new first (n + 1) t
+one_more None read left old now new first n s t b is so next = tt
+one_more (Some text) read left old now new first n s t b is so next =
+    one_answered read left old now new (answers_from 1 first (lines_of text)) n s t so (subst (λ (a : Bool). AnswersNext read left now new n s t (Ok a)) is next)
+
+pub none_more : (typed read left old now new : Option (List ℕ)) (first : State) (n : ℕ) (s t : State) (b : Bool) → b ≡ false
+    → IsAnsweredUpTo typed read old now first n s → AnswersNext read left now new n s t (Ok b)
+    → IfSome typed (λ text. Appends old new (answers_from 1 first (lines_of text)))
+none_more None read left old now new first n s t b is so next = tt
+none_more (Some text) read left old now new first n s t b is so next =
+    (all_answered read left old now new (answers_from 1 first (lines_of text)) n s t so (subst (λ (a : Bool). AnswersNext read left now new n s t (Ok a)) is next)).1
+
+pub one_failed : (typed read left old now new : Option (List ℕ)) (first : State) (n : ℕ) (s t : State) (e : RunFault) → IsAnsweredUpTo typed read old now first n s
+    → AnswersNext read left now new n s t (Err e) → IfSome typed (λ text. AppendsPrefix old new (answers_from 1 first (lines_of text)))
+one_failed None read left old now new first n s t e so next = tt
+one_failed (Some text) read left old now new first n s t e so next = front_answered read left old now new (answers_from 1 first (lines_of text)) n s t e so next
+
+pub some_left : (typed left old now : Option (List ℕ)) (first : State) (n : ℕ) (s : State) → IsAnsweredUpTo typed left old now first n s
+    → IfSome typed (λ text. AppendsPrefix old now (answers_from 1 first (lines_of text)))
+some_left None left old now first n s so = tt
+some_left (Some text) left old now first n s so = (so.text, (answers_from n s (lines_of so.rest), so.all_is), so.taken)

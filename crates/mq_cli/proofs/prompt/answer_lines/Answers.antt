@@ -1,0 +1,18 @@
+use Rattle.mq_cli.proofs.PromptLemmas.{none_more, none_yet, one_failed, one_more, some_left}
+use Rattle.mq_cli.proofs.prompt.answer_lines.Goals as goal
+
+pub loop-number-init : goal.loop-number-init
+loop-number-init g c = none_yet _ _ _
+
+pub loop-number-preserved : goal.loop-number-preserved
+loop-number-preserved g c = one_more _ _ _ _ _ _ _ _ _ _ _ c.in-Ok-true.field-0-test c.loop-number.invariant c.in-Ok-true.ensures
+
+pub returns-in-Ok-false-clause-ok : goal.returns-in-Ok-false-clause-ok
+returns-in-Ok-false-clause-ok g c = none_more _ _ _ _ _ _ _ _ _ _ _ c.in-Ok-false.field-0-test c.loop-number.invariant c.in-Ok-false.ensures
+
+pub returns-in-Err-clause-err : goal.returns-in-Err-clause-err
+returns-in-Err-clause-err g c = one_failed _ _ (g.R.Read.remaining c.answer_next.new.reader) _ _ _ _ _ _ c.answer_next.new.session c.in-Err.fault
+    c.loop-number.invariant c.in-Err.ensures
+
+pub returns-clause-err : goal.returns-clause-err
+returns-clause-err g c = some_left _ _ _ _ _ _ _ c.loop-number.invariant

@@ -1,0 +1,91 @@
+ghost use Rattle.std.specs.Prelude.{◌≡◌, true, false, Bool, IsNone};
+
+use std::time::{Clock, Duration, Instant};
+
+/// How long a call waits. A call whose patience does not end is not refused for want of time.
+pub trait Patience {
+    ghost ends: { Bool };
+
+    /// How much longer it waits, or that it waits no longer. It is asked with no lock held, and only
+    /// where a call has to wait.
+    fn left(&mut self) -> Option<Duration>
+        ensures { IsNone result → Self.ends ≡ true };
+}
+
+/// Waits for as long as it takes.
+#[derive(Clone, Copy, Debug, PartialEq, Eq)]
+pub struct Forever;
+
+impl Patience for Forever {
+    ghost ends = { false };
+
+    fn left(&mut self) -> Option<Duration> {
+        Some(Duration::MAX)
+    }
+}
+
+/// Does not wait, as IPC_NOWAIT.
+#[derive(Clone, Copy, Debug, PartialEq, Eq)]
+pub struct NoWait;
+
+impl Patience for NoWait {
+    ghost ends = { true };
+
+    fn left(&mut self) -> Option<Duration> {
+        None
+    }
+}
+
+/// Where a wait ends.
+#[derive(Clone, Copy)]
+enum End {
+    /// So long after it begins.
+    After(Duration),
+    At(Instant),
+}
+
+/// Waits until its end, by the monotonic time of this clock. Where the clock can't be read, it
+/// doesn't wait.
+#[derive(Clone, Copy)]
+pub struct Until<'a, C: Clock> {
+    clock: &'a C,
+    end: End,
+}
+
+impl<'a, C: Clock> Until<'a, C> {
+    /// For so long, from when a call first has to wait: until then no clock is read. Its end then
+    /// holds for all calls that are given this patience. A time that the clock never reaches does
+    /// not end.
+    pub fn within(clock: &'a C, span: Duration) -> Until<'a, C> {
+        let end = End::After(span);
+        Until { clock, end }
+    }
+
+    /// Until the clock reads this time.
+    pub fn at(clock: &'a C, time: Instant) -> Until<'a, C> {
+        let end = End::At(time);
+        Until { clock, end }
+    }
+}
+
+impl<'a, C: Clock> Patience for Until<'a, C> {
+    ghost ends = { true };
+
+    fn left(&mut self) -> Option<Duration> {
+        let Ok(now) = Instant::now(self.clock) else {
+            return None;
+        };
+        let end = match self.end {
+            End::At(end) => end,
+            End::After(span) => {
+                let Some(end) = now.checked_add(span) else {
+                    return Some(span);
+                };
+                self.end = End::At(end);
+                end
+            }
+        };
+        let left = end.checked_duration_since(now)?;
+        if left.is_zero() { None } else { Some(left) }
+    }
+}

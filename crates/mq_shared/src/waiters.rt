@@ -1,0 +1,56 @@
+use crossbeam_utils::Backoff;
+use std::sync::atomic::{AtomicBool, Ordering};
+use std::sync::{Condvar, Wait};
+use std::time::Duration;
+
+/// How often a call that waits looks for a change before it sleeps.
+const LOOKS: u32 = 60;
+
+/// Those who wait for one kind of change.
+#[derive(Drop)]
+pub struct Waiters {
+    changes: Condvar,
+    /// Whether anyone came since all were last woken.
+    came: AtomicBool,
+}
+
+impl Waiters {
+    pub const fn new() -> Waiters {
+        Waiters {
+            changes: Condvar::new(),
+            came: AtomicBool::new(false),
+        }
+    }
+
+    /// Wakes all that wait, once the change is made and its lock was let go, and answers whether
+    /// anyone came since they were last woken. Where nobody did, this writes nothing: who comes later
+    /// finds the change.
+    pub fn wake(&self) -> bool {
+        let came = self.came.load(Ordering::SeqCst) && self.came.swap(false, Ordering::SeqCst);
+        if came {
+            self.changes.notify_all();
+        }
+        came
+    }
+
+    /// Comes, and answers what `wait` is told. What is changed from now on wakes the caller: it comes
+    /// with the lock held under which it has looked, or looks once more.
+    pub fn come(&self) -> u64 {
+        let seen = self.changes.notifications();
+        self.came.store(true, Ordering::SeqCst);
+        seen
+    }
+
+    /// Waits, for no longer than this, until all are woken after the caller came. It looks for a
+    /// while before it sleeps, and may end with no change.
+    pub fn wait<R: Wait>(&self, rt: &R, seen: u64, longest: Duration) {
+        let backoff = Backoff::new();
+        for _look in 0..LOOKS {
+            if self.changes.notifications() != seen {
+                return;
+            }
+            backoff.snooze();
+        }
+        self.changes.sleep(rt, seen, longest);
+    }
+}

@@ -1,0 +1,233 @@
+//! Drafts that wait until pages come home.
+
+use crate::calls::Nothing;
+use crate::watch::Watch;
+use mq::{
+    Config, DraftError, Ended, Errno, Forever, Id, Names, Seat, System, TextOf, Worker,
+    WorkersError, with_two, with_workers,
+};
+use std::alloc::Global;
+use std::process::Abort;
+use std::sync::Wait;
+use std::sync::atomic::{AtomicU64, Ordering};
+use std::thread::{Threads, join};
+
+/// An arena of one page, and one of two.
+const ONE: Config = Config {
+    height: 0,
+    slots: 1,
+    seats: 5,
+    last_seq: 0,
+};
+
+const TWO: Config = Config { height: 1, ..ONE };
+
+/// How often each of two threads takes the one page.
+const TURNS: u32 = 20_000;
+
+/// How often who spends a page looks meanwhile: who waits for it sleeps by then.
+const LOOKS: u32 = 20_000;
+
+/// A text that a seat drafts and spends, in its own pages or in those that are free.
+#[derive(Clone, Copy, Drop)]
+enum Way {
+    Kept,
+    Free,
+}
+
+/// Drafts a text of a page and spends it, over and over.
+#[derive(Drop)]
+struct TakesTurns<'a> {
+    way: Way,
+    /// How many turns both have taken.
+    done: &'a AtomicU64,
+}
+
+impl<'a> Worker<Nothing> for TakesTurns<'a> {
+    /// How often.
+    type Answer = Result<u32, Errno>;
+
+    fn work<N: Names, R: Wait>(
+        self,
+        rt: &R,
+        _alloc: Global,
+        system: &System<Nothing, N>,
+        seat: &mut Seat<N>,
+    ) -> Result<u32, Errno> {
+        let mut taken = 0u32;
+        for _ in 0..TURNS {
+            let drafted = match self.way {
+                Way::Kept => system.draft_by_within(rt, seat, b"one", &mut Forever),
+                Way::Free => system.draft_of_within(rt, b"one", &mut Forever),
+            };
+            match (drafted, self.way) {
+                (Ok(text), Way::Kept) => system.spend_by(rt, seat, text),
+                (Ok(text), Way::Free) => {
+                    system.spend(rt, text);
+                }
+                (Err(error), _) => return Err(error.errno()),
+            }
+            taken = taken.wrapping_add(1);
+            self.done.fetch_add(1, Ordering::SeqCst);
+        }
+        Ok(taken)
+    }
+}
+
+/// What a worker does with the two pages of the arena.
+#[derive(Clone, Copy, Drop)]
+enum Part<'a> {
+    /// Drafts both as two texts, says so, and spends one after the other.
+    Spends(&'a Watch),
+    /// Once that is said, waits for a text of so many bytes.
+    WaitsFor(&'a Watch, u64),
+}
+
+impl<'a> Worker<Nothing> for Part<'a> {
+    type Answer = Result<(), Errno>;
+
+    fn work<N: Names, R: Wait>(
+        self,
+        rt: &R,
+        _alloc: Global,
+        system: &System<Nothing, N>,
+        seat: &mut Seat<N>,
+    ) -> Result<(), Errno> {
+        match self {
+            Part::Spends(lent) => {
+                let first = system.draft_by(rt, seat, b"first");
+                let second = system.draft_by(rt, seat, b"second");
+                lent.ends();
+                looks(system, seat);
+                let one = spent(rt, system, seat, first);
+                looks(system, seat);
+                let other = spent(rt, system, seat, second);
+                one?;
+                other
+            }
+            Part::WaitsFor(lent, len) => {
+                lent.is_over(rt);
+                let drafted = system.draft_within(rt, len, &mut Forever);
+                spent(rt, system, seat, drafted)
+            }
+        }
+    }
+}
+
+fn looks<N: Names>(system: &System<Nothing, N>, seat: &mut Seat<N>) {
+    for _ in 0..LOOKS {
+        let _none = system.stat(seat, Id::of(0, 0));
+    }
+}
+
+fn spent<N: Names, R: Wait>(
+    rt: &R,
+    system: &System<Nothing, N>,
+    seat: &mut Seat<N>,
+    drafted: Result<TextOf<N>, DraftError>,
+) -> Result<(), Errno> {
+    match drafted {
+        Ok(text) => {
+            system.spend_by(rt, seat, text);
+            Ok(())
+        }
+        Err(error) => Err(error.errno()),
+    }
+}
+
+/// What has ended, with so many pages free.
+fn ended_of<T: Drop, R: Abort>(
+    rt: &R,
+    ended: Result<Ended<T>, WorkersError>,
+    pages: u32,
+) -> Ended<T> {
+    match ended {
+        Ok(ended) => {
+            assert!(rt; ended.free_pages == pages, "a page is out");
+            ended
+        }
+        Err(WorkersError::Memory | WorkersError::Thread) => panic!(rt; "out of memory"),
+        Err(_) => panic!(rt; "no system"),
+    }
+}
+
+/// Two threads take the one page in turn, which is slow where others want the processors: the one
+/// sleeps, and wakes, for nearly each turn of the other.
+fn in_turn<R: Abort + Threads + Wait + Sync>(rt: &R, alloc: Global, way: Way) {
+    let watch = Watch::new();
+    let done = AtomicU64::new(0);
+    let ((), ended) = join(
+        rt,
+        || watch.keeps_on(rt, &done, "each has taken the page as often"),
+        || {
+            let one = TakesTurns { way, done: &done };
+            let other = TakesTurns { way, done: &done };
+            let ended = with_two(rt, alloc, ONE, one, other);
+            watch.ends();
+            ended
+        },
+    );
+    let ended = ended_of(rt, ended, 1);
+    let (one, other) = ended.answer;
+    assert!(rt;
+        one == Ok(TURNS) && other == Ok(TURNS),
+        "a draft is refused"
+    );
+}
+
+#[test]
+fn two_threads_take_one_page_in_turn(rt: HostRuntime) {
+    in_turn(&rt, rt.alloc(), Way::Free);
+}
+
+#[test]
+fn two_threads_take_a_page_that_each_keeps_back(rt: HostRuntime) {
+    in_turn(&rt, rt.alloc(), Way::Kept);
+}
+
+/// The first worker spends two pages one by one, and each other waits for a text of so many bytes.
+fn run_drafts<R: Threads + Wait + Sync>(
+    rt: &R,
+    alloc: Global,
+    lens: &[u64],
+    lent: &Watch,
+) -> Result<Ended<Vec<Result<(), Errno>>>, WorkersError> {
+    let mut workers = Vec::new(alloc);
+    let Ok(()) = workers.push(Part::Spends(lent)) else {
+        return Err(WorkersError::Memory);
+    };
+    for len in lens {
+        let Ok(()) = workers.push(Part::WaitsFor(lent, *len)) else {
+            return Err(WorkersError::Memory);
+        };
+    }
+    let ended = with_workers(rt, alloc, TWO, workers);
+    lent.ends();
+    ended
+}
+
+fn all_draft<R: Abort + Threads + Wait + Sync>(rt: &R, alloc: Global, lens: &[u64]) {
+    let (watch, lent) = (Watch::new(), Watch::new());
+    let ((), ended) = join(
+        rt,
+        || watch.keeps(rt, "all drafts"),
+        || {
+            let ended = run_drafts(rt, alloc, lens, &lent);
+            watch.ends();
+            ended
+        },
+    );
+    for done in ended_of(rt, ended, 2).answer.iter() {
+        assert!(rt; *done == Ok(()), "a draft is refused");
+    }
+}
+
+#[test]
+fn a_draft_waits_until_both_halves_are_home(rt: HostRuntime) {
+    all_draft(&rt, rt.alloc(), &[2048]);
+}
+
+#[test]
+fn drafts_of_one_page_and_of_two_are_all_made(rt: HostRuntime) {
+    all_draft(&rt, rt.alloc(), &[2048, 1024, 2000, 1000]);
+}

@@ -1,0 +1,597 @@
+//! Waits that end by their time: what they answer, what they leave, and what ends them before.
+
+use crate::calls::{Nothing, queue, receive, remove, send, set};
+use crate::watch::Watch;
+use mq::{
+    Caller, Config, DraftError, Ended, Errno, Figures, Id, Names, NoWait, Patience, RecvFlags,
+    Seat, SendFlags, SendRefused, System, Until, Worker, WorkersError, with_two, with_workers,
+};
+use std::alloc::Global;
+use std::io;
+use std::process::Abort;
+use std::sync::Wait;
+use std::thread::{Threads, join};
+use std::time::{Clock, Duration, Instant};
+
+const SIZE: Config = Config {
+    height: 3,
+    slots: 2,
+    seats: 3,
+    last_seq: 3,
+};
+
+const FLAGS: RecvFlags = RecvFlags {
+    nowait: false,
+    noerror: false,
+    except: false,
+};
+
+/// The milliseconds of a wait that ends by its time.
+const TEN: u64 = 10;
+
+/// The time of a wait that something else ends: longer than a test may take.
+const MINUTE: u64 = 60_000;
+
+/// How often who ends a wait looks at the queue before: the other sleeps by then.
+const LOOKS: u32 = 20_000;
+
+/// What was otherwise than it should be, or why a call was refused.
+#[derive(Clone, Copy, Drop)]
+enum Wrong {
+    Refused(Errno),
+    /// A wait that ended changed the queue's figures.
+    Changed,
+    /// A call answered otherwise.
+    Answered,
+    /// A text came back with other bytes.
+    Text,
+    /// A wait of ten milliseconds took less, or two seconds.
+    Time,
+    Clock,
+}
+
+type Done = Result<(), Wrong>;
+
+impl From<Errno> for Wrong {
+    fn from(errno: Errno) -> Wrong {
+        Wrong::Refused(errno)
+    }
+}
+
+/// A clock that can't be read.
+struct Broken;
+
+impl Clock for Broken {
+    fn monotonic(&self) -> io::Result<Duration> {
+        Err(io::Error::from(io::ErrorKind::Other))
+    }
+
+    fn since_1970(&self) -> io::Result<Duration> {
+        Err(io::Error::from(io::ErrorKind::Other))
+    }
+}
+
+fn now<C: Clock>(clock: &C) -> Result<Instant, Wrong> {
+    match Instant::now(clock) {
+        Ok(now) => Ok(now),
+        Err(_) => Err(Wrong::Clock),
+    }
+}
+
+/// The end of a wait of so many milliseconds.
+fn within<C: Clock>(clock: &C, milliseconds: u64) -> Until<'_, C> {
+    Until::within(clock, Duration::from_millis(milliseconds))
+}
+
+/// Whether a wait took ten milliseconds, and not two seconds.
+fn took_ten<C: Clock>(clock: &C, began: Instant) -> Done {
+    let Ok(took) = began.elapsed(clock) else {
+        return Err(Wrong::Clock);
+    };
+    if took < Duration::from_millis(TEN) || took > Duration::from_secs(2) {
+        return Err(Wrong::Time);
+    }
+    Ok(())
+}
+
+fn answers<T: Drop>(answer: Result<T, Errno>, errno: Errno) -> Done {
+    match answer {
+        Err(refused) if refused == errno => Ok(()),
+        Err(refused) => Err(Wrong::Refused(refused)),
+        Ok(_) => Err(Wrong::Answered),
+    }
+}
+
+/// A message of type 1 is looked for, as long as this patience lasts.
+fn receives<N: Names, R: Wait, T: Patience>(
+    rt: &R,
+    alloc: Global,
+    system: &System<Nothing, N>,
+    seat: &mut Seat<N>,
+    id: Id,
+    patience: &mut T,
+) -> Result<u64, Errno> {
+    let mut caller = Caller::new(rt, alloc, seat);
+    let received = match caller.receive_within(system, id, 9, 1, FLAGS, patience) {
+        Err(Errno::ENOMEM) => caller.receive_within(system, id, 9, 1, FLAGS, patience)?,
+        received => received?,
+    };
+    Ok(received.length)
+}
+
+/// Sends four bytes by a call of texts, which is to be refused with EAGAIN and to hand them back.
+fn is_handed_back<N: Names, R: Wait, T: Patience>(
+    rt: &R,
+    system: &System<Nothing, N>,
+    seat: &mut Seat<N>,
+    id: Id,
+    patience: &mut T,
+) -> Done {
+    let text = match system.draft_of(rt, b"more") {
+        Ok(text) => text,
+        Err(refused) => return Err(Wrong::Refused(refused.errno())),
+    };
+    let flags = SendFlags { nowait: false };
+    match system.msgsnd_within(rt, seat, id, 1, 0, text, flags, patience, 2) {
+        Ok(_) => Err(Wrong::Answered),
+        Err(SendRefused { refused, text }) => {
+            let same = text.count() > 0 && text.part(0) == b"more".as_slice();
+            system.spend(rt, text);
+            if !same {
+                return Err(Wrong::Text);
+            }
+            answers::<()>(Err(refused.errno), Errno::EAGAIN)
+        }
+    }
+}
+
+/// Receives from a queue with no message: each call is to find none, and to leave the figures.
+fn finds_nothing<N: Names, R: Wait, T: Patience>(
+    rt: &R,
+    alloc: Global,
+    system: &System<Nothing, N>,
+    seat: &mut Seat<N>,
+    id: Id,
+    patience: &mut T,
+) -> Done {
+    let empty = system.stat(seat, id)?;
+    let received = receives(rt, alloc, system, seat, id, patience);
+    answers(received, Errno::ENOMSG)?;
+    is_still(system, seat, id, empty)
+}
+
+/// Sends to a queue without room, by both calls.
+fn finds_no_room<N: Names, R: Wait, T: Patience>(
+    rt: &R,
+    alloc: Global,
+    system: &System<Nothing, N>,
+    seat: &mut Seat<N>,
+    id: Id,
+    patience: &mut T,
+) -> Done {
+    let full = system.stat(seat, id)?;
+    is_handed_back(rt, system, seat, id, patience)?;
+    let mut caller = Caller::new(rt, alloc, seat);
+    let sent = caller.send_within(system, id, 1, 0, b"more", patience);
+    answers(sent, Errno::EAGAIN)?;
+    is_still(system, seat, id, full)
+}
+
+fn is_still<N: Names>(
+    system: &System<Nothing, N>,
+    seat: &mut Seat<N>,
+    id: Id,
+    before: Figures,
+) -> Done {
+    if system.stat(seat, id)? == before {
+        Ok(())
+    } else {
+        Err(Wrong::Changed)
+    }
+}
+
+/// Waits of ten milliseconds at a queue.
+#[derive(Drop)]
+struct WaitsTen<'a, C: Clock> {
+    clock: &'a C,
+}
+
+impl<'a, C: Clock> Worker<Nothing> for WaitsTen<'a, C> {
+    type Answer = Done;
+
+    fn work<N: Names, R: Wait>(
+        self,
+        rt: &R,
+        alloc: Global,
+        system: &System<Nothing, N>,
+        seat: &mut Seat<N>,
+    ) -> Done {
+        let id = queue(rt, system, seat, 1)?;
+        set(rt, system, seat, id, 4)?;
+        let began = now(self.clock)?;
+        let ten = &mut within(self.clock, TEN);
+        finds_nothing(rt, alloc, system, seat, id, ten)?;
+        took_ten(self.clock, began)?;
+        send(rt, system, seat, id, 1, 4)?;
+        let began = now(self.clock)?;
+        let ten = &mut within(self.clock, TEN);
+        finds_no_room(rt, alloc, system, seat, id, ten)?;
+        took_ten(self.clock, began)
+    }
+}
+
+/// Waits that have no time at all, or a clock that can't be read.
+#[derive(Drop)]
+struct HasNoTime<'a, C: Clock> {
+    clock: &'a C,
+}
+
+impl<'a, C: Clock> Worker<Nothing> for HasNoTime<'a, C> {
+    type Answer = Done;
+
+    fn work<N: Names, R: Wait>(
+        self,
+        rt: &R,
+        alloc: Global,
+        system: &System<Nothing, N>,
+        seat: &mut Seat<N>,
+    ) -> Done {
+        let id = queue(rt, system, seat, 1)?;
+        set(rt, system, seat, id, 4)?;
+        let mut over = Until::at(self.clock, now(self.clock)?);
+        finds_nothing(rt, alloc, system, seat, id, &mut over)?;
+        finds_nothing(rt, alloc, system, seat, id, &mut NoWait)?;
+        let broken = &mut within(&Broken, MINUTE);
+        finds_nothing(rt, alloc, system, seat, id, broken)?;
+        send(rt, system, seat, id, 1, 4)?;
+        finds_no_room(rt, alloc, system, seat, id, &mut NoWait)?;
+        // A message that is there is received.
+        match receives(rt, alloc, system, seat, id, &mut over)? {
+            4 => Ok(()),
+            _ => Err(Wrong::Answered),
+        }
+    }
+}
+
+/// Waits for pages that do not come, and for more than the arena has.
+#[derive(Drop)]
+struct AtTheArena<'a, C: Clock> {
+    clock: &'a C,
+}
+
+impl<'a, C: Clock> AtTheArena<'a, C> {
+    fn finds_none<N: Names, R: Wait>(
+        &self,
+        rt: &R,
+        system: &System<Nothing, N>,
+        seat: &mut Seat<N>,
+    ) -> Done {
+        let began = now(self.clock)?;
+        let mut ten = within(self.clock, TEN);
+        match system.draft_by_within(rt, seat, b"x", &mut ten) {
+            Err(DraftError::NoRun) => took_ten(self.clock, began)?,
+            Err(error) => return Err(Wrong::Refused(error.errno())),
+            Ok(text) => {
+                system.spend(rt, text);
+                return Err(Wrong::Answered);
+            }
+        }
+        let mut minute = within(self.clock, MINUTE);
+        match system.draft_within(rt, 9000, &mut minute) {
+            Err(DraftError::NoRun) => Ok(()),
+            Err(error) => Err(Wrong::Refused(error.errno())),
+            Ok(text) => {
+                system.spend(rt, text);
+                Err(Wrong::Answered)
+            }
+        }
+    }
+}
+
+impl<'a, C: Clock> Worker<Nothing> for AtTheArena<'a, C> {
+    type Answer = Done;
+
+    fn work<N: Names, R: Wait>(
+        self,
+        rt: &R,
+        _alloc: Global,
+        system: &System<Nothing, N>,
+        seat: &mut Seat<N>,
+    ) -> Done {
+        let all = match system.draft(rt, 8192) {
+            Ok(all) => all,
+            Err(error) => return Err(Wrong::Refused(error.errno())),
+        };
+        let done = self.finds_none(rt, system, seat);
+        system.spend_by(rt, seat, all);
+        done?;
+        let mut over = NoWait;
+        match system.draft_of_within(rt, b"x", &mut over) {
+            Ok(text) => {
+                system.spend(rt, text);
+                Ok(())
+            }
+            Err(error) => Err(Wrong::Refused(error.errno())),
+        }
+    }
+}
+
+/// Waits for a minute, at a queue of which another worker makes something.
+#[derive(Drop)]
+struct WaitsAMinute<'a, C: Clock> {
+    clock: &'a C,
+    comes: &'a Watch,
+}
+
+impl<'a, C: Clock> Worker<Nothing> for WaitsAMinute<'a, C> {
+    type Answer = Result<u64, Errno>;
+
+    fn work<N: Names, R: Wait>(
+        self,
+        rt: &R,
+        alloc: Global,
+        system: &System<Nothing, N>,
+        seat: &mut Seat<N>,
+    ) -> Result<u64, Errno> {
+        let id = queue(rt, system, seat, 1);
+        self.comes.ends();
+        let mut minute = within(self.clock, MINUTE);
+        receives(rt, alloc, system, seat, id?, &mut minute)
+    }
+}
+
+/// Sends a message to who waits, or removes the queue.
+#[derive(Drop)]
+struct EndsIt<'a> {
+    comes: &'a Watch,
+    removes: bool,
+}
+
+impl<'a> Worker<Nothing> for EndsIt<'a> {
+    type Answer = Result<(), Errno>;
+
+    fn work<N: Names, R: Wait>(
+        self,
+        rt: &R,
+        _alloc: Global,
+        system: &System<Nothing, N>,
+        seat: &mut Seat<N>,
+    ) -> Result<(), Errno> {
+        self.comes.is_over(rt);
+        let id = queue(rt, system, seat, 1)?;
+        for _ in 0..LOOKS {
+            system.stat(seat, id)?;
+        }
+        if self.removes {
+            remove(rt, system, seat, id)
+        } else {
+            send(rt, system, seat, id, 1, 5)
+        }
+    }
+}
+
+/// Waits a hundred times for a millisecond, for a message that does not come.
+#[derive(Drop)]
+struct WaitsInVain<'a, C: Clock> {
+    clock: &'a C,
+    over: &'a Watch,
+}
+
+impl<'a, C: Clock> WaitsInVain<'a, C> {
+    fn waits<N: Names, R: Wait>(
+        &self,
+        rt: &R,
+        alloc: Global,
+        system: &System<Nothing, N>,
+        seat: &mut Seat<N>,
+    ) -> Done {
+        let id = queue(rt, system, seat, 1)?;
+        for _ in 0..100u8 {
+            let mut one = within(self.clock, 1);
+            answers(
+                receives(rt, alloc, system, seat, id, &mut one),
+                Errno::ENOMSG,
+            )?;
+        }
+        Ok(())
+    }
+}
+
+impl<'a, C: Clock> Worker<Nothing> for WaitsInVain<'a, C> {
+    type Answer = Done;
+
+    fn work<N: Names, R: Wait>(
+        self,
+        rt: &R,
+        alloc: Global,
+        system: &System<Nothing, N>,
+        seat: &mut Seat<N>,
+    ) -> Done {
+        let done = self.waits(rt, alloc, system, seat);
+        self.over.ends();
+        done
+    }
+}
+
+/// Sends and receives messages of another type meanwhile.
+#[derive(Drop)]
+struct Stirs<'a> {
+    over: &'a Watch,
+}
+
+impl<'a> Worker<Nothing> for Stirs<'a> {
+    /// How many.
+    type Answer = Result<u64, Errno>;
+
+    fn work<N: Names, R: Wait>(
+        self,
+        rt: &R,
+        _alloc: Global,
+        system: &System<Nothing, N>,
+        seat: &mut Seat<N>,
+    ) -> Result<u64, Errno> {
+        let id = queue(rt, system, seat, 1)?;
+        for count in 0..u64::MAX {
+            if self.over.is_said() {
+                return Ok(count);
+            }
+            send(rt, system, seat, id, 2, 7)?;
+            receive(rt, system, seat, id, 9, 2)?;
+        }
+        Err(Errno::E2BIG)
+    }
+}
+
+/// What has ended, with all pages at home.
+fn ended_of<T: Drop, R: Abort>(rt: &R, ended: Result<Ended<T>, WorkersError>) -> Ended<T> {
+    match ended {
+        Ok(ended) => {
+            assert!(rt; ended.free_pages == 8, "a page is out");
+            ended
+        }
+        Err(WorkersError::Memory | WorkersError::Thread) => panic!(rt; "out of memory"),
+        Err(_) => panic!(rt; "no system"),
+    }
+}
+
+fn is_done<R: Abort>(rt: &R, done: Done) {
+    match done {
+        Ok(()) => (),
+        Err(Wrong::Refused(Errno::ENOMEM)) => panic!(rt; "out of memory"),
+        Err(Wrong::Refused(_)) => panic!(rt; "another refusal"),
+        Err(Wrong::Changed) => panic!(rt; "other figures"),
+        Err(Wrong::Answered) => panic!(rt; "another answer"),
+        Err(Wrong::Text) => panic!(rt; "other bytes"),
+        Err(Wrong::Time) => panic!(rt; "too early or too late"),
+        Err(Wrong::Clock) => panic!(rt; "no clock"),
+    }
+}
+
+/// One worker, run by itself.
+fn run_alone<R: Threads + Wait + Sync, W: Worker<Nothing, Answer = Done> + Send>(
+    rt: &R,
+    alloc: Global,
+    worker: W,
+) -> Result<Ended<Vec<Done>>, WorkersError> {
+    let mut workers = Vec::new(alloc);
+    match workers.push(worker) {
+        Ok(()) => with_workers(rt, alloc, SIZE, workers),
+        Err(_) => Err(WorkersError::Memory),
+    }
+}
+
+/// What one worker finds by itself, in time.
+fn alone<R: Abort + Threads + Wait + Sync, W: Worker<Nothing, Answer = Done> + Send>(
+    rt: &R,
+    alloc: Global,
+    what: &str,
+    worker: W,
+) {
+    let watch = Watch::new();
+    let ((), ended) = join(
+        rt,
+        || watch.keeps(rt, what),
+        || {
+            let ended = run_alone(rt, alloc, worker);
+            watch.ends();
+            ended
+        },
+    );
+    for done in ended_of(rt, ended).answer.iter() {
+        is_done(rt, *done);
+    }
+}
+
+#[test]
+fn a_wait_that_ends_leaves_the_queue_as_it_was(rt: HostRuntime) {
+    alone(&rt, rt.alloc(), "a wait ends", WaitsTen { clock: &rt });
+}
+
+#[test]
+fn a_call_without_time_looks_once(rt: HostRuntime) {
+    alone(&rt, rt.alloc(), "no time", HasNoTime { clock: &rt });
+}
+
+#[test]
+fn a_draft_that_waits_ends_and_is_not_made_greater_than_the_arena(rt: HostRuntime) {
+    alone(&rt, rt.alloc(), "a draft ends", AtTheArena { clock: &rt });
+}
+
+/// What a wait of a minute answers that another worker ends.
+fn ended_by<R: Abort + Clock + Threads + Wait + Sync>(
+    rt: &R,
+    alloc: Global,
+    what: &str,
+    removes: bool,
+) -> Result<u64, Errno> {
+    let (watch, comes) = (Watch::new(), Watch::new());
+    let ((), ended) = join(
+        rt,
+        || watch.keeps(rt, what),
+        || {
+            let waits = WaitsAMinute {
+                clock: rt,
+                comes: &comes,
+            };
+            let ends = EndsIt {
+                comes: &comes,
+                removes,
+            };
+            let ended = with_two(rt, alloc, SIZE, waits, ends);
+            comes.ends();
+            watch.ends();
+            ended
+        },
+    );
+    let ended = ended_of(rt, ended);
+    let (answer, done) = ended.answer;
+    assert!(rt; done.is_ok(), "out of memory");
+    answer
+}
+
+#[test]
+fn a_removal_ends_a_wait_before_its_time(rt: HostRuntime) {
+    let answer = ended_by(&rt, rt.alloc(), "a removal wakes", true);
+    assert!(rt; answer == Err(Errno::EIDRM), "another answer");
+}
+
+#[test]
+fn a_message_ends_a_wait_before_its_time(rt: HostRuntime) {
+    let answer = ended_by(&rt, rt.alloc(), "a message wakes", false);
+    assert!(rt; answer == Ok(5), "another answer");
+}
+
+#[test]
+fn a_hundred_waits_end_beside_other_messages(rt: HostRuntime) {
+    let (watch, over) = (Watch::new(), Watch::new());
+    let ((), ended) = join(
+        &rt,
+        || watch.keeps(&rt, "a hundred waits end"),
+        || {
+            let waits = WaitsInVain {
+                clock: &rt,
+                over: &over,
+            };
+            let stirs = Stirs { over: &over };
+            let ended = with_two(&rt, rt.alloc(), SIZE, waits, stirs);
+            over.ends();
+            watch.ends();
+            ended
+        },
+    );
+    let ended = ended_of(&rt, ended);
+    let (done, stirred) = ended.answer;
+    is_done(&rt, done);
+    let Ok(count) = stirred else {
+        panic!(rt; "out of memory");
+    };
+    // The making, and a sending and a receipt of each message: a wait that ended is no event.
+    let events = count.wrapping_mul(2).wrapping_add(1);
+    match ended.slots.get(0) {
+        Some(slot) => {
+            let kept = slot.past.len() as u64 + slot.last.len() as u64;
+            assert!(rt; kept == events && slot.left == 0, "other events");
+        }
+        None => panic!(rt; "no slot"),
+    }
+}

@@ -1,0 +1,65 @@
+//! What the help says below the words and options.
+
+// What the help of `threads` and that of `mqsim` share, which begins the one and stands in the other.
+macro_rules! notes {
+    ($before:literal, $between:literal) => {
+        concat!(
+            $before,
+            "\
+A threads script begins with get and set lines, made one after the other. Then come
+up to 15 sections, each of which runs on a thread of its own:
+  worker                     begins a section
+  put ID TYPE COUNT LEN      sends COUNT texts of LEN bytes, and waits for room
+  take ID TYPE COUNT         receives COUNT texts, and waits where none fits
+  rm ID                      removes the queue, and ends who waits in it
+A put whose queue never gets room, or a take for which no text ever comes,
+waits for good; with the words within MS behind it, so many milliseconds.",
+            $between,
+            "\
+A script is read to its end before the first answer; at a terminal, Ctrl-D ends it.
+There, and with -i, each line of a serial script is answered before the next is read,
+and one that is not well formed is named and passed over."
+        )
+    };
+}
+
+/// The end of the help of `mqsim`.
+pub const NOTES: &str = notes!(
+    "\
+Options of serial and threads: --height <H>, --slots <S>, --last-seq <Q>. What each
+means, its range and its default: mqsim serial --help.
+
+An example, to be pasted:
+  printf 'get 7 c\\nsnd 0 1 =hello\\nrcv 0 9 0\\n' | mqsim
+
+A line of a serial script is one call, with one space between its words:
+  get KEY [c|x|cx]           finds or makes a queue (c IPC_CREAT, x IPC_EXCL)
+  snd ID TYPE =TEXT          sends a text; *N for it sends N letters
+  rcv ID SIZE TYPE [e|n|en]  receives a text (e MSG_EXCEPT, n MSG_NOERROR)
+  stat ID                    shows the queue's figures, as IPC_STAT does
+  set ID QBYTES              sets its quota, as IPC_SET does
+  rm ID                      removes it, as IPC_RMID does
+  cut SLOT                   cuts the log of a slot off where it ends
+  ipcs                       shows all queues
+  arena                      shows how many pages there are, and are free
+  seat S                     has seat S, 1 to 16, make the calls from here on
+An empty line, and one that begins with #, says nothing.
+
+",
+    "
+
+A line that is not well formed ends the run, as in mqsim: line 3: number. Its cause:
+  long    it has more than 4,096 bytes
+  byte    it has a byte that is not printable ASCII, such as a tab
+  words   a word is unknown, missing or too many, or there are two spaces in a row
+  number  it has 0x4d2, 07 or +7 for a number, or one out of its range
+docs/SCRIPT.md has the lines, the answers, the faults and the exit statuses.
+
+"
+);
+
+/// The end of the help of `mqsim serial`.
+pub const SERIAL_NOTES: &str = "The lines of a script: mqsim --help.";
+
+/// The end of the help of `mqsim threads`.
+pub const THREADS_NOTES: &str = notes!("", "\n\n");
