@@ -35,7 +35,7 @@ ADDED = "steps.wrapping_add(1)"
 
 # The mistakes: what is said of each, its test, the text and what it becomes.
 MISTAKES = {
-    "a_step_counts_twice": ("seen: it failed", FOUR, ADDED, "steps.wrapping_add(2)"),
+    "a_step_counts_twice": ("seen: it did not pass", FOUR, ADDED, "steps.wrapping_add(2)"),
     "a_loop_without_an_end": ("seen: it did not end", FOUR, "at == 9", "at == 4"),
     "a_right_body": ("FAILED: the test passes", FOUR, ADDED, "steps.saturating_add(1)"),
     "a_text_that_is_not_there": ("FAILED: its text stands 0 times", FOUR, "at == 8", "at == 7"),
@@ -43,7 +43,7 @@ MISTAKES = {
     "a_test_that_is_not_there": ("FAILED: there is no such test", "trial tests::six", ADDED, ADDED),
     "a_crate_that_is_not_there": ("FAILED: there is no crate", "other tests::six", ADDED, ADDED),
     "a_test_that_fails_anyway": (
-        "FAILED: without the mistake it failed",
+        "FAILED: without the mistake it did not pass",
         "trial tests::five_steps_lead_from_five_to_nine",
         ADDED,
         "steps.wrapping_add(2)",

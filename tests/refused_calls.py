@@ -45,9 +45,11 @@ TOLD = 3
 # The allocations that are refused one by one, as far as a lane comes in so many seconds; beyond
 # them the steps grow.
 EACH = 600
-PATIENCE = 20
-# The runs of a test that are tried side by side.
+PATIENCE = 10
+# The runs of a test that are tried side by side, and those of all tests. Of those of tests whose
+# threads wait, most use no processor.
 LANES = 4
+ALL_LANES = 2 * os.cpu_count()
 # The tests that are named as those that took longest.
 LONGEST = 5
 # The seconds after which a run counts as one that hangs.
@@ -56,31 +58,31 @@ SECONDS = 300
 HANGS = 124
 # What is left out: workers of scripts, each of which waits for what another worker sends or removes.
 WAIT_FOR_OTHERS = {
-    "mq_cli_thread_tests worked::two_pairs_of_workers_hand_on_all",
-    "mq_cli_thread_tests worked::a_removal_ends_who_waits",
-    "mq_cli_thread_tests worked::a_removal_ends_who_waits_within_an_end",
-    "mq_cli_thread_tests worked::a_step_that_is_served_before_its_end_is_done",
+    "mq_cli_tests threads::worked::two_pairs_of_workers_hand_on_all",
+    "mq_cli_tests threads::worked::a_removal_ends_who_waits",
+    "mq_cli_tests threads::worked::a_removal_ends_who_waits_within_an_end",
+    "mq_cli_tests threads::worked::a_step_that_is_served_before_its_end_is_done",
 }
 # The tests that may make no allocation.
 MAKE_NONE = {
-    "mq_face_tests layout::a_call_has_the_numbers_of_the_struct",
-    "mq_face_tests layout::an_answer_has_the_numbers_of_the_struct",
-    "mq_face_tests layout::the_flags_and_commands_are_those_of_linux",
+    "mq_one_thread_tests face::layout::a_call_has_the_numbers_of_the_struct",
+    "mq_one_thread_tests face::layout::an_answer_has_the_numbers_of_the_struct",
+    "mq_one_thread_tests face::layout::the_flags_and_commands_are_those_of_linux",
     "mq_one_thread_tests limits::a_configuration_past_a_bound_is_refused",
     "mq_one_thread_tests names::a_refusal_is_named_as_in_the_manual",
     "mq_one_thread_tests names::each_layers_refusal_has_its_errno",
     "mq_queue_tests lists::a_msgtyp_is_read_as_the_manual_says",
-    "mq_shared_tests shared::no_parts_are_opened_for_no_slot",
-    "mq_shared_tests waiters::a_patience_says_how_long_it_waits",
-    "mq_shared_tests waiters::who_is_woken_before_it_sleeps_does_not_sleep",
-    "mq_shared_tests waiters::who_waited_until_its_time_is_not_woken_twice",
+    "mq_system_tests shared::no_parts_are_opened_for_no_slot",
+    "mq_system_tests waiters::a_patience_says_how_long_it_waits",
+    "mq_system_tests waiters::who_is_woken_before_it_sleeps_does_not_sleep",
+    "mq_system_tests waiters::who_waited_until_its_time_is_not_woken_twice",
     "mq_system_tests worked::a_size_out_of_its_limits_is_refused",
     "mq_table_tests cuts::a_slot_without_a_queue_hands_out_an_empty_cut",
     "mq_table_tests keys::an_id_is_told_by_slot_and_seq_up_to_the_bounds",
     "mq_tests programs::a_size_out_of_its_limits_is_refused_before_the_program_runs",
-    "mq_thread_tests seats::a_system_out_of_its_limits_is_not_made",
-    "mq_thread_tests two::two_workers_at_one_seat_are_refused",
-    "mq_worker_tests refusals::an_empty_plan_makes_no_call",
+    "mq_tests seats::a_system_out_of_its_limits_is_not_made",
+    "mq_tests two::two_workers_at_one_seat_are_refused",
+    "mq_cli_tests refusals::an_empty_plan_makes_no_call",
 }
 
 
@@ -175,7 +177,7 @@ def main():
         subprocess.run(["cc", "-shared", "-fPIC", "-O1", "-o", shim, f"{TOP}/tests/refuse_nth.c",
                         "-ldl"], check=True)
         times = collections.Counter()
-        with concurrent.futures.ThreadPoolExecutor(os.cpu_count()) as pool:
+        with concurrent.futures.ThreadPoolExecutor(ALL_LANES) as pool:
             marks = (f"{folder}/mark{count}" for count in itertools.count())
             ends = [(tested, pool.submit(judge, *tested, lane, shim, next(marks)))
                     for tested in tests for lane in range(LANES)]

@@ -1,4 +1,4 @@
-//! Tests of the queue system for one thread.
+//! Tests of the queue system for one thread, and of the calls of C over it.
 
 #![tactic(auto)]
 
@@ -8,6 +8,8 @@ mod calls;
 mod cuts;
 #[cfg(test)]
 mod ending;
+#[cfg(test)]
+mod face;
 #[cfg(test)]
 mod first;
 #[cfg(test)]

@@ -12,17 +12,17 @@ use std::test::Fail;
 type List = ListWaiting<VecBody>;
 
 /// Cuts the log, at the second try where there was no memory: then nothing has changed.
-fn cut(
-    rt: &impl Abort,
-    queue: &mut QueueState<VecBody, List>,
-) -> Result<(Base, Vec<Event>), AllocError> {
+fn cut(rt: &impl Abort, queue: &mut QueueState<VecBody, List>) -> (Base, Vec<Event>) {
     let before = (queue.first(), queue.log_len(), queue.figures());
     if let Ok(cut) = queue.cut() {
-        return Ok(cut);
+        return cut;
     }
     let after = (queue.first(), queue.log_len(), queue.figures());
     assert!(rt; after == before, "a refused cut changes the queue");
-    queue.cut()
+    match queue.cut() {
+        Ok(cut) => cut,
+        Err(AllocError) => panic!(rt; "out of memory"),
+    }
 }
 
 /// The place and the length of each message that a base tells.
@@ -85,7 +85,7 @@ fn a_cut_hands_out_the_log_and_keeps_what_waits(rt: HostRuntime) -> Result<(), F
     let left = places(&queue.base().waiting);
     close(queue);
     assert!(rt; begun? == BEGUN);
-    let (base, tail) = first?;
+    let (base, tail) = first;
     assert!(rt; (base.places, base.figures) == (0, NO_FIGURES));
     assert!(rt; base.waiting.len() == 0);
     assert!(rt; tail.len() == 5);
@@ -94,7 +94,7 @@ fn a_cut_hands_out_the_log_and_keeps_what_waits(rt: HostRuntime) -> Result<(), F
     assert!(rt; seen == (5, 5, None, FIGURES));
     assert!(rt; received == Answer::Got(5, 1, 1, 1));
     assert!(rt; last == (6, true, None));
-    let (base, tail) = second?;
+    let (base, tail) = second;
     assert!(rt; (base.places, base.figures) == (5, FIGURES));
     assert!(rt; places(&base.waiting) == waiting);
     assert!(rt; tail.len() == 1);
@@ -111,8 +111,8 @@ fn a_second_cut_at_once_hands_out_no_event(rt: HostRuntime) -> Result<(), Fail> 
     let third = cut(&rt, &mut queue);
     close(queue);
     assert!(rt; begun? == BEGUN);
-    assert!(rt; first?.1.len() == 5);
-    for cut in [second?, third?] {
+    assert!(rt; first.1.len() == 5);
+    for cut in [second, third] {
         let (base, tail) = cut;
         assert!(rt; (base.places, base.figures) == (5, FIGURES));
         assert!(rt; places(&base.waiting) == [Some((1, 1)), Some((3, 3)), None]);
@@ -140,7 +140,7 @@ fn removed(queue: Queue) -> Log {
 fn a_removed_queue_hands_out_its_base(rt: HostRuntime) -> Result<(), Fail> {
     let mut queue = Queue::made(rt.alloc(), 7, 2, 50, &mut NoNotice)?;
     let begun = begin(rt.alloc(), &mut queue);
-    let first = cut(&rt, &mut queue);
+    let _ = cut(&rt, &mut queue);
     let quota = set(&mut queue, 3, 70);
     let full = match message(rt.alloc(), 5, 0) {
         Ok(text) => queue.refuses_send(text.mtype, 0),
@@ -148,7 +148,6 @@ fn a_removed_queue_hands_out_its_base(rt: HostRuntime) -> Result<(), Fail> {
     };
     let log = removed(queue);
     assert!(rt; begun? == BEGUN);
-    let _ = first?;
     assert!(rt; quota == Answer::At(5));
     assert!(rt; full.is_some(), "four bytes wait, and three may");
     assert!(rt; (log.first(), log.len()) == (5, 7));

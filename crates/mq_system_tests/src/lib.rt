@@ -1,4 +1,5 @@
-//! Tests of the queues of several threads, by one thread.
+//! Tests of the queues of several threads, by one thread, and of what the locks protect: a slot, the
+//! keys, the seats.
 
 #![tactic(auto)]
 
@@ -17,12 +18,22 @@ mod list;
 #[cfg(test)]
 mod magazines;
 #[cfg(test)]
+mod parts;
+#[cfg(test)]
+mod place;
+#[cfg(test)]
 mod seen;
 #[cfg(test)]
+mod shared;
+#[cfg(test)]
 mod shown;
+#[cfg(test)]
+mod slot_calls;
 #[cfg(test)]
 mod table;
 #[cfg(test)]
 mod texts;
+#[cfg(test)]
+mod waiters;
 #[cfg(test)]
 mod worked;

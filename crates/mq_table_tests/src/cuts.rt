@@ -9,13 +9,16 @@ use std::process::Abort;
 use std::test::Fail;
 
 /// Cuts the slot's list, at the second try where there was no memory: then nothing has changed.
-fn cut(rt: &impl Abort, slot: &mut Place) -> Result<Cut, AllocError> {
+fn cut(rt: &impl Abort, slot: &mut Place) -> Cut {
     let before = shown(slot);
     if let Ok(cut) = slot.cut() {
-        return Ok(cut);
+        return cut;
     }
     assert!(rt; shown(slot) == before, "a refused cut changes the slot");
-    slot.cut()
+    match slot.cut() {
+        Ok(cut) => cut,
+        Err(AllocError) => panic!(rt; "out of memory"),
+    }
 }
 
 /// What a slot shows of its list.
@@ -34,12 +37,8 @@ fn told(cut: &Cut) -> (u64, u32, usize, usize, Option<u64>) {
 }
 
 /// What is told of a cut.
-fn cut_told(
-    rt: &impl Abort,
-    slot: &mut Place,
-) -> Result<(u64, u32, usize, usize, Option<u64>), AllocError> {
-    let cut = cut(rt, slot)?;
-    Ok(told(&cut))
+fn cut_told(rt: &impl Abort, slot: &mut Place) -> (u64, u32, usize, usize, Option<u64>) {
+    told(&cut(rt, slot))
 }
 
 #[test]
@@ -64,16 +63,16 @@ fn a_slot_that_is_cut_goes_on_as_before(rt: HostRuntime) -> Result<(), Fail> {
     close(slot);
     assert!(rt; made == Some(Id::of(8, 0)));
     assert!(rt; (first, second) == (Answer::At(1), Answer::At(2)));
-    assert!(rt; before? == (0, 0, 0, 2, None));
-    assert!(rt; after? == (2, 1, 0, 0, Some(2)));
+    assert!(rt; before == (0, 0, 0, 2, None));
+    assert!(rt; after == (2, 1, 0, 0, Some(2)));
     assert!(rt; shown == (2, 2, 0, None) && key == 9);
     assert!(rt; (row.made, row.live, row.key, row.figures.qnum) == (1, true, 9, 1));
     let Some(log) = gone else {
         panic!(rt; "not removed");
     };
     assert!(rt; (log.first(), log.len()) == (2, 4));
-    assert!(rt; third? == (2, 1, 2, 0, Some(2)));
-    assert!(rt; fourth? == (4, 1, 0, 0, None));
+    assert!(rt; third == (2, 1, 2, 0, Some(2)));
+    assert!(rt; fourth == (4, 1, 0, 0, None));
     assert!(rt; again == Some(Id::of(8, 1)));
     assert!(rt; end == (4, 5, 4, 2));
     Ok(())
@@ -86,8 +85,8 @@ fn a_slot_without_a_queue_hands_out_an_empty_cut(rt: HostRuntime) -> Result<(), 
     let second = cut(&rt, &mut slot);
     let shown = (slot.first(), slot.events(), slot.made());
     close(slot);
-    assert!(rt; told(&first?) == (0, 0, 0, 0, None));
-    assert!(rt; told(&second?) == (0, 0, 0, 0, None));
+    assert!(rt; told(&first) == (0, 0, 0, 0, None));
+    assert!(rt; told(&second) == (0, 0, 0, 0, None));
     assert!(rt; shown == (0, 0, 0));
     Ok(())
 }
@@ -112,16 +111,15 @@ fn a_queue_made_after_a_cut_begins_its_own_log(rt: HostRuntime) -> Result<(), Fa
     let second = cut(&rt, &mut slot);
     let third = cut(&rt, &mut slot);
     close(slot);
-    assert!(rt; told(&first?) == (0, 0, 0, 1, None));
+    assert!(rt; told(&first) == (0, 0, 0, 1, None));
     assert!(rt; sending == Answer::At(3));
     assert!(rt; shown == (1, 2, None, true));
-    let second = second?;
     assert!(rt; told(&second) == (1, 1, 1, 2, Some(1)));
     let removal = Event::Removed {
         seat: 2,
         moment: 20,
     };
     assert!(rt; second.past.first() == Some(&removal));
-    assert!(rt; told(&third?) == (4, 2, 0, 0, Some(2)));
+    assert!(rt; told(&third) == (4, 2, 0, 0, Some(2)));
     Ok(())
 }

@@ -1,5 +1,0 @@
-use Rattle.std.proofs.Common.{length}
-use Rattle.mq_index_tests.proofs.parts.emptied.Given as goal
-
-abbrev pub decreases-loop-tag : goal.decreases-loop-tag
-decreases-loop-tag l = length l.queue
