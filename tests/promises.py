@@ -18,7 +18,7 @@ sys.path.insert(0, str(TOP / ".ci"))
 from edits import edits_below, read  # noqa: E402
 from functions import closing, masked  # noqa: E402
 
-FOLDERS = ("must-fail", "planted", "must-not-compile")
+FOLDERS = ("planted", "must-not-compile")
 CRATES = {path.name: path for path in sorted(TOP.glob("crates/*"))}
 NAME = re.compile(r"`([^`]+)`")
 BLOCK = re.compile(r"(?m)^ *(?:pub(?:\(\w+\))? )?(?:impl|trait)\b([^{;]*)\{")
