@@ -2,9 +2,9 @@
 ghost use Rattle.std.specs.Prelude.{◌≡◌, ◌≤◌};
 ghost use Rattle.mq_shared.specs.Sizes.{AreNames};
 
-use crate::slot_calls::{changed, cut, made, nothing_shown, received, removed, sent, shown};
 use crate::parts::{Anything, come_home, drafted, holds, seated, spent, told};
 use crate::place::place_day;
+use crate::slot_calls::{changed, cut, made, nothing_shown, received, removed, sent, shown};
 use mq_arena::{ArenaState, LEDGER_PARTS, Unopened};
 use mq_board::Copies;
 use mq_fronts::next_board;
