@@ -17,9 +17,13 @@ const SIZE: Config = Config {
     last_seq: 0,
 };
 
-/// The ticks of a processor, of which a second has 100, that two threads which wait may take in a
-/// second: one that does not sleep takes 100 where no other wants the processor.
-const MOST: u64 = 10;
+/// For how many seconds who waits is looked at.
+const SECONDS: u32 = 5;
+
+/// The ticks of a processor, of which a second has 100, that two threads which wait may take in that
+/// time: one that does not sleep takes 100 a second where no other wants the processor, and some
+/// where others do.
+const MOST: u64 = 5;
 
 /// What a worker does once it has its queue.
 #[derive(Clone, Copy, Drop)]
@@ -66,11 +70,18 @@ fn ticks<R: Files + Alloc>(rt: &R) -> Option<u64> {
     Some(taken)
 }
 
-/// How many it takes in a second.
-fn ticks_in_a_second<R: Clock + Files + Alloc>(rt: &R) -> Option<u64> {
+/// How many it takes in these seconds, of which the first is enough where it takes none.
+fn ticks_in_seconds<R: Clock + Files + Alloc>(rt: &R) -> Option<u64> {
     let before = ticks(rt)?;
-    sleep(rt, Duration::from_secs(1));
-    Some(ticks(rt)?.saturating_sub(before))
+    let mut taken = 0;
+    for _second in 0..SECONDS {
+        sleep(rt, Duration::from_secs(1));
+        taken = ticks(rt)?.saturating_sub(before);
+        if taken == 0 {
+            break;
+        }
+    }
+    Some(taken)
 }
 
 #[test]
@@ -80,7 +91,7 @@ fn who_waits_takes_no_processor(rt: HostRuntime) {
         &rt,
         || {
             waits.is_over(&rt);
-            let taken = ticks_in_a_second(&rt);
+            let taken = ticks_in_seconds(&rt);
             measured.ends();
             taken
         },
@@ -109,5 +120,8 @@ fn who_waits_takes_no_processor(rt: HostRuntime) {
     let Some(taken) = taken else {
         panic!(rt; "out of memory");
     };
-    assert!(rt; taken < MOST, "{taken} ticks of a processor in a second");
+    assert!(rt;
+        taken < MOST,
+        "{taken} ticks of a processor in {SECONDS} seconds"
+    );
 }
