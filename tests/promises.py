@@ -5,7 +5,8 @@ there, and each planted mistake must be in a function, or seen by a test, that a
 A row has three columns: the promise, the functions with their clauses, and the tests. In the second,
 each part up to a `;` names crates, or means those of the part before; then functions, where a type, a
 trait or a module stands for all that it has; and behind a colon clauses. Each of the crates has each
-of the functions, and in one of them each clause. A mistake that must not compile names no function:
+of the functions, and in one of them each clause. `answer.done` is the field `done` of a record that
+the clause `answer` cites, itself or by what it cites. A mistake that must not compile names no function:
 a row names one of its file. The last line counts the names and the mistakes.
 """
 import re
@@ -15,21 +16,25 @@ from pathlib import Path
 TOP = Path(__file__).parent.parent
 sys.dont_write_bytecode = True
 sys.path.insert(0, str(TOP / ".ci"))
-from edits import edits_below, read  # noqa: E402
-from functions import closing, masked  # noqa: E402
+from edits import Edit, edits_below  # noqa: E402
 
 FOLDERS = ("planted", "must-not-compile")
 CRATES = {path.name: path for path in sorted(TOP.glob("crates/*"))}
 NAME = re.compile(r"`([^`]+)`")
 BLOCK = re.compile(r"(?m)^ *(?:pub(?:\(\w+\))? )?(?:impl|trait)\b([^{;]*)\{")
 FUNCTION = re.compile(r"\bfn\s+(\w+)")
-CLAUSE = re.compile(r"\b(?:ensures|requires)\*?\s+(\w+)\s*\{")
+CLAUSE = re.compile(r"\b(?:ensures|requires)\*?\s+(\w+)\s*\{([^{}]*)")
+RECORD = re.compile(r"(?ms)^pub record (\w+)(.*?)(?=^\S|\Z)")
+ABBREVIATION = re.compile(r"(?ms)^abbrev pub (\w+) :(.*?)(?=^(?:pub|abbrev|--|use)|\Z)")
+FIELD = re.compile(r"(?m)^  pub (\w+) :")
 TEST = re.compile(r"#\[test\]\s*(?:#\[[^\]]*\]\s*)*(?:pub )?fn (\w+)")
 TABLE = re.compile(r"(?m)^table (\w+)$")
+# Comments, strings and characters, which may hold braces.
+QUOTED = re.compile(r"//[^\n]*|b?\"(?:\\.|[^\"\\])*\"|b?'(?:\\.[^']*|[^'\\])'", re.S)
 
 
 class Function:
-    """A function: its file, its module, type and trait, its name, and the clauses that it has."""
+    """A function: its file, its module, type and trait, its name, and its clauses with their texts."""
 
     def __init__(self, file, homes, name, clauses):
         self.file, self.homes, self.name, self.clauses = file, homes, name, clauses
@@ -44,6 +49,21 @@ class Function:
         stand behind the type's."""
         *front, last = path.split("::")
         return last == self.name and any(not front or front[-1].startswith(it) for it in self.homes)
+
+
+def masked(text):
+    """The text with comments, strings and characters blanked out."""
+    return QUOTED.sub(lambda found: re.sub(r"[^\n]", " ", found[0]), text)
+
+
+def closing(text, at):
+    """The place behind the brace that closes the one at this place."""
+    depth = 0
+    for place in range(at, len(text)):
+        depth += {"{": 1, "}": -1}.get(text[place], 0)
+        if depth == 0:
+            return place + 1
+    return len(text)
 
 
 def homes_of(head):
@@ -61,9 +81,39 @@ def functions_in(crate, path):
     found = list(FUNCTION.finditer(text))
     for it, following in zip(found, [*found[1:], None]):
         homes = next((homes for start, end, homes in blocks if start < it.start() < end), set())
-        said = set(CLAUSE.findall(text, it.end(), following.start() if following else len(text)))
+        said = dict(CLAUSE.findall(text, it.end(), following.start() if following else len(text)))
         file = str(path.relative_to(CRATES[crate]))
         yield Function(file, homes | {path.stem}, it[1], said)
+
+
+def definitions():
+    """The definitions of all crates: by their names the fields and the names that each cites."""
+    found = {}
+    for path in TOP.glob("crates/*/specs/*.antt"):
+        text = path.read_text()
+        for name, body in [*RECORD.findall(text), *ABBREVIATION.findall(text)]:
+            fields, cited = found.setdefault(name, (set(), set()))
+            fields.update(FIELD.findall(body))
+            cited.update(re.findall(r"\w+", body))
+    return found
+
+
+def has_field(text, field, defined):
+    """Whether what a clause cites, itself or by what that cites, is a record with this field."""
+    new, seen = set(re.findall(r"\w+", text)) & defined.keys(), set()
+    while new:
+        seen |= new
+        if any(field in defined[it][0] for it in new):
+            return True
+        new = {by for it in new for by in defined[it][1] & defined.keys()} - seen
+    return False
+
+
+def says(function, clause, defined):
+    """Whether the function has this clause, or this field of what a clause cites."""
+    name, _, field = clause.partition(".")
+    said = function.clauses.get(name)
+    return said is not None and (not field or has_field(said, field, defined))
 
 
 def rows():
@@ -80,7 +130,7 @@ def read_part(part):
     return NAME.findall(part[:at]), NAME.findall(part[at:])
 
 
-def read_functions(cell, functions, named):
+def read_functions(cell, functions, named, defined):
     """What a row's second column names that is not there. What is there is added to the named."""
     crates = []
     for part in cell.split(";"):
@@ -91,7 +141,8 @@ def read_functions(cell, functions, named):
             called = [it for it in functions[crate] if any(it.is_called(name) for name in names)]
             named.update(called)
             yield from (f"{crate} {it}" for it in names if not any(by.is_called(it) for by in called))
-            yield from (f"{crate} {it}" for it in clauses if not any(it in by.clauses for by in called))
+            said = [it for it in clauses if any(says(by, it, defined) for by in called)]
+            yield from (f"{crate} {it}" for it in clauses if it not in said)
 
 
 def is_promised(edit, functions, named, tests):
@@ -112,19 +163,19 @@ def main():
         functions[name] += functions_in(name, path)
     there = {it for _, path in files for it in TEST.findall(path.read_text())}
     there |= {it for path in TOP.glob("tests/*.sh") for it in TABLE.findall(path.read_text())}
-    named, tests, names, wrong = set(), set(), 0, []
+    named, tests, names, wrong, defined = set(), set(), 0, [], definitions()
     for row in rows():
         if len(row) != 3:
             wrong.append(f"a row has {len(row)} columns: {row[0]}")
             continue
         promise, functions_named, seen_by = row
-        missing = [*read_functions(functions_named, functions, named)]
+        missing = [*read_functions(functions_named, functions, named, defined)]
         of_tests = NAME.findall(seen_by)
         missing += [it for it in of_tests if it not in there and not (TOP / it).is_file()]
         tests.update(of_tests)
         names += len(NAME.findall(functions_named)) + len(of_tests) - len(missing)
         wrong += [f"there is no {it}, of which a row speaks: {promise}" for it in missing]
-    edits = [read(path) for folder in FOLDERS for path in edits_below(TOP, folder)]
+    edits = [Edit(path) for folder in FOLDERS for path in edits_below(TOP, folder)]
     without = [it for it in edits if not is_promised(it, functions, named, tests)]
     wrong += [f"no row names what {it.label} is planted in" for it in without]
     for line in wrong:
