@@ -1,13 +1,17 @@
 -- Texts that are sent and received whole, as bytes.
-use Rattle.std.specs.Prelude.{ℕ, ℤ, ◌<◌, Bool, List, length, Result, Ok, Err, IsOk}
+use Rattle.std.specs.Prelude.{◌≡◌, ◌⊎◌, ℕ, ℤ, ◌<◌, Bool, List, length, Result, Ok, Err, IsOk}
 use Rattle.mq_message.specs.Text.{PlainText}
 use Rattle.mq_message.specs.declared.order.TheConstants.{INLINE_LEN}
 use Rattle.mq_one_thread.specs.Calls.{msgrcv, msgsnd}
 use Rattle.mq_one_thread.specs.Look.{Answer, refused_early}
+use Rattle.mq_one_thread.specs.Memory.{or_memory}
 use Rattle.mq_one_thread.specs.State.{State, with_arena}
 use Rattle.mq_one_thread.specs.Texts.{draft_errno, drafts, spends}
 use Rattle.mq_one_thread.specs.declared.draft_error.DraftError.{DraftError}
+use Rattle.mq_one_thread.specs.declared.errno.Errno.{Errno}
+use Rattle.mq_one_thread.specs.declared.errno.Errno.TheVariants.{ENOMEM}
 use Rattle.mq_one_thread.specs.declared.results.Delivered.{Delivered}
+use Rattle.mq_one_thread.specs.declared.results.Refused.{Refused}
 
 -- a text that was drafted is sent with these bytes
 abbrev pub sends_draft : ℕ → ℕ → ℤ → ℕ → List ℕ → ℕ → Result (PlainText × State) DraftError
@@ -47,3 +51,17 @@ copied_out (Err refused) = Err refused
 abbrev pub receives_bytes : State → ℕ → ℕ → ℕ → ℤ → Bool → Bool → ℕ → Answer (Delivered (List ℕ))
 receives_bytes s seat id size msgtyp except noerror moment =
     copied_out (msgrcv s seat id size msgtyp except noerror moment)
+
+-- a call of bytes was refused, by what its definition says or where memory is lacking, and left all
+-- as it was
+pub record IsErrnoOf {T : Type 0} (answer : Answer T) (memory : Refused) (lacking : Type 0)
+    (before after : State) (errno : Errno) : Type 0 where
+  pub refused : (errno ≡ (or_memory memory answer).errno) ⊎ ((errno ≡ ENOMEM) × lacking)
+  pub unchanged : after ≡ before
+
+-- a call of bytes answers and leaves so, or is refused
+abbrev pub AnswersBytes : {T U : Type 0} → Result U Errno → (U → T) → Answer T → Refused → Type 0
+    → State → State → Type 0
+AnswersBytes (Ok told) tell answer memory lacking before after = answer ≡ Ok (tell told, after)
+AnswersBytes (Err errno) tell answer memory lacking before after =
+    IsErrnoOf answer memory lacking before after errno

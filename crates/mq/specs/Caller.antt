@@ -1,48 +1,47 @@
 -- What a caller of bytes knows: of them, of its seat, and of why a call is refused.
-use Rattle.std.specs.Prelude.{◌≡◌, ◌⊎◌, ℕ, ℤ, ◌<◌, ◌≤◌, nat_lt, Bool, false, true, List, None, Option}
+use Rattle.std.specs.Prelude.{◌≡◌, ◌⊎◌, ℕ, ℤ, ◌<◌, ◌≤◌, nat_lt, Bool, false, true, List, length, None, Option}
 use Rattle.mq_message.specs.Text.{PlainText, order_for}
 use Rattle.mq_message.specs.declared.order.TheConstants.{INLINE_LEN}
 use Rattle.mq_queue.specs.declared.limits.TheConstants.{MSGMAX}
+use Rattle.mq_select.specs.declared.selection.Selection.{Selection}
+use Rattle.mq_table.specs.Ids.{seq_of, slot_of}
 use Rattle.mq_one_thread.specs.declared.errno.Errno.{Errno}
 use Rattle.mq_one_thread.specs.declared.errno.Errno.TheVariants.{EINVAL, ENOMEM}
 use Rattle.mq_one_thread.specs.declared.results.Delivered.{Delivered}
 use Rattle.mq_one_thread.specs.declared.results.GetFlags.{GetFlags}
-use Rattle.mq_shared.specs.Pledge.{Pledged, MeetsPledge}
-use Rattle.mq_shared.specs.Refusals.{Refuses}
-use Rattle.mq_shared.specs.Seat.{SeatState, IsCounted, IsSame}
-use Rattle.mq_shared.specs.Seen.{IsDecided, Verdict}
+use Rattle.mq_shared.specs.Outcome.{IsLook, IsReceived, IsRefusal}
+use Rattle.mq_shared.specs.Pledge.{Pledged}
+use Rattle.mq_shared.specs.Refusals.{MayReceive, MaySend, never_sent, out_of_slots}
+use Rattle.mq_shared.specs.Seat.{SeatState}
+use Rattle.mq_shared.specs.Seen.{Verdict, receive_verdict, send_verdict}
 use Rattle.mq_system.specs.Get.{IsGot}
-use Rattle.mq_table.specs.Ids.{slot_of}
 use Rattle.mq.specs.Bytes.{with_text}
 
 -- what was received, with these bytes for its text
 abbrev pub with_bytes : {T : Type 0} → Delivered T → List ℕ → Delivered PlainText
 with_bytes d bytes = with_text d (record { bytes = bytes; block = None })
 
--- the bytes are the beginning, up to the receiver's size, of a text of which the pledge holds
-abbrev pub MeetsCut : {T : Type 0} → Pledged → ℕ → Delivered T → List ℕ → Type 0
-MeetsCut kept size d bytes = MeetsPledge kept size (with_bytes d bytes)
-
--- a queue that was found leaves the seat as it was; one that was made counts in its slot
-abbrev pub MayCount : SeatState → SeatState → ℕ → Type 0
-MayCount old new id = IsSame old new ⊎ IsCounted old new (slot_of id)
-
 -- the flags with which a queue is made where it is not there
 abbrev pub creating : GetFlags
 creating = record { create = true; exclusive = false }
 
 -- an id is that of a queue that was found, or that was made where none was found
-abbrev pub IsGotId : ℕ → ℕ → ℤ → ℕ → SeatState → SeatState → ℕ → Type 0
-IsGotId slots last_seq key moment old new id =
-    (made : Option ℕ)
-    × IsGot slots last_seq key moment old new (record { id = id; made = made })
+pub record IsGotId (slots last_seq : ℕ) (key : ℤ) (moment : ℕ) (old new : SeatState) (id : ℕ)
+    : Type 0 where
+  pub made : Option ℕ
+  pub got : IsGot slots last_seq key creating moment old new (record { id = id; made = made })
+  pub within : out_of_slots slots id ≡ false
 
--- an errno is that of a refusal: by what was asked alone, or after so many events of the slot
-pub record IsRefusal (early : Bool) (may : Errno → Type 0) (old new : SeatState) (slot : ℕ)
-    (verdict : Verdict) (errno : Errno) : Type 0 where
-  pub entry : Option ℕ
-  pub refuses : Refuses early may (record { errno = errno; entry = entry })
-  pub decided : IsDecided old new slot verdict (record { errno = errno; entry = entry })
+-- a call was refused: the queues were not asked, or they turned it away
+pub record IsTurnedBack (unasked : Errno → Type 0) (early : Bool) (may : Errno → Type 0) (slot : ℕ)
+    (verdict : Verdict) (old new : SeatState) (errno : Errno) : Type 0 where
+  pub allowed : may errno
+  pub look : IsLook old new
+  pub why : unasked errno ⊎ IsRefusal early may slot verdict old new errno
+
+-- the queues are always asked
+abbrev pub IsAsked : Errno → Type 0
+IsAsked errno = ⊥
 
 -- a call that ended before the system was asked: the seat has learned nothing
 abbrev pub IsUnasked : SeatState → SeatState → Type 0
@@ -72,3 +71,25 @@ MayWaitInVain ends height n = (ends ≡ true) ⊎ (height < order_for n) ⊎ (IN
 abbrev pub IsNotDraftedWithin : Bool → ℕ → ℕ → SeatState → SeatState → Errno → Type 0
 IsNotDraftedWithin ends height n old new errno =
     IsNotDrafted n old new errno × (errno ≡ ENOMEM → MayWaitInVain ends height n)
+
+-- bytes were not sent: no text was drafted, or it was turned away
+abbrev pub IsNotSentFrom : (Errno → Type 0) → ℕ → ℕ → ℤ → ℕ → Bool → SeatState → SeatState → Errno
+    → Type 0
+IsNotSentFrom undrafted slots id mtype n nowait old new errno =
+    IsTurnedBack undrafted (never_sent slots id mtype) (MaySend nowait) (slot_of id)
+    (send_verdict (seq_of id) mtype n) old new errno
+
+-- bytes were received, no more than there was room for
+pub record IsReceivedInto {T : Type 0} (kept : Pledged) (slots id size : ℕ) (selection : Selection)
+    (noerror : Bool) (moment : ℕ) (old new : SeatState) (d : Delivered T) (bytes : List ℕ)
+    : Type 0 where
+  pub fits : length bytes ≤ size
+  pub pledge : noerror ≡ false → kept d.sender d.tag d.mtype bytes
+  pub received : IsReceived kept slots id size selection noerror moment old new (with_bytes d bytes)
+
+-- bytes were not received: there was no room for so many, or the call was turned away
+abbrev pub IsNotReceivedInto : ℕ → ℕ → ℕ → Selection → Bool → Bool → SeatState → SeatState → Errno
+    → Type 0
+IsNotReceivedInto slots id size selection noerror nowait old new errno =
+    IsTurnedBack (HasNoRoom size old new) (out_of_slots slots id) (MayReceive nowait noerror)
+    (slot_of id) (receive_verdict (seq_of id) size selection noerror) old new errno

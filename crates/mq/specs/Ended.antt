@@ -1,13 +1,19 @@
 -- What the queues of a program leave.
-use Rattle.std.specs.Prelude.{◌≡◌, ℕ, List, map}
+use Rattle.std.specs.Prelude.{◌≡◌, ℕ, ◌^◌, ◌≤◌, All, List, length, map}
 use Rattle.mq_tree.specs.LentSet.{Lending, free_pages}
-use Rattle.mq_one_thread.specs.Closed.{all_home, ending_of, ends}
+use Rattle.mq_one_thread.specs.Closed.{IsClosed, all_home, ending_of, ends}
 use Rattle.mq_one_thread.specs.State.{State}
 use Rattle.mq_one_thread.specs.declared.close.ClosedSlot.{ClosedSlot}
 use Rattle.mq_one_thread.specs.declared.config.Config.{Config}
 use Rattle.mq_shared.specs.Seat.{SeatState, counted_by}
 use Rattle.mq_system.specs.Closed.{AreDistinct, IsEnd, entries_in}
 use Rattle.mq.specs.declared.ended.Ended.{Ended}
+
+-- a program left each of so many slots closed, and no more pages than there are
+pub record IsEnded {A : Type 0} (slots last_seq height : ℕ) (ended : Ended A) : Type 0 where
+  pub slots_each : length ended.slots.items ≡ slots
+  pub closed : All (IsClosed last_seq) ended.slots.items
+  pub free : ended.free_pages ≤ 2 ^ height
 
 -- how many pages are free once all that waits is home
 abbrev pub free_at_end : State → ℕ

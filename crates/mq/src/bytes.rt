@@ -1,8 +1,8 @@
-ghost use Rattle.std.specs.Prelude.{◌≡◌, ◌+◌, ◌<◌, ◌≤◌, ◌⊎◌, ◌++◌, Ok, IfOk, IfErr, OnErr, length};
+ghost use Rattle.std.specs.Prelude.{◌≡◌, ◌+◌, ◌<◌, ◌≤◌, ◌++◌, length};
 ghost use Rattle.std.specs.Prelude.{vec_len, vec_capacity};
-ghost use Rattle.mq_one_thread.specs.Look.{refused_or_memory};
-ghost use Rattle.mq_one_thread.specs.declared.errno.Errno.TheVariants.{ENOMEM};
-ghost use Rattle.mq.specs.Bytes.{MayLackMemory, receives_bytes, sends_bytes, with_text};
+ghost use Rattle.mq_one_thread.specs.Look.{refused_at};
+ghost use Rattle.mq.specs.Bytes.{AnswersBytes, MayLackMemory, receives_bytes};
+ghost use Rattle.mq.specs.Bytes.{sends_bytes, with_text};
 
 use mq_message::Text;
 use mq_one_thread::{Delivered, Errno, OneThread, SendRefused};
@@ -23,12 +23,10 @@ pub fn send_bytes<L: Ledger>(
     bytes: &[u8],
     moment: u64,
 ) -> Result<u64, Errno>
-    ensures ok { IfOk result (λ entry.
-        sends_bytes queues.old seat id mtype tag bytes.now moment ≡ Ok (entry, queues.new)) }
-    ensures refused { IfErr result (λ errno. (errno ≡ (refused_or_memory queues.old id
-        (sends_bytes queues.old seat id mtype tag bytes.now moment)).errno)
-        ⊎ ((errno ≡ ENOMEM) × MayLackMemory queues.old bytes.now)) }
-    ensures unchanged { OnErr result (queues.new ≡ queues.old) }
+    ensures answer { AnswersBytes result (λ entry. entry)
+        (sends_bytes queues.old seat id mtype tag bytes.now moment)
+        (refused_at queues.old id Errno.ENOMEM) (MayLackMemory queues.old bytes.now)
+        queues.old queues.new }
 {
     let text = match queues.draft_of(bytes) {
         Ok(text) => text,
@@ -57,13 +55,9 @@ pub fn receive_bytes<L: Ledger>(
     noerror: bool,
     moment: u64,
 ) -> Result<Delivered<Vec<u8>>, Errno>
-    ensures ok { IfOk result (λ d.
-        receives_bytes queues.old seat id size msgtyp except noerror moment
-        ≡ Ok (with_text d d.text.items, queues.new)) }
-    ensures refused { IfErr result (λ errno. ((errno ≡ ENOMEM) × (0 < size))
-        ⊎ (errno ≡ (refused_or_memory queues.old id
-        (receives_bytes queues.old seat id size msgtyp except noerror moment)).errno)) }
-    ensures unchanged { OnErr result (queues.new ≡ queues.old) }
+    ensures answer { AnswersBytes result (λ d. with_text d d.text.items)
+        (receives_bytes queues.old seat id size msgtyp except noerror moment)
+        (refused_at queues.old id Errno.ENOMEM) (0 < size) queues.old queues.new }
 {
     let Ok(mut bytes) = Vec::with_capacity(alloc, size as usize) else {
         return Err(Errno::ENOMEM);

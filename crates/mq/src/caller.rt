@@ -1,18 +1,14 @@
-ghost use Rattle.std.specs.Prelude.{◌≡◌, ◌⊎◌, ◌||◌, ◌+◌, ◌<◌, ◌≤◌, false, length, slice_index, take};
-ghost use Rattle.std.specs.Prelude.{IfOk, IfErr, OnOk, MatchResult};
-ghost use Rattle.mq_queue.specs.Queue.{rest_of};
-ghost use Rattle.mq_queue.specs.Row.{last_log};
-ghost use Rattle.mq_queue.specs.declared.event.Event.TheVariants.{Removed, Sent};
+ghost use Rattle.std.specs.Prelude.{◌≡◌, ◌||◌, ◌<◌, false, length, slice_index, MatchResult};
 ghost use Rattle.mq_select.specs.Selection.{selection_of};
 ghost use Rattle.mq_table.specs.Cut.{IsCutOf, shown};
 ghost use Rattle.mq_table.specs.Ids.{seq_of, slot_of};
 ghost use Rattle.mq_one_thread.specs.declared.errno.Errno.TheVariants.{ENOMEM};
-ghost use Rattle.mq_shared.specs.Refusals.{MayReceive, MayRemove, MaySend, never_sent, out_of_slots};
-ghost use Rattle.mq_shared.specs.Seat.{IsCounted, IsLater, IsSame, front_of};
-ghost use Rattle.mq_shared.specs.Seen.{IsDone, IsReceipt, receive_verdict, remove_verdict, send_verdict};
-ghost use Rattle.mq_shared.specs.Shown.{IsRemoval};
-ghost use Rattle.mq_system.specs.Get.{IsNotGot, MayRefuse};
-ghost use Rattle.mq.specs.Caller.{creating, HasNoRoom, IsGotId, IsNotDrafted, IsNotDraftedWithin, IsRefusal, MayCount, MeetsCut, with_bytes};
+ghost use Rattle.mq_shared.specs.Outcome.{IsLook, IsRefusal, IsRemoved, IsSent};
+ghost use Rattle.mq_shared.specs.Refusals.{MayRemove, MaySend, never_sent, out_of_slots};
+ghost use Rattle.mq_shared.specs.Seat.{front_of};
+ghost use Rattle.mq_shared.specs.Seen.{remove_verdict, send_verdict};
+ghost use Rattle.mq_system.specs.Get.{IsNotGot};
+ghost use Rattle.mq.specs.Caller.{creating, IsAsked, IsGotId, IsNotDrafted, IsNotDraftedWithin, IsNotReceivedInto, IsNotSentFrom, IsReceivedInto, IsTurnedBack};
 
 use crate::bytes::copy_out;
 use mq_one_thread::{Delivered, Errno, GetFlags, Removal, SendRefused};
@@ -65,16 +61,10 @@ impl<'a, N: Names, R: Wait> Caller<'a, N, R> {
 
     /// The queue with this key, which is made where it is not there (msgget(2) with IPC_CREAT).
     pub fn queue<P: Pledge>(&mut self, system: &System<P, N>, key: i32) -> Result<Id, Errno>
-        ensures within { IfOk result (λ id. out_of_slots N.slots id ≡ false) }
-        ensures refused { IfErr result (MayRefuse key creating) }
-        ensures counted { MatchResult result (MayCount self.old.seat.now self.new.seat.now)
-            (λ _. IsSame self.old.seat.now self.new.seat.now) }
+        ensures answer { MatchResult result
+            (IsGotId N.slots N.last_seq key self.old.moment self.old.seat.now self.new.seat.now)
+            (IsNotGot N.slots N.last_seq key creating self.old.seat.now self.new.seat.now) }
         ensures moment { self.new.moment ≡ self.old.moment }
-        ensures later { IsLater self.old.seat.now self.new.seat.now }
-        ensures got { IfOk result (IsGotId N.slots N.last_seq key self.old.moment
-            self.old.seat.now self.new.seat.now) }
-        ensures not_got { IfErr result
-            (IsNotGot N.slots N.last_seq key self.old.seat.now self.new.seat.now) }
     {
         let flags = GetFlags {
             create: true,
@@ -88,22 +78,11 @@ impl<'a, N: Names, R: Wait> Caller<'a, N, R> {
 
     /// Removes the queue (msgctl(2), IPC_RMID). Who waits in it answers EIDRM.
     pub fn remove<P: Pledge>(&mut self, system: &System<P, N>, id: Id) -> Result<Removal, Errno>
-        ensures ok { OnOk result (out_of_slots N.slots id ≡ false) }
-        ensures lawful { IfOk result (IsRemoval N.last_seq) }
-        ensures refused { IfErr result MayRemove }
-        ensures counted { MatchResult result
-            (λ _. IsCounted self.old.seat.now self.new.seat.now (slot_of id))
-            (λ _. IsSame self.old.seat.now self.new.seat.now) }
+        ensures answer { MatchResult result
+            (IsRemoved N.slots N.last_seq id self.old.moment self.old.seat.now self.new.seat.now)
+            (IsTurnedBack IsAsked (out_of_slots N.slots id) MayRemove (slot_of id)
+            (remove_verdict (seq_of id)) self.old.seat.now self.new.seat.now) }
         ensures moment { self.new.moment ≡ self.old.moment }
-        ensures later { IsLater self.old.seat.now self.new.seat.now }
-        ensures done { IfOk result (λ r. IsDone self.old.seat.now self.new.seat.now (slot_of id)
-            (remove_verdict (seq_of id)) r.entry
-            (Removed self.old.seat.now.number self.old.moment)) }
-        ensures log { IfOk result (λ r. r.log
-            ≡ rest_of r.log.base.places
-            (last_log (take (r.entry + 1) (front_of self.new.seat.now (slot_of id))))) }
-        ensures decided { IfErr result (IsRefusal (out_of_slots N.slots id) MayRemove
-            self.old.seat.now self.new.seat.now (slot_of id) (remove_verdict (seq_of id))) }
     {
         match system.rmid(self.rt, self.seat, id, self.moment) {
             Ok(removal) => Ok(removal),
@@ -116,12 +95,11 @@ impl<'a, N: Names, R: Wait> Caller<'a, N, R> {
     /// stay, and entries count on. `close` tells only what is kept then. ENOMEM alone.
     pub fn cut_log<P: Pledge>(&mut self, system: &System<P, N>, slot: u8) -> Result<Cut, Errno>
         requires within { slot < N.slots }
-        ensures cut { IfOk result (λ cut.
-            IsCutOf (front_of self.new.seat.now slot) (shown cut)) }
-        ensures refused { IfErr result (λ errno. errno ≡ ENOMEM) }
-        ensures same { IsSame self.old.seat.now self.new.seat.now }
+        ensures answer { MatchResult result
+            (λ cut. IsCutOf (front_of self.new.seat.now slot) (shown cut))
+            (λ errno. errno ≡ ENOMEM) }
+        ensures look { IsLook self.old.seat.now self.new.seat.now }
         ensures moment { self.new.moment ≡ self.old.moment }
-        ensures later { IsLater self.old.seat.now self.new.seat.now }
     {
         match system.cut_log(self.rt, self.seat, slot) {
             Ok(cut) => Ok(cut),
@@ -139,21 +117,12 @@ impl<'a, N: Names, R: Wait> Caller<'a, N, R> {
         bytes: &[u8],
     ) -> Result<u64, Errno>
         requires pledge { P.kept self.old.seat.now.number tag mtype bytes.now }
-        ensures ok { OnOk result (never_sent N.slots id mtype ≡ false) }
-        ensures refused { IfErr result (MaySend false) }
-        ensures counted { MatchResult result
-            (λ _. IsCounted self.old.seat.now self.new.seat.now (slot_of id))
-            (λ _. IsSame self.old.seat.now self.new.seat.now) }
+        ensures answer { MatchResult result
+            (IsSent N.slots id mtype tag (length bytes.now) self.old.moment
+            self.old.seat.now self.new.seat.now)
+            (IsNotSentFrom (IsNotDrafted (length bytes.now) self.old.seat.now self.new.seat.now) N.slots
+            id mtype (length bytes.now) false self.old.seat.now self.new.seat.now) }
         ensures moment { self.new.moment ≡ self.old.moment }
-        ensures later { IsLater self.old.seat.now self.new.seat.now }
-        ensures done { IfOk result (λ entry. IsDone self.old.seat.now self.new.seat.now (slot_of id)
-            (send_verdict (seq_of id) mtype (length bytes.now)) entry
-            (Sent self.old.seat.now.number self.old.moment tag mtype (length bytes.now))) }
-        ensures decided { IfErr result (λ errno. IsNotDrafted (length bytes.now)
-            self.old.seat.now self.new.seat.now errno
-            ⊎ IsRefusal (never_sent N.slots id mtype) (MaySend false)
-            self.old.seat.now self.new.seat.now (slot_of id)
-            (send_verdict (seq_of id) mtype (length bytes.now)) errno) }
     {
         self.send_with(system, id, mtype, tag, bytes, SendFlags { nowait: false })
     }
@@ -170,21 +139,12 @@ impl<'a, N: Names, R: Wait> Caller<'a, N, R> {
         flags: SendFlags,
     ) -> Result<u64, Errno>
         requires pledge { P.kept self.old.seat.now.number tag mtype bytes.now }
-        ensures ok { OnOk result (never_sent N.slots id mtype ≡ false) }
-        ensures refused { IfErr result (MaySend flags.nowait) }
-        ensures counted { MatchResult result
-            (λ _. IsCounted self.old.seat.now self.new.seat.now (slot_of id))
-            (λ _. IsSame self.old.seat.now self.new.seat.now) }
+        ensures answer { MatchResult result
+            (IsSent N.slots id mtype tag (length bytes.now) self.old.moment
+            self.old.seat.now self.new.seat.now)
+            (IsNotSentFrom (IsNotDrafted (length bytes.now) self.old.seat.now self.new.seat.now) N.slots
+            id mtype (length bytes.now) flags.nowait self.old.seat.now self.new.seat.now) }
         ensures moment { self.new.moment ≡ self.old.moment }
-        ensures later { IsLater self.old.seat.now self.new.seat.now }
-        ensures done { IfOk result (λ entry. IsDone self.old.seat.now self.new.seat.now (slot_of id)
-            (send_verdict (seq_of id) mtype (length bytes.now)) entry
-            (Sent self.old.seat.now.number self.old.moment tag mtype (length bytes.now))) }
-        ensures decided { IfErr result (λ errno. IsNotDrafted (length bytes.now)
-            self.old.seat.now self.new.seat.now errno
-            ⊎ IsRefusal (never_sent N.slots id mtype) (MaySend flags.nowait)
-            self.old.seat.now self.new.seat.now (slot_of id)
-            (send_verdict (seq_of id) mtype (length bytes.now)) errno) }
     {
         match system.draft_by(self.rt, self.seat, bytes) {
             Ok(text) => self.send_text(system, id, mtype, tag, text, flags, &mut Forever),
@@ -204,21 +164,13 @@ impl<'a, N: Names, R: Wait> Caller<'a, N, R> {
         patience: &mut T,
     ) -> Result<u64, Errno>
         requires pledge { P.kept self.old.seat.now.number tag mtype bytes.now }
-        ensures ok { OnOk result (never_sent N.slots id mtype ≡ false) }
-        ensures refused { IfErr result (MaySend T.ends) }
-        ensures counted { MatchResult result
-            (λ _. IsCounted self.old.seat.now self.new.seat.now (slot_of id))
-            (λ _. IsSame self.old.seat.now self.new.seat.now) }
+        ensures answer { MatchResult result
+            (IsSent N.slots id mtype tag (length bytes.now) self.old.moment
+            self.old.seat.now self.new.seat.now)
+            (IsNotSentFrom (IsNotDraftedWithin T.ends N.height (length bytes.now)
+            self.old.seat.now self.new.seat.now) N.slots id mtype (length bytes.now) T.ends
+            self.old.seat.now self.new.seat.now) }
         ensures moment { self.new.moment ≡ self.old.moment }
-        ensures later { IsLater self.old.seat.now self.new.seat.now }
-        ensures done { IfOk result (λ entry. IsDone self.old.seat.now self.new.seat.now (slot_of id)
-            (send_verdict (seq_of id) mtype (length bytes.now)) entry
-            (Sent self.old.seat.now.number self.old.moment tag mtype (length bytes.now))) }
-        ensures decided { IfErr result (λ errno. IsNotDraftedWithin T.ends N.height
-            (length bytes.now) self.old.seat.now self.new.seat.now errno
-            ⊎ IsRefusal (never_sent N.slots id mtype) (MaySend T.ends)
-            self.old.seat.now self.new.seat.now (slot_of id)
-            (send_verdict (seq_of id) mtype (length bytes.now)) errno) }
     {
         let flags = SendFlags { nowait: false };
         match system.draft_by_within(self.rt, self.seat, bytes, patience) {
@@ -239,19 +191,13 @@ impl<'a, N: Names, R: Wait> Caller<'a, N, R> {
         patience: &mut T,
     ) -> Result<u64, Errno>
         requires pledge { P.kept self.old.seat.now.number tag mtype text.bytes }
-        ensures ok { OnOk result (never_sent N.slots id mtype ≡ false) }
-        ensures counted { MatchResult result
-            (λ _. IsCounted self.old.seat.now self.new.seat.now (slot_of id))
-            (λ _. IsSame self.old.seat.now self.new.seat.now) }
+        ensures answer { MatchResult result
+            (IsSent N.slots id mtype tag (length text.bytes) self.old.moment
+            self.old.seat.now self.new.seat.now)
+            (IsRefusal (never_sent N.slots id mtype) (MaySend (T.ends || flags.nowait)) (slot_of id)
+            (send_verdict (seq_of id) mtype (length text.bytes))
+            self.old.seat.now self.new.seat.now) }
         ensures moment { self.new.moment ≡ self.old.moment }
-        ensures later { IsLater self.old.seat.now self.new.seat.now }
-        ensures done { IfOk result (λ entry. IsDone self.old.seat.now self.new.seat.now (slot_of id)
-            (send_verdict (seq_of id) mtype (length text.bytes)) entry
-            (Sent self.old.seat.now.number self.old.moment tag mtype (length text.bytes))) }
-        ensures decided { IfErr result (IsRefusal (never_sent N.slots id mtype)
-            (MaySend (T.ends || flags.nowait))
-            self.old.seat.now self.new.seat.now (slot_of id)
-            (send_verdict (seq_of id) mtype (length text.bytes))) }
     {
         let sent = system.msgsnd_within(
             self.rt,
@@ -284,23 +230,12 @@ impl<'a, N: Names, R: Wait> Caller<'a, N, R> {
         size: u64,
         msgtyp: i64,
     ) -> Result<Delivered<Vec<u8>>, Errno>
-        ensures ok { OnOk result (out_of_slots N.slots id ≡ false) }
-        ensures fits { IfOk result (λ d. length d.text.items ≤ size) }
-        ensures pledge { IfOk result (λ d. P.kept d.sender d.tag d.mtype d.text.items) }
-        ensures refused { IfErr result (MayReceive false false) }
-        ensures counted { MatchResult result
-            (λ _. IsCounted self.old.seat.now self.new.seat.now (slot_of id))
-            (λ _. IsSame self.old.seat.now self.new.seat.now) }
+        ensures answer { MatchResult result
+            (λ d. IsReceivedInto P.kept N.slots id size (selection_of msgtyp false) false
+            self.old.moment self.old.seat.now self.new.seat.now d d.text.items)
+            (IsNotReceivedInto N.slots id size (selection_of msgtyp false) false
+            false self.old.seat.now self.new.seat.now) }
         ensures moment { self.new.moment ≡ self.old.moment }
-        ensures later { IsLater self.old.seat.now self.new.seat.now }
-        ensures done { IfOk result (λ d. IsReceipt self.old.seat.now self.new.seat.now (slot_of id)
-            (seq_of id) size (selection_of msgtyp false) false self.old.moment
-            (with_bytes d d.text.items)) }
-        ensures decided { IfErr result (λ errno. HasNoRoom size
-            self.old.seat.now self.new.seat.now errno
-            ⊎ IsRefusal (out_of_slots N.slots id) (MayReceive false false)
-            self.old.seat.now self.new.seat.now (slot_of id)
-            (receive_verdict (seq_of id) size (selection_of msgtyp false) false) errno) }
     {
         let flags = RecvFlags {
             nowait: false,
@@ -320,26 +255,12 @@ impl<'a, N: Names, R: Wait> Caller<'a, N, R> {
         msgtyp: i64,
         flags: RecvFlags,
     ) -> Result<Delivered<Vec<u8>>, Errno>
-        ensures ok { OnOk result (out_of_slots N.slots id ≡ false) }
-        ensures fits { IfOk result (λ d. length d.text.items ≤ size) }
-        ensures pledge { IfOk result (λ d.
-            flags.noerror ≡ false → P.kept d.sender d.tag d.mtype d.text.items) }
-        ensures cut { IfOk result (λ d. MeetsCut P.kept size d d.text.items) }
-        ensures refused { IfErr result (MayReceive flags.nowait flags.noerror) }
-        ensures counted { MatchResult result
-            (λ _. IsCounted self.old.seat.now self.new.seat.now (slot_of id))
-            (λ _. IsSame self.old.seat.now self.new.seat.now) }
+        ensures answer { MatchResult result
+            (λ d. IsReceivedInto P.kept N.slots id size (selection_of msgtyp flags.except) flags.noerror
+            self.old.moment self.old.seat.now self.new.seat.now d d.text.items)
+            (IsNotReceivedInto N.slots id size (selection_of msgtyp flags.except) flags.noerror
+            flags.nowait self.old.seat.now self.new.seat.now) }
         ensures moment { self.new.moment ≡ self.old.moment }
-        ensures later { IsLater self.old.seat.now self.new.seat.now }
-        ensures done { IfOk result (λ d. IsReceipt self.old.seat.now self.new.seat.now (slot_of id)
-            (seq_of id) size (selection_of msgtyp flags.except) flags.noerror self.old.moment
-            (with_bytes d d.text.items)) }
-        ensures decided { IfErr result (λ errno. HasNoRoom size
-            self.old.seat.now self.new.seat.now errno
-            ⊎ IsRefusal (out_of_slots N.slots id) (MayReceive flags.nowait flags.noerror)
-            self.old.seat.now self.new.seat.now (slot_of id)
-            (receive_verdict (seq_of id) size (selection_of msgtyp flags.except) flags.noerror)
-            errno) }
     {
         self.receive_within(system, id, size, msgtyp, flags, &mut Forever)
     }
@@ -355,27 +276,12 @@ impl<'a, N: Names, R: Wait> Caller<'a, N, R> {
         flags: RecvFlags,
         patience: &mut T,
     ) -> Result<Delivered<Vec<u8>>, Errno>
-        ensures ok { OnOk result (out_of_slots N.slots id ≡ false) }
-        ensures fits { IfOk result (λ d. length d.text.items ≤ size) }
-        ensures pledge { IfOk result (λ d.
-            flags.noerror ≡ false → P.kept d.sender d.tag d.mtype d.text.items) }
-        ensures cut { IfOk result (λ d. MeetsCut P.kept size d d.text.items) }
-        ensures refused { IfErr result (MayReceive (T.ends || flags.nowait) flags.noerror) }
-        ensures counted { MatchResult result
-            (λ _. IsCounted self.old.seat.now self.new.seat.now (slot_of id))
-            (λ _. IsSame self.old.seat.now self.new.seat.now) }
+        ensures answer { MatchResult result
+            (λ d. IsReceivedInto P.kept N.slots id size (selection_of msgtyp flags.except) flags.noerror
+            self.old.moment self.old.seat.now self.new.seat.now d d.text.items)
+            (IsNotReceivedInto N.slots id size (selection_of msgtyp flags.except) flags.noerror
+            (T.ends || flags.nowait) self.old.seat.now self.new.seat.now) }
         ensures moment { self.new.moment ≡ self.old.moment }
-        ensures later { IsLater self.old.seat.now self.new.seat.now }
-        ensures done { IfOk result (λ d. IsReceipt self.old.seat.now self.new.seat.now (slot_of id)
-            (seq_of id) size (selection_of msgtyp flags.except) flags.noerror self.old.moment
-            (with_bytes d d.text.items)) }
-        ensures decided { IfErr result (λ errno. HasNoRoom size
-            self.old.seat.now self.new.seat.now errno
-            ⊎ IsRefusal (out_of_slots N.slots id)
-            (MayReceive (T.ends || flags.nowait) flags.noerror)
-            self.old.seat.now self.new.seat.now (slot_of id)
-            (receive_verdict (seq_of id) size (selection_of msgtyp flags.except) flags.noerror)
-            errno) }
     {
         let Ok(mut bytes) = Vec::with_capacity(self.alloc, size as usize) else {
             return Err(Errno::ENOMEM);

@@ -1,11 +1,10 @@
-ghost use Rattle.std.specs.Prelude.{◌≡◌, ◌↔◌, ◌^◌, ◌≤◌, ℕ, List, true, false, length, All, IfOk, IsErrOf};
-ghost use Rattle.mq_one_thread.specs.Closed.{IsClosed};
+ghost use Rattle.std.specs.Prelude.{◌≡◌, ◌↔◌, ◌≤◌, ℕ, List, true, false, length, IfOk, IsErrOf};
 ghost use Rattle.mq_one_thread.specs.Limits.{keeps_limits};
 ghost use Rattle.mq_one_thread.specs.declared.config.Config.{Config as Sizes};
 ghost use Rattle.mq_shared.specs.Seat.{SeatState, AreNumbered};
 ghost use Rattle.mq_shared.specs.Sizes.{AreNames};
 ghost use Rattle.mq_system.specs.Started.{AreFresh};
-ghost use Rattle.mq.specs.Ended.{IsAfterAll};
+ghost use Rattle.mq.specs.Ended.{IsAfterAll, IsEnded};
 
 use crate::Ended;
 use mq_arena::LEDGER_PARTS;
@@ -54,9 +53,7 @@ pub fn with_system<P: Pledge, Q: SystemProgram<P>, R: Wait>(
 ) -> Result<Ended<Q::Answer>, SysError>
     requires before { Q.before program config }
     ensures after { IfOk result (IsAfterAll Q.after program config) }
-    ensures slots { IfOk result (λ e. length e.slots.items ≡ config.slots) }
-    ensures closed { IfOk result (λ e. All (IsClosed config.last_seq) e.slots.items) }
-    ensures free { IfOk result (λ e. e.free_pages ≤ 2 ^ config.height) }
+    ensures ended { IfOk result (IsEnded config.slots config.last_seq config.height) }
     ensures err { IsErrOf result SysError.Config ↔ (keeps_limits config ≡ false) }
 {
     let blanks = match Blanks::of(alloc, config) {
@@ -78,9 +75,7 @@ fn run_system<P: Pledge, N: Names, Q: SystemProgram<P>, R: Wait>(
     requires enough { LEDGER_PARTS ≤ blanks.pages.parts }
     requires before { Q.before program config }
     ensures after { IfOk result (IsAfterAll Q.after program config) }
-    ensures slots { IfOk result (λ e. length e.slots.items ≡ N.slots) }
-    ensures closed { IfOk result (λ e. All (IsClosed N.last_seq) e.slots.items) }
-    ensures free { IfOk result (λ e. e.free_pages ≤ 2 ^ N.height) }
+    ensures ended { IfOk result (IsEnded N.slots N.last_seq N.height) }
     ensures err { IsErrOf result SysError.Config ↔ (keeps_limits config ≡ false) }
 {
     let (system, mut seats) = match System::<P, N, Copies<N>>::new(alloc, rt, config, blanks) {

@@ -1,7 +1,7 @@
-ghost use Rattle.std.specs.Prelude.{◌≡◌, ◌↔◌, ◌^◌, ◌<◌, ◌≤◌, true, false, length, All, IfOk};
+ghost use Rattle.std.specs.Prelude.{◌≡◌, ◌↔◌, ◌<◌, true, false, length, IfOk};
 ghost use Rattle.std.specs.Prelude.{IsErrOf};
-ghost use Rattle.mq_one_thread.specs.Closed.{IsClosed};
 ghost use Rattle.mq_one_thread.specs.Limits.{keeps_limits};
+ghost use Rattle.mq.specs.Ended.{IsEnded};
 ghost use Rattle.mq.specs.Workers.{AreOfTwo};
 
 use crate::either::{Either, apart, both};
@@ -26,9 +26,7 @@ pub fn with_two<
 ) -> Result<Ended<(A::Answer, B::Answer)>, WorkersError>
     ensures after { IfOk result (λ e.
         AreOfTwo A.after B.after config.last_seq one other e.answer e.slots.items) }
-    ensures slots { IfOk result (λ e. length e.slots.items ≡ config.slots) }
-    ensures closed { IfOk result (λ e. All (IsClosed config.last_seq) e.slots.items) }
-    ensures free { IfOk result (λ e. e.free_pages ≤ 2 ^ config.height) }
+    ensures ended { IfOk result (IsEnded config.slots config.last_seq config.height) }
     ensures config { IsErrOf result WorkersError.Config ↔ (keeps_limits config ≡ false) }
     ensures seats { IsErrOf result WorkersError.TooManyWorkers
         ↔ ((keeps_limits config ≡ true) × (config.seats < 2)) }

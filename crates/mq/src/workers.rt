@@ -1,8 +1,8 @@
-ghost use Rattle.std.specs.Prelude.{◌≡◌, ◌↔◌, ◌^◌, ◌≤◌, ◌<◌, ◌⊎◌, true, false, length, All, IfOk, IfErr};
+ghost use Rattle.std.specs.Prelude.{◌≡◌, ◌↔◌, ◌≤◌, ◌<◌, ◌⊎◌, true, false, length, IfOk, IfErr};
 ghost use Rattle.std.specs.Prelude.{IsErrOf, vec_len};
-ghost use Rattle.mq_one_thread.specs.Closed.{IsClosed};
 ghost use Rattle.mq_one_thread.specs.Limits.{keeps_limits};
 ghost use Rattle.mq_shared.specs.Sizes.{AreNames};
+ghost use Rattle.mq.specs.Ended.{IsEnded};
 ghost use Rattle.mq.specs.Workers.{AreAfter, AreOf};
 ghost use Rattle.mq.specs.declared.workers_error.WorkersError.TheVariants.{Memory, Thread};
 
@@ -29,9 +29,7 @@ pub fn with_workers<P: Pledge + Send + Sync, W: Worker<P> + Send, R: Threads + W
 ) -> Result<Ended<Vec<W::Answer>>, WorkersError>
     ensures after { IfOk result (λ e.
         AreOf W.after config.last_seq workers.items e.answer.items e.slots.items) }
-    ensures slots { IfOk result (λ e. length e.slots.items ≡ config.slots) }
-    ensures closed { IfOk result (λ e. All (IsClosed config.last_seq) e.slots.items) }
-    ensures free { IfOk result (λ e. e.free_pages ≤ 2 ^ config.height) }
+    ensures ended { IfOk result (IsEnded config.slots config.last_seq config.height) }
     ensures config { IsErrOf result WorkersError.Config ↔ (keeps_limits config ≡ false) }
     ensures seats { IsErrOf result WorkersError.TooManyWorkers
         ↔ ((keeps_limits config ≡ true) × (config.seats < length workers.items)) }
@@ -75,9 +73,7 @@ fn run_workers<
     requires seats { 0 < length workers.items → config.seats ≡ length workers.items }
     ensures after { IfOk result (λ e.
         AreOf W.after N.last_seq workers.items e.answer.items e.slots.items) }
-    ensures slots { IfOk result (λ e. length e.slots.items ≡ N.slots) }
-    ensures closed { IfOk result (λ e. All (IsClosed N.last_seq) e.slots.items) }
-    ensures free { IfOk result (λ e. e.free_pages ≤ 2 ^ N.height) }
+    ensures ended { IfOk result (IsEnded N.slots N.last_seq N.height) }
     ensures err { IfErr result (λ e. (e ≡ Memory) ⊎ (e ≡ Thread)) }
 {
     let Ok((system, mut seats)) = System::<P, N, Copies<N>>::new(alloc, rt, config, blanks) else {

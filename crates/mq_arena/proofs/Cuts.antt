@@ -1,10 +1,10 @@
 -- The parts that pages are cut into.
-use Rattle.std.proofs.Common.{◌≡◌, nat_eq, false, List, ℕ, ◌+◌, ◌-◌, ◌*◌, ◌<◌, suc, zero, [], ◌∷◌, ◌++◌, length, take, refl, ap, sym, ◌∙◌, inl, inr, arith}
+use Rattle.std.proofs.Common.{◌≡◌, nat_eq, false, List, ℕ, ◌+◌, ◌-◌, ◌*◌, ◌<◌, [], ◌∷◌, ◌++◌, length, take, refl, ap, sym, ◌∙◌, inl, inr, arith}
 use Rattle.std.proofs.lemmas.Bool.{cases_lt}
 use Rattle.std.proofs.lemmas.List.{take_all, take-append-le, append-nil}
 use Rattle.std.proofs.lemmas.List.Elements.{All-head, All-tail}
 use Rattle.std.proofs.lemmas.Bool.Decides.{nat_tests}
-use Rattle.std.proofs.Math.Seq.{take-append-add}
+use Rattle.std.proofs.Math.Seq.{take-append-add, take-nil}
 use Rattle.std.specs.List.{concat}
 use Rattle.mq_arena.specs.Bytes.{AreWhole, cut_parts}
 use Rattle.mq_arena.specs.declared.page.TheConstants.{PAGE_LEN}
@@ -13,10 +13,6 @@ use Rattle.mq_arena.specs.declared.page.TheConstants.{PAGE_LEN}
 pub cut_none : (pages : List (List ℕ)) → cut_parts 0 pages ≡ []
 cut_none [] = refl
 cut_none (page ∷ pages) = refl
-
-take_none : (n : ℕ) → take n (let none : List ℕ = [] in none) ≡ []
-take_none zero = refl
-take_none (suc n) = refl
 
 -- the first bytes of two lists
 take_both : (n : ℕ) (xs ys : List ℕ) → take n (xs ++ ys) ≡ take n xs ++ take (n - length xs) ys
@@ -39,7 +35,7 @@ cut_some len page pages some =
 -- the parts are the first bytes of the pages
 pub concat_cut_parts : (len : ℕ) (pages : List (List ℕ)) → AreWhole pages
     → concat (cut_parts len pages) ≡ take len (concat pages)
-concat_cut_parts len [] whole = sym (take_none len)
+concat_cut_parts len [] whole = sym (take-nil len)
 concat_cut_parts len (page ∷ pages) whole =
     let long : length page ≡ PAGE_LEN = All-head (λ p. length p ≡ PAGE_LEN) page pages whole in
     let rest : AreWhole pages = All-tail (λ p. length p ≡ PAGE_LEN) page pages whole in

@@ -3,6 +3,5 @@ pub mod Filling
 pub mod Kept
 pub mod Magazines
 pub mod Overwriting
-pub mod Places
 pub mod Shells
 pub mod Stock

@@ -2,6 +2,7 @@
 use Rattle.std.specs.Prelude.{ℕ, List, Option, sum_by}
 use Rattle.std.specs.Option.{option_map}
 use Rattle.mq_tree.specs.Blocks.{Block, block, page_count}
+pub use Rattle.mq_tree.specs.LentSet.{with_lent}
 use Rattle.mq_tree.specs.LentSet.{Lending, joined, left}
 use Rattle.mq_tree.specs.Fit.{fit}
 use Rattle.mq_arena.specs.OwnedBlock.{OwnedBlock}
@@ -9,10 +10,6 @@ use Rattle.mq_arena.specs.OwnedBlock.{OwnedBlock}
 -- where a block lies
 abbrev pub place : OwnedBlock → Block
 place b = block b.start b.order
-
--- the arena with these blocks lent
-abbrev pub with_lent : Lending → List Block → Lending
-with_lent arena lent = record { height = arena.height; lent = lent }
 
 -- the block of that order that is taken next, and the arena without it; `None` where none fits
 abbrev pub lend : Lending → ℕ → Option (Block × Lending)

@@ -1,43 +1,27 @@
 -- The main part of a threads script: what its calls reply at their seat, and what it writes.
-use Rattle.std.specs.Prelude.{◌≡◌, ◌≢◌, ◌≤◌, ℕ, ℤ, List, [], ◌∷◌, ◌++◌, Option, Result, Ok, Err}
+use Rattle.std.specs.Prelude.{◌≡◌, ◌≢◌, ℕ, ℤ, List, [], ◌∷◌, ◌++◌, Option, Result, Ok, Err}
 use Rattle.std.specs.List.{flat_map}
 use Rattle.std.specs.Io.KnownBytes.{Appends}
-use Rattle.mq_queue.specs.declared.event.Event.TheVariants.{Changed}
-use Rattle.mq_queue.specs.declared.limits.TheConstants.{MSGMNB}
 use Rattle.mq_table.specs.Ids.{seq_of, slot_of}
-use Rattle.mq_one_thread.specs.declared.errno.Errno.{Errno}
 use Rattle.mq_one_thread.specs.declared.errno.Errno.TheVariants.{ENOMEM}
 use Rattle.mq_one_thread.specs.declared.results.GetFlags.{GetFlags}
 use Rattle.mq_one_thread.specs.declared.results.Got.{Got}
-use Rattle.mq_system.specs.Get.{CountsGet, IsGot, IsNotGot, MayGet, MayRefuse}
+use Rattle.mq_shared.specs.Outcome.{IsRefusal, IsSet}
 use Rattle.mq_shared.specs.Refusals.{MaySet, out_of_slots}
-use Rattle.mq_shared.specs.Seat.{IsLater, IsSame, SeatState}
+use Rattle.mq_shared.specs.Seat.{SeatState}
 use Rattle.mq_shared.specs.Seen.{set_verdict}
+use Rattle.mq_system.specs.Get.{IsGot, IsNotGot}
 use Rattle.mq_cli.specs.declared.fault.RunFault.{RunFault}
 use Rattle.mq_cli.specs.declared.fault.RunFault.TheVariants.{Write, Memory}
 use Rattle.mq_cli.specs.declared.threads_script.MainCall.{MainCall}
 use Rattle.mq_cli.specs.declared.threads_script.MainCall.TheVariants.{Get, Set}
-use Rattle.mq_cli.specs.Ports.{IsChange, IsRefusal}
 use Rattle.mq_cli.specs.Serial.{AppendsPrefix}
 use Rattle.mq_cli.specs.Transcript.{Reply, given, at, refused, output}
 
 -- msgget answered this id: of a queue that it found, or of one that it made
-pub record Gives (slots last_seq : ℕ) (key : ℤ) (flags : GetFlags) (moment id : ℕ)
-    (old new : SeatState) : Type 0 where
-  pub got : Got
-  pub id_is : got.id ≡ id
-  pub may : MayGet key flags got.made
-  pub counted : CountsGet old new got
-  pub later : IsLater old new
-  pub why : IsGot slots last_seq key moment old new got
-
--- it answered none
-pub record GivesNone (slots last_seq : ℕ) (key : ℤ) (flags : GetFlags) (errno : Errno)
-    (old new : SeatState) : Type 0 where
-  pub may : MayRefuse key flags errno
-  pub same : IsSame old new
-  pub later : IsLater old new
-  pub why : IsNotGot slots last_seq key old new errno
+abbrev pub Gives : ℕ → ℕ → ℤ → GetFlags → ℕ → ℕ → SeatState → SeatState → Type 0
+Gives slots last_seq key flags moment id old new =
+    (got : Got) × (id ≡ got.id) × IsGot slots last_seq key flags moment old new got
 
 -- what a call replies at a seat that knew the one state before it and the other after it, over so
 -- many slots that each are used so often; out of memory has no line
@@ -45,13 +29,12 @@ abbrev pub IsReply : ℕ → ℕ → MainCall → Reply → SeatState → SeatSt
 IsReply slots last_seq (Get key flags moment) (given id) old new =
     Gives slots last_seq key flags moment id old new
 IsReply slots last_seq (Get key flags moment) (refused errno) old new =
-    (errno ≢ ENOMEM) × GivesNone slots last_seq key flags errno old new
+    (errno ≢ ENOMEM) × IsNotGot slots last_seq key flags old new errno
 IsReply slots last_seq (Set id qbytes moment) (at entry) old new =
-    (qbytes ≤ MSGMNB) × IsChange old new (slot_of id) (set_verdict (seq_of id) qbytes) entry
-    (Changed old.number moment qbytes)
+    IsSet slots id qbytes moment old new entry
 IsReply slots last_seq (Set id qbytes moment) (refused errno) old new =
-    (errno ≢ ENOMEM) × IsRefusal (out_of_slots slots id) (MaySet qbytes) old new (slot_of id)
-    (set_verdict (seq_of id) qbytes) errno
+    (errno ≢ ENOMEM) × IsRefusal (out_of_slots slots id) (MaySet qbytes) (slot_of id)
+    (set_verdict (seq_of id) qbytes) old new errno
 IsReply slots last_seq _ _ old new = ⊥
 
 -- the calls and their replies in order, at one seat, from what it knew first to what it knows last

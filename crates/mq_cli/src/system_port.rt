@@ -112,7 +112,7 @@ impl<'a, N: Names> Port for SystemPort<'a, N> {
         Receives N.slots old.seat.now new.seat.now id msgtyp ends moment answer };
 
     ghost removes = { λ old id moment answer new.
-        Removes N.slots old.seat.now new.seat.now id moment answer };
+        Removes N.slots N.last_seq old.seat.now new.seat.now id moment answer };
 
     fn put<R: Wait, T: Patience>(
         &mut self,

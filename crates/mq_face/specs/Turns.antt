@@ -9,6 +9,7 @@ use Rattle.mq_one_thread.specs.Calls.{msgsnd, msgrcv, rmid, set, stat}
 use Rattle.mq_one_thread.specs.Get.{msgget}
 use Rattle.mq_one_thread.specs.Look.{Answer}
 use Rattle.mq_one_thread.specs.Names.{errno_number}
+use Rattle.mq_one_thread.specs.Outcome.{Answers}
 use Rattle.mq_one_thread.specs.State.{State, with_arena}
 use Rattle.mq_one_thread.specs.Texts.{drafts, spends}
 use Rattle.mq_one_thread.specs.declared.draft_error.DraftError.{DraftError}
@@ -36,10 +37,9 @@ use Rattle.mq_face.specs.declared.refusal.Wait.TheVariants as wait
 abbrev pub Turn : Type 0 → Type 0
 Turn T = Result (T × State) Refusal
 
--- where nothing refuses a call that failed, memory did
-abbrev pub refusal_or_memory : {T : Type 0} → Turn T → Refusal
-refusal_or_memory (Ok turn) = refusal ENOMEM
-refusal_or_memory (Err r) = r
+-- a call answers and leaves so; or it is refused, and leaves what stood before
+abbrev pub AnswersTurn : {T : Type 0} → Turn T → State → State → Result T Refusal → Type 0
+AnswersTurn turn before after result = Answers turn (refusal ENOMEM) before after result
 
 -- a call of the id that a number is
 abbrev pub with_id : {T : Type 0} → Result ℕ Refusal → (ℕ → Result T Refusal) → Result T Refusal

@@ -1,7 +1,7 @@
-ghost use Rattle.std.specs.Prelude.{◌≡◌, ◌<◌, ◌≤◌, ◌+◌, Ok, IfOk, IfErr, OnErr};
+ghost use Rattle.std.specs.Prelude.{◌≡◌, ◌<◌, ◌≤◌, ◌+◌};
 ghost use Rattle.mq_table.specs.declared.limits.TheConstants.{MAX_SEQ, MAX_SLOTS};
 ghost use Rattle.mq_one_thread.specs.Calls.{stat as stat_answer};
-ghost use Rattle.mq_face.specs.Turns.{control_turn, refusal_or_memory, remove_turn, set_turn};
+ghost use Rattle.mq_face.specs.Turns.{AnswersTurn, control_turn, remove_turn, set_turn};
 ghost use Rattle.mq_face.specs.Commands.{info_reply, row_reply, show, slot_reply, stat_reply};
 
 use crate::manual::{EFAULT, SEAT};
@@ -15,9 +15,7 @@ use std::sync::ledger::Ledger;
 
 /// Does what the command says (msgctl(2)).
 pub fn control<L: Ledger>(queues: &mut OneThread<L>, call: Call) -> Result<Done, Refusal>
-    ensures ok { IfOk result (λ done. control_turn queues.old call ≡ Ok (done, queues.new)) }
-    ensures refused { IfErr result (λ r. r ≡ refusal_or_memory (control_turn queues.old call)) }
-    ensures unchanged { OnErr result (queues.new ≡ queues.old) }
+    ensures answer { AnswersTurn (control_turn queues.old call) queues.old queues.new result }
 {
     let id = id_of(call.number)?;
     match Command::of(call.flags) {
@@ -31,9 +29,7 @@ pub fn control<L: Ledger>(queues: &mut OneThread<L>, call: Call) -> Result<Done,
 }
 
 fn remove<L: Ledger>(queues: &mut OneThread<L>, call: Call, id: Id) -> Result<Done, Refusal>
-    ensures ok { IfOk result (λ done. remove_turn queues.old call id ≡ Ok (done, queues.new)) }
-    ensures refused { IfErr result (λ r. r ≡ refusal_or_memory (remove_turn queues.old call id)) }
-    ensures unchanged { OnErr result (queues.new ≡ queues.old) }
+    ensures answer { AnswersTurn (remove_turn queues.old call id) queues.old queues.new result }
 {
     match queues.rmid(SEAT, id, call.moment) {
         Ok(Removal { entry, log: _ }) => Ok(Done::changed(id.slot(), entry)),
@@ -42,9 +38,7 @@ fn remove<L: Ledger>(queues: &mut OneThread<L>, call: Call, id: Id) -> Result<Do
 }
 
 fn set<L: Ledger>(queues: &mut OneThread<L>, call: Call, id: Id) -> Result<Done, Refusal>
-    ensures ok { IfOk result (λ done. set_turn queues.old call id ≡ Ok (done, queues.new)) }
-    ensures refused { IfErr result (λ r. r ≡ refusal_or_memory (set_turn queues.old call id)) }
-    ensures unchanged { OnErr result (queues.new ≡ queues.old) }
+    ensures answer { AnswersTurn (set_turn queues.old call id) queues.old queues.new result }
 {
     if !call.buffer {
         return Err(Refusal::fault(EFAULT));

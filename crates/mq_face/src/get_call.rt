@@ -1,5 +1,5 @@
-ghost use Rattle.std.specs.Prelude.{◌≡◌, Ok, IfOk, IfErr, OnErr};
-ghost use Rattle.mq_face.specs.Turns.{get_turn, got, refusal_or_memory};
+ghost use Rattle.std.specs.Prelude.{◌≡◌};
+ghost use Rattle.mq_face.specs.Turns.{AnswersTurn, get_turn, got};
 ghost use Rattle.mq_face.specs.Flags.{get_flags};
 
 use crate::manual::{IPC_CREAT, IPC_EXCL, SEAT};
@@ -9,9 +9,7 @@ use std::sync::ledger::Ledger;
 
 /// The id of the queue with this key, or of a new queue (msgget(2)).
 pub fn get<L: Ledger>(queues: &mut OneThread<L>, call: Call) -> Result<Done, Refusal>
-    ensures ok { IfOk result (λ done. get_turn queues.old call ≡ Ok (done, queues.new)) }
-    ensures refused { IfErr result (λ r. r ≡ refusal_or_memory (get_turn queues.old call)) }
-    ensures unchanged { OnErr result (queues.new ≡ queues.old) }
+    ensures answer { AnswersTurn (get_turn queues.old call) queues.old queues.new result }
 {
     match queues.msgget(SEAT, call.number, get_flags(call), call.moment) {
         Ok(found) => Ok(got(found)),

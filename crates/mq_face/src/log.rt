@@ -1,6 +1,4 @@
-ghost use Rattle.std.specs.Prelude.{◌≡◌, IsTrue, true, false};
-ghost use Rattle.mq_one_thread.specs.Calls.{cut_log as cut_answer};
-ghost use Rattle.mq_face.specs.Logs.{is_due};
+ghost use Rattle.mq_face.specs.Logs.{IsCutWhereDue};
 
 use mq_one_thread::OneThread;
 use std::sync::ledger::Ledger;
@@ -11,9 +9,7 @@ pub const LOG_BOUND: u64 = 1024;
 /// Cuts a slot's log off where the entry is the last of as many, and answers whether it did:
 /// without memory for it the log stays, and is cut at the next.
 pub fn cut_where_due<L: Ledger>(queues: &mut OneThread<L>, slot: u8, entry: Option<u64>) -> bool
-    ensures cut { result ≡ true → queues.new ≡ (cut_answer queues.old slot).1 }
-    ensures due { result ≡ true → is_due queues.old slot entry ≡ true }
-    ensures unchanged { result ≡ false → queues.new ≡ queues.old }
+    ensures { IsCutWhereDue queues.old slot entry queues.new result }
 {
     match entry {
         Some(entry) if entry % LOG_BOUND == LOG_BOUND - 1 && slot < queues.slots() => {

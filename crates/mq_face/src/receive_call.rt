@@ -1,5 +1,5 @@
-ghost use Rattle.std.specs.Prelude.{◌≡◌, Ok, IfOk, IfErr, OnErr};
-ghost use Rattle.mq_face.specs.Turns.{receive_turn, received, refusal_or_memory};
+ghost use Rattle.std.specs.Prelude.{◌≡◌};
+ghost use Rattle.mq_face.specs.Turns.{AnswersTurn, receive_turn, received};
 ghost use Rattle.mq_face.specs.Refusals.{copy_fault, receive_fault};
 
 use crate::manual::{
@@ -17,10 +17,7 @@ pub fn receive<L: Ledger>(
     queues: &mut OneThread<L>,
     call: Call,
 ) -> Result<Received<Text<L>>, Refusal>
-    ensures ok { IfOk result (λ message.
-        receive_turn queues.old call ≡ Ok (message, queues.new)) }
-    ensures refused { IfErr result (λ r. r ≡ refusal_or_memory (receive_turn queues.old call)) }
-    ensures unchanged { OnErr result (queues.new ≡ queues.old) }
+    ensures answer { AnswersTurn (receive_turn queues.old call) queues.old queues.new result }
 {
     let id = id_of(call.number)?;
     if let Some(errno) = receive_fault(call) {

@@ -1,6 +1,6 @@
-ghost use Rattle.std.specs.Prelude.{◌≡◌, Ok, IfOk, IfErr, OnErr};
+ghost use Rattle.std.specs.Prelude.{◌≡◌};
 ghost use Rattle.mq_one_thread.specs.Calls.{stat as stat_answer};
-ghost use Rattle.mq_face.specs.Turns.{draft_turn, never_fits, refusal_or_memory};
+ghost use Rattle.mq_face.specs.Turns.{AnswersTurn, draft_turn, never_fits};
 ghost use Rattle.mq_face.specs.Turns.{send_turn, spent, without_pages};
 
 use crate::manual::{EFAULT, IPC_NOWAIT, SEAT};
@@ -15,9 +15,7 @@ use std::sync::ledger::Ledger;
 /// The text of a message that is to be sent (msgop(2), msgsnd), of as many zeros as it has bytes:
 /// the caller writes them in place, once, and sends it.
 pub fn draft<L: Ledger>(queues: &mut OneThread<L>, call: Call) -> Result<Text<L>, Refusal>
-    ensures ok { IfOk result (λ text. draft_turn queues.old call ≡ Ok (text, queues.new)) }
-    ensures refused { IfErr result (λ r. r ≡ refusal_or_memory (draft_turn queues.old call)) }
-    ensures unchanged { OnErr result (queues.new ≡ queues.old) }
+    ensures answer { AnswersTurn (draft_turn queues.old call) queues.old queues.new result }
 {
     if !call.buffer {
         return Err(Refusal::fault(EFAULT));
@@ -64,10 +62,8 @@ pub fn send<L: Ledger>(
     call: Call,
     text: Text<L>,
 ) -> Result<Done, Refusal>
-    ensures ok { IfOk result (λ done. send_turn queues.old call text ≡ Ok (done, queues.new)) }
-    ensures refused { IfErr result (λ r.
-        r ≡ refusal_or_memory (send_turn queues.old call text)) }
-    ensures spent { OnErr result (queues.new ≡ spent text queues.old) }
+    ensures answer { AnswersTurn (send_turn queues.old call text) (spent text queues.old)
+        queues.new result }
 {
     let id = match id_of(call.number) {
         Ok(id) => id,

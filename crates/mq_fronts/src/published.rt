@@ -84,6 +84,7 @@ impl<J: Naming, W, B: Body, L: Waiting<B>> PublishedSlot<J, W, B, L> {
         ensures lawful { IsSlotList MAX_SEQ self.now.slot.events }
         ensures waits { Waits B.bytes self.now.slot }
     {
+        self.slot.holds();
         self.slot.number()
     }
 

@@ -5,14 +5,16 @@ use Rattle.std.specs.List.Sorted.{IsStrictlySortedBy}
 use Rattle.std.specs.Map.{keys_of}
 use Rattle.std.specs.Option.{option_map, option_or, unwrap_or}
 use Rattle.std.specs.Ordering.{int_cmp, int_eq}
-use Rattle.std.proofs.lemmas.Bool.{eqb-true}
-use Rattle.std.proofs.lemmas.List.Elements.{filter-append}
+use Rattle.std.proofs.lemmas.Bool.{eqb-true, ne_eqb}
+use Rattle.std.proofs.lemmas.List.{append-nil}
+use Rattle.std.proofs.lemmas.List.Elements.{All-from_recursion, filter-append}
 use Rattle.std.proofs.lemmas.List.Folds.{find-append}
 use Rattle.std.proofs.lemmas.Option.{none-some, same_Some}
 use Rattle.mq_select.specs.Waiting.{message_at}
 use Rattle.mq_index.specs.Index.{front_of, merged, of_type, queue_at, queue_of, unless_empty, IsIndex}
-use Rattle.mq_index.proofs.Firsts.{found_all, found_passes}
-use Rattle.mq_index.proofs.Merging.{at_is, int_eq-here, int_eq-same, merged_is, rising_append}
+use Rattle.mq_index.proofs.Firsts.{found_all}
+use Rattle.mq_index.proofs.Merging.{at_is, int_eq-here, int_eq-same, merged_is, rising_append, weaker}
+use Rattle.mq_index.proofs.Sames.{none_found}
 
 -- an index is one of the messages of its queues, merged
 pub settled : {X : Type 0} (type_of : X → ℤ) (all : List (ℕ × X)) (queues : List (ℤ × List (ℕ × X))) (fronts : ℤ → Option ℕ) (types : ℕ → Option ℤ) (prepared : Option ℤ) → IsIndex type_of all queues fronts types prepared → (merged queues ≡ all) × IsIndex type_of (merged queues) queues fronts types prepared
@@ -20,10 +22,6 @@ settled {X} type_of all queues fronts types prepared h =
     let is = merged_is type_of queues all h.rising h.ordered h.parted in
     let P : List (ℕ × X) → Type 0 = λ ms. IsIndex type_of ms queues fronts types prepared in
     (is, subst P (sym is) h)
-
-append_none : {X : Type 0} (xs : List X) → xs ++ [] ≡ xs
-append_none [] = refl
-append_none {X} (x ∷ xs) = ap (λ (ys : List X). x ∷ ys) (append_none xs)
 
 not_empty : {X : Type 0} (xs : List X) (x : X) → xs ++ x ∷ [] ≡ [] → ⊥
 not_empty [] x e = cc
@@ -107,7 +105,7 @@ put_last {X} type_of all queues new fronts after types after_types t place m h i
       where
         by : (b : Bool) → int_eq t s ≡ b → unwrap_or (cond b (Some (queue_of queues s ++ (place, m) ∷ [])) (queue_at queues s)) [] ≡ of_type type_of all s ++ cond (int_eq (type_of m) s) ((place, m) ∷ []) []
         by true e = rw (is, e) (ap (λ (ys : List (ℕ × X)). ys ++ (place, m) ∷ []) (h.parted s))
-        by false e = rw (is, e) (h.parted s ∙ sym (append_none (of_type type_of all s)))
+        by false e = rw (is, e) (h.parted s ∙ sym (append-nil (of_type type_of all s)))
 
     none : (s : ℤ) → queue_at new s ≡ Some [] → ⊥
     none s e = by (int_eq t s) refl (sym (at s) ∙ e)
@@ -131,14 +129,7 @@ put_last {X} type_of all queues new fronts after types after_types t place m h i
     typed n = type n ∙ by (nat_eq place n) refl ∙ ap (λ (o : Option (ℕ × X)). option_map type_of (option_map (λ (x : ℕ × X). x.1) o)) (sym (find-append (λ (x : ℕ × X). x.0 == n) all ((place, m) ∷ [])))
       where
         absent : place ≡ n → find (λ (x : ℕ × X). x.0 == n) all ≡ None
-        absent same = from (find (λ (x : ℕ × X). x.0 == n) all) refl
-          where
-            from : (o : Option (ℕ × X)) → find (λ (x : ℕ × X). x.0 == n) all ≡ o → o ≡ None
-            from None e = refl
-            from (Some x) e =
-                let less = found_all (λ (x : ℕ × X). x.0 < place) (λ (x : ℕ × X). x.0 == n) all x above e in
-                let here = eqb-true _ _ (found_passes (λ (x : ℕ × X). x.0 == n) all x e) in
-                absurd (omega (arith, less, here, same))
+        absent same = none_found (λ (x : ℕ × X). x.0 == n) all (All-from_recursion (λ (x : ℕ × X). (x.0 == n) ≡ false) all (weaker (λ (x : ℕ × X). x.0 < place) (λ (x : ℕ × X). (x.0 == n) ≡ false) all (λ x less. ne_eqb x.0 n (λ here. absurd (omega (arith, less, here, same)))) above))
 
         rest : (o : Option (ℕ × X)) → option_map type_of (option_map (λ (x : ℕ × X). x.1) o) ≡ option_map type_of (option_map (λ (x : ℕ × X). x.1) (option_or o None))
         rest None = refl

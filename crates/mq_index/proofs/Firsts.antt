@@ -6,7 +6,7 @@ use Rattle.std.specs.Ordering.{int_eq}
 use Rattle.std.proofs.lemmas.Option.{none-some, same_Some}
 use Rattle.mq_index.specs.Fronts.{IsLeastAt}
 use Rattle.mq_index.specs.Index.{front_of, IsRising}
-use Rattle.mq_index.proofs.Merging.{all_filter, int_eq-same, int_eq-here}
+use Rattle.mq_index.proofs.Merging.{all_filter, each, filter_gone, filter_kept, filter_swap, int_eq-same, int_eq-here, weaker}
 
 pub found_passes : {X : Type 0} (p : X → Bool) (xs : List X) (x : X) → find p xs ≡ Some x → p x ≡ true
 found_passes p [] x h = absurd (none-some x h)
@@ -24,42 +24,14 @@ found_all {X} P q (x ∷ xs) y all h = by (q x) h (found_all P q xs y all.1)
     by true g again = let same : x ≡ y = same_Some _ _ g in rw (← same) all.0
     by false g again = again g
 
--- what a weaker test finds first, a stronger one that it passes finds first too
-pub found_too : {X : Type 0} (p q : X → Bool) (xs : List X) (x : X) → ((y : X) → q y ≡ true → p y ≡ true) → find p xs ≡ Some x → q x ≡ true → find q xs ≡ Some x
-found_too p q [] x f h g = absurd (none-some x h)
-found_too {X} p q (y ∷ ys) x f h g = by (p y) refl (q y) refl h (λ k. found_too p q ys x f k g)
-  where
-    by : (a : Bool) → p y ≡ a → (b : Bool) → q y ≡ b → cond a (Some y) (find p ys) ≡ Some x → (find p ys ≡ Some x → find q ys ≡ Some x) → cond b (Some y) (find q ys) ≡ Some x
-    by true e true k h again = h
-    by true e false k h again = let same : y ≡ x = same_Some _ _ h in let clash : false ≡ true = sym k ∙ ap q same ∙ g in cc
-    by false e true k h again = let clash : false ≡ true = sym e ∙ f y k in cc
-    by false e false k h again = again h
+-- where the first is none, there is none
+empty : {X : Type 0} (xs : List X) → slice_get xs 0 ≡ None → xs ≡ []
+empty [] e = refl
+empty (x ∷ xs) e = cc
 
-pub none_too : {X : Type 0} (p q : X → Bool) (xs : List X) → ((y : X) → q y ≡ true → p y ≡ true) → find p xs ≡ None → find q xs ≡ None
-none_too p q [] f h = refl
-none_too {X} p q (y ∷ ys) f h = by (p y) refl (q y) refl h (none_too p q ys f)
-  where
-    by : (a : Bool) → p y ≡ a → (b : Bool) → q y ≡ b → cond a (Some y) (find p ys) ≡ None → (find p ys ≡ None → find q ys ≡ None) → cond b (Some y) (find q ys) ≡ None
-    by true e b k h again = cc
-    by false e true k h again = let clash : false ≡ true = sym e ∙ f y k in cc
-    by false e false k h again = again h
-
--- and finds no earlier
-pub found_later : {X : Type 0} (p q : ℕ × X → Bool) (xs : List (ℕ × X)) (x y : ℕ × X) → IsRising xs → ((z : ℕ × X) → q z ≡ true → p z ≡ true) → find p xs ≡ Some x → find q xs ≡ Some y → x.0 ≤ y.0
-found_later p q [] x y rising f h g = absurd (none-some x h)
-found_later {X} p q (z ∷ zs) x y rising f h g = by (p z) refl (q z) refl h g (found_later p q zs x y rising.1 f)
-  where
-    by : (a : Bool) → p z ≡ a → (b : Bool) → q z ≡ b → cond a (Some z) (find p zs) ≡ Some x → cond b (Some z) (find q zs) ≡ Some y → (find p zs ≡ Some x → find q zs ≡ Some y → x.0 ≤ y.0) → x.0 ≤ y.0
-    by true e true k h g again =
-        let one : z.0 ≡ x.0 = ap (λ (m : ℕ × X). m.0) (same_Some _ _ h) in
-        let two : z.0 ≡ y.0 = ap (λ (m : ℕ × X). m.0) (same_Some _ _ g) in
-        omega (arith, one, two)
-    by true e false k h g again =
-        let one : z.0 ≡ x.0 = ap (λ (m : ℕ × X). m.0) (same_Some _ _ h) in
-        let two : z.0 < y.0 = found_all (λ (m : ℕ × X). z.0 < m.0) q zs y rising.0 g in
-        omega (arith, one, two)
-    by false e true k h g again = let clash : false ≡ true = sym e ∙ f z k in cc
-    by false e false k h g again = again h g
+head_found : {X : Type 0} (q : X → Bool) (xs : List X) (x : X) → slice_get xs 0 ≡ Some x → q x ≡ true → find q xs ≡ Some x
+head_found q [] x e g = absurd (none-some x e)
+head_found {X} q (y ∷ ys) x e g = let same : y ≡ x = same_Some _ _ e in rw (same, g) refl
 
 -- the first that passes is the first of those that pass
 pub first_is : {X : Type 0} (p : X → Bool) (xs : List X) → find p xs ≡ slice_get (filter p xs) 0
@@ -70,39 +42,45 @@ first_is {X} p (x ∷ xs) = by (p x) (first_is p xs)
     by true r = refl
     by false r = r
 
+pub find_kept : {X : Type 0} (p q : X → Bool) (xs : List X) → ((x : X) → q x ≡ true → p x ≡ true) → find q (filter p xs) ≡ find q xs
+find_kept {X} p q xs f = first_is q (filter p xs) ∙ ap (λ (ys : List X). slice_get ys 0) (filter_kept p q xs (each (λ (x : X). q x ≡ true → p x ≡ true) xs f)) ∙ sym (first_is q xs)
+
+-- what a weaker test finds first, a stronger one that it passes finds first too
+found_too : {X : Type 0} (p q : X → Bool) (xs : List X) (x : X) → ((y : X) → q y ≡ true → p y ≡ true) → find p xs ≡ Some x → q x ≡ true → find q xs ≡ Some x
+found_too p q xs x f h g = sym (find_kept p q xs f) ∙ head_found q (filter p xs) x (sym (first_is p xs) ∙ h) g
+
+none_too : {X : Type 0} (p q : X → Bool) (xs : List X) → ((y : X) → q y ≡ true → p y ≡ true) → find p xs ≡ None → find q xs ≡ None
+none_too p q xs f h = sym (find_kept p q xs f) ∙ ap (find q) (empty (filter p xs) (sym (first_is p xs) ∙ h))
+
+-- a test that finds none finds none of those that are left
+pub none_kept : {X : Type 0} (p q : X → Bool) (xs : List X) → find q xs ≡ None → find q (filter p xs) ≡ None
+none_kept {X} p q xs none = first_is q (filter p xs) ∙ ap (λ (ys : List X). slice_get ys 0) (filter_swap p q xs ∙ ap (filter p) (empty (filter q xs) (sym (first_is q xs) ∙ none)))
+
+-- no message that passes is before the first that does
+first_least : {X : Type 0} (q : ℕ × X → Bool) (xs : List (ℕ × X)) (x : ℕ × X) → IsRising xs → find q xs ≡ Some x → AllByRecursion (λ y. q y ≡ true → x.0 ≤ y.0) xs
+first_least q [] x rising h = tt
+first_least {X} q (z ∷ zs) x rising h = by (q z) refl h (first_least q zs x rising.1)
+  where
+    by : (b : Bool) → q z ≡ b → cond b (Some z) (find q zs) ≡ Some x → (find q zs ≡ Some x → AllByRecursion (λ y. q y ≡ true → x.0 ≤ y.0) zs) → AllByRecursion (λ y. q y ≡ true → x.0 ≤ y.0) (z ∷ zs)
+    by true e g again =
+        let here : z.0 ≡ x.0 = ap (λ (m : ℕ × X). m.0) (same_Some _ _ g) in
+        (λ _. omega (arith, here), weaker (λ (y : ℕ × X). z.0 < y.0) (λ (y : ℕ × X). q y ≡ true → x.0 ≤ y.0) zs (λ y l _. omega (arith, here, l)) rising.0)
+    by false e g again = (λ f. let clash : false ≡ true = sym e ∙ f in cc, again g)
+
+-- and one that a stronger test finds is no earlier
+pub found_later : {X : Type 0} (p q : ℕ × X → Bool) (xs : List (ℕ × X)) (x y : ℕ × X) → IsRising xs → ((z : ℕ × X) → q z ≡ true → p z ≡ true) → find p xs ≡ Some x → find q xs ≡ Some y → x.0 ≤ y.0
+found_later {X} p q xs x y rising f h g = found_all (λ (z : ℕ × X). p z ≡ true → x.0 ≤ z.0) q xs y (first_least p xs x rising h) g (f y (found_passes q xs y g))
+
 -- a message that a test still finds after others left is no earlier than the one before
 pub filter_later : {X : Type 0} (p q : ℕ × X → Bool) (xs : List (ℕ × X)) (x y : ℕ × X) → IsRising xs → find q xs ≡ Some x → find q (filter p xs) ≡ Some y → x.0 ≤ y.0
-filter_later p q [] x y rising h g = absurd (none-some x h)
-filter_later {X} p q (z ∷ zs) x y rising h g = by (q z) refl (p z) h g (filter_later p q zs x y rising.1)
-  where
-    by : (a : Bool) → q z ≡ a → (b : Bool) → cond a (Some z) (find q zs) ≡ Some x → find q (cond b (z ∷ filter p zs) (filter p zs)) ≡ Some y → (find q zs ≡ Some x → find q (filter p zs) ≡ Some y → x.0 ≤ y.0) → x.0 ≤ y.0
-    by true e true h g again =
-        let one : z.0 ≡ x.0 = ap (λ (m : ℕ × X). m.0) (same_Some _ _ h) in
-        let two : z.0 ≡ y.0 = ap (λ (m : ℕ × X). m.0) (same_Some _ _ (rw e at g)) in
-        omega (arith, one, two)
-    by true e false h g again =
-        let one : z.0 ≡ x.0 = ap (λ (m : ℕ × X). m.0) (same_Some _ _ h) in
-        let two : z.0 < y.0 = found_all (λ (m : ℕ × X). z.0 < m.0) q (filter p zs) y (all_filter (λ (m : ℕ × X). z.0 < m.0) p zs rising.0) g in
-        omega (arith, one, two)
-    by false e true h g again = again h (rw e at g)
-    by false e false h g again = again h g
-
-pub find_kept : {X : Type 0} (p q : X → Bool) (xs : List X) → ((x : X) → q x ≡ true → p x ≡ true) → find q (filter p xs) ≡ find q xs
-find_kept p q [] f = refl
-find_kept {X} p q (x ∷ xs) f = by (p x) refl (q x) refl (find_kept p q xs f)
-  where
-    by : (a : Bool) → p x ≡ a → (b : Bool) → q x ≡ b → find q (filter p xs) ≡ find q xs → find q (cond a (x ∷ filter p xs) (filter p xs)) ≡ cond b (Some x) (find q xs)
-    by true e b k r = rw k (ap (λ (o : Option X). cond b (Some x) o) r)
-    by false e true k r = let clash : false ≡ true = sym e ∙ f x k in cc
-    by false e false k r = r
+filter_later {X} p q xs x y rising h g = found_all (λ (z : ℕ × X). q z ≡ true → x.0 ≤ z.0) q (filter p xs) y (all_filter (λ (z : ℕ × X). q z ≡ true → x.0 ≤ z.0) p xs (first_least q xs x rising h)) g (found_passes q (filter p xs) y g)
 
 pub find_gone : {X : Type 0} (p : X → Bool) (xs : List X) → find p (filter (λ x. not (p x)) xs) ≡ None
-find_gone p [] = refl
-find_gone {X} p (x ∷ xs) = by (p x) refl (find_gone p xs)
+find_gone {X} p xs = first_is p (filter (λ (x : X). not (p x)) xs) ∙ ap (λ (ys : List X). slice_get ys 0) (filter_gone (λ (x : X). not (p x)) p xs (λ x e. not_true (p x) e))
   where
-    by : (a : Bool) → p x ≡ a → find p (filter (λ y. not (p y)) xs) ≡ None → find p (cond (not a) (x ∷ filter (λ y. not (p y)) xs) (filter (λ y. not (p y)) xs)) ≡ None
-    by true e r = r
-    by false e r = rw e r
+    not_true : (b : Bool) → not b ≡ true → b ≡ false
+    not_true true e = let clash : false ≡ true = e in cc
+    not_true false e = refl
 
 -- a message found by one test is found by it among those that pass another, if it does
 pub found_kept : {X : Type 0} (p q : X → Bool) (xs : List X) (x : X) → find q xs ≡ Some x → p x ≡ true → find q (filter p xs) ≡ Some x

@@ -24,11 +24,6 @@ pub all_behind : {X : Type 0} (P : X → Type 0) (xs ys : List X) → All P (xs 
 all_behind P [] ys h = h
 all_behind P (x ∷ xs) ys h = all_behind P xs ys (All-tail P x (xs ++ ys) h)
 
--- whether any message waits
-pub none_waits : {X : Type 0} (xs : List X) → not (some_wait xs) ≡ true → xs ≡ []
-none_waits [] e = refl
-none_waits (x ∷ xs) e = let clash : false ≡ true = e in cc
-
 pub both_empty : {X : Type 0} (xs ys : List X) → xs ++ ys ≡ [] → (xs ≡ []) × (ys ≡ [])
 both_empty [] ys e = (refl, e)
 both_empty (x ∷ xs) ys e = cc

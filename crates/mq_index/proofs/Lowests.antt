@@ -111,16 +111,13 @@ abbrev pub bounded : ℕ → Option ℤ → Option ℤ
 bounded bound None = None
 bounded bound (Some low) = if int_le low (pos bound) then Some low else None
 
-le_true : (a b : ℤ) → a ≤ℤ b → int_le a b ≡ true
-le_true a b l = grind (arith, ints)
-
 le_holds : (a b : ℤ) → int_le a b ≡ true → a ≤ℤ b
 le_holds a b e = grind (arith, ints)
 
 le_false : (a b : ℤ) → b <ℤ a → int_le a b ≡ false
 le_false a b l = grind (arith, ints)
 
-le_fails : (a b : ℤ) → int_le a b ≡ false → b <ℤ a
+pub le_fails : (a b : ℤ) → int_le a b ≡ false → b <ℤ a
 le_fails a b e = grind (arith, ints)
 
 both_ways : (a b : ℤ) → a ≤ℤ b → b ≤ℤ a → a ≡ b

@@ -1,5 +1,5 @@
 -- Messages in the order of their places, parted and merged again.
-use Rattle.std.proofs.Common.{◌≡◌, ◌∙◌, refl, sym, ap, ℕ, ℤ, ◌<◌, nat_lt, Bool, true, false, not, cond, Option, List, [], ◌∷◌, ◌++◌, filter, arith, lt-ltb}
+use Rattle.std.proofs.Common.{◌≡◌, ◌∙◌, refl, sym, ap, ℕ, ℤ, ◌<◌, nat_lt, Bool, true, false, not, cond, Option, List, [], ◌∷◌, ◌++◌, filter, get_or, arith, lt-ltb}
 use Rattle.std.specs.List.{AllByRecursion}
 use Rattle.std.specs.List.Sorted.{IsStrictlySortedBy}
 use Rattle.std.specs.Map.{keys_of}
@@ -9,6 +9,7 @@ use Rattle.std.specs.Option.{unwrap_or}
 use Rattle.std.proofs.lemmas.Bool.Decides.{Decides-int_eq, nat_tests}
 use Rattle.std.proofs.lemmas.Cmp.{eq_by_cmp_equiv, int_cmp_total}
 use Rattle.std.proofs.lemmas.Int.{ints}
+use Rattle.std.proofs.lemmas.List.Elements.{All-filter, All-from_recursion, All-push, All-weaker, recursion_from_All}
 use Rattle.std.proofs.lemmas.Map.{lookup-none}
 use Rattle.std.proofs.lemmas.Map.Entries.{none_past_head}
 use Rattle.std.proofs.lemmas.Map.Keys.{sorted_tail, IsDistinct-from_sorted}
@@ -25,24 +26,16 @@ pub at_is : (t k : ℤ) → is_at (int_cmp t) k ≡ int_eq t k
 at_is t k = grind (arith, ints)
 
 pub each : {X : Type 0} (P : X → Type 0) (xs : List X) → ((x : X) → P x) → AllByRecursion P xs
-each P [] h = tt
-each P (x ∷ xs) h = (h x, each P xs h)
+each P xs h = recursion_from_All P xs (λ k d l. h (get_or xs k d))
 
 pub weaker : {X : Type 0} (P Q : X → Type 0) (xs : List X) → ((x : X) → P x → Q x) → AllByRecursion P xs → AllByRecursion Q xs
-weaker P Q [] f h = tt
-weaker P Q (x ∷ xs) f h = (f x h.0, weaker P Q xs f h.1)
+weaker P Q xs f h = recursion_from_All Q xs (All-weaker P Q f xs (All-from_recursion P xs h))
 
 pub all_filter : {X : Type 0} (P : X → Type 0) (p : X → Bool) (xs : List X) → AllByRecursion P xs → AllByRecursion P (filter p xs)
-all_filter P p [] h = tt
-all_filter {X} P p (x ∷ xs) h = by (p x) (all_filter P p xs h.1)
-  where
-    by : (b : Bool) → AllByRecursion P (filter p xs) → AllByRecursion P (cond b (x ∷ filter p xs) (filter p xs))
-    by true r = (h.0, r)
-    by false r = r
+all_filter P p xs h = recursion_from_All P (filter p xs) (All-filter p P xs (All-from_recursion P xs h))
 
-pub all_append : {X : Type 0} (P : X → Type 0) (xs : List X) (y : X) → AllByRecursion P xs → P y → AllByRecursion P (xs ++ y ∷ [])
-all_append P [] y h here = (here, tt)
-all_append P (x ∷ xs) y h here = (h.0, all_append P xs y h.1 here)
+all_append : {X : Type 0} (P : X → Type 0) (xs : List X) (y : X) → AllByRecursion P xs → P y → AllByRecursion P (xs ++ y ∷ [])
+all_append P xs y h here = recursion_from_All P (xs ++ y ∷ []) (All-push P xs y (All-from_recursion P xs h) here)
 
 pub rising_filter : {X : Type 0} (p : ℕ × X → Bool) (xs : List (ℕ × X)) → IsRising xs → IsRising (filter p xs)
 rising_filter p [] h = tt

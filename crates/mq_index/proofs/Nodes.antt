@@ -48,23 +48,24 @@ index_is {X} nodes place full =
     ∙ ap (λ n. cond (nat_lt n (length (map Some (filled nodes)))) (Some n) None) (prefix_some (λ n. not (p n)) (filled nodes))
     ∙ ap (λ n. cond (nat_lt (prefix_len (λ (m : ℕ × X). not (m.0 == place)) (filled nodes)) n) (Some (prefix_len (λ (m : ℕ × X). not (m.0 == place)) (filled nodes))) None) (length-map (filled nodes) Some)
 
+-- what is known of the message in a node that is filled
+filled_here : {X : Type 0} (o : Option X) (x : X) → Some (Some x) ≡ option_map Some o → o ≡ Some x
+filled_here None x e = cc
+filled_here (Some y) x e = cc
+
+never_none : {X : Type 0} (o : Option X) → ◌≡◌ {A = Option (Option X)} (Some None) (option_map Some o) → ⊥
+never_none None e = cc
+never_none (Some y) e = cc
+
 -- what lies in a node
+at_node : {X : Type 0} (nodes : List (Option X)) (i : ℕ) → AllFilled nodes → slice_get nodes i ≡ option_map Some (slice_get (filled nodes) i)
+at_node nodes i full = ap (λ ns. slice_get ns i) full ∙ slice_get-map Some (filled nodes) i
+
 pub node_is : {X : Type 0} (nodes : List (Option X)) (i : ℕ) (x : X) → AllFilled nodes → slice_get nodes i ≡ Some (Some x) → slice_get (filled nodes) i ≡ Some x
-node_is {X} nodes i x full at = by (slice_get (filled nodes) i) (sym at ∙ ap (λ ns. slice_get ns i) full ∙ slice_get-map Some (filled nodes) i)
-  where
-    by : (o : Option X) → Some (Some x) ≡ option_map Some o → o ≡ Some x
-    by None e = cc
-    by (Some y) e = cc
+node_is nodes i x full at = filled_here (slice_get (filled nodes) i) x (sym at ∙ at_node nodes i full)
 
 pub node_not_empty : {X : Type 0} (nodes : List (Option X)) (i : ℕ) → AllFilled nodes → slice_get nodes i ≡ Some None → ⊥
-node_not_empty {X} nodes i full at = by (slice_get (filled nodes) i) (sym at ∙ ap (λ ns. slice_get ns i) full ∙ slice_get-map Some (filled nodes) i)
-  where
-    none : Option (Option X)
-    none = Some None
-
-    by : (o : Option X) → none ≡ option_map Some o → ⊥
-    by None e = cc
-    by (Some y) e = cc
+node_not_empty nodes i full at = never_none (slice_get (filled nodes) i) (sym at ∙ at_node nodes i full)
 
 -- a list cut at an index, without the node there
 pub cut_out : {X : Type 0} (xs : List X) (i : ℕ) → take i xs ++ drop 1 (drop i xs) ≡ remove xs i
@@ -84,33 +85,22 @@ find_some {X} p (x ∷ xs) = by (p (Some x)) (find_some p xs)
     by true h = refl
     by false h = h
 
--- the node of a place has its message
-pub found_in : {X : Type 0} (nodes : List (Option (ℕ × X))) (place : ℕ) (m : ℕ × X) → AllFilled nodes → find (λ n. option_map_or (λ m. m.0 == place) n false) nodes ≡ Some (Some m) → message_at place (filled nodes) ≡ Some m.1
-found_in {X} nodes place m full h =
+-- the node of a place
+node_of : {X : Type 0} (nodes : List (Option (ℕ × X))) (place : ℕ) → AllFilled nodes → find (λ n. option_map_or (λ m. m.0 == place) n false) nodes ≡ option_map Some (find (λ m. m.0 == place) (filled nodes))
+node_of {X} nodes place full =
     let p : Option (ℕ × X) → Bool = λ n. option_map_or (λ m. m.0 == place) n false in
-    by (find (λ m. m.0 == place) (filled nodes)) (sym h ∙ ap (find p) full ∙ find_some p (filled nodes))
-  where
-    by : (o : Option (ℕ × X)) → Some (Some m) ≡ option_map Some o → option_map (λ x. x.1) o ≡ Some m.1
-    by None e = cc
-    by (Some y) e = let same : y ≡ m = cc in ap (λ (x : ℕ × X). Some x.1) same
+    ap (find p) full ∙ find_some p (filled nodes)
+
+-- it has its message
+pub found_in : {X : Type 0} (nodes : List (Option (ℕ × X))) (place : ℕ) (m : ℕ × X) → AllFilled nodes → find (λ n. option_map_or (λ m. m.0 == place) n false) nodes ≡ Some (Some m) → message_at place (filled nodes) ≡ Some m.1
+found_in {X} nodes place m full h = ap (option_map (λ (x : ℕ × X). x.1)) (filled_here (find (λ (x : ℕ × X). x.0 == place) (filled nodes)) m (sym h ∙ node_of nodes place full))
 
 -- and one of a place at which a message waits is there, and filled
 pub found_full : {X : Type 0} (nodes : List (Option (ℕ × X))) (place : ℕ) → AllFilled nodes → find (λ n. option_map_or (λ m. m.0 == place) n false) nodes ≡ Some None → ⊥
-found_full {X} nodes place full h =
-    let p : Option (ℕ × X) → Bool = λ n. option_map_or (λ m. m.0 == place) n false in
-    by (find (λ m. m.0 == place) (filled nodes)) (sym h ∙ ap (find p) full ∙ find_some p (filled nodes))
-  where
-    none : Option (Option (ℕ × X))
-    none = Some None
-
-    by : (o : Option (ℕ × X)) → none ≡ option_map Some o → ⊥
-    by None e = cc
-    by (Some y) e = cc
+found_full {X} nodes place full h = never_none (find (λ (x : ℕ × X). x.0 == place) (filled nodes)) (sym h ∙ node_of nodes place full)
 
 pub found_there : {X : Type 0} (nodes : List (Option (ℕ × X))) (place : ℕ) → AllFilled nodes → IsSome (message_at place (filled nodes)) → find (λ n. option_map_or (λ m. m.0 == place) n false) nodes ≡ None → ⊥
-found_there {X} nodes place full waits h =
-    let p : Option (ℕ × X) → Bool = λ n. option_map_or (λ m. m.0 == place) n false in
-    by (find (λ m. m.0 == place) (filled nodes)) waits (sym h ∙ ap (find p) full ∙ find_some p (filled nodes))
+found_there {X} nodes place full waits h = by (find (λ m. m.0 == place) (filled nodes)) waits (sym h ∙ node_of nodes place full)
   where
     by : (o : Option (ℕ × X)) → IsSome (option_map (λ x. x.1) o) → None ≡ option_map Some o → ⊥
     by None w e = let no' : false ≡ true = w in cc

@@ -16,9 +16,6 @@ has_queue {X} queues t place h = by (queue_at queues t) h
     by None w = let clash : false ≡ true = w in cc
     by (Some xs) w = refl
 
-pub some_is : {A B : Type 0} (a : Option A) (b : Option B) → is_some a ≡ is_some b → IsSome b → IsSome a
-some_is a b e h = e ∙ h
-
 -- what is read through a reference is there where the reference is
 pub copied : {X : Type 0} (o : Option (Bor X)) (b : Option X) → option_copied o ≡ b → IsSome b → IsSome o
 copied None b e h = let none : is_some b ≡ false = ap is_some (sym e) in let clash : false ≡ true = sym none ∙ h in cc

@@ -10,7 +10,7 @@ use Rattle.std.proofs.lemmas.Option.{none-some, same_Some}
 use Rattle.mq_select.specs.Waiting.{message_at, without}
 use Rattle.mq_index.specs.Index.{front_of, of_type, queue_at, queue_of, unless_empty, IsIndex, IsRising}
 use Rattle.mq_index.proofs.Changes.{emptied, never_empty}
-use Rattle.mq_index.proofs.Firsts.{filter_later, find_gone, find_kept, first_is, found_kept, found_passes}
+use Rattle.mq_index.proofs.Firsts.{filter_later, find_gone, find_kept, first_is, found_kept, found_passes, none_kept}
 use Rattle.mq_index.proofs.Merging.{filter_kept, filter_swap, int_eq-here, int_eq-same, rising_filter, weaker}
 
 -- a message at a place, as a search finds it
@@ -73,19 +73,10 @@ front_later {X} type_of all fronts place m first rising fronted h is = by first 
     q : ℕ × X → Bool
     q x = int_eq (type_of x.1) (type_of m)
 
-    there : find q all ≡ None → ⊥
-    there none =
-        let found = found_kept q (λ (x : ℕ × X). x.0 == place) all (place, m) (found_at place all m h) (int_eq-here (type_of m)) in
-        nowhere (λ (x : ℕ × X). x.0 == place) (filter q all) (place, m) (first_is q all) none found
-      where
-        nowhere : (p : ℕ × X → Bool) (xs : List (ℕ × X)) (x : ℕ × X) → find q all ≡ slice_get xs 0 → find q all ≡ None → find p xs ≡ Some x → ⊥
-        nowhere p [] x a b c = absurd (none-some x c)
-        nowhere p (y ∷ ys) x a b c = absurd (none-some y (sym b ∙ a))
-
     by : (first : Option ℕ) (new : Option (ℕ × X)) → find q (without place all) ≡ new → (old : Option (ℕ × X)) → find q all ≡ old → first ≡ option_map (λ (x : ℕ × X). x.0) new → fronts (type_of m) ≡ option_map (λ (x : ℕ × X). x.0) old → IfSome first (λ n. IsSomeAnd (fronts (type_of m)) (λ k. k ≤ n))
     by None new e old f g k = tt
     by (Some n) None e old f g k = absurd (none-some n (sym g))
-    by (Some n) (Some y) e None f g k = absurd (there f)
+    by (Some n) (Some y) e None f g k = absurd (none-some y (sym (none_kept (λ (z : ℕ × X). not (z.0 == place)) q all f) ∙ e))
     by (Some n) (Some y) e (Some x) f g k =
         let later = filter_later (λ (z : ℕ × X). not (z.0 == place)) q all x y rising f e in
         let here : n ≡ y.0 = same_Some _ _ g in

@@ -1,7 +1,9 @@
+pub mod Crossing
 pub mod Fronts
 pub mod Heap
 pub mod Held
 pub mod Index
 pub mod Layered
+pub mod Outcome
 pub mod Queue
 pub mod Same

@@ -1,9 +1,11 @@
 //! How messages go over from a list to one in layers, and back.
 
-ghost use Rattle.std.specs.Prelude.{◌≡◌, ◌+◌, ◌<◌, ◌≤◌, ◌++◌, [], All, AllPairs, IfErr, IfOk, OnOk};
-ghost use Rattle.std.specs.Prelude.{IsTrue, Some, length, slice_get};
+ghost use Rattle.std.specs.Prelude.{◌≡◌, ◌+◌, ◌<◌, ◌≤◌, ◌++◌, [], All, AllPairs, IsTrue, OnOk};
+ghost use Rattle.std.specs.Prelude.{MatchResult, Some, length, slice_get};
 ghost use Rattle.std.specs.Option.{option_map};
 ghost use Rattle.std.specs.VecDeque.{deque_len, deque_capacity};
+ghost use Rattle.mq_index.specs.Crossing.{HaveMoved};
+ghost use Rattle.mq_index.specs.Outcome.{HasCrossed};
 
 use crate::Layered;
 use mq_message::Body;
@@ -41,11 +43,10 @@ fn go_over<B: Body>(
 
 /// Moves the messages of a list in layers to the end of others, where there is room for them.
 fn go_back<B: Body>(index: &mut Layered<B>, messages: &mut VecDeque<Placed<B>>)
-    requires room { deque_len messages.old + length index.old.messages
+    requires { deque_len messages.old + length index.old.messages
         ≤ deque_capacity messages.old }
-    ensures none { index.new.messages ≡ [] }
-    ensures moved { messages.new.items ≡ messages.old.items ++ index.old.messages }
-    ensures capacity { deque_capacity messages.new ≡ deque_capacity messages.old }
+    ensures { HaveMoved (messages.old.items ++ index.old.messages)
+        index.new messages.old messages.new }
 {
     while let Some(first) = index.pop_first() {
         messages.push_back_reserved(first);
@@ -54,11 +55,10 @@ fn go_back<B: Body>(index: &mut Layered<B>, messages: &mut VecDeque<Placed<B>>)
 
 /// Moves the messages of a list in layers to where they came from: before those that were left.
 fn come_back<B: Body>(index: &mut Layered<B>, messages: &mut VecDeque<Placed<B>>)
-    requires room { deque_len messages.old + length index.old.messages
+    requires { deque_len messages.old + length index.old.messages
         ≤ deque_capacity messages.old }
-    ensures none { index.new.messages ≡ [] }
-    ensures moved { messages.new.items ≡ index.old.messages ++ messages.old.items }
-    ensures capacity { deque_capacity messages.new ≡ deque_capacity messages.old }
+    ensures { HaveMoved (index.old.messages ++ messages.old.items)
+        index.new messages.old messages.new }
 {
     let left = messages.len();
     go_back(index, messages);
@@ -72,17 +72,15 @@ fn is_of<B: Body>(list: &ListWaiting<B>, mtype: i64) -> bool
     list.find(Selection::Except(mtype)).is_none()
 }
 
-/// A list of messages of this type as the first layer, with room for one more of it. `Err` means out
-/// of memory: then the list is as it was.
+/// A list of messages of this type as the first layer, with room for one more of it. `Err` means
+/// out of memory: then the list is as it was.
 fn taken_over<B: Body>(
     list: ListWaiting<B>,
     alloc: Global,
     mtype: i64,
 ) -> Result<Layered<B>, ListWaiting<B>>
     requires { All (λ m. m.1.mtype ≡ mtype) list.messages }
-    ensures messages { IfOk result (λ index. index.messages ≡ list.messages) }
-    ensures prepared { IfOk result (λ index. index.prepared ≡ Some mtype) }
-    ensures handed_back { IfErr result (λ same. same ≡ list) }
+    ensures { MatchResult result (HasCrossed mtype list) (λ same. same ≡ list) }
 {
     let mut list = list;
     match list.prepare(mtype) {
@@ -91,16 +89,14 @@ fn taken_over<B: Body>(
     }
 }
 
-/// A list in layers to which the messages of a list have moved, with room for one more of this type.
-/// `Err` means out of memory: then the list is as it was.
+/// A list in layers to which the messages of a list have moved, with room for one more of this
+/// type. `Err` means out of memory: then the list is as it was.
 fn moved<B: Body>(
     list: ListWaiting<B>,
     alloc: Global,
     mtype: i64,
 ) -> Result<Layered<B>, ListWaiting<B>>
-    ensures messages { IfOk result (λ index. index.messages ≡ list.messages) }
-    ensures prepared { IfOk result (λ index. index.prepared ≡ Some mtype) }
-    ensures handed_back { IfErr result (λ same. same ≡ list) }
+    ensures { MatchResult result (HasCrossed mtype list) (λ same. same ≡ list) }
 {
     let (messages, prepared) = list.into_parts();
     let mut messages = messages;
@@ -125,9 +121,7 @@ pub(crate) fn layered<B: Body>(
     alloc: Global,
     mtype: i64,
 ) -> Result<Layered<B>, ListWaiting<B>>
-    ensures messages { IfOk result (λ index. index.messages ≡ list.messages) }
-    ensures prepared { IfOk result (λ index. index.prepared ≡ Some mtype) }
-    ensures handed_back { IfErr result (λ same. same ≡ list) }
+    ensures { MatchResult result (HasCrossed mtype list) (λ same. same ≡ list) }
 {
     if is_of(&list, mtype) {
         taken_over(list, alloc, mtype)
@@ -145,9 +139,7 @@ pub(crate) fn listed<B: Body>(
     mtype: i64,
 ) -> Result<ListWaiting<B>, Layered<B>>
     requires few { length index.messages < most }
-    ensures messages { IfOk result (λ list. list.messages ≡ index.messages) }
-    ensures prepared { IfOk result (λ list. list.prepared ≡ Some mtype) }
-    ensures handed_back { IfErr result (λ same. same ≡ index) }
+    ensures { MatchResult result (HasCrossed mtype index) (λ same. same ≡ index) }
 {
     let Ok(messages) = VecDeque::with_capacity(alloc, most) else {
         return Err(index);

@@ -1,4 +1,5 @@
-ghost use Rattle.std.specs.Prelude.{◌≡◌, ◌<◌, ◌≤◌, ℕ, ℤ, true, cond, not, Some, None, IfSome, OnErr, OnOk};
+ghost use Rattle.std.specs.Prelude.{◌≡◌, ◌<◌, ◌≤◌, ℕ, ℤ, true, cond, not, Some, None};
+ghost use Rattle.std.specs.Prelude.{IfSome, OnErr, OnOk};
 ghost use Rattle.std.specs.Option.{option_or, IsSomeAnd};
 ghost use Rattle.std.specs.Ordering.{int_eq};
 ghost use Rattle.mq_index.specs.Fronts.{first_of, IsLeastAt};
@@ -96,7 +97,7 @@ impl Fronts {
     }
 
     /// Enters a type with this place, unless it has one.
-    pub fn enter(&mut self, mtype: i64, place: u64)
+    pub(crate) fn enter(&mut self, mtype: i64, place: u64)
         requires above { (t : ℤ) (n : ℕ) → first_of self.old t ≡ Some n → n ≤ place }
         requires room { 0 < self.old.spare }
         ensures { (t : ℤ) → first_of self.new t
@@ -108,7 +109,7 @@ impl Fronts {
     }
 
     /// Moves a type on to the place of its first message, or takes it out where there is none.
-    pub fn renew(&mut self, mtype: i64, first: Option<u64>)
+    pub(crate) fn renew(&mut self, mtype: i64, first: Option<u64>)
         requires later { IfSome first (λ place. IsSomeAnd (first_of self.old mtype)
             (λ n. n ≤ place)) }
         ensures { (t : ℤ) →

@@ -2,13 +2,13 @@
 //! entries `2i + 1` and `2i + 2`, and no place is above those below it. So the least place is at
 //! hand, and each type's by its hash.
 
-ghost use Rattle.std.specs.Prelude.{◌≡◌, ◌<◌, ◌≤◌, ◌+◌, ◌*◌, ℕ, ℤ, IfNone, IfSome};
-ghost use Rattle.std.specs.Prelude.{not, true};
+ghost use Rattle.std.specs.Prelude.{◌≡◌, ◌<◌, not, true};
 ghost use Rattle.std.specs.Ordering.{int_eq};
-ghost use Rattle.indexmap.specs.IndexMap.{get, index_map_len, spare};
+ghost use Rattle.indexmap.specs.IndexMap.{get, index_map_len};
 ghost use Rattle.mq_index.specs.Fronts.{IsLeastAt};
-ghost use Rattle.mq_index.specs.Heap.{place_at, type_at, IsBelow, IsHeap, IsLeastEntry};
-ghost use Rattle.mq_index.specs.Heap.{IsHeapBut, IsHeapDownTo, IsHeapUpTo};
+ghost use Rattle.mq_index.specs.Heap.{place_at, type_at, IsGreaterAbove, IsHeap, IsLeastEntry};
+ghost use Rattle.mq_index.specs.Heap.{IsHeapBut, IsHeapDownTo, IsHeapOf, IsHeapUpTo};
+ghost use Rattle.mq_index.specs.Heap.{IsLeastUnder, IsLesserUnder};
 
 use indexmap::IndexMap;
 
@@ -34,10 +34,7 @@ fn is_type_at(heap: &Heap, i: usize, mtype: i64) -> bool
 /// The entry above this one, where its place is greater.
 pub(crate) fn greater_above(heap: &Heap, i: usize) -> Option<usize>
     requires { i < index_map_len heap.now }
-    ensures none { IfNone result ((j : ℕ) → IsBelow j i →
-        place_at heap.now.entries j ≤ place_at heap.now.entries i) }
-    ensures some { IfSome result (λ j. IsBelow j i
-        × (place_at heap.now.entries i < place_at heap.now.entries j)) }
+    ensures { IsGreaterAbove heap.now.entries i result }
 {
     if i == 0 {
         return None;
@@ -53,10 +50,7 @@ pub(crate) fn greater_above(heap: &Heap, i: usize) -> Option<usize>
 /// Of the two entries below this one, the one with the lesser place.
 fn least_under(heap: &Heap, i: usize) -> Option<usize>
     requires { i < index_map_len heap.now }
-    ensures none { IfNone result (index_map_len heap.now ≤ 2 * i + 1) }
-    ensures some { IfSome result (λ c. IsBelow i c × (c < index_map_len heap.now)
-        × ((d : ℕ) → IsBelow i d → d < index_map_len heap.now →
-        place_at heap.now.entries c ≤ place_at heap.now.entries d)) }
+    ensures { IsLeastUnder heap.now.entries i result }
 {
     let len = heap.len();
     let left = 2 * i + 1;
@@ -74,12 +68,7 @@ fn least_under(heap: &Heap, i: usize) -> Option<usize>
 /// The entry below this one with the lesser place, where that is less than its own.
 fn lesser_under(heap: &Heap, i: usize) -> Option<usize>
     requires { i < index_map_len heap.now }
-    ensures none { IfNone result ((c : ℕ) → IsBelow i c → c < index_map_len heap.now →
-        place_at heap.now.entries i ≤ place_at heap.now.entries c) }
-    ensures some { IfSome result (λ c. IsBelow i c × (c < index_map_len heap.now)
-        × (place_at heap.now.entries c < place_at heap.now.entries i)
-        × ((d : ℕ) → IsBelow i d → d < index_map_len heap.now →
-        place_at heap.now.entries c ≤ place_at heap.now.entries d)) }
+    ensures { IsLesserUnder heap.now.entries i result }
 {
     let least = least_under(heap, i)?;
     if place_of_entry(heap, least) < place_of_entry(heap, i) {
@@ -128,11 +117,8 @@ pub(crate) fn least(heap: &Heap) -> Option<u64>
 
 /// Moves an entry up until none above it has a greater place.
 pub(crate) fn rise(heap: &mut Heap, i: usize)
-    requires inside { i < index_map_len heap.old }
-    requires heap { IsHeapUpTo i heap.old.entries }
-    ensures heap { IsHeap heap.new.entries }
-    ensures at { (t : ℤ) → get int_eq heap.new t ≡ get int_eq heap.old t }
-    ensures room { spare heap.old ≤ spare heap.new }
+    requires { IsHeapUpTo i heap.old.entries }
+    ensures { IsHeapOf heap.old heap.new }
 {
     let mut at = i;
     while let Some(above) = greater_above(heap, at) {
@@ -143,11 +129,8 @@ pub(crate) fn rise(heap: &mut Heap, i: usize)
 
 /// Moves an entry down until none below it has a lesser place.
 pub(crate) fn sink(heap: &mut Heap, i: usize)
-    requires inside { i < index_map_len heap.old }
-    requires heap { IsHeapDownTo i heap.old.entries }
-    ensures heap { IsHeap heap.new.entries }
-    ensures at { (t : ℤ) → get int_eq heap.new t ≡ get int_eq heap.old t }
-    ensures room { spare heap.old ≤ spare heap.new }
+    requires { IsHeapDownTo i heap.old.entries }
+    ensures { IsHeapOf heap.old heap.new }
 {
     let mut at = i;
     while let Some(below) = lesser_under(heap, at) {
@@ -158,11 +141,8 @@ pub(crate) fn sink(heap: &mut Heap, i: usize)
 
 /// Moves an entry that was put in another's stead to where it belongs.
 pub(crate) fn restore(heap: &mut Heap, i: usize)
-    requires inside { i < index_map_len heap.old }
-    requires heap { IsHeapBut i heap.old.entries }
-    ensures heap { IsHeap heap.new.entries }
-    ensures at { (t : ℤ) → get int_eq heap.new t ≡ get int_eq heap.old t }
-    ensures room { spare heap.old ≤ spare heap.new }
+    requires { IsHeapBut i heap.old.entries }
+    ensures { IsHeapOf heap.old heap.new }
 {
     match greater_above(heap, i) {
         Some(_) => rise(heap, i),

@@ -1,11 +1,12 @@
-ghost use Rattle.std.specs.Prelude.{◌≡◌, ◌<◌, ◌++◌, ◌∷◌, [], All, AllPairs, IfNone};
-ghost use Rattle.std.specs.Prelude.{None, OnErr, OnOk, Some, false, length, map, nat_lt};
-ghost use Rattle.std.specs.Prelude.{option_to_list};
+ghost use Rattle.std.specs.Prelude.{◌≡◌, ◌<◌, ◌++◌, [], All, AllPairs, OnErr, OnOk, Some};
+ghost use Rattle.std.specs.Prelude.{false, length, map, nat_lt};
 ghost use Rattle.std.specs.Option.{option_map};
 ghost use Rattle.mq_select.specs.Selection.{pick};
 ghost use Rattle.mq_index.specs.Layered.{joins, prefers, reaches, room_for};
+ghost use Rattle.mq_index.specs.Outcome.{CanPut, HasCrossed, IsFresh, IsPopped, IsPut};
 
-use crate::{ByType, SameType};
+use crate::ByType;
+use crate::same::SameType;
 use mq_message::{Body, Message};
 use mq_select::{Header, ListWaiting, Selection, Waiting};
 use std::alloc::{AllocError, Global};
@@ -112,7 +113,7 @@ fn prepare_in<B: Body>(
 impl<B> Layered<B> {
     /// Whether more than so many messages wait.
     #[inline(never)]
-    pub fn is_longer_than(&self, few: usize) -> bool
+    pub(crate) fn is_longer_than(&self, few: usize) -> bool
         ensures longer { result ≡ nat_lt few (length self.now.messages) }
         ensures rising { AllPairs (λ a b. a.0 < b.0) self.now.messages }
     {
@@ -123,9 +124,8 @@ impl<B> Layered<B> {
 
 impl<B: Body> Layered<B> {
     /// No messages yet; those of this type come first.
-    pub fn new(alloc: Global, mtype: i64) -> Layered<B>
-        ensures empty { result.messages ≡ [] }
-        ensures unprepared { result.prepared ≡ None }
+    pub(crate) fn new(alloc: Global, mtype: i64) -> Layered<B>
+        ensures { IsFresh result }
     {
         Layered {
             first: SameType::new(alloc, mtype),
@@ -136,11 +136,10 @@ impl<B: Body> Layered<B> {
     }
 
     /// Of a list whose messages are all of this type, with room for one more.
-    pub fn of_one(list: ListWaiting<B>, alloc: Global, mtype: i64) -> Layered<B>
+    pub(crate) fn of_one(list: ListWaiting<B>, alloc: Global, mtype: i64) -> Layered<B>
         requires same { All (λ m. m.1.mtype ≡ mtype) list.messages }
         requires prepared { list.prepared ≡ Some mtype }
-        ensures messages { result.messages ≡ list.messages }
-        ensures prepared { result.prepared ≡ Some mtype }
+        ensures { HasCrossed mtype list result }
     {
         // The parts are what says that the places rise.
         let (messages, prepared) = list.into_parts();
@@ -153,10 +152,8 @@ impl<B: Body> Layered<B> {
     }
 
     /// Takes out the first message, and its place with it.
-    pub fn pop_first(&mut self) -> Option<(u64, Message<B>)>
-        ensures none { IfNone result (self.new.messages ≡ []) }
-        ensures first { self.old.messages ≡ option_to_list result ++ self.new.messages }
-        ensures unprepared { self.new.prepared ≡ None }
+    pub(crate) fn pop_first(&mut self) -> Option<(u64, Message<B>)>
+        ensures { IsPopped result self.old self.new }
     {
         self.prepared = None;
         match self.find(Selection::Any) {
@@ -194,10 +191,8 @@ impl<B: Body> Waiting<B> for Layered<B> {
 
     #[inline(never)]
     fn put_prepared(&mut self, place: u64, message: Message<B>)
-        requires prepared { self.old.prepared ≡ Some message.mtype }
-        requires above { All (λ m. m.0 < place) self.old.messages }
-        ensures added { self.new.messages ≡ self.old.messages ++ (place, message) ∷ [] }
-        ensures unprepared { self.new.prepared ≡ None }
+        requires { CanPut place message self.old }
+        ensures { IsPut place message self.old self.new }
     {
         self.prepared = None;
         if is_joining(&self.first, &self.rest, message.mtype) {

@@ -21,4 +21,3 @@ pub use index::IndexWaiting;
 pub use layered::Layered;
 pub use queue::Queue;
 pub use room::Room;
-pub use same::SameType;

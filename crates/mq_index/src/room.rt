@@ -45,8 +45,7 @@ impl<B> Room<B> {
     /// Takes the memory of one node, unless there is room already. `Err` means out of memory.
     pub fn make(&mut self) -> Result<(), AllocError>
         ensures ok { OnOk result (self.new ≡ true) }
-        ensures unchanged { OnErr result (self.new ≡ self.old) }
-        ensures refused { OnErr result (self.old ≡ false) }
+        ensures refused { OnErr result ((self.old ≡ false) × (self.new ≡ false)) }
     {
         if self.node.is_empty() {
             match self.node.push_back(None) {

@@ -1,9 +1,9 @@
-ghost use Rattle.std.specs.Prelude.{◌≡◌, ◌<◌, ◌++◌, ◌∷◌, [], All, IfOk, IfSome, IsSome};
-ghost use Rattle.std.specs.Prelude.{None, OnErr, OnOk, Some, length};
+ghost use Rattle.std.specs.Prelude.{◌≡◌, [], All, IfOk, IfSome, IsSome, length};
 ghost use Rattle.std.specs.Option.{option_map, ForSome};
 ghost use Rattle.mq_select.specs.Selection.{pick};
-ghost use Rattle.mq_select.specs.Waiting.{headers_of, message_at, without};
-ghost use Rattle.mq_index.specs.Same.{picks};
+ghost use Rattle.mq_select.specs.Waiting.{headers_of, message_at};
+ghost use Rattle.mq_index.specs.Outcome.{CanPut, IsFresh, IsPrepared, IsPut, IsTaken};
+ghost use Rattle.mq_index.specs.Same.{listed_of, picks, KeepsType};
 
 use mq_message::{Body, Message};
 use mq_select::{Header, ListWaiting, Selection, Waiting};
@@ -13,7 +13,7 @@ use std::mem;
 
 /// Waiting messages of one type, in a list, however many there are: a selection picks the first of
 /// them or none. It can't be dropped, whatever its bodies are: `end` alone takes it.
-pub struct SameType<B> {
+pub(crate) struct SameType<B> {
     list: ListWaiting<B>,
     mtype: i64,
 }
@@ -37,14 +37,14 @@ impl<B> Model for SameType<B> {
 
 impl<B> SameType<B> {
     /// The type of all its messages.
-    pub fn mtype(&self) -> i64
+    pub(crate) fn mtype(&self) -> i64
         ensures { result ≡ self.now.mtype }
     {
         self.mtype
     }
 
     /// How many messages wait.
-    pub fn len(&self) -> usize
+    pub(crate) fn len(&self) -> usize
         ensures { result ≡ length self.now.messages }
     {
         self.list.len()
@@ -66,9 +66,8 @@ impl<B> SameType<B> {
 
 impl<B: Body> SameType<B> {
     /// No messages yet, of this type.
-    pub fn new(alloc: Global, mtype: i64) -> SameType<B>
-        ensures empty { result.messages ≡ [] }
-        ensures unprepared { result.prepared ≡ None }
+    pub(crate) fn new(alloc: Global, mtype: i64) -> SameType<B>
+        ensures listed { IsFresh (listed_of result) }
         ensures mtype { result.mtype ≡ mtype }
     {
         SameType {
@@ -78,18 +77,17 @@ impl<B: Body> SameType<B> {
     }
 
     /// Of a list whose messages are all of this type.
-    pub fn of(list: ListWaiting<B>, mtype: i64) -> SameType<B>
+    pub(crate) fn of(list: ListWaiting<B>, mtype: i64) -> SameType<B>
         requires same { All (λ m. m.1.mtype ≡ mtype) list.messages }
         requires prepared { ForSome list.prepared (λ t. t ≡ mtype) }
-        ensures messages { result.messages ≡ list.messages }
-        ensures prepared { result.prepared ≡ list.prepared }
+        ensures listed { listed_of result ≡ list }
         ensures mtype { result.mtype ≡ mtype }
     {
         SameType { list, mtype }
     }
 
     /// The place of the message that the selection picks.
-    pub fn find(&self, selection: Selection) -> Option<u64>
+    pub(crate) fn find(&self, selection: Selection) -> Option<u64>
         ensures found { result ≡ option_map (λ m. m.0)
             (pick (λ m. m.1.mtype) self.now.messages selection) }
         ensures same { All (λ m. m.1.mtype ≡ self.now.mtype) self.now.messages }
@@ -102,39 +100,30 @@ impl<B: Body> SameType<B> {
     }
 
     /// Takes the memory that one more message of the type needs. `Err` means out of memory.
-    pub fn prepare(&mut self) -> Result<(), AllocError>
-        ensures unchanged { self.new.messages ≡ self.old.messages }
-        ensures mtype { self.new.mtype ≡ self.old.mtype }
-        ensures ok { OnOk result (self.new.prepared ≡ Some self.old.mtype) }
-        ensures err { OnErr result (self.new.prepared ≡ self.old.prepared) }
+    pub(crate) fn prepare(&mut self) -> Result<(), AllocError>
+        ensures { KeepsType (IsPrepared self.old.mtype result) self.old self.new }
     {
         self.list.prepare(self.mtype)
     }
 
     /// Adds a message of the type at the end.
-    pub fn put_prepared(&mut self, place: u64, message: Message<B>)
-        requires prepared { self.old.prepared ≡ Some message.mtype }
-        requires above { All (λ m. m.0 < place) self.old.messages }
-        ensures added { self.new.messages ≡ self.old.messages ++ (place, message) ∷ [] }
-        ensures unprepared { self.new.prepared ≡ None }
-        ensures mtype { self.new.mtype ≡ self.old.mtype }
+    pub(crate) fn put_prepared(&mut self, place: u64, message: Message<B>)
+        requires { CanPut place message (listed_of self.old) }
+        ensures { KeepsType (IsPut place message) self.old self.new }
     {
         self.list.put_prepared(place, message);
     }
 
     /// Takes out the message at this place.
-    pub fn take(&mut self, place: u64) -> Message<B>
+    pub(crate) fn take(&mut self, place: u64) -> Message<B>
         requires { IsSome (message_at place self.old.messages) }
-        ensures taken { message_at place self.old.messages ≡ Some result }
-        ensures rest { self.new.messages ≡ without place self.old.messages }
-        ensures unprepared { self.new.prepared ≡ None }
-        ensures mtype { self.new.mtype ≡ self.old.mtype }
+        ensures { KeepsType (IsTaken place result) self.old self.new }
     {
         self.list.take(place)
     }
 
     /// The number of bytes of the message at this place.
-    pub fn length_of(&self, place: u64) -> u64
+    pub(crate) fn length_of(&self, place: u64) -> u64
         requires { IsSome (message_at place self.now.messages) }
         ensures { IfSome (message_at place self.now.messages)
             (λ m. result ≡ length (B.bytes m.body)) }
@@ -143,16 +132,15 @@ impl<B: Body> SameType<B> {
     }
 
     /// The headers of the messages, in the order of sending. `Err` means out of memory.
-    pub fn headers(&self, alloc: Global) -> Result<Vec<Header>, AllocError>
+    pub(crate) fn headers(&self, alloc: Global) -> Result<Vec<Header>, AllocError>
         ensures { IfOk result (λ headers. headers.items ≡ headers_of B.bytes self.now.messages) }
     {
         self.list.headers(alloc)
     }
 
     /// Where no message waits, gives back the memory in which some did.
-    pub fn give_back(&mut self, alloc: Global)
-        ensures unchanged { self.new.messages ≡ self.old.messages }
-        ensures mtype { self.new.mtype ≡ self.old.mtype }
+    pub(crate) fn give_back(&mut self, alloc: Global)
+        ensures { KeepsType (λ old new. new.messages ≡ old.messages) self.old self.new }
     {
         if self.len() == 0 {
             mem::replace(&mut self.list, ListWaiting::fresh(alloc)).end();
@@ -160,7 +148,7 @@ impl<B: Body> SameType<B> {
     }
 
     /// Ends where no message waits.
-    pub fn end(self)
+    pub(crate) fn end(self)
         requires { self.messages ≡ [] }
     {
         let SameType { list, mtype: _ } = self;

@@ -1,6 +1,6 @@
-ghost use Rattle.std.specs.Prelude.{◌≡◌, ◌≤◌, ◌<◌, length, All, IfOk, IfSome, IsSome, IsErrOf};
+ghost use Rattle.std.specs.Prelude.{◌≡◌, ◌<◌, length, All, IfOk, IfSome, IsSome, IsErrOf};
 ghost use Rattle.std.specs.Prelude.{vec_capacity, vec_len};
-ghost use Rattle.mq_jobs.specs.Jobs.{AreAfter};
+ghost use Rattle.mq_jobs.specs.Jobs.{AreAfter, CanRun};
 
 use crate::gate::Gate;
 use crate::{Job, JobsError};
@@ -45,9 +45,7 @@ fn run_in_scope<'x, J: Job + Send + 'x, R: Threads + Wait + Sync + 'x>(
 ) -> Option<Vec<J::Answer>>
 where
     J::Shared: Sync,
-    requires before { All J.before jobs.items }
-    requires none { length answers.items ≡ 0 }
-    requires room { length jobs.items ≤ vec_capacity answers }
+    requires { CanRun J.before jobs.items answers.items (vec_capacity answers) }
     ensures after { IfSome result (λ all. AreAfter J.after jobs.items all.items) }
     ensures some { length jobs.items ≡ 0 → IsSome result }
 {
@@ -55,9 +53,7 @@ where
         thread::scope_env(),
         rt,
         move |scope| -> Option<Vec<J::Answer>>
-            requires before { All J.before jobs.items }
-            requires none { length answers.items ≡ 0 }
-            requires room { length jobs.items ≤ vec_capacity answers }
+            requires { CanRun J.before jobs.items answers.items (vec_capacity answers) }
             ensures after { IfSome result (λ all. AreAfter J.after jobs.items all.items) }
             ensures some { length jobs.items ≡ 0 → IsSome result }
         { start_rest(rt, scope, gate, shared, jobs, answers) },
@@ -77,9 +73,7 @@ fn start_rest<'s, E, J: Job + Send + 's, R: Threads + Wait + Sync + 's>(
 ) -> Option<Vec<J::Answer>>
 where
     J::Shared: Sync,
-    requires before { All J.before jobs.items }
-    requires none { length answers.items ≡ 0 }
-    requires room { length jobs.items ≤ vec_capacity answers }
+    requires { CanRun J.before jobs.items answers.items (vec_capacity answers) }
     ensures after { IfSome result (λ all. AreAfter J.after jobs.items all.items) }
     ensures len { IfSome result (λ all. vec_len all ≡ length jobs.items) }
     ensures room { IfSome result (λ all. vec_capacity all ≡ vec_capacity answers) }

@@ -3,7 +3,6 @@ use Rattle.std.proofs.Common.{ℕ, ◌*◌, ◌^◌, ◌≤◌, zero, suc, arith
 use Rattle.std.proofs.lemmas.Bool.Decides.{nat_tests}
 use Rattle.mq_message.specs.Text.{order_for}
 use Rattle.mq_arena.specs.declared.page.TheConstants.{PAGE_LEN}
-use Rattle.mq_message.specs.declared.order.TheConstants.{TEXT_LEN}
 
 -- no lower order has room
 pub order_least : (n order : ℕ) → n ≤ PAGE_LEN * 2 ^ order → order_for n ≤ order
@@ -14,7 +13,3 @@ order_least n (suc (suc (suc zero))) room = grind (arith, nat_tests)
 order_least n (suc (suc (suc (suc zero)))) room = grind (arith, nat_tests)
 order_least n (suc (suc (suc (suc (suc zero))))) room = grind (arith, nat_tests)
 order_least n (suc (suc (suc (suc (suc (suc order)))))) room = grind (arith, nat_tests)
-
--- it has room
-pub order_enough : (n : ℕ) → n ≤ TEXT_LEN → n ≤ PAGE_LEN * 2 ^ order_for n
-order_enough n most = grind (arith, nat_tests)

@@ -11,6 +11,23 @@ use Rattle.mq_message.specs.Text.{PlainText, count_of, text_part}
 use Rattle.mq_message.specs.Held.{text_of, IsText}
 use Rattle.mq_message.proofs.Texts.{text_length, part_is}
 
+-- the text is the first bytes of this block, whose pages have room for them
+pub record IsHeld (text : PlainText) (len : ℕ) (b : OwnedBlock) : Type 0 where
+  pub held : IsText len (Some b)
+  pub same : text_of len (Some b) ≡ text
+  pub long : length text.bytes ≡ len
+  pub room : len ≤ PAGE_LEN * length b.pages
+
+pub held_by : {text : PlainText} {block : Option OwnedBlock} {b : OwnedBlock} (len : ℕ) → text_of len block ≡ text → block ≡ Some b → IsText len block → IsHeld text len b
+held_by {block = block} {b = b} len shown some held =
+    let here : IsText len (Some b) = subst (IsText len) some held in
+    record {
+      held = here;
+      same = ap (text_of len) (sym some) ∙ shown;
+      long = ap (λ t. length t.bytes) (sym shown) ∙ text_length len block held;
+      room = let few : len ≤ PAGE_LEN * 2 ^ b.order = here.1 in omega (arith, few, here.0.count);
+    }
+
 -- part i of the text is the front of page i of its block
 pub record IsPartOf (text : PlainText) (len i : ℕ) (b : OwnedBlock) : Type 0 where
   pub whole : AreWhole b.pages
@@ -20,23 +37,16 @@ pub record IsPartOf (text : PlainText) (len i : ℕ) (b : OwnedBlock) : Type 0 w
   pub part : text_part text.bytes i ≡ take (min PAGE_LEN (len - PAGE_LEN * i)) (get_or b.pages i [])
 
 -- that it is
-pub part_of : (text : PlainText) (len i : ℕ) (block : Option OwnedBlock) (b : OwnedBlock) → text_of len block ≡ text
-    → block ≡ Some b → IsText len block → i < count_of (length text.bytes) → IsPartOf text len i b
-part_of text len i block b shown some held below =
-    let here : IsText len (Some b) = subst (IsText len) some held in
-    let same : text_of len (Some b) ≡ text = ap (text_of len) (sym some) ∙ shown in
-    let long : length text.bytes ≡ len = ap (λ t. length t.bytes) (sym same) ∙ text_length len (Some b) here in
-    let pages : length b.pages ≡ 2 ^ b.order = here.0.count in
-    let room : len ≤ PAGE_LEN * 2 ^ b.order = here.1 in
-    let early : i < count_of len = subst (λ n. i < count_of n) long below in
-    let within : i < length b.pages = omega arith in
-    let from : PAGE_LEN * i ≤ len = omega arith in
+pub part_of : {text : PlainText} {len : ℕ} {b : OwnedBlock} (i : ℕ) → IsHeld text len b → i < count_of (length text.bytes) → IsPartOf text len i b
+part_of {text = text} {len = len} {b = b} i h below =
+    let within : i < length b.pages = omega (arith, h.room, h.long, below) in
+    let from : PAGE_LEN * i ≤ len = omega (arith, h.long, below) in
     record {
-      whole = here.0.whole;
+      whole = h.held.0.whole;
       within = within;
       from = from;
-      same = same;
-      part = ap (λ t. text_part t.bytes i) (sym same) ∙ part_is b.pages len i here.0.whole within from;
+      same = h.same;
+      part = ap (λ t. text_part t.bytes i) (sym h.same) ∙ part_is b.pages len i h.held.0.whole within from;
     }
 
 -- one part more
@@ -73,23 +83,9 @@ cut_at len (suc i) (page ∷ pages) whole room below =
     ∙ ap (λ k. take (min PAGE_LEN k) (get_or pages i [])) same
 
 -- all parts of a text: how many, and each of them
-pub parts_count : (text : PlainText) (len : ℕ) (block : Option OwnedBlock) (b : OwnedBlock) → text_of len block ≡ text
-    → block ≡ Some b → IsText len block → length (cut_parts len b.pages) ≡ count_of (length text.bytes)
-parts_count text len block b shown some held =
-    let here : IsText len (Some b) = subst (IsText len) some held in
-    let long : length text.bytes ≡ len = ap (λ t. length t.bytes) (sym shown) ∙ text_length len block held in
-    let pages : length b.pages ≡ 2 ^ b.order = here.0.count in
-    let room : len ≤ PAGE_LEN * 2 ^ b.order = here.1 in
-    length-cut_parts len b.pages (omega arith) ∙ ap count_of (sym long)
+pub parts_count : {text : PlainText} {len : ℕ} {b : OwnedBlock} → IsHeld text len b → length (cut_parts len b.pages) ≡ count_of (length text.bytes)
+parts_count {len = len} {b = b} h = length-cut_parts len b.pages h.room ∙ ap count_of (sym h.long)
 
-pub parts_each : (text : PlainText) (len : ℕ) (block : Option OwnedBlock) (b : OwnedBlock) → text_of len block ≡ text
-    → block ≡ Some b → IsText len block → (i : ℕ) → i < count_of (length text.bytes)
-    → get_or (cut_parts len b.pages) i [] ≡ text_part text.bytes i
-parts_each text len block b shown some held i below =
-    let is : IsPartOf text len i b = part_of text len i block b shown some held below in
-    let here : IsText len (Some b) = subst (IsText len) some held in
-    let long : length text.bytes ≡ len = ap (λ t. length t.bytes) (sym shown) ∙ text_length len block held in
-    let pages : length b.pages ≡ 2 ^ b.order = here.0.count in
-    let room : len ≤ PAGE_LEN * 2 ^ b.order = here.1 in
-    let early : i < count_of len = subst (λ n. i < count_of n) long below in
-    cut_at len i b.pages is.whole (omega arith) early ∙ sym is.part
+pub parts_each : {text : PlainText} {len : ℕ} {b : OwnedBlock} → IsHeld text len b → (i : ℕ) → i < count_of (length text.bytes) → get_or (cut_parts len b.pages) i [] ≡ text_part text.bytes i
+parts_each {len = len} {b = b} h i below =
+    cut_at len i b.pages h.held.0.whole h.room (subst (λ n. i < count_of n) h.long below) ∙ sym (part_of i h below).part

@@ -7,6 +7,7 @@ use Rattle.std.proofs.lemmas.List.Sorted.{list_any-IsPermutation}
 use Rattle.std.proofs.Math.Bool.{or_comm}
 use Rattle.std.proofs.lemmas.Grind.{flat_map-append}
 use Rattle.std.proofs.lemmas.List.{map-append, reverse-append}
+use Rattle.std.proofs.lemmas.List.Elements.{filter_agree}
 use Rattle.std.proofs.lemmas.List.Folds.{list_any-append}
 use Rattle.mq_tree.specs.Blocks.{Block, is_block}
 use Rattle.mq_tree.specs.LentSet.{Lending}
@@ -17,11 +18,6 @@ use Rattle.mq_table.specs.Kept.{KeptSlot}
 use Rattle.mq_one_thread.specs.Closed.{Ending, all_home, ending_of, ends}
 use Rattle.mq_one_thread.specs.Texts.{lies_in, spends, spends_all}
 use Rattle.mq_one_thread.specs.declared.close.ClosedSlot.{ClosedSlot}
-
--- tests that answer alike keep the same
-same_kept : {X : Type 0} (p q : X → Bool) → ((x : X) → p x ≡ q x) → (xs : List X) → filter p xs ≡ filter q xs
-same_kept p q same [] = refl
-same_kept p q same (x ∷ xs) = rw (same x, same_kept p q same xs) refl
 
 -- what passes neither test is kept by one after the other
 kept_step : {X : Type 0} (b c : Bool) (x : X) (both once after : List X) → both ≡ after
@@ -61,7 +57,7 @@ one_home place m messages arena = placed_home m.body.block messages arena
 -- in whatever order
 pub order_home : (xs ys : List (ℕ × Message PlainText)) (arena : Lending) → IsPermutation xs ys → spends_all xs arena ≡ spends_all ys arena
 order_home xs ys arena is =
-    ap (with_lent arena) (same_kept (λ b. not (list_any (λ m. lies_in b m.1.body) xs)) (λ b. not (list_any (λ m. lies_in b m.1.body) ys))
+    ap (with_lent arena) (filter_agree (λ b. not (list_any (λ m. lies_in b m.1.body) xs)) (λ b. not (list_any (λ m. lies_in b m.1.body) ys))
     (λ b. ap not (list_any-IsPermutation (λ m. lies_in b m.1.body) xs ys is)) arena.lent)
 
 -- the texts of two lists come home one list after the other
@@ -69,7 +65,7 @@ both_home : (xs ys : List (ℕ × Message PlainText)) (arena : Lending) → spen
 both_home xs ys arena =
     let waits : List (ℕ × Message PlainText) → Block → Bool = λ ms b. list_any (λ m. lies_in b m.1.body) ms in
     ap (with_lent arena)
-    (same_kept (λ b. not (waits (xs ++ ys) b)) (λ b. not (waits ys b || waits xs b))
+    (filter_agree (λ b. not (waits (xs ++ ys) b)) (λ b. not (waits ys b || waits xs b))
     (λ b. ap not (list_any-append (λ m. lies_in b m.1.body) xs ys ∙ or_comm (waits xs b) (waits ys b))) arena.lent
     ∙ kept_twice (waits ys) (waits xs) arena.lent)
 
@@ -87,9 +83,6 @@ pub endings_kept : (slots : List (KeptSlot PlainText)) (slot : KeptSlot PlainTex
 endings_kept slots slot closed c all is e =
     rw (map-append ending_of closed (c ∷ []), reverse-append (map ending_of closed) (ending_of c ∷ []), is)
     (rw (map-append ends slots (slot ∷ []), append_assoc) at e)
-
-pub none_left : (arena : Lending) → all_home [] arena ≡ arena
-none_left arena = none_home arena
 
 -- the endings of slots the other way round
 pub reversed : (closed : List ClosedSlot) → map ending_of (reverse closed) ≡ reverse (map ending_of closed)

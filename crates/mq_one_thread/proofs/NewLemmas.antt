@@ -1,6 +1,7 @@
 -- What holds of a system in which no queue is made.
-use Rattle.std.proofs.Common.{◌≡◌, ℕ, ◌<◌, false, [], refl, sym, ◌∙◌, true≢false, arith, All, Any}
-use Rattle.std.proofs.lemmas.List.FromFn.{get_or-map-range_with_len, length-map-range_with_len}
+use Rattle.std.proofs.Common.{◌≡◌, ℕ, false, [], refl, sym, ◌∙◌, true≢false, arith, All, Any}
+use Rattle.std.specs.List.{range_with_len}
+use Rattle.std.proofs.lemmas.List.Elements.{All-map}
 use Rattle.mq_message.specs.Text.{PlainText}
 use Rattle.mq_table.specs.Kept.{KeptSlot, is_live_kept}
 use Rattle.mq_table.specs.KeptPart.{IsLawfulSlot, WaitsNow}
@@ -14,11 +15,8 @@ use Rattle.mq_one_thread.specs.Texts.{bytes_of}
 -- what holds of each empty slot, holds of all
 all_new : (P : KeptSlot PlainText → Type 0) → ((k : ℕ) → P (empty_kept k)) → (count : ℕ)
     → All P (empty_slots count)
-all_new P each count k d within =
-    let low : k < count =
-    omega (arith, within, length-map-range_with_len (empty_kept {B = PlainText}) 0 count) in
-    rw (get_or-map-range_with_len (empty_kept {B = PlainText}) 0 count k k d low (omega arith))
-    (each k)
+all_new P each count =
+    All-map P (empty_kept {B = PlainText}) (range_with_len 0 count) (λ k d within. each _)
 
 -- no event is a slot list
 none_is_list : (last_seq : ℕ) → IsSlotList last_seq []

@@ -1,49 +1,30 @@
 -- What msgsnd, msgrcv and msgctl answer and leave (msgop(2), msgctl(2)).
-use Rattle.std.specs.Prelude.{ℕ, ℤ, pos, int_lt, if◌then◌else◌, Bool, List, Result, Ok, Err}
+use Rattle.std.specs.Prelude.{ℕ, ℤ, Bool, Result, Ok, Err}
 use Rattle.mq_message.specs.Text.{PlainText}
-use Rattle.mq_message.specs.declared.message.Message.{Message}
 use Rattle.mq_select.specs.Selection.{selection_of}
-use Rattle.mq_queue.specs.declared.error.QueueError.{QueueError}
 use Rattle.mq_queue.specs.declared.figures.Figures.{Figures}
-use Rattle.mq_table.specs.Calls.{Receipt}
 use Rattle.mq_table.specs.Cut.{CutState, cut_of, kept_cuts}
 use Rattle.mq_table.specs.Ids.{slot_of}
 use Rattle.mq_table.specs.Kept.{KeptSlot, entries_of, kept_figures}
-use Rattle.mq_table.specs.KeptCalls.{kept_receives, kept_removes, kept_sends, kept_sets, log_removed}
+use Rattle.mq_table.specs.KeptCalls.{kept_receives, kept_removes, kept_sends, kept_sets}
+use Rattle.mq_table.specs.KeptCalls.{log_removed}
 use Rattle.mq_table.specs.KeptShown.{last_id_now}
 use Rattle.mq_table.specs.Keys.{forget}
-use Rattle.mq_one_thread.specs.Look.{Answer, look, once, in_queue, refused_early}
+pub use Rattle.mq_one_thread.specs.Answer.{delivered, delivers}
+use Rattle.mq_one_thread.specs.Answer.{once, send}
+use Rattle.mq_one_thread.specs.Look.{Answer, in_queue, look}
 use Rattle.mq_one_thread.specs.State.{State, slot_at, with_slot}
-use Rattle.mq_one_thread.specs.Texts.{bytes_of, cut_to, text_at, spends_all}
+use Rattle.mq_one_thread.specs.Texts.{bytes_of, spends_all}
 use Rattle.mq_one_thread.specs.declared.errno.Errno.{Errno}
-use Rattle.mq_one_thread.specs.declared.errno.Errno.TheVariants.{EINVAL}
 use Rattle.mq_one_thread.specs.declared.results.Delivered.{Delivered}
 use Rattle.mq_one_thread.specs.declared.results.Refused.{Refused}
 use Rattle.mq_one_thread.specs.declared.results.Removal.{Removal}
 
--- msgsnd: a type below 1 is refused before the id is looked at (msgop(2), msgsnd)
+-- msgsnd (msgop(2), msgsnd)
 abbrev pub msgsnd : State → ℕ → ℕ → ℤ → ℕ → PlainText → ℕ → Answer ℕ
 msgsnd s seat id mtype tag text moment =
-    if int_lt mtype (pos 1) then Err (refused_early EINVAL)
-    else in_queue s id (λ slot. kept_sends bytes_of slot
-    (record { mtype = mtype; sender = seat; tag = tag; body = text }) moment)
-
--- what a receiver is handed of what waits: the message and its text, cut to the size
-abbrev pub delivered : List (ℕ × Message PlainText) → ℕ → Receipt → Delivered PlainText
-delivered messages size r = record {
-  entry = r.entry;
-  mtype = r.message.mtype;
-  sender = r.message.seat;
-  tag = r.message.tag;
-  length = r.message.length;
-  text = cut_to size (text_at r.message.place messages);
-}
-
--- the same, of a call that may be refused
-abbrev pub delivers : {S : Type 0} → List (ℕ × Message PlainText) → ℕ
-    → Result (Receipt × S) QueueError → Result (Delivered PlainText × S) QueueError
-delivers messages size (Ok turn) = Ok (delivered messages size turn.0, turn.1)
-delivers messages size (Err refusal) = Err refusal
+    send mtype (in_queue s id (λ slot. kept_sends bytes_of slot
+    (record { mtype = mtype; sender = seat; tag = tag; body = text }) moment))
 
 -- msgrcv (msgop(2), msgrcv)
 abbrev pub msgrcv : State → ℕ → ℕ → ℕ → ℤ → Bool → Bool → ℕ → Answer (Delivered PlainText)

@@ -1,13 +1,15 @@
 -- What msgget answers and leaves (msgget(2)).
-use Rattle.std.specs.Prelude.{ℕ, ℤ, pos, ◌&&◌, if◌then◌else◌, Option, Some, None, IsSome, Result, Ok, Err, position}
+use Rattle.std.specs.Prelude.{◌≡◌, ℕ, ℤ, pos, ◌<◌, ◌≤◌, false, ◌&&◌, if◌then◌else◌}
+use Rattle.std.specs.Prelude.{length, position, Option, Some, None, IsSome, Result, Ok, Err}
 use Rattle.std.specs.Ordering.{int_eq}
-use Rattle.mq_table.specs.Kept.{entries_of}
+use Rattle.mq_table.specs.Kept.{entries_of, is_live_kept, made_of}
 use Rattle.mq_table.specs.KeptCalls.{kept_makes}
 use Rattle.mq_table.specs.KeptShown.{is_free_now, next_id_now}
 use Rattle.mq_table.specs.Keys.{id_of_key, entered}
+use Rattle.mq_table.specs.declared.limits.TheConstants.{MAX_SEQ}
 use Rattle.mq_one_thread.specs.State.{State, slot_at, with_slot}
 use Rattle.mq_one_thread.specs.declared.errno.Errno.{Errno}
-use Rattle.mq_one_thread.specs.declared.errno.Errno.TheVariants.{EEXIST, ENOENT, ENOMEM, ENOSPC}
+use Rattle.mq_one_thread.specs.declared.errno.Errno.TheVariants.{EEXIST, ENOENT, ENOSPC}
 use Rattle.mq_one_thread.specs.declared.results.GetFlags.{GetFlags}
 use Rattle.mq_one_thread.specs.declared.results.Got.{Got}
 
@@ -49,12 +51,14 @@ msgget s seat key flags moment =
     if int_eq key (pos 0) then makes_one s key seat moment
     else by_key s seat key flags moment (id_of_key s.keys key)
 
--- where nothing refuses a call that failed, memory did
-abbrev pub errno_or_memory : GetAnswer → Errno
-errno_or_memory (Ok turn) = ENOMEM
-errno_or_memory (Err errno) = errno
-
 -- a call that fails where nothing refuses it was to make a queue
 abbrev pub MayRunOut : GetAnswer → Type 0
 MayRunOut (Ok turn) = IsSome turn.0.made
 MayRunOut (Err errno) = Unit {0}
+
+-- a queue can be made in slot k: none is in it, and a seq is left
+pub record IsFreePlace (s : State) (k : ℕ) : Type 0 where
+  pub within : k < length s.slots
+  pub empty : is_live_kept (slot_at s k) ≡ false
+  pub unused : made_of (slot_at s k) ≤ MAX_SEQ
+  pub left : made_of (slot_at s k) ≤ s.last_seq

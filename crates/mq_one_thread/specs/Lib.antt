@@ -1,3 +1,4 @@
+pub mod Answer
 pub mod Calls
 pub mod Closed
 pub mod Get
@@ -5,6 +6,8 @@ pub mod Holds
 pub mod Kept
 pub mod Limits
 pub mod Look
+pub mod Memory
 pub mod Names
+pub mod Outcome
 pub mod State
 pub mod Texts

@@ -1,7 +1,9 @@
 -- The names and numbers of the refusals (errno(3)).
 use Rattle.std.specs.Prelude.{ℕ, ℤ, pos, List, codes}
 use Rattle.mq_one_thread.specs.declared.errno.Errno.{Errno}
-use Rattle.mq_one_thread.specs.declared.errno.Errno.TheVariants.{EINVAL, EIDRM, EAGAIN, ENOMEM, ENOMSG, E2BIG, EPERM, EEXIST, ENOENT, ENOSPC}
+use Rattle.mq_one_thread.specs.declared.errno.Errno.TheVariants.{EINVAL, EIDRM, EAGAIN, ENOMEM}
+use Rattle.mq_one_thread.specs.declared.errno.Errno.TheVariants.{ENOMSG, E2BIG, EPERM, EEXIST}
+use Rattle.mq_one_thread.specs.declared.errno.Errno.TheVariants.{ENOENT, ENOSPC}
 
 -- the letters of a refusal's name
 abbrev pub errno_name : Errno → List ℕ

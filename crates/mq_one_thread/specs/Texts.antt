@@ -1,5 +1,6 @@
 -- Texts that are drafted in blocks of the arena, cut for a receiver, and spent.
-use Rattle.std.specs.Prelude.{ℕ, ◌==◌, nat_lt, if◌then◌else◌, Bool, true, false, not, List, length, take, filter, replicate, Option, Some, None, Result, Ok, Err}
+use Rattle.std.specs.Prelude.{ℕ, ◌==◌, nat_lt, if◌then◌else◌, Bool, true, false, not}
+use Rattle.std.specs.Prelude.{List, length, take, filter, replicate, Option, Some, Result, Ok, Err}
 use Rattle.std.specs.List.{list_any}
 use Rattle.std.specs.Option.{option_map_or}
 use Rattle.mq_tree.specs.Blocks.{Block, is_block}
@@ -13,6 +14,7 @@ use Rattle.mq_message.specs.Text.{PlainText, no_text, order_for}
 use Rattle.mq_message.specs.declared.message.Message.{Message}
 use Rattle.mq_queue.specs.declared.limits.TheConstants.{MSGMAX}
 use Rattle.mq_select.specs.Waiting.{message_at}
+use Rattle.mq_one_thread.specs.Memory.{or_memory}
 use Rattle.mq_one_thread.specs.State.{State, with_arena}
 use Rattle.mq_one_thread.specs.declared.draft_error.DraftError.{DraftError}
 use Rattle.mq_one_thread.specs.declared.draft_error.DraftError.TheVariants.{TooLong, NoRun, Memory}
@@ -23,11 +25,14 @@ use Rattle.mq_one_thread.specs.declared.errno.Errno.TheVariants.{EINVAL, ENOMEM}
 abbrev pub bytes_of : PlainText → List ℕ
 bytes_of text = text.bytes
 
--- a text of n zeros in the block that the arena lends for it, where one fits
+-- a text of n zeros in a block that the arena lends
+abbrev pub zeros_lent : State → ℕ → Block × Lending → PlainText × State
+zeros_lent s n lent =
+    (record { bytes = replicate n 0; block = Some lent.0 }, with_arena s lent.1)
+
+-- the same, where a block fits
 abbrev pub in_block : State → ℕ → Option (Block × Lending) → Result (PlainText × State) DraftError
-in_block s n None = Err NoRun
-in_block s n (Some lent) =
-    Ok (record { bytes = replicate n 0; block = Some lent.0 }, with_arena s lent.1)
+in_block s n found = option_map_or (λ lent. Ok (zeros_lent s n lent)) found (Err NoRun)
 
 -- a text of n zeros, no longer than a message's: the empty one has no block
 abbrev pub drafts : State → ℕ → Result (PlainText × State) DraftError
@@ -88,5 +93,4 @@ by_take take.Memory = Memory
 
 -- where nothing refuses a draft that failed, memory did
 abbrev pub draft_refusal : Result (PlainText × State) DraftError → DraftError
-draft_refusal (Ok _) = Memory
-draft_refusal (Err refusal) = refusal
+draft_refusal answer = or_memory Memory answer

@@ -85,6 +85,7 @@ pub fn end_slot<L: Ledger>(arena: &mut ArenaState<L>, slot: TextSlot<L>) -> Clos
     } = cut;
     match live {
         Some(queue) => {
+            queue.holds();
             let left = queue.figures().qnum;
             let (log, waiting) = queue.into_parts();
             take_home(arena, waiting);

@@ -30,8 +30,8 @@ pub enum SysError {
     Memory,
 }
 
-/// The size of a queue system for whoever needs no other. A text takes at least a page, however short
-/// it is, so the arena is the highest: 1,024 texts may be outside or wait.
+/// The size of a queue system for whoever needs no other. A text takes at least a page, however
+/// short it is, so the arena is the highest: 1,024 texts may be outside or wait.
 pub const DEFAULTS: Config = Config {
     height: MAX_HEIGHT,
     slots: 16,

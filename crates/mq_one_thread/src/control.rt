@@ -1,6 +1,8 @@
-ghost use Rattle.std.specs.Prelude.{◌≡◌, Ok, IfOk, IfErr, OnErr};
-ghost use Rattle.mq_one_thread.specs.Calls.{set as set_answer, rmid as rmid_answer, stat as stat_answer};
-ghost use Rattle.mq_one_thread.specs.Look.{refused_or_memory};
+ghost use Rattle.std.specs.Prelude.{◌≡◌};
+ghost use Rattle.mq_one_thread.specs.Calls.{set as set_answer, rmid as rmid_answer};
+ghost use Rattle.mq_one_thread.specs.Calls.{stat as stat_answer};
+ghost use Rattle.mq_one_thread.specs.Look.{refused_at};
+ghost use Rattle.mq_one_thread.specs.Outcome.{Answers};
 
 use crate::home::take_home;
 use crate::{Errno, OneThread, Refused, Removal};
@@ -12,11 +14,8 @@ impl<L: Ledger> OneThread<L> {
     /// Sets the quota (msgctl(2), IPC_SET of msg_qbytes), and answers the entry. EINVAL, EIDRM,
     /// EPERM over MSGMNB, then ENOMEM.
     pub fn set(&mut self, seat: u16, id: Id, qbytes: u64, moment: u64) -> Result<u64, Refused>
-        ensures ok { IfOk result (λ entry.
-            set_answer self.old seat id qbytes moment ≡ Ok (entry, self.new)) }
-        ensures refused { IfErr result (λ r.
-            r ≡ refused_or_memory self.old id (set_answer self.old seat id qbytes moment)) }
-        ensures unchanged { OnErr result (self.new ≡ self.old) }
+        ensures answer { Answers (set_answer self.old seat id qbytes moment)
+            (refused_at self.old id Errno.ENOMEM) self.old self.new result }
     {
         let k = self.place_of(id)?;
         match self.slots[k].set(qbytes, seat, moment, &mut NoNotice) {
@@ -28,11 +27,8 @@ impl<L: Ledger> OneThread<L> {
     /// Removes the queue (msgctl(2), IPC_RMID), and spends the texts that waited in it. EINVAL,
     /// EIDRM, then ENOMEM.
     pub fn rmid(&mut self, seat: u16, id: Id, moment: u64) -> Result<Removal, Refused>
-        ensures ok { IfOk result (λ removal.
-            rmid_answer self.old seat id moment ≡ Ok (removal, self.new)) }
-        ensures refused { IfErr result (λ r.
-            r ≡ refused_or_memory self.old id (rmid_answer self.old seat id moment)) }
-        ensures unchanged { OnErr result (self.new ≡ self.old) }
+        ensures answer { Answers (rmid_answer self.old seat id moment)
+            (refused_at self.old id Errno.ENOMEM) self.old self.new result }
     {
         let k = self.place_of(id)?;
         let entry = self.slots[k].events();

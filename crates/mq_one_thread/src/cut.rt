@@ -1,7 +1,5 @@
-ghost use Rattle.std.specs.Prelude.{◌≡◌, ◌<◌, IfOk, IfErr, OnErr, length};
-ghost use Rattle.mq_table.specs.Cut.{shown};
-ghost use Rattle.mq_one_thread.specs.Calls.{cut_log as cut_answer};
-ghost use Rattle.mq_one_thread.specs.Look.{refused_in};
+ghost use Rattle.std.specs.Prelude.{◌<◌, length};
+ghost use Rattle.mq_one_thread.specs.Outcome.{AnswersCut};
 
 use crate::{Errno, OneThread, Refused};
 use mq_table::Cut;
@@ -13,9 +11,7 @@ impl<L: Ledger> OneThread<L> {
     /// counted on, and nothing is told as an event. Only ENOMEM.
     pub fn cut_log(&mut self, slot: u8) -> Result<Cut, Refused>
         requires { slot < length self.old.slots }
-        ensures ok { IfOk result (λ cut. cut_answer self.old slot ≡ (shown cut, self.new)) }
-        ensures refused { IfErr result (λ r. r ≡ refused_in self.old slot Errno.ENOMEM) }
-        ensures unchanged { OnErr result (self.new ≡ self.old) }
+        ensures answer { AnswersCut self.old slot self.new result }
     {
         let k = slot as usize;
         match self.slots[k].cut() {

@@ -1,5 +1,5 @@
 ghost use Rattle.std.specs.Prelude.{◌≡◌};
-ghost use Rattle.mq_one_thread.specs.Look.{errno_of, errno_of_id};
+ghost use Rattle.mq_one_thread.specs.Answer.{errno_of, errno_of_id};
 ghost use Rattle.mq_one_thread.specs.Names.{errno_name, errno_number};
 
 use mq_queue::QueueError;

@@ -1,13 +1,12 @@
-ghost use Rattle.std.specs.Prelude.{◌≡◌, ◌≢◌, ◌<◌, ◌≤◌, false, pos, Ok, None, IfOk, IfErr, IfSome, OnErr, length};
-ghost use Rattle.mq_table.specs.Kept.{is_live_kept, made_of};
+ghost use Rattle.std.specs.Prelude.{◌≡◌, ◌≢◌, pos, None, IfSome, OnErr};
 ghost use Rattle.mq_table.specs.Keys.{id_of_key};
-ghost use Rattle.mq_one_thread.specs.Get.{MayRunOut, errno_or_memory, free_slot, makes_one};
+ghost use Rattle.mq_one_thread.specs.Get.{IsFreePlace, MayRunOut, free_slot, makes_one};
 ghost use Rattle.mq_one_thread.specs.Get.{msgget as msgget_answer};
-ghost use Rattle.mq_one_thread.specs.State.{slot_at};
+ghost use Rattle.mq_one_thread.specs.Outcome.{Answers};
 
 use crate::{Errno, GetFlags, Got, OneThread};
 use mq_queue::NoNotice;
-use mq_table::{MAX_SEQ, make_under};
+use mq_table::make_under;
 use std::sync::ledger::Ledger;
 
 impl<L: Ledger> OneThread<L> {
@@ -20,12 +19,9 @@ impl<L: Ledger> OneThread<L> {
         flags: GetFlags,
         moment: u64,
     ) -> Result<Got, Errno>
-        ensures ok { IfOk result (λ got.
-            msgget_answer self.old seat key flags moment ≡ Ok (got, self.new)) }
-        ensures refused { IfErr result (λ errno.
-            errno ≡ errno_or_memory (msgget_answer self.old seat key flags moment)) }
+        ensures answer { Answers (msgget_answer self.old seat key flags moment) Errno.ENOMEM
+            self.old self.new result }
         ensures memory { OnErr result (MayRunOut (msgget_answer self.old seat key flags moment)) }
-        ensures unchanged { OnErr result (self.new ≡ self.old) }
     {
         if key == 0 {
             return self.make(seat, key, moment);
@@ -41,11 +37,9 @@ impl<L: Ledger> OneThread<L> {
     /// Makes a queue in the least slot that is free.
     fn make(&mut self, seat: u16, key: i32, moment: u64) -> Result<Got, Errno>
         requires { key ≢ pos 0 → id_of_key self.old.keys key ≡ None }
-        ensures ok { IfOk result (λ got. makes_one self.old key seat moment ≡ Ok (got, self.new)) }
-        ensures refused { IfErr result (λ errno.
-            errno ≡ errno_or_memory (makes_one self.old key seat moment)) }
+        ensures answer { Answers (makes_one self.old key seat moment) Errno.ENOMEM
+            self.old self.new result }
         ensures memory { OnErr result (MayRunOut (makes_one self.old key seat moment)) }
-        ensures unchanged { OnErr result (self.new ≡ self.old) }
     {
         let Some(k) = self.least_free() else {
             return Err(Errno::ENOSPC);
@@ -69,11 +63,7 @@ impl<L: Ledger> OneThread<L> {
 
     fn least_free(&self) -> Option<usize>
         ensures first { result ≡ free_slot self.now }
-        ensures within { IfSome result (λ k. k < length self.now.slots) }
-        ensures empty { IfSome result (λ k. is_live_kept (slot_at self.now k) ≡ false) }
-        ensures unused { IfSome result (λ k. made_of (slot_at self.now k) ≤ MAX_SEQ) }
-        ensures left { IfSome result (λ k.
-            made_of (slot_at self.now k) ≤ self.now.last_seq) }
+        ensures free { IfSome result (IsFreePlace self.now) }
     {
         let last_seq = self.last_seq;
         self.slots.iter().position(|slot| slot.is_free(last_seq))

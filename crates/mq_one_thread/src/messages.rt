@@ -1,9 +1,7 @@
-ghost use Rattle.std.specs.Prelude.{◌≡◌, ◌<◌, true, Ok, IfOk, IfErr, OnErr, length};
-ghost use Rattle.mq_table.specs.Ids.{slot_of};
-ghost use Rattle.mq_table.specs.Kept.{is_live_kept};
+ghost use Rattle.std.specs.Prelude.{◌≡◌, ◌<◌, Err, MatchResult, length};
 ghost use Rattle.mq_one_thread.specs.Calls.{msgsnd as msgsnd_answer, msgrcv as msgrcv_answer};
-ghost use Rattle.mq_one_thread.specs.Look.{look, refused_in, refused_or_memory};
-ghost use Rattle.mq_one_thread.specs.State.{slot_at};
+ghost use Rattle.mq_one_thread.specs.Look.{IsPlace, look, refused_at, refused_in};
+ghost use Rattle.mq_one_thread.specs.Outcome.{Answers, AnswersSend};
 
 use crate::{Delivered, Errno, OneThread, Refused, SendRefused};
 use mq_message::{Message, Text};
@@ -24,12 +22,8 @@ impl<L: Ledger> OneThread<L> {
         text: Text<L>,
         moment: u64,
     ) -> Result<u64, SendRefused<Text<L>>>
-        ensures ok { IfOk result (λ entry.
-            msgsnd_answer self.old seat id mtype tag text moment ≡ Ok (entry, self.new)) }
-        ensures refused { IfErr result (λ r. r.refused ≡ refused_or_memory self.old id
-            (msgsnd_answer self.old seat id mtype tag text moment)) }
-        ensures handed_back { IfErr result (λ r. r.text ≡ text) }
-        ensures unchanged { OnErr result (self.new ≡ self.old) }
+        ensures answer { AnswersSend (msgsnd_answer self.old seat id mtype tag text moment)
+            (refused_at self.old id Errno.ENOMEM) self.old self.new text result }
     {
         if mtype < 1 {
             let refused = Refused {
@@ -70,11 +64,9 @@ impl<L: Ledger> OneThread<L> {
         noerror: bool,
         moment: u64,
     ) -> Result<Delivered<Text<L>>, Refused>
-        ensures ok { IfOk result (λ d.
-            msgrcv_answer self.old seat id size msgtyp except noerror moment ≡ Ok (d, self.new)) }
-        ensures refused { IfErr result (λ r. r ≡ refused_or_memory self.old id
-            (msgrcv_answer self.old seat id size msgtyp except noerror moment)) }
-        ensures unchanged { OnErr result (self.new ≡ self.old) }
+        ensures answer { Answers
+            (msgrcv_answer self.old seat id size msgtyp except noerror moment)
+            (refused_at self.old id Errno.ENOMEM) self.old self.new result }
     {
         let k = self.place_of(id)?;
         let selection = Selection::read(msgtyp, except);
@@ -86,11 +78,7 @@ impl<L: Ledger> OneThread<L> {
 
     /// The slot of the live queue with this id, or why there is none.
     pub(crate) fn place_of(&self, id: Id) -> Result<usize, Refused>
-        ensures ok { IfOk result (λ k. k ≡ slot_of id) }
-        ensures within { IfOk result (λ k. k < length self.now.slots) }
-        ensures live { IfOk result (λ k. is_live_kept (slot_at self.now k) ≡ true) }
-        ensures found { IfOk result (λ k. look self.now id ≡ Ok tt) }
-        ensures refused { IfErr result (λ r. look self.now id ≡ Err r) }
+        ensures { MatchResult result (IsPlace self.now id) (λ r. look self.now id ≡ Err r) }
     {
         let k = id.slot() as usize;
         if k >= self.slots.len() {

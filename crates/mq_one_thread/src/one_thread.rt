@@ -1,5 +1,5 @@
-ghost use Rattle.std.specs.Prelude.{◌≡◌, ◌↔◌, ◌<◌, ◌≤◌, ◌+◌, ◌^◌, false, Some, Ok, length, replicate};
-ghost use Rattle.std.specs.Prelude.{IfOk, IfErr, OnErr, IsErrOf, All};
+ghost use Rattle.std.specs.Prelude.{◌≡◌, ◌↔◌, ◌<◌, ◌≤◌, ◌+◌, ◌^◌, false, Some, length, replicate};
+ghost use Rattle.std.specs.Prelude.{IfOk, IsErrOf, All};
 ghost use Rattle.std.specs.Prelude.{vec_len, vec_capacity};
 ghost use Rattle.mq_tree.specs.Fit.{largest};
 ghost use Rattle.mq_tree.specs.LentSet.{free_pages};
@@ -10,8 +10,9 @@ ghost use Rattle.mq_table.specs.KeptPart.{IsLawfulSlot, WaitsNow};
 ghost use Rattle.mq_table.specs.KeptShown.{row_now};
 ghost use Rattle.mq_one_thread.specs.Holds.{AreKeysOf};
 ghost use Rattle.mq_one_thread.specs.Limits.{keeps_limits, start, empty_slots};
+ghost use Rattle.mq_one_thread.specs.Outcome.{Answers};
 ghost use Rattle.mq_one_thread.specs.State.{slot_at, with_arena};
-ghost use Rattle.mq_one_thread.specs.Texts.{bytes_of, comes_home, draft_refusal, drafts, drafts_of, spends};
+ghost use Rattle.mq_one_thread.specs.Texts.{bytes_of, comes_home, drafts, drafts_of, spends};
 
 use crate::close::ClosedSlot;
 use crate::home::take_back;
@@ -120,12 +121,10 @@ impl<L: Ledger> OneThread<L> {
     }
 
     /// A text of so many zero bytes, to be filled in place.
-    #[tactic(auto, using(crate::proofs::DraftLemmas::zeros_too_long, crate::proofs::DraftLemmas::refused_take, crate::proofs::DraftLemmas::memory_over))]
+    #[tactic(auto, using(crate::proofs::DraftLemmas::zero_drafts))]
     pub fn draft(&mut self, len: u64) -> Result<Text<L>, DraftError>
-        ensures ok { IfOk result (λ text. drafts self.old len ≡ Ok (text, self.new)) }
-        ensures refused { IfErr result (λ e. e ≡ draft_refusal (drafts self.old len)) }
+        ensures answer { Answers (drafts self.old len) DraftError.Memory self.old self.new result }
         ensures memory { IsErrOf result DraftError.Memory → INLINE_LEN < len }
-        ensures unchanged { OnErr result (self.new ≡ self.old) }
     {
         if len > MSGMAX {
             return Err(DraftError::TooLong);
@@ -142,12 +141,11 @@ impl<L: Ledger> OneThread<L> {
 
     /// A text of these bytes: what `draft` answers for as many, with the bytes in it. They are
     /// written once, and nothing is cleared before.
-    #[tactic(auto, using(crate::proofs::DraftLemmas::too_long, crate::proofs::DraftLemmas::drafted, crate::proofs::DraftLemmas::refused_in))]
+    #[tactic(auto, using(crate::proofs::DraftLemmas::byte_drafts))]
     pub fn draft_of(&mut self, bytes: &[u8]) -> Result<Text<L>, DraftError>
-        ensures ok { IfOk result (λ text. drafts_of self.old bytes.now ≡ Ok (text, self.new)) }
-        ensures refused { IfErr result (λ e. e ≡ draft_refusal (drafts_of self.old bytes.now)) }
+        ensures answer { Answers (drafts_of self.old bytes.now) DraftError.Memory
+            self.old self.new result }
         ensures memory { IsErrOf result DraftError.Memory → INLINE_LEN < length bytes.now }
-        ensures unchanged { OnErr result (self.new ≡ self.old) }
     {
         if bytes.len() as u64 > MSGMAX {
             return Err(DraftError::TooLong);

@@ -21,8 +21,7 @@ impl Error for Refused {}
 impl<B> SendRefused<B> {
     /// The refusal, and the text to send again or to spend.
     pub fn into_text(self) -> (Refused, B)
-        ensures refused { result.0 ≡ self.refused }
-        ensures text { result.1 ≡ self.text }
+        ensures { result ≡ (self.refused, self.text) }
     {
         let SendRefused { refused, text } = self;
         (refused, text)

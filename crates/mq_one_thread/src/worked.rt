@@ -7,9 +7,6 @@ use crate::DEFAULTS;
 
 /// The size that `DEFAULTS` is.
 pub fn the_defaults()
-    ensures height { DEFAULTS.height ≡ 10 }
-    ensures slots { DEFAULTS.slots ≡ 16 }
-    ensures seats { DEFAULTS.seats ≡ 16 }
-    ensures last_seq { DEFAULTS.last_seq ≡ 32767 }
+    ensures size { DEFAULTS ≡ record { height = 10; slots = 16; seats = 16; last_seq = 32767 } }
     ensures limits { keeps_limits DEFAULTS ≡ true }
 {}

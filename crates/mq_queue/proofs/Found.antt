@@ -1,5 +1,5 @@
 -- The message that the waiting list finds is the one that the log names.
-use Rattle.std.proofs.Common.{◌≡◌, ℕ, nat_le, ◌==◌, List, [], ◌∷◌, length, map, find, filter, Option, Some, None, Result, Ok, Err, if◌then◌else◌, IfSome, IsSome, Bool, true, false, not, ◌||◌, cond, refl, ap, subst, sym, ◌∙◌}
+use Rattle.std.proofs.Common.{◌≡◌, ℕ, nat_le, ◌==◌, List, [], ◌∷◌, length, map, find, filter, Option, Some, None, Ok, Err, if◌then◌else◌, IfSome, IsSome, Bool, true, false, not, ◌||◌, cond, refl, ap, subst, sym, ◌∙◌}
 use Rattle.std.specs.Option.{option_map}
 use Rattle.std.proofs.lemmas.Option.{none-some, same_Some}
 use Rattle.mq_message.specs.declared.message.Message.{Message}
@@ -8,10 +8,9 @@ use Rattle.mq_select.specs.Selection.{pick, eligible}
 use Rattle.mq_select.specs.declared.header.Header.{Header}
 use Rattle.mq_select.specs.Waiting.{header_of, headers_of, message_at, without}
 use Rattle.mq_select.proofs.Places.{picked_waits}
-use Rattle.mq_queue.specs.declared.error.QueueError.{QueueError}
-use Rattle.mq_queue.specs.declared.error.QueueError.TheVariants.{NoMessage, TooBig, Memory}
+use Rattle.mq_queue.specs.declared.error.QueueError.TheVariants.{NoMessage, TooBig}
 use Rattle.mq_queue.specs.declared.event.Event.{Event}
-use Rattle.mq_queue.specs.Answer.{receive_answer, receive_refusal, handed_out, refusal_or_memory}
+use Rattle.mq_queue.specs.Answer.{receive_answer, receive_refusal, handed_out}
 use Rattle.mq_queue.specs.Queue.{IsSound}
 use Rattle.mq_queue.specs.Waiting.{waiting}
 use Rattle.mq_queue.proofs.Places.{Rises, found_at, whole_at}
@@ -97,8 +96,3 @@ too_big_found bytes log messages size selection noerror place n sound found long
 pub fitting_found : {B : Type 0} (bytes : B → List ℕ) (log : List Event) (messages : List (ℕ × Message B)) (size : ℕ) (selection : Selection) (noerror : Bool) (place n : ℕ) → IsSound bytes log messages → Some place ≡ option_map (λ m. m.0) (pick (λ m. m.1.mtype) messages selection) → IfSome (message_at place messages) (λ m. n ≡ length (bytes m.body)) → true ≡ (noerror || nat_le n size) → receive_refusal (receive_answer (waiting log) size selection noerror) ≡ None
 fitting_found bytes log messages size selection noerror place n sound found long fits =
     rw ((answer_found bytes log messages size selection noerror place n sound found long).1, ← fits) refl
-
--- who is not refused can want memory alone
-pub memory_alone : (answer : Result Header QueueError) → receive_refusal answer ≡ None → Memory ≡ refusal_or_memory answer
-memory_alone (Ok m) e = refl
-memory_alone (Err e) same = cc

@@ -110,48 +110,35 @@ made_kept bytes base tail messages kept seat moment key known begun none same = 
   short = omega arith;
 })
 
+-- a queue that goes on by its whole log is kept, with the base that it had
+with_more : {B : Type 0} (bytes : B → List ℕ) (base : Base) (tail tail' : List Event) (messages messages' : List (ℕ × Message B)) (kept kept' : Figures) (k : IsKept bytes base tail messages kept) → IsSound bytes (k.cut ++ tail') messages' → AreFigures (k.cut ++ tail') kept' → IsKept bytes base tail' messages' kept'
+with_more bytes base tail tail' messages messages' kept kept' k sound are =
+    record { cut = k.cut; opened = k.opened; known = k.known; sound = sound; figures = are; short = k.short }
+
 -- a message is sent
 pub sent_kept : {B : Type 0} (bytes : B → List ℕ) (base : Base) (tail tail' : List Event) (messages messages' : List (ℕ × Message B)) (kept kept' : Figures) (m : Message B) (moment n : ℕ) → IsKept bytes base tail messages kept → pos 1 ≤ℤ m.mtype → n ≤ MSGMAX → true ≡ (nat_le (kept.cbytes + n) kept.qbytes && nat_le (kept.qnum + 1) kept.qbytes) → n ≡ length (bytes m.body) → tail' ≡ tail ++ Sent m.sender moment m.tag m.mtype n ∷ [] → messages' ≡ messages ++ (base.places + length tail, m) ∷ [] → kept' ≡ record kept { qnum = kept.qnum + 1; cbytes = kept.cbytes + n; stime = moment; lspid = m.sender } → IsKept bytes base tail' messages' kept'
 sent_kept {B} bytes base tail tail' messages messages' kept kept' m moment n k low short room long grown added same =
-    let event : Event = Sent m.sender moment m.tag m.mtype n in
-    let more = grown_at k.cut tail tail' event grown in
+    let more = grown_at k.cut tail tail' (Sent m.sender moment m.tag m.mtype n) grown in
     let at : messages' ≡ messages ++ (length (k.cut ++ tail), m) ∷ [] = added ∙ ap (λ (p : ℕ). messages ++ (p, m) ∷ []) (sym (length_at base k.cut tail k.known)) in
-    record {
-      cut = k.cut;
-      opened = k.opened;
-      known = k.known;
-      sound = sent_sound bytes (k.cut ++ tail) (k.cut ++ tail') kept messages messages' m moment n k.sound k.figures low short room long more at;
-      figures = subst (λ (f : Figures). AreFigures (k.cut ++ tail') f) (sym same) (sent_figures (k.cut ++ tail) (k.cut ++ tail') kept m.sender moment m.tag m.mtype n k.sound.lawful k.figures room more);
-      short = k.short;
-    }
+    with_more bytes base tail tail' messages messages' kept kept' k
+    (sent_sound bytes (k.cut ++ tail) (k.cut ++ tail') kept messages messages' m moment n k.sound k.figures low short room long more at)
+    (subst (λ (f : Figures). AreFigures (k.cut ++ tail') f) (sym same) (sent_figures (k.cut ++ tail) (k.cut ++ tail') kept m.sender moment m.tag m.mtype n k.sound.lawful k.figures room more))
 
 -- the quota is set
 pub changed_kept : {B : Type 0} (bytes : B → List ℕ) (base : Base) (tail tail' : List Event) (messages : List (ℕ × Message B)) (kept kept' : Figures) (seat moment qbytes : ℕ) → IsKept bytes base tail messages kept → qbytes ≤ MSGMNB → tail' ≡ tail ++ Changed seat moment qbytes ∷ [] → kept' ≡ record kept { qbytes = qbytes; ctime = moment } → IsKept bytes base tail' messages kept'
 changed_kept bytes base tail tail' messages kept kept' seat moment qbytes k limit grown same =
-    let event : Event = Changed seat moment qbytes in
-    let more = grown_at k.cut tail tail' event grown in
-    record {
-      cut = k.cut;
-      opened = k.opened;
-      known = k.known;
-      sound = changed_sound bytes (k.cut ++ tail) (k.cut ++ tail') messages seat moment qbytes k.sound limit more;
-      figures = subst (λ (f : Figures). AreFigures (k.cut ++ tail') f) (sym same) (changed_figures (k.cut ++ tail) (k.cut ++ tail') kept seat moment qbytes k.sound.lawful k.figures limit more);
-      short = k.short;
-    }
+    let more = grown_at k.cut tail tail' (Changed seat moment qbytes) grown in
+    with_more bytes base tail tail' messages messages kept kept' k
+    (changed_sound bytes (k.cut ++ tail) (k.cut ++ tail') messages seat moment qbytes k.sound limit more)
+    (subst (λ (f : Figures). AreFigures (k.cut ++ tail') f) (sym same) (changed_figures (k.cut ++ tail) (k.cut ++ tail') kept seat moment qbytes k.sound.lawful k.figures limit more))
 
 -- a message is received
 pub taken_kept : {B : Type 0} (bytes : B → List ℕ) (base : Base) (tail tail' : List Event) (messages messages' : List (ℕ × Message B)) (kept kept' : Figures) (selection : Selection) (size : ℕ) (noerror : Bool) (m : Header) (seat moment : ℕ) (k : IsKept bytes base tail messages kept) → IsTaken (k.cut ++ tail) selection size noerror m → tail' ≡ tail ++ Received seat moment m.place selection size noerror ∷ [] → messages' ≡ without m.place messages → kept' ≡ record kept { qnum = kept.qnum - 1; cbytes = kept.cbytes - m.length; rtime = moment; lrpid = seat } → IsKept bytes base tail' messages' kept'
 taken_kept bytes base tail tail' messages messages' kept kept' selection size noerror m seat moment k taken grown left same =
-    let event : Event = Received seat moment m.place selection size noerror in
-    let more = grown_at k.cut tail tail' event grown in
-    record {
-      cut = k.cut;
-      opened = k.opened;
-      known = k.known;
-      sound = taken_sound bytes (k.cut ++ tail) (k.cut ++ tail') messages messages' selection size noerror m seat moment k.sound taken more left;
-      figures = subst (λ (f : Figures). AreFigures (k.cut ++ tail') f) (sym same) (taken_figures (k.cut ++ tail) (k.cut ++ tail') kept selection size noerror m seat moment k.sound.lawful k.figures taken more);
-      short = k.short;
-    }
+    let more = grown_at k.cut tail tail' (Received seat moment m.place selection size noerror) grown in
+    with_more bytes base tail tail' messages messages' kept kept' k
+    (taken_sound bytes (k.cut ++ tail) (k.cut ++ tail') messages messages' selection size noerror m seat moment k.sound taken more left)
+    (subst (λ (f : Figures). AreFigures (k.cut ++ tail') f) (sym same) (taken_figures (k.cut ++ tail) (k.cut ++ tail') kept selection size noerror m seat moment k.sound.lawful k.figures taken more))
 
 -- it is the receiver's answer
 pub taken_shown : {B : Type 0} (bytes : B → List ℕ) (base : Base) (tail : List Event) (messages : List (ℕ × Message B)) (kept : Figures) (selection : Selection) (size : ℕ) (noerror : Bool) (m : Header) (k : IsKept bytes base tail messages kept) → IsTaken (k.cut ++ tail) selection size noerror m → receive_answer (waiting_from base tail) size selection noerror ≡ Ok m

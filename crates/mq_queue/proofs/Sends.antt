@@ -35,7 +35,7 @@ not_refused waiting quota mtype n e = by (int_lt mtype (pos 1)) (nat_lt MSGMAX n
 pub room_kept : (log : List Event) (kept : Figures) (mtype : ℤ) (n : ℕ) → AreFigures log kept → None ≡ send_refusal (waiting log) (quota log) mtype n → true ≡ (nat_le (kept.cbytes + n) kept.qbytes && nat_le (kept.qnum + 1) kept.qbytes)
 room_kept log kept mtype n are free = sym (room_is log kept n are ∙ (not_refused (waiting log) (quota log) mtype n free).2)
 
-map_push : {X Y : Type 0} (f : X → Y) (xs : List X) (x : X) → map f (xs ++ x ∷ []) ≡ map f xs ++ f x ∷ []
+pub map_push : {X Y : Type 0} (f : X → Y) (xs : List X) (x : X) → map f (xs ++ x ∷ []) ≡ map f xs ++ f x ∷ []
 map_push f [] x = refl
 map_push f (y ∷ ys) x = ap (λ zs. f y ∷ zs) (map_push f ys x)
 

@@ -6,6 +6,7 @@ pub mod LawfulFrom
 pub mod Laws
 pub mod Log
 pub mod Queue
+pub mod QueueCalls
 pub mod Replay
 pub mod Replies
 pub mod Room

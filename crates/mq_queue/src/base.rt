@@ -50,14 +50,6 @@ impl BaseEntries {
         let entries = Vec::from_slice(alloc, &self.entries)?;
         Ok(BaseEntries { entries })
     }
-
-    /// The entries themselves. This takes no memory.
-    pub fn into_entries(self) -> Vec<BaseEntry>
-        ensures { result.items ≡ self }
-    {
-        let BaseEntries { entries } = self;
-        entries
-    }
 }
 
 /// What is known of the events of a log that were cut off: how many they are, and the figures and

@@ -1,9 +1,8 @@
-ghost use Rattle.std.specs.Prelude.{◌≡◌, ◌+◌, ◌++◌, ◌∷◌, [], length, unwrap_or};
-ghost use Rattle.std.specs.Prelude.{OnOk, OnErr, IfOk, IfErr};
+ghost use Rattle.std.specs.Prelude.{◌≡◌, unwrap_or, IfOk, MatchResult};
 ghost use Rattle.mq_queue.specs.Answer.{set_refusal};
 ghost use Rattle.mq_queue.specs.Base.{figures_from};
 ghost use Rattle.mq_queue.specs.LawfulFrom.{LawfulFrom};
-ghost use Rattle.mq_queue.specs.Queue.{IsSoundFrom};
+ghost use Rattle.mq_queue.specs.QueueCalls.{IsEndedQueue, IsQuotaSet, IsRefusedBy};
 
 use crate::log::{append, reserve, whole_count};
 use crate::{Event, Figures, Log, MSGMNB, NO_FIGURES, Notice, QueueError, QueueState};
@@ -21,20 +20,13 @@ impl<B: Body, W: Waiting<B>> QueueState<B, W> {
         moment: u64,
         notice: &mut N,
     ) -> Result<u64, QueueError>
-        ensures refused { IfErr result (λ e. e ≡ unwrap_or (set_refusal qbytes) QueueError.Memory) }
-        ensures unchanged { OnErr result (self.new ≡ self.old) }
-
-        ensures accepted { OnOk result (set_refusal qbytes ≡ None) }
-        ensures place { IfOk result (λ place.
-            place ≡ self.old.base.places + length self.old.tail) }
-        ensures base { self.new.base ≡ self.old.base }
-        ensures tail { OnOk result
-            (self.new.tail ≡ self.old.tail ++ Event.Changed seat moment qbytes ∷ []) }
-        ensures messages { self.new.messages ≡ self.old.messages }
-        ensures sound { IsSoundFrom B.bytes self.new.base self.new.tail self.new.messages }
-        ensures noticed { OnOk result (N.takes notice.old (Event.Changed seat moment qbytes)
-            (figures_from self.new.base self.new.tail) notice.new) }
-        ensures unnoticed { OnErr result (notice.new ≡ notice.old) }
+        ensures answer { MatchResult result
+            (IsQuotaSet qbytes seat moment self.old self.new)
+            (IsRefusedBy (unwrap_or (set_refusal qbytes) QueueError.Memory) self.old self.new) }
+        ensures noticed { MatchResult result
+            (λ _. N.takes notice.old (Event.Changed seat moment qbytes)
+            (figures_from self.new.base self.new.tail) notice.new)
+            (λ _. notice.new ≡ notice.old) }
     {
         let kept = self.kept;
         if qbytes > MSGMNB {
@@ -68,15 +60,14 @@ impl<B: Body, W: Waiting<B>> QueueState<B, W> {
         moment: u64,
         notice: &mut N,
     ) -> Result<(Log, W), QueueState<B, W>>
-        ensures handed_back { IfErr result (λ q. q ≡ self) }
-
-        ensures base { IfOk result (λ r. r.0.base ≡ self.base) }
-        ensures tail { IfOk result (λ r. r.0.tail ≡ self.tail ++ Event.Removed seat moment ∷ []) }
-        ensures messages { IfOk result (λ r. W.messages r.1 ≡ self.messages) }
+        ensures answer { MatchResult result
+            (λ r. IsEndedQueue seat moment self r.0 (W.messages r.1))
+            (λ q. q ≡ self) }
         ensures lawful { IfOk result (λ r. LawfulFrom r.0.base r.0.tail) }
-        ensures noticed { IfOk result (λ r. N.takes notice.old (Event.Removed seat moment)
-            (figures_from r.0.base r.0.tail) notice.new) }
-        ensures unnoticed { OnErr result (notice.new ≡ notice.old) }
+        ensures noticed { MatchResult result
+            (λ r. N.takes notice.old (Event.Removed seat moment)
+            (figures_from r.0.base r.0.tail) notice.new)
+            (λ _. notice.new ≡ notice.old) }
     {
         let mut queue = self;
         let removed = Event::Removed { seat, moment };

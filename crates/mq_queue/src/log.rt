@@ -1,5 +1,5 @@
 ghost use Rattle.std.specs.Prelude.{◌≡◌, ◌<◌, ◌≤◌, ◌+◌, ◌++◌, ◌∷◌, [], length, vec_len, vec_capacity};
-ghost use Rattle.std.specs.Prelude.{OnOk, OnErr};
+ghost use Rattle.std.specs.Prelude.{MatchResult, OnOk};
 ghost use Rattle.mq_queue.specs.Base.{event_from};
 ghost use Rattle.mq_queue.specs.declared.limits.TheConstants.{MAX_CUT};
 
@@ -30,8 +30,7 @@ impl Model for Log {
 impl Log {
     pub(crate) fn of(base: Base, tail: Vec<Event>) -> Log
         requires { base.places ≤ MAX_CUT }
-        ensures base { result.base ≡ base }
-        ensures tail { result.tail ≡ tail.items }
+        ensures { result ≡ record { base = base; tail = tail.items } }
     {
         Log { base, tail }
     }
@@ -96,8 +95,8 @@ pub(crate) fn reserve<N: Notice>(
 ) -> Result<(), AllocError>
     ensures items { events.new.items ≡ events.old.items }
     ensures room { OnOk result (vec_len events.new < vec_capacity events.new) }
-    ensures noticed { OnOk result (N.takes notice.old event after notice.new) }
-    ensures unnoticed { OnErr result (notice.new ≡ notice.old) }
+    ensures noticed { MatchResult result (λ _. N.takes notice.old event after notice.new)
+        (λ _. notice.new ≡ notice.old) }
 {
     events.reserve(1)?;
     notice.prepare(event, after)

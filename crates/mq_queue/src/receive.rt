@@ -1,12 +1,11 @@
-ghost use Rattle.std.specs.Prelude.{◌≡◌, ◌+◌, ◌||◌, ◌++◌, ◌∷◌, [], length, min, take, nat_le, true, IsSomeAnd};
-ghost use Rattle.std.specs.Prelude.{OnOk, OnErr, IfOk, IfErr, Ok, Err, Some, None, IfSome};
+ghost use Rattle.std.specs.Prelude.{◌≡◌, ◌||◌, length, nat_le, true, Err, Some, None};
+ghost use Rattle.std.specs.Prelude.{IfErr, IfOk, IfSome, MatchResult, OnOk};
 ghost use Rattle.std.specs.Option.{option_map};
 ghost use Rattle.mq_select.specs.Selection.{pick};
-ghost use Rattle.mq_select.specs.Waiting.{header_of, message_at, without};
-ghost use Rattle.mq_queue.specs.Answer.{receive_answer, receive_refusal, received_header};
-ghost use Rattle.mq_queue.specs.Answer.{refusal_or_memory};
+ghost use Rattle.mq_select.specs.Waiting.{message_at};
+ghost use Rattle.mq_queue.specs.Answer.{receive_answer, receive_refusal, refusal_or_memory};
 ghost use Rattle.mq_queue.specs.Base.{figures_from, waiting_from};
-ghost use Rattle.mq_queue.specs.Queue.{IsSoundFrom};
+ghost use Rattle.mq_queue.specs.QueueCalls.{IsHandedOut, IsRefusedBy, IsWhatWaited};
 
 use crate::log::{append, reserve, whole_count};
 use crate::{Event, Figures, Notice, QueueError, QueueState, Received};
@@ -79,30 +78,17 @@ impl<B: Body, W: Waiting<B>> QueueState<B, W> {
         moment: u64,
         notice: &mut N,
     ) -> Result<Received<B>, QueueError>
-        ensures refused { IfErr result (λ e. e ≡ refusal_or_memory
-            (receive_answer (waiting_from self.old.base self.old.tail) size selection noerror)) }
-        ensures unchanged { OnErr result (self.new ≡ self.old) }
-
-        ensures accepted { IfOk result (λ r.
-            receive_answer (waiting_from self.old.base self.old.tail) size selection noerror
-            ≡ Ok (received_header r)) }
-        ensures body { IfOk result (λ r. IsSomeAnd (message_at r.place self.old.messages) (λ m.
-            (B.bytes r.body ≡ take size (B.bytes m.body)) × B.keeps m.body r.body)) }
-        ensures sent { IfOk result (λ r. IsSomeAnd (message_at r.place self.old.messages) (λ m.
-            received_header r ≡ header_of B.bytes (r.place, m))) }
-        ensures length { IfOk result (λ r. length (B.bytes r.body) ≡ min r.length size) }
-        ensures entry { IfOk result (λ r.
-            r.entry ≡ self.old.base.places + length self.old.tail) }
-        ensures base { self.new.base ≡ self.old.base }
-        ensures tail { IfOk result (λ r. self.new.tail
-            ≡ self.old.tail ++ Event.Received seat moment r.place selection size noerror ∷ []) }
-        ensures messages { IfOk result (λ r.
-            self.new.messages ≡ without r.place self.old.messages) }
-        ensures sound { IsSoundFrom B.bytes self.new.base self.new.tail self.new.messages }
-        ensures noticed { IfOk result (λ r. N.takes notice.old
+        ensures answer { MatchResult result
+            (IsHandedOut size selection noerror seat moment self.old self.new)
+            (IsRefusedBy (refusal_or_memory (receive_answer
+            (waiting_from self.old.base self.old.tail) size selection noerror))
+            self.old self.new) }
+        ensures body { IfOk result (IsWhatWaited B.bytes B.keeps size self.old.messages) }
+        ensures noticed { MatchResult result
+            (λ r. N.takes notice.old
             (Event.Received seat moment r.place selection size noerror)
-            (figures_from self.new.base self.new.tail) notice.new) }
-        ensures unnoticed { OnErr result (notice.new ≡ notice.old) }
+            (figures_from self.new.base self.new.tail) notice.new)
+            (λ _. notice.new ≡ notice.old) }
     {
         let kept = self.kept;
         let Chosen { place, length } = self.choose(size, selection, noerror)?;

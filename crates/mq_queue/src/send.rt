@@ -1,8 +1,7 @@
-ghost use Rattle.std.specs.Prelude.{◌≡◌, ◌+◌, ◌<◌, ◌^◌, ◌&&◌, ◌++◌, ◌∷◌, [], length, nat_le, unwrap_or};
-ghost use Rattle.std.specs.Prelude.{OnOk, OnErr, IfOk, IfErr};
+ghost use Rattle.std.specs.Prelude.{◌≡◌, ◌+◌, ◌<◌, ◌^◌, ◌&&◌, length, nat_le, unwrap_or, MatchResult};
 ghost use Rattle.mq_queue.specs.Answer.{send_refusal};
 ghost use Rattle.mq_queue.specs.Base.{figures_from, quota_from, waiting_from};
-ghost use Rattle.mq_queue.specs.Queue.{IsSoundFrom};
+ghost use Rattle.mq_queue.specs.QueueCalls.{IsHandedBack, IsQueued, sending};
 
 use crate::log::{append, reserve, whole_count};
 use crate::{Event, Figures, MSGMAX, Notice, QueueError, QueueState};
@@ -47,27 +46,15 @@ impl<B: Body, W: Waiting<B>> QueueState<B, W> {
         moment: u64,
         notice: &mut N,
     ) -> Result<u64, (QueueError, Message<B>)>
-        ensures refused { IfErr result (λ r. r.0 ≡ unwrap_or (send_refusal
-            (waiting_from self.old.base self.old.tail) (quota_from self.old.base self.old.tail)
-            message.mtype (length (B.bytes message.body))) QueueError.Memory) }
-        ensures handed_back { IfErr result (λ r. r.1 ≡ message) }
-        ensures unchanged { OnErr result (self.new ≡ self.old) }
-
-        ensures accepted { OnOk result (send_refusal
-            (waiting_from self.old.base self.old.tail) (quota_from self.old.base self.old.tail)
-            message.mtype (length (B.bytes message.body)) ≡ None) }
-        ensures place { IfOk result (λ place.
-            place ≡ self.old.base.places + length self.old.tail) }
-        ensures base { self.new.base ≡ self.old.base }
-        ensures tail { OnOk result (self.new.tail ≡ self.old.tail ++ Event.Sent message.sender
-            moment message.tag message.mtype (length (B.bytes message.body)) ∷ []) }
-        ensures messages { OnOk result (self.new.messages ≡ self.old.messages
-            ++ (self.old.base.places + length self.old.tail, message) ∷ []) }
-        ensures sound { IsSoundFrom B.bytes self.new.base self.new.tail self.new.messages }
-        ensures noticed { OnOk result (N.takes notice.old (Event.Sent message.sender moment
-            message.tag message.mtype (length (B.bytes message.body)))
-            (figures_from self.new.base self.new.tail) notice.new) }
-        ensures unnoticed { OnErr result (notice.new ≡ notice.old) }
+        ensures answer { MatchResult result
+            (IsQueued B.bytes message moment self.old self.new)
+            (IsHandedBack (unwrap_or (send_refusal (waiting_from self.old.base self.old.tail)
+            (quota_from self.old.base self.old.tail) message.mtype (length (B.bytes message.body)))
+            QueueError.Memory) message self.old self.new) }
+        ensures noticed { MatchResult result
+            (λ _. N.takes notice.old (sending B.bytes message moment)
+            (figures_from self.new.base self.new.tail) notice.new)
+            (λ _. notice.new ≡ notice.old) }
     {
         let kept = self.kept;
         let length = message.body.len();

@@ -1,6 +1,7 @@
-ghost use Rattle.std.specs.Prelude.{◌≡◌, ◌<◌, ◌≤◌, ◌+◌, ◌^◌, ◌∷◌, [], length, IfOk, OnErr};
-ghost use Rattle.mq_queue.specs.Base.{base_of, event_from, figures_from};
+ghost use Rattle.std.specs.Prelude.{◌≡◌, ◌<◌, ◌≤◌, ◌+◌, ◌^◌, length, IfOk, MatchResult};
+ghost use Rattle.mq_queue.specs.Base.{event_from, figures_from};
 ghost use Rattle.mq_queue.specs.Queue.{IsSoundFrom};
+ghost use Rattle.mq_queue.specs.QueueCalls.{IsNewQueue};
 ghost use Rattle.mq_queue.specs.declared.limits.TheConstants.{MAX_CUT};
 
 use crate::log::{append, event_at, whole_count};
@@ -39,7 +40,7 @@ impl<B: Body, W: Waiting<B>> Model for QueueState<B, W> {
 impl<B: Body, W: Waiting<B>> QueueState<B, W> {
     /// A new queue, with no message and the greatest quota (msgget(2)). `Err` means out of memory.
     /// The notice takes the event in, with the figures after it.
-    #[tactic(auto, using(crate::proofs::Keeps::made_kept, crate::proofs::Keeps::sound_kept, crate::proofs::Keeps::shown_kept))]
+    #[tactic(auto, using(crate::proofs::Keeps::made_kept, crate::proofs::Keeps::shown_kept))]
     pub fn made<N: Notice>(
         alloc: Global,
         key: i32,
@@ -47,13 +48,11 @@ impl<B: Body, W: Waiting<B>> QueueState<B, W> {
         moment: u64,
         notice: &mut N,
     ) -> Result<QueueState<B, W>, AllocError>
-        ensures base { IfOk result (λ q. q.base ≡ base_of []) }
-        ensures tail { IfOk result (λ q. q.tail ≡ Event.Made seat moment key ∷ []) }
-        ensures messages { IfOk result (λ q. q.messages ≡ []) }
-        ensures sound { IfOk result (λ q. IsSoundFrom B.bytes q.base q.tail q.messages) }
-        ensures noticed { IfOk result (λ q. N.takes notice.old (Event.Made seat moment key)
-            (figures_from q.base q.tail) notice.new) }
-        ensures unnoticed { OnErr result (notice.new ≡ notice.old) }
+        ensures answer { IfOk result (IsNewQueue seat moment key) }
+        ensures noticed { MatchResult result
+            (λ q. N.takes notice.old (Event.Made seat moment key)
+            (figures_from q.base q.tail) notice.new)
+            (λ _. notice.new ≡ notice.old) }
     {
         let mut tail = Vec::with_capacity(alloc, 1)?;
         let made = Event::Made { seat, moment, key };
@@ -78,10 +77,16 @@ impl<B: Body, W: Waiting<B>> QueueState<B, W> {
         })
     }
 
+    /// What holds of each queue: it is not removed, and what waits is what its log leaves waiting.
+    pub fn holds(&self)
+        ensures { IsSoundFrom B.bytes self.now.base self.now.tail self.now.messages }
+    {
+        let _ = &self.base;
+    }
+
     /// What IPC_STAT shows (msgctl(2)). No call goes through the log for it.
     pub fn figures(&self) -> Figures
-        ensures value { result ≡ figures_from self.now.base self.now.tail }
-        ensures sound { IsSoundFrom B.bytes self.now.base self.now.tail self.now.messages }
+        ensures { result ≡ figures_from self.now.base self.now.tail }
     {
         self.kept
     }
@@ -130,7 +135,6 @@ impl<B: Body, W: Waiting<B>> QueueState<B, W> {
         ensures base { result.0.base ≡ self.base }
         ensures tail { result.0.tail ≡ self.tail }
         ensures messages { W.messages result.1 ≡ self.messages }
-        ensures sound { IsSoundFrom B.bytes self.base self.tail self.messages }
     {
         let QueueState {
             base,

@@ -16,7 +16,7 @@ ghost use Rattle.mq_queue.specs.Worked.{quota_of_4, ef_for_ab, four_texts, over_
 ghost use Rattle.mq_queue.specs.Worked.{hello_received, two_of_type_1, made, removed};
 
 /// With a quota of 4, the bytes are at most 4, and so are the messages.
-pub fn room_by_quota()
+pub(crate) fn room_by_quota()
     ensures first { send_refusal [] 4 (pos 1) 2 ≡ None }
     ensures second { send_refusal (text 1 1 2 ∷ []) 4 (pos 1) 2 ≡ None }
     ensures byte_more { send_refusal ab_and_cd 4 (pos 1) 1 ≡ Some Full }
@@ -26,7 +26,7 @@ pub fn room_by_quota()
 {}
 
 /// The type is looked at first, then the length, then the room.
-pub fn first_refusal()
+pub(crate) fn first_refusal()
     ensures mtype { send_refusal [] 4 (pos 0) 65537 ≡ Some TypeInvalid }
     ensures length { send_refusal [] 4 (pos 1) 65537 ≡ Some TooLong }
     ensures room { send_refusal [] 4 (pos 1) 65536 ≡ Some Full }
@@ -35,7 +35,7 @@ pub fn first_refusal()
 
 /// A text that is too long for the receiver is refused, though a later one would fit, or it is
 /// cut, to nothing too.
-pub fn too_big()
+pub(crate) fn too_big()
     ensures shorter { receive_answer hello_and_hi 4 Any false ≡ Err TooBig }
     ensures same { receive_answer hello_and_hi 5 Any false ≡ Ok (text 1 5 5) }
     ensures cut { receive_answer hello_and_hi 4 Any true ≡ Ok (text 1 5 5) }
@@ -45,7 +45,7 @@ pub fn too_big()
 {}
 
 /// With types up to 2 the lowest type comes first, and with type 1 excepted the first other.
-pub fn selected()
+pub(crate) fn selected()
     ensures lowest { receive_answer four_types 9 (UpTo 2) false ≡ Ok (text 2 1 1) }
     ensures then { receive_answer (drop 2 four_types) 9 (UpTo 2) false ≡ Ok (text 4 1 1) }
     ensures other { receive_answer (drop 1 four_types) 9 (Except (pos 1)) false ≡ Ok (text 3 2 1) }
@@ -53,7 +53,7 @@ pub fn selected()
 {}
 
 /// "ab" and "cd" wait under a quota of 4: there is room for two empty texts, and then for none.
-pub fn full_by_bytes_and_by_count()
+pub(crate) fn full_by_bytes_and_by_count()
     ensures waits { waiting quota_of_4 ≡ ab_and_cd }
     ensures quota { quota quota_of_4 ≡ 4 }
     ensures made { quota (made 1 ∷ []) ≡ 131072 }
@@ -64,7 +64,7 @@ pub fn full_by_bytes_and_by_count()
 
 /// A queue may hold more than a quota that was lowered. It is full then, also for an empty text,
 /// until the messages that are too many are received.
-pub fn over_and_under()
+pub(crate) fn over_and_under()
     ensures over { send_refusal (waiting over_quota) (quota over_quota) (pos 1) 0 ≡ Some Full }
     ensures received { receive_answer (waiting over_quota) 9 Any false ≡ Ok (text 1 1 6) }
     ensures under { send_refusal (waiting under_quota) (quota under_quota) (pos 1) 0 ≡ None }
@@ -75,7 +75,7 @@ pub fn over_and_under()
 {}
 
 /// The figures after a sending, a new quota and a receipt, and after the removal.
-pub fn figures_shown()
+pub(crate) fn figures_shown()
     ensures live { figures hello_received ≡ record {
       qnum = 0;
       cbytes = 0;
@@ -101,14 +101,14 @@ pub fn figures_shown()
 {}
 
 /// A log that is replayed: what is left, and what the last two receivers got.
-pub fn played_again()
+pub(crate) fn played_again()
     ensures waits { (state_after two_of_type_1).headers ≡ text 1 3 1 ∷ text 3 2 1 ∷ [] }
     ensures answers { drop 5 (replayed two_of_type_1)
         ≡ Ok (Some (text 2 1 1)) ∷ Ok (Some (text 4 1 1)) ∷ [] }
 {}
 
 /// The log of "ab", "cd" and the quota of 4 is cut off, and then "ef" is sent for "ab".
-pub fn cut_and_gone_on()
+pub(crate) fn cut_and_gone_on()
     ensures places { (base_of quota_of_4).places ≡ 4 }
     ensures figures { (base_of quota_of_4).figures ≡ figures quota_of_4 }
     ensures waiting { (base_of quota_of_4).waiting ≡ ab_and_cd }

@@ -24,6 +24,5 @@ fn the_messages_of_a_base_are_read_one_by_one(rt: HostRuntime) -> Result<(), Fai
     assert!(rt; entries.len() == 2);
     assert!(rt; entries.get(0) == Some(first) && entries.get(1) == Some(second));
     assert!(rt; entries.get(2) == None && entries.get(u64::MAX) == None);
-    assert!(rt; entries.into_entries().as_slice() == [first, second].as_slice());
     Ok(())
 }

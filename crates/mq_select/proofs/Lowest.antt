@@ -1,35 +1,13 @@
--- The lowest type within a bound, by recursion on the types that wait.
-use Rattle.std.proofs.Common.{◌≡◌, ◌⊎◌, inl, inr, ℕ, suc, ℤ, pos, ◌<ℤ◌, ◌≤ℤ◌, int_le, int_lt, List, [], ◌∷◌, All, Contains, filter, fold, Option, Some, None, Bool, true, false, if◌then◌else◌, refl, sym, ap, ◌∙◌, arith}
+-- The first of the elements of the lowest type within a bound, by one reading of a list.
+use Rattle.std.proofs.Common.{◌≡◌, ℕ, ℤ, pos, ◌<ℤ◌, ◌≤ℤ◌, int_le, int_lt, List, [], ◌∷◌, ◌++◌, All, Contains, filter, find, fold, Option, Some, None, Bool, true, false, cond, if◌then◌else◌, refl, sym, ap, ◌∙◌, subst, inl, inr, arith, append_assoc, append-nil}
+use Rattle.std.specs.Option.{option_or}
+use Rattle.std.specs.Ordering.{int_eq}
+use Rattle.std.proofs.lemmas.Bool.{cases_Bool, cond-true, cond-false}
 use Rattle.std.proofs.lemmas.Int.{ints}
-use Rattle.std.proofs.lemmas.List.Elements.{All-nil, All-cons}
+use Rattle.std.proofs.lemmas.List.Elements.{All-nil, All-head, All-tail, All-push, All-weaker, Contains-push, Contains-append_left}
+use Rattle.std.proofs.lemmas.List.Folds.{find-append}
 use Rattle.mq_select.specs.Selection.{least_of, lower_of}
 use Rattle.mq_select.specs.Laws.{IsLowest}
-
--- the types that are at most the bound
-abbrev within : ℕ → List ℤ → List ℤ
-within bound xs = filter (λ t. int_le t (pos bound)) xs
-
--- what comes of the types xs after the lowest so far was a
-record Lowers (bound : ℕ) (a : ℤ) (xs : List ℤ) : Type 0 where
-  least : ℤ
-  is : fold lower_of (Some a) (within bound xs) ≡ Some least
-  among : (least ≡ a) ⊎ Contains xs least
-  below : least ≤ℤ a
-  lowest : All (λ t. t ≤ℤ pos bound → least ≤ℤ t) xs
-
-at_head : (x m : ℤ) (xs : List ℤ) → m ≡ x → Contains (x ∷ xs) m
-at_head x m xs e = (0, omega arith, sym e)
-
-at_tail : (x m : ℤ) (xs : List ℤ) → Contains xs m → Contains (x ∷ xs) m
-at_tail x m xs h = (suc h.0, omega arith, h.2)
-
-among_more : (a x m : ℤ) (xs : List ℤ) → (m ≡ a) ⊎ Contains xs m → (m ≡ a) ⊎ Contains (x ∷ xs) m
-among_more a x m xs (inl e) = inl e
-among_more a x m xs (inr h) = inr (at_tail x m xs h)
-
-among_head : (x m : ℤ) (xs : List ℤ) → (m ≡ x) ⊎ Contains xs m → Contains (x ∷ xs) m
-among_head x m xs (inl e) = at_head x m xs e
-among_head x m xs (inr h) = at_tail x m xs h
 
 le_holds : (a b : ℤ) → int_le a b ≡ true → a ≤ℤ b
 le_holds a b e = grind (arith, ints)
@@ -37,46 +15,118 @@ le_holds a b e = grind (arith, ints)
 le_fails : (a b : ℤ) → int_le a b ≡ false → b <ℤ a
 le_fails a b e = grind (arith, ints)
 
-lt_holds : (a b : ℤ) → int_lt a b ≡ true → a ≤ℤ b
+lt_holds : (a b : ℤ) → int_lt a b ≡ true → a <ℤ b
 lt_holds a b e = grind (arith, ints)
 
 lt_fails : (a b : ℤ) → int_lt a b ≡ false → b ≤ℤ a
 lt_fails a b e = grind (arith, ints)
 
-le_trans : (a b c : ℤ) → a ≤ℤ b → b ≤ℤ c → a ≤ℤ c
-le_trans a b c p q = omega (arith, ints)
+int_eq-refl : (t : ℤ) → int_eq t t ≡ true
+int_eq-refl t = grind (arith, ints)
 
-le_refl : (a : ℤ) → a ≤ℤ a
-le_refl a = omega (arith, ints)
+int_eq-above : (a b : ℤ) → a <ℤ b → int_eq b a ≡ false
+int_eq-above a b l = grind (arith, ints)
 
-above_not : {P : Type 0} (a b : ℤ) → b <ℤ a → a ≤ℤ b → P
-above_not a b p q = absurd (omega (arith, ints))
+-- what is lower than a, and within the bound, is lower than each type from which a is the lowest within it
+lower_than_all : (x a m b : ℤ) → x ≤ℤ b → x <ℤ a → (m ≤ℤ b → a ≤ℤ m) → x <ℤ m
+lower_than_all x a m b within lower lowest = elim (cases_Bool (int_le m b)) [
+  | inl e ↦ omega (arith, ints, lower, lowest (le_holds m b e))
+  | inr e ↦ omega (arith, ints, within, le_fails m b e)
+]
 
--- one more type within the bound
-one_more : (a x : ℤ) (xs : List ℤ) (c : Bool) → int_lt x a ≡ c → fold lower_of (Some a) (x ∷ xs) ≡ fold lower_of (Some (if c then x else a)) xs
-one_more a x xs c e = ap (λ (b : Bool). fold lower_of (Some (if b then x else a)) xs) e
+-- a reading that keeps the earlier of two elements, or the later one where that is of a lower type
+module _ {M : Type 0} (type_of : M → ℤ) (low : Option M → M → Option M) (first : (x : M) → low None x ≡ Some x)
+    (next : (a x : M) → low (Some a) x ≡ Some (if int_lt (type_of x) (type_of a) then x else a)) (bound : ℕ) where
+  -- this is the first element of the lowest type within the bound
+  pub record IsFirstLowest (f : M) (seen : List M) : Type 0 where
+    pub there : Contains seen f
+    pub within : type_of f ≤ℤ pos bound
+    pub lowest : All (λ m. type_of m ≤ℤ pos bound → type_of f ≤ℤ type_of m) seen
+    pub found : find (λ m. int_eq (type_of m) (type_of f)) seen ≡ Some f
 
-lowers : (bound : ℕ) (xs : List ℤ) (a : ℤ) → Lowers bound a xs
-lowers bound [] a = record { least = a; is = refl; among = inl refl; below = le_refl a; lowest = All-nil _ }
-lowers bound (x ∷ xs) a = by (int_le x (pos bound)) refl (int_lt x a) refl (lowers bound xs x) (lowers bound xs a)
-  where
-    Above : ℤ → ℤ → Type 0
-    Above m t = t ≤ℤ pos bound → m ≤ℤ t
+  -- what is kept of the elements that were read
+  abbrev pub IsKept : List M → Option M → Type 0
+  IsKept seen None = All (λ m. pos bound <ℤ type_of m) seen
+  IsKept seen (Some f) = IsFirstLowest f seen
 
-    by : (b : Bool) → int_le x (pos bound) ≡ b → (c : Bool) → int_lt x a ≡ c → Lowers bound x xs → Lowers bound a xs → Lowers bound a (x ∷ xs)
-    by true e true f r s = record { least = r.least; is = rw e (one_more a x (within bound xs) true f ∙ r.is); among = inr (among_head x r.least xs r.among); below = le_trans _ _ _ r.below (lt_holds x a f); lowest = All-cons (Above r.least) x xs (λ _. r.below) r.lowest }
-    by true e false f r s = record { least = s.least; is = rw e (one_more a x (within bound xs) false f ∙ s.is); among = among_more a x s.least xs s.among; below = s.below; lowest = All-cons (Above s.least) x xs (λ _. le_trans _ _ _ s.below (lt_fails x a f)) s.lowest }
-    by false e c f r s = record { least = s.least; is = rw e s.is; among = among_more a x s.least xs s.among; below = s.below; lowest = All-cons (Above s.least) x xs (λ h. above_not x (pos bound) (le_fails x (pos bound) e) h) s.lowest }
+  find_above : (t : ℤ) (xs : List M) → All (λ m. t <ℤ type_of m) xs → find (λ m. int_eq (type_of m) t) xs ≡ None
+  find_above t [] over = refl
+  find_above t (x ∷ xs) over =
+      cond-false (int_eq (type_of x) t) (Some x) (find (λ m. int_eq (type_of m) t) xs) (int_eq-above t (type_of x) (All-head (λ m. t <ℤ type_of m) x xs over))
+      ∙ find_above t xs (All-tail (λ m. t <ℤ type_of m) x xs over)
 
--- a type above the bound changes nothing
-past : (bound : ℕ) (x : ℤ) (xs : List ℤ) (o : Option ℤ) → pos bound <ℤ x → IsLowest bound xs o → IsLowest bound (x ∷ xs) o
-past bound x xs None above h = All-cons (λ t. pos bound <ℤ t) x xs above h
-past bound x xs (Some m) above h = (at_tail x m xs h.0, h.1, All-cons (λ t. t ≤ℤ pos bound → m ≤ℤ t) x xs (λ k. above_not x (pos bound) above k) h.2)
+  takes : (seen : List M) (x : M) → type_of x ≤ℤ pos bound → All (λ m. type_of x <ℤ type_of m) seen → IsFirstLowest x (seen ++ x ∷ [])
+  takes seen x in_bound over = record {
+    there = Contains-push seen x;
+    within = in_bound;
+    lowest =
+        All-push (λ m. type_of m ≤ℤ pos bound → type_of x ≤ℤ type_of m) seen x
+        (All-weaker (λ m. type_of x <ℤ type_of m) (λ m. type_of m ≤ℤ pos bound → type_of x ≤ℤ type_of m) (λ m l _. omega (arith, ints, l)) seen over)
+        (λ _. omega (arith, ints));
+    found =
+        find-append (λ m. int_eq (type_of m) (type_of x)) seen (x ∷ [])
+        ∙ ap (λ o. option_or o (find (λ m. int_eq (type_of m) (type_of x)) (x ∷ []))) (find_above (type_of x) seen over)
+        ∙ cond-true (int_eq (type_of x) (type_of x)) (Some x) None (int_eq-refl (type_of x));
+  }
 
+  keeps : (f : M) (seen : List M) (x : M) → IsFirstLowest f seen → (type_of x ≤ℤ pos bound → type_of f ≤ℤ type_of x) → IsFirstLowest f (seen ++ x ∷ [])
+  keeps f seen x is over = record {
+    there = Contains-append_left seen (x ∷ []) f is.there;
+    within = is.within;
+    lowest = All-push (λ m. type_of m ≤ℤ pos bound → type_of f ≤ℤ type_of m) seen x is.lowest over;
+    found =
+        find-append (λ m. int_eq (type_of m) (type_of f)) seen (x ∷ [])
+        ∙ ap (λ o. option_or o (find (λ m. int_eq (type_of m) (type_of f)) (x ∷ []))) is.found;
+  }
+
+  kept_as : (seen : List M) {o p : Option M} → o ≡ p → IsKept seen p → IsKept seen o
+  kept_as seen e = subst (IsKept seen) (sym e)
+
+  one_more : (seen : List M) (x : M) (o : Option M) → IsKept seen o → IsKept (seen ++ x ∷ []) (cond (int_le (type_of x) (pos bound)) (low o x) o)
+  one_more seen x None h = elim (cases_Bool (int_le (type_of x) (pos bound))) [
+    | inl e ↦
+        let within = le_holds (type_of x) (pos bound) e in
+        kept_as (seen ++ x ∷ []) (cond-true (int_le (type_of x) (pos bound)) (low None x) None e ∙ first x)
+        (takes seen x within (All-weaker (λ m. pos bound <ℤ type_of m) (λ m. type_of x <ℤ type_of m) (λ m l. omega (arith, ints, l, within)) seen h))
+    | inr e ↦
+        kept_as (seen ++ x ∷ []) (cond-false (int_le (type_of x) (pos bound)) (low None x) None e)
+        (All-push (λ m. pos bound <ℤ type_of m) seen x h (le_fails (type_of x) (pos bound) e))
+  ]
+  one_more seen x (Some a) h = elim (cases_Bool (int_le (type_of x) (pos bound))) [
+    | inl e ↦
+        let within = le_holds (type_of x) (pos bound) e in
+        let now = cond-true (int_le (type_of x) (pos bound)) (low (Some a) x) (Some a) e ∙ next a x in
+        elim (cases_Bool (int_lt (type_of x) (type_of a))) [
+          | inl f ↦
+              kept_as (seen ++ x ∷ []) (now ∙ ap (λ b. Some (cond b x a)) f)
+              (takes seen x within
+              (All-weaker (λ m. type_of m ≤ℤ pos bound → type_of a ≤ℤ type_of m) (λ m. type_of x <ℤ type_of m)
+              (λ m l. lower_than_all (type_of x) (type_of a) (type_of m) (pos bound) within (lt_holds (type_of x) (type_of a) f) l) seen h.lowest))
+          | inr f ↦ kept_as (seen ++ x ∷ []) (now ∙ ap (λ b. Some (cond b x a)) f) (keeps a seen x h (λ _. lt_fails (type_of x) (type_of a) f))
+        ]
+    | inr e ↦
+        kept_as (seen ++ x ∷ []) (cond-false (int_le (type_of x) (pos bound)) (low (Some a) x) (Some a) e)
+        (keeps a seen x h (λ l. absurd (omega (arith, ints, le_fails (type_of x) (pos bound) e, l))))
+  ]
+
+  fold_cond : (b : Bool) (o : Option M) (x : M) (ys : List M) → fold low o (cond b (x ∷ ys) ys) ≡ fold low (cond b (low o x) o) ys
+  fold_cond true o x ys = refl
+  fold_cond false o x ys = refl
+
+  all_more : (xs seen : List M) (o : Option M) → IsKept seen o → IsKept (seen ++ xs) (fold low o (filter (λ m. int_le (type_of m) (pos bound)) xs))
+  all_more [] seen o h = subst (λ l. IsKept l o) (sym (append-nil seen)) h
+  all_more (x ∷ xs) seen o h =
+      let rest = all_more xs (seen ++ x ∷ []) (cond (int_le (type_of x) (pos bound)) (low o x) o) (one_more seen x o h) in
+      kept_as (seen ++ (x ∷ xs)) (fold_cond (int_le (type_of x) (pos bound)) o x (filter (λ m. int_le (type_of m) (pos bound)) xs))
+      (subst (λ l. IsKept l (fold low (cond (int_le (type_of x) (pos bound)) (low o x) o) (filter (λ m. int_le (type_of m) (pos bound)) xs))) (append_assoc seen (x ∷ []) xs) rest)
+
+  pub kept_of_all : (xs : List M) → IsKept xs (fold low None (filter (λ m. int_le (type_of m) (pos bound)) xs))
+  kept_of_all xs = all_more xs [] None (All-nil (λ m. pos bound <ℤ type_of m))
+
+-- the lowest type itself
 pub finds_lowest : (bound : ℕ) (xs : List ℤ) → IsLowest bound xs (least_of bound xs)
-finds_lowest bound [] = All-nil _
-finds_lowest bound (x ∷ xs) = by (int_le x (pos bound)) refl (lowers bound xs x) (finds_lowest bound xs)
+finds_lowest bound xs = told (least_of bound xs) (kept_of_all (λ (t : ℤ). t) lower_of (λ x. refl) (λ a x. refl) bound xs)
   where
-    by : (b : Bool) → int_le x (pos bound) ≡ b → Lowers bound x xs → IsLowest bound xs (least_of bound xs) → IsLowest bound (x ∷ xs) (least_of bound (x ∷ xs))
-    by true e r h = rw (e, r.is) (among_head x r.least xs r.among, le_trans _ _ _ r.below (le_holds x (pos bound) e), All-cons (λ t. t ≤ℤ pos bound → r.least ≤ℤ t) x xs (λ _. r.below) r.lowest)
-    by false e r h = rw e (past bound x xs (least_of bound xs) (le_fails x (pos bound) e) h)
+    told : (o : Option ℤ) → IsKept (λ (t : ℤ). t) lower_of (λ x. refl) (λ a x. refl) bound xs o → IsLowest bound xs o
+    told None h = h
+    told (Some least) h = (h.there, h.within, h.lowest)

@@ -1,5 +1,5 @@
 -- The message at a place, by its index in a list whose places rise.
-use Rattle.std.proofs.Common.{◌≡◌, ◌≢◌, ℕ, ℤ, map, zero, suc, ◌<◌, ◌==◌, nat_lt, List, [], ◌∷◌, ◌++◌, length, get_or, position, find, filter, remove, All, AllPairs, IsSome, ◌≤◌, Some, None, Bool, true, false, not, cond, refl, ap, sym, ◌∙◌, arith, slice_get, subst, lt-ltb, eq-eqb, Result, Ok, Err, ◌⊎◌, inl, inr, ⊎_elim}
+use Rattle.std.proofs.Common.{◌≡◌, ◌≢◌, ℕ, ℤ, map, zero, suc, ◌<◌, ◌==◌, nat_lt, List, [], ◌∷◌, ◌++◌, length, get_or, position, find, filter, remove, All, AllPairs, IsSome, ◌≤◌, Some, None, Bool, true, false, not, cond, refl, ap, sym, ◌∙◌, arith, slice_get, subst, lt-ltb, eq-eqb, Result, Ok, Err, ⊎_elim}
 use Rattle.std.specs.List.{position_or_len}
 use Rattle.std.specs.List.Sorted.{IsBinarySearchResult, IsSearchInRange}
 use Rattle.std.specs.Ordering.{MatchOrdering, nat_cmp, ordering_index}
@@ -10,7 +10,7 @@ use Rattle.std.specs.Cmp.{ranks}
 use Rattle.std.proofs.lemmas.Bool.Decides.{nat_tests}
 use Rattle.std.proofs.lemmas.List.Sums.{position_or_len_is}
 use Rattle.std.specs.Option.{option_map}
-use Rattle.std.proofs.lemmas.Bool.{eqb-false, eqb-true, ltb-true, ltb-false, ne_eqb}
+use Rattle.std.proofs.lemmas.Bool.{cases_lt, eqb-false, eqb-true, le-ltb, ltb-true, ltb-false, ne_eqb}
 use Rattle.std.proofs.lemmas.List.Folds.{find_at}
 use Rattle.std.proofs.lemmas.Option.{cond_some, none-some, same_Some, slice_get-get_or, slice_get_past}
 use Rattle.std.proofs.lemmas.List.Quantifiers.{position-Some, all_pairs_push, all_pairs_remove}
@@ -109,22 +109,11 @@ index_found {X} place xs i d rising l here =
     before : {a b : ℕ} → a < b → a ≡ b → ⊥
     before l e = omega arith
 
-not_below : (n : ℕ) → nat_lt n n ≡ false
-not_below n = grind (arith, nat_tests)
-
 -- no index, where no message has the place
 index_absent : {X : Type 0} (place : ℕ) (xs : List (ℕ × X)) (d : ℕ × X) → ((k : ℕ) → k < length xs → (get_or xs k d).0 ≢ place) → position (λ m. m.0 == place) xs ≡ None
 index_absent {X} place xs d others =
     let first : position_or_len (λ (m : ℕ × X). m.0 == place) xs ≡ length xs = position_or_len_is (λ m. m.0 == place) xs (length xs) d (omega arith) (λ k l. ne_eqb _ _ (others k l)) (λ l. absurd (omega arith)) in
-    rw (first, not_below (length xs)) refl
-
--- one number is below another, or not
-order : (i k : ℕ) → (i < k) ⊎ (k ≤ i)
-order i k = by (nat_lt i k) refl
-  where
-    by : (b : Bool) → nat_lt i k ≡ b → (i < k) ⊎ (k ≤ i)
-    by true e = inl (ltb-true i k e)
-    by false e = inr (ltb-false i k e)
+    rw (first, le-ltb (length xs) (length xs) (omega arith)) refl
 
 -- a search by halves finds the index of a place, where places rise
 pub searched_is : {X : Type 0} (place : ℕ) (xs : List (ℕ × X)) (r : Result ℕ ℕ) → AllPairs (λ a b. a.0 < b.0) xs → IsSearchInRange r (length xs) → IsBinarySearchResult (λ m. nat_cmp m.0 place) xs r → result_ok r ≡ position (λ m. m.0 == place) xs
@@ -142,7 +131,7 @@ searched_is {X} place (x ∷ xs) (Err i) rising within h =
     higher a b le = grind (arith, nat_tests)
 
     up : (j k : ℕ) (d : ℕ × X) → j ≤ k → k < length (x ∷ xs) → (get_or (x ∷ xs) j d).0 ≤ (get_or (x ∷ xs) k d).0
-    up j k d le l = ⊎_elim (λ m. let less = rising j k d m l in omega (arith, less)) (λ m. let same : j ≡ k = omega arith in rw same (omega arith)) (order j k)
+    up j k d le l = ⊎_elim (λ m. let less = rising j k d m l in omega (arith, less)) (λ m. let same : j ≡ k = omega arith in rw same (omega arith)) (cases_lt j k)
 
     less : (a : ℕ) → nat_cmp a place ≡ Less → a ≢ place
     less a e same = let P : Ordering → Type 0 = λ o. MatchOrdering o (a < place) (a ≡ place) (place < a) in let l = subst P e (ranks a place) in omega (arith, l)
@@ -151,4 +140,4 @@ searched_is {X} place (x ∷ xs) (Err i) rising within h =
     greater a e same = let P : Ordering → Type 0 = λ o. MatchOrdering o (a < place) (a ≡ place) (place < a) in let l = subst P e (ranks a place) in omega (arith, l)
 
     others : (k : ℕ) → k < length (x ∷ xs) → (get_or (x ∷ xs) k x).0 ≢ place
-    others k l = let parted = h (λ a b d le m. higher _ _ (up a b d le m)) in ⊎_elim (λ m. less (get_or (x ∷ xs) k x).0 (parted.0 k x (omega arith) m)) (λ m. greater (get_or (x ∷ xs) k x).0 (parted.1 k x m l)) (order k i)
+    others k l = let parted = h (λ a b d le m. higher _ _ (up a b d le m)) in ⊎_elim (λ m. less (get_or (x ∷ xs) k x).0 (parted.0 k x (omega arith) m)) (λ m. greater (get_or (x ∷ xs) k x).0 (parted.1 k x m l)) (cases_lt k i)

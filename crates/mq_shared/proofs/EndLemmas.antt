@@ -1,6 +1,6 @@
 -- The queue that a slot list ends with: its log, its making, and its key.
 use Rattle.std.proofs.Common.{◌≡◌, ℕ, ℤ, pos, ◌+◌, ◌-◌, ◌==◌, ◌<◌, ◌≤◌, ◌≢◌, ◌⊎◌, inl, inr, ◌&&◌, if◌then◌else◌, nat_le, Bool, true, false, not, List, [], ◌∷◌, ◌++◌, append_assoc, fold, length, take, slice_get, Option, Some, None, unwrap_or, refl, ap, sym, subst, ◌∙◌, true≢false, arith, All}
-use Rattle.std.specs.Prelude.{IfNone, IfSome}
+use Rattle.std.specs.Prelude.{MatchOption}
 use Rattle.std.specs.Ordering.{int_eq}
 use Rattle.std.proofs.Math.Seq.{take-append_seam}
 use Rattle.std.proofs.lemmas.Bool.{and_parts}
@@ -187,11 +187,7 @@ module _ (s : SlotState PlainText) (key : ℤ) (last_seq slot : ℕ) (events : L
       by true live false other its = rw known (λ is. true≢false (sym ((Decides-int_eq (live_key s.events) key).1 is) ∙ other))
       by false live same other its = rw (known, live) (λ is. some (sym is))
 
-  pub found_at : (o : Option ℕ) → o ≡ id_with_key s key → IfSome o (IsThere slot key events)
-  found_at None is = tt
-  found_at (Some id) is = found_there id is
-
-  pub lacking_at : key ≢ pos 0 → (o : Option ℕ) → o ≡ id_with_key s key
-      → IfNone o (Lacks key events)
-  lacking_at some None is = lacks_key some is
-  lacking_at some (Some id) is = tt
+  pub with_key_at : key ≢ pos 0 → (o : Option ℕ) → o ≡ id_with_key s key
+      → MatchOption o (Lacks key events) (IsThere slot key events)
+  with_key_at some None is = lacks_key some is
+  with_key_at some (Some id) is = found_there id is

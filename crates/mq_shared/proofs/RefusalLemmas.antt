@@ -1,6 +1,7 @@
 -- Which refusals a send may have, and what a removal tells.
-use Rattle.std.proofs.Common.{◌≡◌, ℕ, ℤ, pos, ◌+◌, int_lt, nat_le, nat_lt, if◌then◌else◌, ◌||◌, Bool, true, false, List, [], ◌∷◌, ◌++◌, length, Option, None, Some, Result, Ok, Err, refl, sym, ap, subst, ◌∙◌}
+use Rattle.std.proofs.Common.{◌≡◌, ℕ, ℤ, pos, ◌+◌, int_lt, nat_le, nat_lt, if◌then◌else◌, ◌||◌, ◌<◌, Bool, true, false, true≢false, List, [], ◌∷◌, ◌++◌, length, Option, None, Some, Result, Ok, Err, refl, sym, ap, subst, ◌∙◌, arith}
 use Rattle.std.specs.Prelude.{IsSome}
+use Rattle.std.proofs.lemmas.Bool.Decides.{nat_tests}
 use Rattle.std.proofs.lemmas.List.{length_push}
 use Rattle.std.proofs.lemmas.List.Sums.{fold-append}
 use Rattle.mq_message.specs.Text.{PlainText}
@@ -20,7 +21,7 @@ use Rattle.mq_queue.specs.declared.event.Event.{Event}
 use Rattle.mq_queue.specs.declared.event.Event.TheVariants as event
 use Rattle.mq_queue.specs.declared.limits.TheConstants.{MSGMAX}
 use Rattle.mq_table.specs.Calls.{goes_on, received, removes, sends, unless}
-use Rattle.mq_table.specs.Ids.{seq_of}
+use Rattle.mq_table.specs.Ids.{seq_of, slot_of}
 use Rattle.mq_table.specs.Shown.{by_standing}
 use Rattle.mq_table.specs.Slot.{SlotState}
 use Rattle.mq_table.specs.SlotList.{IsSlotList, standing}
@@ -29,12 +30,40 @@ use Rattle.mq_table.specs.declared.refusal.IdRefusal.TheVariants.{Never, Removed
 use Rattle.mq_one_thread.specs.Calls.{delivers}
 use Rattle.mq_one_thread.specs.Look.{once}
 use Rattle.mq_one_thread.specs.Texts.{bytes_of}
+use Rattle.mq_one_thread.specs.declared.errno.Errno.{Errno}
 use Rattle.mq_one_thread.specs.declared.errno.Errno.TheVariants.{EAGAIN, ENOMSG}
 use Rattle.mq_one_thread.specs.declared.results.Refused.{Refused}
 use Rattle.mq_one_thread.specs.declared.results.Removal.{Removal}
 use Rattle.mq_shared.specs.Answer.{SlotAnswer, answered, by_id, in_queue, looks, receive, refused_or_memory, remove, send}
-use Rattle.mq_shared.specs.Refusals.{MayReceive, MaySend}
+use Rattle.mq_shared.specs.Outcome.{IsLook, IsTurnedAway}
+use Rattle.mq_shared.specs.Refusals.{MayReceive, MaySend, Refuses, never_sent, out_of_slots}
+use Rattle.mq_shared.specs.Seat.{SeatState}
+use Rattle.mq_shared.specs.Seen.{IsDecided, Verdict}
 use Rattle.mq_shared.specs.Shown.{IsRemoval}
+
+-- an id of one of the slots, and a message that its type does not refuse
+pub in_slots : (slots id : ℕ) → slot_of id < slots → out_of_slots slots id ≡ false
+in_slots slots id low = grind (arith, nat_tests, low)
+
+pub may_be_sent : (slots id : ℕ) (mtype : ℤ) → int_lt mtype (pos 1) ≡ false → slot_of id < slots
+    → never_sent slots id mtype ≡ false
+may_be_sent slots id mtype positive low = rw (positive, in_slots slots id low) refl
+
+refuses_late : (early : Bool) (may : Errno → Type 0) (r : Refused) → early ≡ false
+    → IsSome r.entry × may r.errno → Refuses early may r
+refuses_late false may r late refused = refused
+refuses_late true may r late refused = absurd (true≢false late)
+
+-- a call that was not refused early was refused under the slot's lock
+pub turned_away : (early : Bool) (may : Errno → Type 0) (slot : ℕ) (verdict : Verdict)
+    (old new : SeatState) (r : Refused) → early ≡ false → IsLook old new
+    → IsSome r.entry × may r.errno → IsDecided old new slot verdict r
+    → IsTurnedAway early may slot verdict old new r
+turned_away early may slot verdict old new r late look refused decided = record {
+  look = look;
+  refuses = refuses_late early may r late refused;
+  decided = decided;
+}
 
 pub or_right : (a b : Bool) → b ≡ true → (a || b) ≡ true
 or_right true b h = refl
@@ -155,7 +184,7 @@ pub is_removal : (last_seq : ℕ) (s t : SlotState PlainText) (id seat moment : 
 is_removal last_seq s t id seat moment r is lawful = by (looks s id) is
   where
     by : (looked : Result (Unit {0}) Refused)
-        → once {T = Removal × SlotState PlainText} looked
+        → once {A = Removal × SlotState PlainText} looked
         (Ok (record { entry = length s.events; log = rest_of r.log.base.places (last_log (removes s seat moment).events) }, removes s seat moment))
         ≡ Ok (r, t)
         → IsRemoval last_seq r

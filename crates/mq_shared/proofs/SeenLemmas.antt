@@ -33,41 +33,23 @@ use Rattle.mq_one_thread.specs.declared.results.Refused.{Refused}
 use Rattle.mq_one_thread.specs.declared.results.Removal.{Removal}
 use Rattle.mq_shared.specs.Answer as answer
 use Rattle.mq_shared.specs.Making.{IsMade, make_verdict}
-use Rattle.mq_shared.specs.Seat.{IsLater, IsSame, SeatState, front_of}
+use Rattle.mq_shared.specs.Outcome.{IsLook, IsStep, IsUnderLock}
+use Rattle.mq_shared.specs.Seat.{IsCounted, SeatState, front_of}
 use Rattle.mq_shared.specs.Seen.{IsDecided, IsDone, IsReceipt, IsRefused, Verdict, in_queue, receive_verdict, remove_verdict, send_verdict, set_verdict}
 use Rattle.mq_shared.proofs.KeysLemmas.{seq_of_id, slot_of_next}
-use Rattle.mq_shared.proofs.LaterLemmas.{front_set, later_set, later_trans, same_trans}
+use Rattle.mq_shared.proofs.LaterLemmas.{front_set, later_set, look_trans, step_after}
 use Rattle.mq_shared.proofs.RefusalLemmas.{if_false}
 use Rattle.mq_shared.proofs.SharedLemmas.{Steps, next_is}
 
--- a call is under the slot's lock: its seat has made no change yet, and knows all of the slot
-pub record Enters (old now : SeatState) (slot : ℕ) (s : SlotState PlainText) : Type 0 where
-  pub same : IsSame old now
-  pub later : IsLater old now
-  pub low : slot < length now.fronts
-  pub number : s.number ≡ slot
-  pub known : front_of now slot ≡ s.events
-
--- the slot under the lock is what the guard holds
-pub enters : (old now : SeatState) (slot at : ℕ) (s held : SlotState PlainText) → at ≡ slot
-    → s ≡ held → IsSame old now → IsLater old now → at < length now.fronts → held.number ≡ at
-    → front_of now at ≡ held.events → Enters old now slot s
-enters old now slot at s held there is same later low number known = record {
-  same = same;
-  later = later;
-  low = rw (← there) low;
-  number = rw is number ∙ there;
-  known = rw (is, ← there) known;
+-- the slot under the lock is what the guard holds, and the seat may have learned before
+pub enters : (old had now : SeatState) (slot at : ℕ) (s held : SlotState PlainText) → at ≡ slot
+    → s ≡ held → IsLook old had → IsUnderLock had now at held → IsUnderLock old now slot s
+enters old had now slot at s held there is look entered = record {
+  look = look_trans old had now look entered.look;
+  low = rw (← there) entered.low;
+  number = rw is entered.number ∙ there;
+  known = rw (is, ← there) entered.known;
 }
-
--- the same of a seat that has learned before
-pub enters_again : (old had now : SeatState) (slot at : ℕ) (s held : SlotState PlainText)
-    → at ≡ slot → s ≡ held → IsSame old had → IsLater old had → IsSame had now → IsLater had now
-    → at < length now.fronts → held.number ≡ at → front_of now at ≡ held.events
-    → Enters old now slot s
-enters_again old had now slot at s held there is same later again more low number known =
-    enters old now slot at s held there is (same_trans old had now same again)
-    (later_trans old had now later more) low number known
 
 -- why the slot's queue refuses, if it does
 abbrev why : {T : Type 0} → Turn PlainText T → Option QueueError
@@ -120,12 +102,12 @@ unless_ok None s after t entry is =
     told (Err refusal) = (entry, t)
 unless_ok (Some refusal) s after t entry is = cc
 
-module _ (old now new : SeatState) (slot : ℕ) (s : SlotState PlainText) (h : Enters old now slot s)
+module _ (old now new : SeatState) (slot : ℕ) (s : SlotState PlainText) (h : IsUnderLock old now slot s)
   where
     -- the front before is no longer than the list
     late : length (front_of old slot) ≤ length s.events
     late =
-        let p = h.later.later slot in
+        let p = h.look.later.later slot in
         omega (arith, ap length p.1, length-append (front_of old slot) p.0, ap length h.known)
 
     -- one event more, which is published and learned
@@ -155,29 +137,28 @@ module _ (old now new : SeatState) (slot : ℕ) (s : SlotState PlainText) (h : E
 
     -- the caller's seat has its number still
     own : (P : ℕ → Type 0) → P now.number → P old.number
-    own P p = subst P h.same.number p
+    own P p = subst P h.look.same.number p
 
-    -- the slot's list grew, and the seat learned of it
-    grown : (seat : ℕ) (t : SlotState PlainText) → Steps seat s t
+    -- the slot's list grew, and the seat counted and learned of it
+    grown : (seat : ℕ) (t : SlotState PlainText) → Steps seat s t → IsCounted now new s.number
         → new.fronts ≡ slice_set now.fronts s.number t.events
-        → IsLater old new × (front_of new slot ≡ t.events)
-    grown seat t step is =
+        → IsStep old new slot × (front_of new slot ≡ t.events)
+    grown seat t step counted is =
         let at : new.fronts ≡ slice_set now.fronts slot t.events =
         is ∙ ap (λ n. slice_set now.fronts n t.events) h.number in (
-          later_trans old now new h.later
+          step_after old now new slot h.look (subst (λ n. IsCounted now new n) h.number counted)
               (later_set now new slot t.events h.low at
               (step.next.event ∷ [], ap (λ (es : List Event). es ++ step.next.event ∷ []) h.known ∙ sym step.next.next)),
           front_set now new slot t.events h.low at,
         )
 
     pub done_send : (id entry : ℕ) (mtype : ℤ) (tag moment : ℕ) (text : PlainText)
-        (t : SlotState PlainText) → int_lt mtype (pos 1) ≡ false
-        → new.fronts ≡ slice_set now.fronts s.number t.events
+        (t : SlotState PlainText) → int_lt mtype (pos 1) ≡ false → IsCounted now new s.number → new.fronts ≡ slice_set now.fronts s.number t.events
         → answer.send s id (record { mtype = mtype; sender = now.number; tag = tag; body = text }) moment
         ≡ Ok (entry, t)
-        → IsLater old new × IsDone old new slot (send_verdict (seq_of id) mtype (length text.bytes)) entry
+        → IsStep old new slot × IsDone old new slot (send_verdict (seq_of id) mtype (length text.bytes)) entry
         (event.Sent old.number moment tag mtype (length text.bytes))
-    done_send id entry mtype tag moment text t sent learned is =
+    done_send id entry mtype tag moment text t sent counted learned is =
         let m : Message PlainText =
         record { mtype = mtype; sender = now.number; tag = tag; body = text } in
         let log = last_log s.events in
@@ -188,7 +169,7 @@ module _ (old now new : SeatState) (slot : ℕ) (s : SlotState PlainText) (h : E
         let turn = turn_ok s (standing s.events (seq_of id)) (sends bytes_of s m moment) (entry, t) (sym (if_false (int_lt mtype (pos 1)) (Err (refused_early EINVAL)) (answers s (standing s.events (seq_of id)) (sends bytes_of s m moment)) sent) ∙ is) in
         let told = unless_ok refusal s after t entry turn.turns in
         let grew =
-        grown now.number t (next_is s t now.number e (s.messages ++ (length log, m) ∷ []) refl (sym told.1)) learned in (
+        grown now.number t (next_is s t now.number e (s.messages ++ (length log, m) ∷ []) refl (sym told.1)) counted learned in (
           grew.0,
           own (λ seat. IsDone old new slot (send_verdict (seq_of id) mtype n) entry (event.Sent seat moment tag mtype n))
               (rw told.0
@@ -231,16 +212,16 @@ module _ (old now new : SeatState) (slot : ℕ) (s : SlotState PlainText) (h : E
             reason)
 
     pub done_set : (id entry qbytes moment : ℕ) (t : SlotState PlainText)
-        → new.fronts ≡ slice_set now.fronts s.number t.events
+        → IsCounted now new s.number → new.fronts ≡ slice_set now.fronts s.number t.events
         → answer.set s id qbytes now.number moment ≡ Ok (entry, t)
-        → IsLater old new × IsDone old new slot (set_verdict (seq_of id) qbytes) entry
+        → IsStep old new slot × IsDone old new slot (set_verdict (seq_of id) qbytes) entry
         (event.Changed old.number moment qbytes)
-    done_set id entry qbytes moment t learned is =
+    done_set id entry qbytes moment t counted learned is =
         let e = event.Changed now.number moment qbytes in
         let after : SlotState PlainText = goes_on s e s.messages in
         let turn = turn_ok s (standing s.events (seq_of id)) (sets s qbytes now.number moment) (entry, t) is in
         let told = unless_ok (set_refusal qbytes) s after t entry turn.turns in
-        let grew = grown now.number t (next_is s t now.number e s.messages refl (sym told.1)) learned in (
+        let grew = grown now.number t (next_is s t now.number e s.messages refl (sym told.1)) counted learned in (
           grew.0,
           own (λ seat. IsDone old new slot (set_verdict (seq_of id) qbytes) entry (event.Changed seat moment qbytes))
               (rw told.0
@@ -261,18 +242,18 @@ module _ (old now new : SeatState) (slot : ℕ) (s : SlotState PlainText) (h : E
         (why_unless (set_refusal qbytes) s after))
 
     pub done_remove : (id moment : ℕ) (r : Removal) (t : SlotState PlainText)
-        → new.fronts ≡ slice_set now.fronts s.number t.events
+        → IsCounted now new s.number → new.fronts ≡ slice_set now.fronts s.number t.events
         → answer.remove s id now.number moment r.log.base.places ≡ Ok (r, t)
-        → IsLater old new
+        → IsStep old new slot
         × IsDone old new slot (remove_verdict (seq_of id)) r.entry (event.Removed old.number moment)
         × (r.log ≡ rest_of r.log.base.places (last_log (take (r.entry + 1) (front_of new slot))))
-    done_remove id moment r t learned is =
+    done_remove id moment r t counted learned is =
         let e = event.Removed now.number moment in
         let after : SlotState PlainText = removes s now.number moment in
         let turn = turn_ok s (standing s.events (seq_of id)) (Ok (answer.removal s after r.log.base.places, after)) (r, t) is in
         let its : answer.removal s after r.log.base.places ≡ r = ap (λ turn. (told turn).0) turn.turns in
         let left : after ≡ t = ap (λ turn. (told turn).1) turn.turns in
-        let grew = grown now.number t (next_is s t now.number e [] refl left) learned in
+        let grew = grown now.number t (next_is s t now.number e [] refl left) counted learned in
         let front : front_of new slot ≡ s.events ++ e ∷ [] =
         grew.1 ∙ ap (λ (x : SlotState PlainText). x.events) (sym left) in
         let entry : length s.events ≡ r.entry = ap (λ (x : Removal). x.entry) its in (
@@ -301,10 +282,10 @@ module _ (old now new : SeatState) (slot : ℕ) (s : SlotState PlainText) (h : E
 
     pub done_receive : (id size : ℕ) (selection : Selection) (noerror : Bool) (moment : ℕ)
         (d : Delivered PlainText) (t : SlotState PlainText)
-        → new.fronts ≡ slice_set now.fronts s.number t.events
+        → IsCounted now new s.number → new.fronts ≡ slice_set now.fronts s.number t.events
         → answer.receive s id size selection noerror now.number moment ≡ Ok (d, t)
-        → IsLater old new × IsReceipt old new slot (seq_of id) size selection noerror moment d
-    done_receive id size selection noerror moment d t learned is =
+        → IsStep old new slot × IsReceipt old new slot (seq_of id) size selection noerror moment d
+    done_receive id size selection noerror moment d t counted learned is =
         by (receive_answer (waiting (last_log s.events)) size selection noerror) refl is
       where
         e : Header → Event
@@ -317,14 +298,14 @@ module _ (old now new : SeatState) (slot : ℕ) (s : SlotState PlainText) (h : E
         by : (named : Result Header QueueError)
             → receive_answer (waiting (last_log s.events)) size selection noerror ≡ named
             → answers s (standing s.events (seq_of id)) (delivers s.messages size (received s e named)) ≡ Ok (d, t)
-            → IsLater old new × IsReceipt old new slot (seq_of id) size selection noerror moment d
+            → IsStep old new slot × IsReceipt old new slot (seq_of id) size selection noerror moment d
         by (Ok m) picked its =
             let after : SlotState PlainText = goes_on s (e m) (without m.place s.messages) in
             let receipt : Receipt = record { entry = length s.events; message = m } in
             let turn = turn_ok s (standing s.events (seq_of id)) (Ok (delivered s.messages size receipt, after)) (d, t) its in
             let same : delivered s.messages size receipt ≡ d = ap (λ turn. (told turn).0) turn.turns in
             let left : after ≡ t = ap (λ turn. (told turn).1) turn.turns in
-            let grew = grown now.number t (next_is s t now.number (e m) (without m.place s.messages) refl left) learned in
+            let grew = grown now.number t (next_is s t now.number (e m) (without m.place s.messages) refl left) counted learned in
             let front : front_of new slot ≡ s.events ++ e m ∷ [] =
             grew.1 ∙ ap (λ (x : SlotState PlainText). x.events) (sym left) in
             let first : take (length s.events) (front_of new slot) ≡ s.events =
@@ -349,7 +330,7 @@ module _ (old now new : SeatState) (slot : ℕ) (s : SlotState PlainText) (h : E
             no (turn_ok s (standing s.events (seq_of id)) (delivers s.messages size (received s e (Err refusal))) (d, t) its).turns
           where
             no : delivers s.messages size (received s e (Err refusal)) ≡ Ok (d, t)
-                → IsLater old new × IsReceipt old new slot (seq_of id) size selection noerror moment d
+                → IsStep old new slot × IsReceipt old new slot (seq_of id) size selection noerror moment d
             no is = cc
 
     pub decided_receive : (id size : ℕ) (selection : Selection) (noerror : Bool) (seat moment : ℕ)
@@ -374,24 +355,24 @@ module _ (old now new : SeatState) (slot : ℕ) (s : SlotState PlainText) (h : E
     pub done_make : (last_seq : ℕ) (key : ℤ) (moment : ℕ) (got : Got) (t : SlotState PlainText)
         → s.number < MAX_SLOTS → is_free last_seq s.events ≡ true
         → got ≡ record { id = next_id s; made = Some (length s.events) }
-        → t ≡ makes s key now.number moment → new.fronts ≡ slice_set now.fronts s.number t.events
-        → IsLater old new × IsMade old new slot last_seq key moment got
-    done_make last_seq key moment got t few free is made learned =
+        → t ≡ makes s key now.number moment → IsCounted now new s.number
+        → new.fronts ≡ slice_set now.fronts s.number t.events
+        → IsMade old new slot last_seq key moment got
+    done_make last_seq key moment got t few free is made counted learned =
         let e = event.Made now.number moment key in
-        let grew = grown now.number t (next_is s t now.number e [] refl (sym made)) learned in
+        let grew = grown now.number t (next_is s t now.number e [] refl (sym made)) counted learned in
         let front : front_of new slot ≡ s.events ++ e ∷ [] =
-        grew.1 ∙ ap (λ (x : SlotState PlainText). x.events) made in (
-          grew.0,
-          rw is
-              (record {
-                entry = length s.events;
-                made = refl;
-                done =
-                    own (λ seat. IsDone old new slot (make_verdict last_seq) (length s.events) (event.Made seat moment key))
-                    (done_at (make_verdict last_seq) e front (rw free refl));
-                slot_is = slot_of_next s few ∙ h.number;
-                seq_is =
-                    rw (front, take-append_seam s.events (e ∷ []))
-                    (seq_of_id s.number (made_count s.events) few);
-              }),
-        )
+        grew.1 ∙ ap (λ (x : SlotState PlainText). x.events) made in
+        rw is
+        (record {
+          entry = length s.events;
+          made = refl;
+          done =
+              own (λ seat. IsDone old new slot (make_verdict last_seq) (length s.events) (event.Made seat moment key))
+              (done_at (make_verdict last_seq) e front (rw free refl));
+          slot_is = slot_of_next s few ∙ h.number;
+          seq_is =
+              rw (front, take-append_seam s.events (e ∷ []))
+              (seq_of_id s.number (made_count s.events) few);
+          step = grew.0;
+        })

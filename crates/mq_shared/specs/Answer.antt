@@ -1,5 +1,6 @@
 -- What a call of a slot answers and leaves, under the slot's lock (msgop(2), msgctl(2)).
-use Rattle.std.specs.Prelude.{ℕ, ℤ, pos, int_lt, if◌then◌else◌, ◌&&◌, Bool, length, Option, None, Some, Result, Ok, Err}
+use Rattle.std.specs.Prelude.{ℕ, ℤ, if◌then◌else◌, ◌&&◌, Bool, length, Option, None, Some}
+use Rattle.std.specs.Prelude.{Result, Ok}
 use Rattle.std.specs.Ordering.{int_eq}
 use Rattle.mq_message.specs.Text.{PlainText}
 use Rattle.mq_message.specs.declared.message.Message.{Message}
@@ -14,11 +15,11 @@ use Rattle.mq_table.specs.Shown.{by_standing}
 use Rattle.mq_table.specs.Slot.{SlotState, last_id}
 use Rattle.mq_table.specs.SlotList.{standing}
 use Rattle.mq_table.specs.declared.refusal.IdRefusal.{IdRefusal}
-use Rattle.mq_one_thread.specs.Calls.{delivers}
-use Rattle.mq_one_thread.specs.Look.{errno_of, errno_of_id, once, refused_early}
+use Rattle.mq_one_thread.specs.Answer as call
+use Rattle.mq_one_thread.specs.Memory.{or_memory}
 use Rattle.mq_one_thread.specs.Texts.{bytes_of}
 use Rattle.mq_one_thread.specs.declared.errno.Errno.{Errno}
-use Rattle.mq_one_thread.specs.declared.errno.Errno.TheVariants.{EINVAL, ENOMEM}
+use Rattle.mq_one_thread.specs.declared.errno.Errno.TheVariants.{ENOMEM}
 use Rattle.mq_one_thread.specs.declared.results.Delivered.{Delivered}
 use Rattle.mq_one_thread.specs.declared.results.Refused.{Refused}
 use Rattle.mq_one_thread.specs.declared.results.Removal.{Removal}
@@ -29,12 +30,11 @@ SlotAnswer T = Result (T × SlotState PlainText) Refused
 
 -- a refusal that all that has happened in the slot decides
 abbrev pub refused_here : SlotState PlainText → Errno → Refused
-refused_here s errno = record { errno = errno; entry = Some (length s.events) }
+refused_here s errno = call.refused_after (length s.events) errno
 
 -- whether the slot has the id's queue, or why not
 abbrev pub by_id : SlotState PlainText → Result (Unit {0}) IdRefusal → Result (Unit {0}) Refused
-by_id s (Ok _) = Ok tt
-by_id s (Err refusal) = Err (refused_here s (errno_of_id refusal))
+by_id s there = call.by_id (length s.events) there
 
 -- whether the id's queue is in the slot, or why not
 abbrev pub looks : SlotState PlainText → ℕ → Result (Unit {0}) Refused
@@ -42,24 +42,21 @@ looks s id = by_id s (by_standing (standing s.events (seq_of id)))
 
 -- what is answered where the slot's queue answers so
 abbrev pub answered : {T : Type 0} → SlotState PlainText → Turn PlainText T → SlotAnswer T
-answered s (Ok turn) = Ok turn
-answered s (Err refusal) = Err (refused_here s (errno_of refusal))
+answered s turn = call.answered (length s.events) turn
 
 -- a call of the queue that an id names
 abbrev pub in_queue : {T : Type 0} → SlotState PlainText → ℕ → Turn PlainText T → SlotAnswer T
-in_queue s id turn = once (looks s id) (answered s turn)
+in_queue s id turn = call.once (looks s id) (answered s turn)
 
--- msgsnd: a type below 1 is refused before the id is looked at (msgop(2), msgsnd)
+-- msgsnd (msgop(2), msgsnd)
 abbrev pub send : SlotState PlainText → ℕ → Message PlainText → ℕ → SlotAnswer ℕ
-send s id m moment =
-    if int_lt m.mtype (pos 1) then Err (refused_early EINVAL)
-    else in_queue s id (sends bytes_of s m moment)
+send s id m moment = call.send m.mtype (in_queue s id (sends bytes_of s m moment))
 
 -- msgrcv (msgop(2), msgrcv)
 abbrev pub receive : SlotState PlainText → ℕ → ℕ → Selection → Bool → ℕ → ℕ
     → SlotAnswer (Delivered PlainText)
 receive s id size selection noerror seat moment =
-    in_queue s id (delivers s.messages size (receives s size selection noerror seat moment))
+    in_queue s id (call.delivers s.messages size (receives s size selection noerror seat moment))
 
 -- IPC_SET (msgctl(2), IPC_SET)
 abbrev pub set : SlotState PlainText → ℕ → ℕ → ℕ → ℕ → SlotAnswer ℕ
@@ -73,16 +70,16 @@ removal s after places =
 -- IPC_RMID (msgctl(2), IPC_RMID)
 abbrev pub remove : SlotState PlainText → ℕ → ℕ → ℕ → ℕ → SlotAnswer Removal
 remove s id seat moment places =
-    let after = removes s seat moment in once (looks s id) (Ok (removal s after places, after))
+    let after = removes s seat moment in
+    call.once (looks s id) (Ok (removal s after places, after))
 
 -- IPC_STAT (msgctl(2), IPC_STAT)
 abbrev pub stat : SlotState PlainText → ℕ → Result Figures Refused
-stat s id = once (looks s id) (Ok (figures (last_log s.events)))
+stat s id = call.once (looks s id) (Ok (figures (last_log s.events)))
 
 -- where nothing refuses a call that failed, memory did
 abbrev pub refused_or_memory : {T : Type 0} → SlotState PlainText → SlotAnswer T → Refused
-refused_or_memory s (Ok turn) = refused_here s ENOMEM
-refused_or_memory s (Err refused) = refused
+refused_or_memory s answer = or_memory (refused_here s ENOMEM) answer
 
 -- the id of the queue in the slot, where it is there and has this key
 abbrev pub id_with_key : SlotState PlainText → ℤ → Option ℕ

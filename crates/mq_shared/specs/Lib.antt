@@ -1,5 +1,6 @@
 pub mod Answer
 pub mod Making
+pub mod Outcome
 pub mod Pledge
 pub mod Refusals
 pub mod Seat

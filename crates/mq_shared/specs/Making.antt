@@ -8,6 +8,7 @@ use Rattle.mq_table.specs.SlotList.{Live, is_free, standing}
 use Rattle.mq_one_thread.specs.declared.errno.Errno.{Errno}
 use Rattle.mq_one_thread.specs.declared.errno.Errno.TheVariants.{ENOMEM, ENOSPC}
 use Rattle.mq_one_thread.specs.declared.results.Got.{Got}
+use Rattle.mq_shared.specs.Outcome.{IsStep}
 use Rattle.mq_shared.specs.Seat.{SeatState, front_of}
 use Rattle.mq_shared.specs.Seen.{IsDone, Verdict}
 
@@ -46,6 +47,7 @@ pub record IsMade (old new : SeatState) (slot last_seq : ℕ) (key : ℤ) (momen
   pub done : IsDone old new slot (make_verdict last_seq) entry (Made old.number moment key)
   pub slot_is : slot_of got.id ≡ slot
   pub seq_is : seq_of got.id ≡ made_count (take entry (front_of new slot))
+  pub step : IsStep old new slot
 
 -- no queue was made: the slot is not free, or it is and memory ran out
 abbrev pub IsNotMade : ℕ → List Event → Errno → Type 0

@@ -1,14 +1,7 @@
 //! The calls that set a queue's quota and that remove it, of a slot that is locked for them.
-ghost use Rattle.std.specs.Prelude.{◌≡◌, ◌+◌, ◌<◌, ◌≤◌, false, take, IfOk, IfErr, OnOk, OnErr, MatchResult};
-ghost use Rattle.mq_queue.specs.Queue.{rest_of};
-ghost use Rattle.mq_queue.specs.Row.{last_log};
-ghost use Rattle.mq_queue.specs.declared.event.Event.TheVariants.{Changed, Removed};
-ghost use Rattle.mq_queue.specs.declared.limits.TheConstants.{MSGMNB};
-ghost use Rattle.mq_table.specs.Ids.{seq_of, slot_of};
-ghost use Rattle.mq_shared.specs.Refusals.{Refuses, MayRemove, MaySet};
-ghost use Rattle.mq_shared.specs.Seat.{IsCounted, IsLater, IsSame, front_of};
-ghost use Rattle.mq_shared.specs.Seen.{IsDecided, IsDone, remove_verdict, set_verdict};
-ghost use Rattle.mq_shared.specs.Shown.{IsRemoval};
+ghost use Rattle.std.specs.Prelude.{◌≡◌, ◌<◌, OnErr, MatchResult};
+ghost use Rattle.mq_table.specs.Ids.{slot_of};
+ghost use Rattle.mq_shared.specs.Outcome.{IsNotRemoved, IsNotSet, IsRemoved, IsSet};
 
 use crate::{Keys, Names, Place, Pledge, Seat, WaitingOf};
 use mq_board::Copies;
@@ -28,15 +21,8 @@ impl<P: Pledge, N: Names> Place<P, N, Copies<N>> {
         moment: u64,
     ) -> Result<u64, Refused>
         requires within { slot_of id < N.slots }
-        ensures limit { OnOk result (qbytes ≤ MSGMNB) }
-        ensures refused { IfErr result (Refuses false (MaySet qbytes)) }
-        ensures counted { MatchResult result (λ _. IsCounted seat.old seat.new (slot_of id))
-            (λ _. IsSame seat.old seat.new) }
-        ensures later { IsLater seat.old seat.new }
-        ensures done { IfOk result (λ entry. IsDone seat.old seat.new (slot_of id)
-            (set_verdict (seq_of id) qbytes) entry (Changed seat.old.number moment qbytes)) }
-        ensures decided { IfErr result (IsDecided seat.old seat.new (slot_of id)
-            (set_verdict (seq_of id) qbytes)) }
+        ensures answer { MatchResult result (IsSet N.slots id qbytes moment seat.old seat.new)
+            (IsNotSet N.slots id qbytes seat.old seat.new) }
     {
         let mut held = self.enter(rt, seat, id.slot());
         let answer = held.set(rt, seat, id, qbytes, moment);
@@ -61,19 +47,10 @@ impl<P: Pledge, N: Names> Place<P, N, Copies<N>> {
         moment: u64,
     ) -> Result<(Removal, WaitingOf<N>), Refused>
         requires within { slot_of id < N.slots }
-        ensures refused { IfErr result (Refuses false MayRemove) }
+        ensures answer { MatchResult result
+            (λ r. IsRemoved N.slots N.last_seq id moment seat.old seat.new r.0)
+            (IsNotRemoved N.slots id seat.old seat.new) }
         ensures unchanged { OnErr result (keys.new ≡ keys.old) }
-        ensures counted { MatchResult result (λ _. IsCounted seat.old seat.new (slot_of id))
-            (λ _. IsSame seat.old seat.new) }
-        ensures later { IsLater seat.old seat.new }
-        ensures done { IfOk result (λ r. IsDone seat.old seat.new (slot_of id)
-            (remove_verdict (seq_of id)) r.0.entry (Removed seat.old.number moment)) }
-        ensures log { IfOk result (λ r. r.0.log
-            ≡ rest_of r.0.log.base.places
-            (last_log (take (r.0.entry + 1) (front_of seat.new (slot_of id))))) }
-        ensures lawful { IfOk result (λ r. IsRemoval N.last_seq r.0) }
-        ensures decided { IfErr result (IsDecided seat.old seat.new (slot_of id)
-            (remove_verdict (seq_of id))) }
     {
         let mut held = self.enter(rt, seat, id.slot());
         let answer = held.remove(rt, keys, seat, id, moment);

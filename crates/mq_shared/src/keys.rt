@@ -42,7 +42,7 @@ impl<N: Names> Keys<N> {
         ensures keys { AreKeys self.now }
         ensures within { AreWithin N.slots self.now }
     {
-        self.table.len();
+        self.table.holds();
     }
 
     /// The id of the queue with this key, if there is one.

@@ -1,10 +1,10 @@
 //! What `msgget` does in a slot that is locked for it.
-ghost use Rattle.std.specs.Prelude.{◌≡◌, ◌≢◌, ◌<◌, ◌≤◌, pos, None, IfOk, IfErr, IfNone, IfSome, OnErr, MatchOption, MatchResult};
-ghost use Rattle.mq_table.specs.Ids.{slot_of};
+ghost use Rattle.std.specs.Prelude.{◌≡◌, ◌≢◌, ◌<◌, ◌≤◌, pos, None, OnErr, MatchOption, MatchResult};
 ghost use Rattle.mq_table.specs.Keys.{id_of_key};
 ghost use Rattle.mq_table.specs.declared.limits.TheConstants.{MAX_SEQ};
 ghost use Rattle.mq_shared.specs.Making.{IsMade, IsNotMade, IsThere, Lacks};
-ghost use Rattle.mq_shared.specs.Seat.{IsCounted, IsLater, IsSame, front_of};
+ghost use Rattle.mq_shared.specs.Outcome.{IsLook};
+ghost use Rattle.mq_shared.specs.Seat.{front_of};
 
 use crate::{Keys, Names, Place, Pledge, Seat};
 use mq_board::Copies;
@@ -17,10 +17,9 @@ impl<P: Pledge, N: Names> Place<P, N, Copies<N>> {
     pub fn with_key<R: Wait>(&self, rt: &R, seat: &mut Seat<N>, number: u8, key: i32) -> Option<Id>
         requires within { number < N.slots }
         requires some { key ≢ pos 0 }
-        ensures same { IsSame seat.old seat.new }
-        ensures later { IsLater seat.old seat.new }
-        ensures found { IfSome result (IsThere number key (front_of seat.new number)) }
-        ensures lacking { IfNone result (Lacks key (front_of seat.new number)) }
+        ensures answer { MatchOption result (Lacks key (front_of seat.new number))
+            (IsThere number key (front_of seat.new number)) }
+        ensures look { IsLook seat.old seat.new }
     {
         let held = self.enter(rt, seat, number);
         held.holds();
@@ -45,12 +44,10 @@ impl<P: Pledge, N: Names> Place<P, N, Copies<N>> {
         requires last { last_seq ≡ N.last_seq }
         requires bounded { N.last_seq ≤ MAX_SEQ }
         requires absent { key ≢ pos 0 → id_of_key keys.old key ≡ None }
-        ensures made { IfOk result (IsMade seat.old seat.new number N.last_seq key moment) }
-        ensures refused { IfErr result (IsNotMade N.last_seq (front_of seat.new number)) }
-        ensures unchanged { OnErr result (keys.new ≡ keys.old) }
-        ensures counted { MatchResult result (λ _. IsCounted seat.old seat.new number)
-            (λ _. IsSame seat.old seat.new) }
-        ensures later { IsLater seat.old seat.new }
+        ensures answer { MatchResult result
+            (IsMade seat.old seat.new number N.last_seq key moment)
+            (IsNotMade N.last_seq (front_of seat.new number)) }
+        ensures unchanged { OnErr result ((keys.new ≡ keys.old) × IsLook seat.old seat.new) }
     {
         let mut held = self.enter(rt, seat, number);
         if !held.is_free(last_seq) {

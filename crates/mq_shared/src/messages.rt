@@ -1,12 +1,8 @@
 //! The calls that wait for a message or for room.
-ghost use Rattle.std.specs.Prelude.{◌≡◌, ◌<◌, ◌||◌, pos, int_lt, false, length, IfOk, IfErr, MatchResult};
-ghost use Rattle.mq_queue.specs.declared.event.Event.TheVariants.{Sent};
+ghost use Rattle.std.specs.Prelude.{◌≡◌, ◌<◌, ◌||◌, pos, int_lt, false, length, IfErr, MatchResult};
 ghost use Rattle.mq_select.specs.Selection.{selection_of};
-ghost use Rattle.mq_table.specs.Ids.{seq_of, slot_of};
-ghost use Rattle.mq_shared.specs.Pledge.{MeetsPledge, MeetsWhole};
-ghost use Rattle.mq_shared.specs.Refusals.{Refuses, MayReceive, MaySend};
-ghost use Rattle.mq_shared.specs.Seat.{IsCounted, IsLater, IsSame};
-ghost use Rattle.mq_shared.specs.Seen.{IsDecided, IsDone, IsReceipt, receive_verdict, send_verdict};
+ghost use Rattle.mq_table.specs.Ids.{slot_of};
+ghost use Rattle.mq_shared.specs.Outcome.{IsNotReceived, IsNotSent, IsReceived, IsSent};
 
 use crate::{Names, Patience, Place, Pledge, RecvFlags, Seat, SendFlags, TextOf};
 use mq_board::Copies;
@@ -34,17 +30,11 @@ impl<P: Pledge, N: Names> Place<P, N, Copies<N>> {
         requires within { slot_of id < N.slots }
         requires positive { int_lt mtype (pos 1) ≡ false }
         requires pledge { P.kept seat.old.number tag mtype text.bytes }
-        ensures refused { IfErr result (λ r.
-            Refuses false (MaySend (T.ends || flags.nowait)) r.refused) }
+        ensures answer { MatchResult result
+            (IsSent N.slots id mtype tag (length text.bytes) moment seat.old seat.new)
+            (λ r. IsNotSent N.slots id mtype (length text.bytes) (T.ends || flags.nowait)
+            seat.old seat.new r.refused) }
         ensures handed_back { IfErr result (λ r. r.text ≡ text) }
-        ensures counted { MatchResult result (λ _. IsCounted seat.old seat.new (slot_of id))
-            (λ _. IsSame seat.old seat.new) }
-        ensures later { IsLater seat.old seat.new }
-        ensures done { IfOk result (λ entry. IsDone seat.old seat.new (slot_of id)
-            (send_verdict (seq_of id) mtype (length text.bytes)) entry
-            (Sent seat.old.number moment tag mtype (length text.bytes))) }
-        ensures decided { IfErr result (λ r. IsDecided seat.old seat.new (slot_of id)
-            (send_verdict (seq_of id) mtype (length text.bytes)) r.refused) }
     {
         let mut text = text;
         for _ in rt.forever() {
@@ -89,17 +79,11 @@ impl<P: Pledge, N: Names> Place<P, N, Copies<N>> {
         moment: u64,
     ) -> Result<Delivered<TextOf<N>>, Refused>
         requires within { slot_of id < N.slots }
-        ensures pledge { IfOk result (MeetsPledge P.kept size) }
-        ensures whole { IfOk result (λ d. flags.noerror ≡ false → MeetsWhole P.kept d) }
-        ensures refused { IfErr result
-            (Refuses false (MayReceive (T.ends || flags.nowait) flags.noerror)) }
-        ensures counted { MatchResult result (λ _. IsCounted seat.old seat.new (slot_of id))
-            (λ _. IsSame seat.old seat.new) }
-        ensures later { IsLater seat.old seat.new }
-        ensures done { IfOk result (IsReceipt seat.old seat.new (slot_of id) (seq_of id) size
-            (selection_of msgtyp flags.except) flags.noerror moment) }
-        ensures decided { IfErr result (IsDecided seat.old seat.new (slot_of id)
-            (receive_verdict (seq_of id) size (selection_of msgtyp flags.except) flags.noerror)) }
+        ensures answer { MatchResult result
+            (IsReceived P.kept N.slots id size (selection_of msgtyp flags.except) flags.noerror
+            moment seat.old seat.new)
+            (IsNotReceived N.slots id size (selection_of msgtyp flags.except) flags.noerror
+            (T.ends || flags.nowait) seat.old seat.new) }
     {
         let selection = Selection::read(msgtyp, flags.except);
         for _ in rt.forever() {

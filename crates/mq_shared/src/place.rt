@@ -1,6 +1,6 @@
-ghost use Rattle.std.specs.Prelude.{◌≡◌, ◌<◌, length};
+ghost use Rattle.std.specs.Prelude.{◌<◌};
 ghost use Rattle.std.specs.Sync.Mutex.{mutex_guard_value};
-ghost use Rattle.mq_shared.specs.Seat.{IsLater, IsSame, front_of};
+ghost use Rattle.mq_shared.specs.Outcome.{IsUnderLock};
 
 use crate::{Names, Pledge, Seat, SharedSlot, Waiters};
 use crossbeam_utils::{Backoff, CachePadded};
@@ -85,7 +85,7 @@ impl<P: Pledge, N: Names> Place<P, N, Copies<N>> {
     /// Takes the lock for a seat, which then knows all that happened in the slot. A slot of another
     /// number, or one of which the seat knew more, would be let go, and looked at again: no run
     /// meets either.
-    #[tactic(auto, using(crate::proofs::LaterLemmas::same_self, crate::proofs::LaterLemmas::same_trans, crate::proofs::LaterLemmas::later_self, crate::proofs::LaterLemmas::later_trans))]
+    #[tactic(auto, using(crate::proofs::LaterLemmas::look_self, crate::proofs::LaterLemmas::look_trans))]
     pub(crate) fn enter<'s, R: Wait>(
         &'s self,
         rt: &R,
@@ -93,11 +93,7 @@ impl<P: Pledge, N: Names> Place<P, N, Copies<N>> {
         number: u8,
     ) -> MutexGuard<'s, SharedSlot<P, N, Copies<N>>>
         requires within { number < N.slots }
-        ensures same { IsSame seat.old seat.new }
-        ensures later { IsLater seat.old seat.new }
-        ensures low { number < length seat.new.fronts }
-        ensures number { (mutex_guard_value result).number ≡ number }
-        ensures known { front_of seat.new number ≡ (mutex_guard_value result).events }
+        ensures { IsUnderLock seat.old seat.new number (mutex_guard_value result) }
     {
         seat.holds();
         let pauses = Pauses::of(seat, number);

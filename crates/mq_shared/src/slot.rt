@@ -7,7 +7,8 @@ ghost use Rattle.mq_table.specs.declared.limits.TheConstants.{MAX_SLOTS};
 ghost use Rattle.mq_one_thread.specs.Texts.{bytes_of};
 ghost use Rattle.mq_shared.specs.Answer.{id_with_key, looks, refused_here};
 ghost use Rattle.mq_shared.specs.Pledge.{IsPledged};
-ghost use Rattle.mq_shared.specs.Seat.{IsLater, IsSame, front_of};
+ghost use Rattle.mq_shared.specs.Outcome.{IsLook};
+ghost use Rattle.mq_shared.specs.Seat.{front_of};
 
 use crate::{Entries, Names, Pledge, PublishedOf, Seat};
 use mq_board::Copies;
@@ -80,8 +81,7 @@ impl<P: Pledge, N: Names, W> SharedSlot<P, N, W> {
     /// under its lock.
     pub fn enter(&self, seat: &mut Seat<N>, number: u8) -> bool
         requires within { number < N.slots }
-        ensures same { IsSame seat.old seat.new }
-        ensures later { IsLater seat.old seat.new }
+        ensures look { IsLook seat.old seat.new }
         ensures known { IsTrue result → (self.now.number ≡ number)
             × (front_of seat.new number ≡ self.now.events) }
     {

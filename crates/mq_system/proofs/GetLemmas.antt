@@ -1,6 +1,6 @@
 -- What was so at some moment of a call, once its seat knows more.
 use Rattle.std.proofs.Common.{◌≡◌, ◌≢◌, ◌⊎◌, inl, inr, ℕ, ℤ, pos, ◌+◌, ◌<◌, ◌≤◌, ◌==◌, true, false, List, length, take, slice_get, Option, None, Some, true≢false, sym, refl, ap, ◌∙◌, subst, arith}
-use Rattle.std.specs.Prelude.{IfErr, IfOk, IsSome, MatchOption, Result, Ok, Err}
+use Rattle.std.specs.Prelude.{MatchOption, MatchResult, OnErr, Result, Ok, Err}
 use Rattle.std.proofs.lemmas.Bool.Decides.{eqb_tells}
 use Rattle.std.proofs.lemmas.List.{length-append}
 use mathlib.Core.List.{IsPrefix}
@@ -10,12 +10,14 @@ use Rattle.mq_table.specs.Ids.{seq_of, slot_of}
 use Rattle.mq_board.proofs.Fronts.{prefix_self, prefix_trans}
 use Rattle.mq_one_thread.specs.declared.errno.Errno.{Errno}
 use Rattle.mq_one_thread.specs.declared.errno.Errno.TheVariants.{ENOMEM, ENOSPC}
+use Rattle.mq_one_thread.specs.declared.results.GetFlags.{GetFlags}
 use Rattle.mq_one_thread.specs.declared.results.Got.{Got}
 use Rattle.mq_shared.specs.Making.{IsMade, IsNotMade, IsThere, Lacks, make_verdict}
-use Rattle.mq_shared.specs.Seat.{IsLater, IsSame, SeatState, front_of}
+use Rattle.mq_shared.specs.Outcome.{IsLook}
+use Rattle.mq_shared.specs.Seat.{IsLater, SeatState, front_of}
 use Rattle.mq_shared.specs.Seen.{IsDone, Verdict}
-use Rattle.mq_shared.proofs.LaterLemmas.{later_self}
-use Rattle.mq_system.specs.Get.{HadFree, IsFound, IsFree, IsGot, IsNew, IsNotGot, IsNotNew, IsTaken, Was, WasAt, WasBelow, WasLacked}
+use Rattle.mq_shared.proofs.LaterLemmas.{later_self, look_trans, step_after}
+use Rattle.mq_system.specs.Get.{HadFree, IsFound, IsFree, IsGot, IsNew, IsNotGot, IsNotNew, IsTaken, MayRefuse, Was, WasAt, WasBelow, WasLacked, WhyNotGot, may_make}
 
 -- it is so now
 pub was_now : (fact : List Event → Type 0) (old new : SeatState) (slot : ℕ) → IsLater old new
@@ -84,16 +86,17 @@ done_before a b c slot verdict entry e before done =
     }
 
 pub made_before : (a b c : SeatState) (slot last_seq : ℕ) (key : ℤ) (moment : ℕ) (got : Got)
-    → IsSame a b → IsLater a b → IsMade b c slot last_seq key moment got
+    → IsLook a b → IsMade b c slot last_seq key moment got
     → IsMade a c slot last_seq key moment got
-made_before a b c slot last_seq key moment got same before made = record {
+made_before a b c slot last_seq key moment got look made = record {
   entry = made.entry;
   made = made.made;
   done =
-      subst (λ seat. IsDone a c slot (make_verdict last_seq) made.entry (event.Made seat moment key)) same.number
-      (done_before a b c slot (make_verdict last_seq) made.entry (event.Made b.number moment key) before made.done);
+      subst (λ seat. IsDone a c slot (make_verdict last_seq) made.entry (event.Made seat moment key)) look.same.number
+      (done_before a b c slot (make_verdict last_seq) made.entry (event.Made b.number moment key) look.later made.done);
   slot_is = made.slot_is;
   seq_is = made.seq_is;
+  step = step_after a b c slot look made.step.counted made.step.later;
 }
 
 -- memory ran out in a slot that was free
@@ -125,56 +128,71 @@ found_before key a b c id before found = record {
   made = found.made;
 }
 
-match_some : (o : Option ℕ) (P Q : Type 0) → IsSome o → Q → MatchOption o P (λ _. Q)
-match_some None P Q some q = absurd (true≢false (sym some))
-match_some (Some n) P Q some q = q
+match_some : (o : Option ℕ) (n : ℕ) (P Q : Type 0) → o ≡ Some n → Q → MatchOption o P (λ _. Q)
+match_some None n P Q is q = cc
+match_some (Some m) n P Q is q = q
 
-module _ (slots last_seq : ℕ) (key : ℤ) (a b c : SeatState) (same : IsSame a b)
-    (before : IsLater a b) (after : IsLater b c)
+module _ (slots last_seq : ℕ) (key : ℤ) (flags : GetFlags) (moment : ℕ) (a b c : SeatState)
+    (look : IsLook a b) (may : may_make key flags ≡ true)
     (lacked : key ≢ pos 0 → WasBelow (Lacks key) a b slots) where
-  still_lacked : WasLacked slots key a c
-  still_lacked some = below_around (Lacks key) a a b c slots (later_self a) after (lacked some)
+  still_lacked : IsLater b c → WasLacked slots key a c
+  still_lacked after some =
+      below_around (Lacks key) a a b c slots (later_self a) after (lacked some)
 
   -- a queue was made once none was found
-  got_new : (moment : ℕ) (got : Got) → IsSome got.made
-      → IsNew slots last_seq key moment b c got → IsGot slots last_seq key moment a c got
-  got_new moment got some new =
-      match_some got.made ((slot_of got.id < slots) × IsFound key a c got.id)
-      (IsNew slots last_seq key moment a c got × WasLacked slots key a c) some (
-        record {
-          within = new.within;
-          made =
-              made_before a b c (slot_of got.id) last_seq key moment got same before new.made;
-          lower =
-              below_around (IsTaken last_seq) a b c c (slot_of got.id) before (later_self c) new.lower;
-        },
-        still_lacked,
-      )
+  got_new : (got : Got) → IsNew slots last_seq key moment b c got
+      → IsGot slots last_seq key flags moment a c got
+  got_new got new =
+      let made = made_before a b c (slot_of got.id) last_seq key moment got look new.made in
+      let first : IsNew slots last_seq key moment a c got = record {
+        within = new.within;
+        made = made;
+        lower =
+            below_around (IsTaken last_seq) a b c c (slot_of got.id) look.later (later_self c) new.lower;
+      } in record {
+        allowed = rw made.made may;
+        within = new.within;
+        counts = rw made.made made.step.counted;
+        later = made.step.later;
+        how =
+            match_some got.made made.entry ((slot_of got.id < slots) × IsFound key a c got.id)
+            (IsNew slots last_seq key moment a c got × WasLacked slots key a c) made.made
+            (first, still_lacked new.made.step.later);
+      }
 
   -- none was made, and none was found
-  not_got : (errno : Errno) → IsNotNew slots last_seq b c errno
-      → IsNotGot slots last_seq key a c errno
-  not_got ENOSPC full =
-      (below_around (IsTaken last_seq) a b c c slots before (later_self c) full, still_lacked)
-  not_got ENOMEM had = (
+  may_refuse : (errno : Errno) → IsNotNew slots last_seq b c errno → MayRefuse key flags errno
+  may_refuse ENOSPC full = may
+  may_refuse ENOMEM had = may
+  may_refuse _ none = absurd none
+
+  why : (errno : Errno) → IsLater b c → IsNotNew slots last_seq b c errno
+      → WhyNotGot slots last_seq key a c errno
+  why ENOSPC after full = (
+    below_around (IsTaken last_seq) a b c c slots look.later (later_self c) full,
+    still_lacked after,
+  )
+  why ENOMEM after had = (
     record {
       slot = had.slot;
       within = had.within;
-      free = was_around (IsFree last_seq) a b c c had.slot before (later_self c) had.free;
+      free = was_around (IsFree last_seq) a b c c had.slot look.later (later_self c) had.free;
       lower =
-          below_around (IsTaken last_seq) a b c c had.slot before (later_self c) had.lower;
+          below_around (IsTaken last_seq) a b c c had.slot look.later (later_self c) had.lower;
     },
-    still_lacked,
+    still_lacked after,
   )
-  not_got _ none = absurd none
+  why _ after none = absurd none
 
-  -- the same of what the call answers
-  pub answers_got : (moment : ℕ) (r : Result Got Errno) → IfOk r (λ got. IsSome got.made)
-      → IfOk r (IsNew slots last_seq key moment b c) → IfOk r (IsGot slots last_seq key moment a c)
-  answers_got moment (Ok got) some new = got_new moment got some new
-  answers_got moment (Err errno) some new = tt
-
-  pub answers_not : (r : Result Got Errno) → IfErr r (IsNotNew slots last_seq b c)
-      → IfErr r (IsNotGot slots last_seq key a c)
-  answers_not (Ok got) not_new = tt
-  answers_not (Err errno) not_new = not_got errno not_new
+  -- what the call answers
+  pub answers : (r : Result Got Errno)
+      → MatchResult r (IsNew slots last_seq key moment b c) (IsNotNew slots last_seq b c)
+      → OnErr r (IsLook b c)
+      → MatchResult r (IsGot slots last_seq key flags moment a c)
+      (IsNotGot slots last_seq key flags a c)
+  answers (Ok got) new after = got_new got new
+  answers (Err errno) not_new after = record {
+    allowed = may_refuse errno not_new;
+    look = look_trans a b c look after;
+    why = why errno after.later not_new;
+  }

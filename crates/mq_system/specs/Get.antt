@@ -10,7 +10,8 @@ use Rattle.mq_one_thread.specs.declared.errno.Errno.TheVariants.{ENOMEM, EEXIST,
 use Rattle.mq_one_thread.specs.declared.results.GetFlags.{GetFlags}
 use Rattle.mq_one_thread.specs.declared.results.Got.{Got}
 use Rattle.mq_shared.specs.Making.{HoldsMade, IsKeyed, IsMade, Lacks}
-use Rattle.mq_shared.specs.Seat.{SeatState, IsCounted, IsSame, front_of}
+use Rattle.mq_shared.specs.Outcome.{IsLook}
+use Rattle.mq_shared.specs.Seat.{SeatState, IsCounted, IsLater, IsSame, front_of}
 
 -- key 0 is IPC_PRIVATE (msgget(2))
 abbrev pub is_private : ℤ → Bool
@@ -94,11 +95,20 @@ IsNotNew slots last_seq old new _ = ⊥
 abbrev pub WasLacked : ℕ → ℤ → SeatState → SeatState → Type 0
 WasLacked slots key old new = key ≢ pos 0 → WasBelow (Lacks key) old new slots
 
--- what is answered: a queue that was found, or one that was made where none was found
-abbrev pub IsGot : ℕ → ℕ → ℤ → ℕ → SeatState → SeatState → Got → Type 0
-IsGot slots last_seq key moment old new got =
+-- a queue was found, or one was made where none was found
+abbrev pub IsFoundOrNew : ℕ → ℕ → ℤ → ℕ → SeatState → SeatState → Got → Type 0
+IsFoundOrNew slots last_seq key moment old new got =
     MatchOption got.made ((slot_of got.id < slots) × IsFound key old new got.id)
     (λ _. IsNew slots last_seq key moment old new got × WasLacked slots key old new)
+
+-- msgget answered a queue
+pub record IsGot (slots last_seq : ℕ) (key : ℤ) (flags : GetFlags) (moment : ℕ)
+    (old new : SeatState) (got : Got) : Type 0 where
+  pub allowed : MayGet key flags got.made
+  pub within : slot_of got.id < slots
+  pub counts : CountsGet old new got
+  pub later : IsLater old new
+  pub how : IsFoundOrNew slots last_seq key moment old new got
 
 -- a queue with this key was found
 pub record IsAnyFound (slots : ℕ) (key : ℤ) (old new : SeatState) : Type 0 where
@@ -107,11 +117,18 @@ pub record IsAnyFound (slots : ℕ) (key : ℤ) (old new : SeatState) : Type 0 w
   pub found : IsFound key old new id
 
 -- why none is answered: a queue was found; or none was and, if one was to be made, why it was not
-abbrev pub IsNotGot : ℕ → ℕ → ℤ → SeatState → SeatState → Errno → Type 0
-IsNotGot slots last_seq key old new EEXIST = IsAnyFound slots key old new
-IsNotGot slots last_seq key old new ENOENT = WasLacked slots key old new
-IsNotGot slots last_seq key old new ENOSPC =
+abbrev pub WhyNotGot : ℕ → ℕ → ℤ → SeatState → SeatState → Errno → Type 0
+WhyNotGot slots last_seq key old new EEXIST = IsAnyFound slots key old new
+WhyNotGot slots last_seq key old new ENOENT = WasLacked slots key old new
+WhyNotGot slots last_seq key old new ENOSPC =
     IsNotNew slots last_seq old new ENOSPC × WasLacked slots key old new
-IsNotGot slots last_seq key old new ENOMEM =
+WhyNotGot slots last_seq key old new ENOMEM =
     IsNotNew slots last_seq old new ENOMEM × WasLacked slots key old new
-IsNotGot slots last_seq key old new _ = ⊥
+WhyNotGot slots last_seq key old new _ = ⊥
+
+-- msgget answered none
+pub record IsNotGot (slots last_seq : ℕ) (key : ℤ) (flags : GetFlags) (old new : SeatState)
+    (errno : Errno) : Type 0 where
+  pub allowed : MayRefuse key flags errno
+  pub look : IsLook old new
+  pub why : WhyNotGot slots last_seq key old new errno

@@ -1,13 +1,8 @@
-ghost use Rattle.std.specs.Prelude.{◌≡◌, ◌+◌, ◌≤◌, false, length, map, take, IfOk, IfErr, OnOk, MatchResult};
-ghost use Rattle.mq_queue.specs.Queue.{rest_of};
-ghost use Rattle.mq_queue.specs.Row.{last_log, row};
-ghost use Rattle.mq_queue.specs.declared.event.Event.TheVariants.{Changed, Removed};
-ghost use Rattle.mq_queue.specs.declared.limits.TheConstants.{MSGMNB};
-ghost use Rattle.mq_table.specs.Ids.{seq_of, slot_of};
-ghost use Rattle.mq_shared.specs.Refusals.{Refuses, MayRemove, MaySet, out_of_slots};
-ghost use Rattle.mq_shared.specs.Seat.{IsCounted, IsLater, IsSame, front_of};
-ghost use Rattle.mq_shared.specs.Seen.{IsDecided, IsDone, remove_verdict, set_verdict};
-ghost use Rattle.mq_shared.specs.Shown.{IsRemoval};
+ghost use Rattle.std.specs.Prelude.{◌≡◌, length, map, MatchResult};
+ghost use Rattle.mq_queue.specs.Row.{row};
+ghost use Rattle.mq_table.specs.Ids.{slot_of};
+ghost use Rattle.mq_shared.specs.Outcome.{IsLook, IsNotRemoved, IsNotSet, IsRemoved, IsSet};
+ghost use Rattle.mq_shared.specs.Seat.{front_of};
 ghost use Rattle.mq_system.specs.Shown.{stat_of};
 
 use crate::messages::too_early;
@@ -21,7 +16,7 @@ use std::sync::{MutexGuard, Wait};
 impl<P: Pledge, N: Names> System<P, N, Copies<N>> {
     /// Sets the quota (msgctl(2), IPC_SET of msg_qbytes), and answers the entry. EINVAL, EIDRM,
     /// EPERM over MSGMNB, then ENOMEM.
-    #[tactic(auto, using(mq_shared::proofs::LaterLemmas::same_self, mq_shared::proofs::LaterLemmas::later_self))]
+    #[tactic(auto, using(mq_shared::proofs::LaterLemmas::look_self))]
     pub fn set<R: Wait>(
         &self,
         rt: &R,
@@ -30,16 +25,8 @@ impl<P: Pledge, N: Names> System<P, N, Copies<N>> {
         qbytes: u64,
         moment: u64,
     ) -> Result<u64, Refused>
-        ensures ok { OnOk result (out_of_slots N.slots id ≡ false) }
-        ensures limit { OnOk result (qbytes ≤ MSGMNB) }
-        ensures refused { IfErr result (Refuses (out_of_slots N.slots id) (MaySet qbytes)) }
-        ensures counted { MatchResult result (λ _. IsCounted seat.old seat.new (slot_of id))
-            (λ _. IsSame seat.old seat.new) }
-        ensures later { IsLater seat.old seat.new }
-        ensures done { IfOk result (λ entry. IsDone seat.old seat.new (slot_of id)
-            (set_verdict (seq_of id) qbytes) entry (Changed seat.old.number moment qbytes)) }
-        ensures decided { IfErr result (IsDecided seat.old seat.new (slot_of id)
-            (set_verdict (seq_of id) qbytes)) }
+        ensures answer { MatchResult result (IsSet N.slots id qbytes moment seat.old seat.new)
+            (IsNotSet N.slots id qbytes seat.old seat.new) }
     {
         let number = id.slot() as usize;
         if number >= self.places.len() {
@@ -50,7 +37,7 @@ impl<P: Pledge, N: Names> System<P, N, Copies<N>> {
 
     /// Removes the queue (msgctl(2), IPC_RMID). Who waits in it answers EIDRM, and the texts that
     /// waited in it go home. EINVAL, EIDRM, then ENOMEM.
-    #[tactic(auto, using(mq_shared::proofs::LaterLemmas::same_self, mq_shared::proofs::LaterLemmas::later_self))]
+    #[tactic(auto, using(mq_shared::proofs::LaterLemmas::look_self))]
     pub fn rmid<R: Wait>(
         &self,
         rt: &R,
@@ -58,19 +45,9 @@ impl<P: Pledge, N: Names> System<P, N, Copies<N>> {
         id: Id,
         moment: u64,
     ) -> Result<Removal, Refused>
-        ensures ok { OnOk result (out_of_slots N.slots id ≡ false) }
-        ensures lawful { IfOk result (IsRemoval N.last_seq) }
-        ensures refused { IfErr result (Refuses (out_of_slots N.slots id) MayRemove) }
-        ensures counted { MatchResult result (λ _. IsCounted seat.old seat.new (slot_of id))
-            (λ _. IsSame seat.old seat.new) }
-        ensures later { IsLater seat.old seat.new }
-        ensures done { IfOk result (λ r. IsDone seat.old seat.new (slot_of id)
-            (remove_verdict (seq_of id)) r.entry (Removed seat.old.number moment)) }
-        ensures log { IfOk result (λ r. r.log
-            ≡ rest_of r.log.base.places
-            (last_log (take (r.entry + 1) (front_of seat.new (slot_of id))))) }
-        ensures decided { IfErr result (IsDecided seat.old seat.new (slot_of id)
-            (remove_verdict (seq_of id))) }
+        ensures answer { MatchResult result
+            (IsRemoved N.slots N.last_seq id moment seat.old seat.new)
+            (IsNotRemoved N.slots id seat.old seat.new) }
     {
         let number = id.slot() as usize;
         if number >= self.places.len() {
@@ -100,11 +77,10 @@ impl<P: Pledge, N: Names> System<P, N, Copies<N>> {
 
     /// What is shown of the queue (msgctl(2), IPC_STAT), as its slot's board has it. It waits for
     /// nobody, and takes no lock and no memory. EINVAL, then EIDRM.
-    #[tactic(auto, using(mq_shared::proofs::LaterLemmas::same_self, mq_shared::proofs::LaterLemmas::later_self))]
+    #[tactic(auto, using(mq_shared::proofs::LaterLemmas::look_self))]
     pub fn stat(&self, seat: &mut Seat<N>, id: Id) -> Result<Figures, Errno>
         ensures answer { result ≡ stat_of N.slots (front_of seat.new (slot_of id)) id }
-        ensures same { IsSame seat.old seat.new }
-        ensures later { IsLater seat.old seat.new }
+        ensures look { IsLook seat.old seat.new }
     {
         if id.slot() as usize >= self.places.len() {
             return Err(Errno::EINVAL);
@@ -120,8 +96,7 @@ impl<P: Pledge, N: Names> System<P, N, Copies<N>> {
     pub fn report(&self, seat: &mut Seat<N>, rows: &mut [BoardRow])
         requires { length rows.old ≡ N.slots }
         ensures rows { rows.new ≡ map row seat.new.fronts }
-        ensures same { IsSame seat.old seat.new }
-        ensures later { IsLater seat.old seat.new }
+        ensures look { IsLook seat.old seat.new }
     {
         seat.holds();
         for number in 0..self.slots() {

@@ -1,9 +1,10 @@
 //! The call that cuts a slot's list off.
 
-ghost use Rattle.std.specs.Prelude.{◌≡◌, ◌<◌, Some, length, IfOk, IfErr};
+ghost use Rattle.std.specs.Prelude.{◌≡◌, ◌<◌, Some, length, MatchResult};
 ghost use Rattle.mq_table.specs.Cut.{IsCutOf, shown};
 ghost use Rattle.mq_one_thread.specs.declared.errno.Errno.TheVariants.{ENOMEM};
-ghost use Rattle.mq_shared.specs.Seat.{IsLater, IsSame, front_of};
+ghost use Rattle.mq_shared.specs.Outcome.{IsLook};
+ghost use Rattle.mq_shared.specs.Seat.{front_of};
 
 use crate::{Cut, Names, Pledge, Refused, Seat, System};
 use mq_board::Copies;
@@ -16,11 +17,9 @@ impl<P: Pledge, N: Names> System<P, N, Copies<N>> {
     /// whole list. It is no change, adds to no count and publishes nothing. ENOMEM alone.
     pub fn cut_log<R: Wait>(&self, rt: &R, seat: &mut Seat<N>, slot: u8) -> Result<Cut, Refused>
         requires within { slot < N.slots }
-        ensures cut { IfOk result (λ cut. IsCutOf (front_of seat.new slot) (shown cut)) }
-        ensures refused { IfErr result (λ r. r
-            ≡ record { errno = ENOMEM; entry = Some (length (front_of seat.new slot)) }) }
-        ensures same { IsSame seat.old seat.new }
-        ensures later { IsLater seat.old seat.new }
+        ensures answer { MatchResult result (λ cut. IsCutOf (front_of seat.new slot) (shown cut))
+            (λ r. r ≡ record { errno = ENOMEM; entry = Some (length (front_of seat.new slot)) }) }
+        ensures look { IsLook seat.old seat.new }
     {
         self.places[slot as usize].cut(rt, seat, slot)
     }

@@ -1,11 +1,9 @@
-ghost use Rattle.std.specs.Prelude.{◌≡◌, ◌≢◌, ◌⊎◌, ◌<◌, None, pos, IfOk, IfErr, IfSome, IfNone, IsSome, MatchResult};
+ghost use Rattle.std.specs.Prelude.{◌≡◌, ◌≢◌, ◌<◌, None, pos, IfSome, IfNone, OnErr, MatchResult};
 ghost use Rattle.mq_table.specs.Ids.{slot_of};
 ghost use Rattle.mq_table.specs.Keys.{id_of_key};
-ghost use Rattle.mq_one_thread.specs.declared.errno.Errno.TheVariants.{ENOMEM, ENOSPC};
 ghost use Rattle.mq_shared.specs.Making.{Lacks};
-ghost use Rattle.mq_shared.specs.Seat.{IsCounted, IsLater, IsSame};
-ghost use Rattle.mq_system.specs.Get.{CountsGet, IsFound, IsGot, IsNew, IsNotGot, IsNotNew, MayGet};
-ghost use Rattle.mq_system.specs.Get.{MayRefuse, WasBelow};
+ghost use Rattle.mq_shared.specs.Outcome.{IsLook};
+ghost use Rattle.mq_system.specs.Get.{IsFound, IsGot, IsNew, IsNotGot, IsNotNew, WasBelow};
 
 use crate::{Errno, GetFlags, Got, Keys, Names, Pledge, Seat, System};
 use mq_board::Copies;
@@ -23,14 +21,9 @@ impl<P: Pledge, N: Names> System<P, N, Copies<N>> {
         flags: GetFlags,
         moment: u64,
     ) -> Result<Got, Errno>
-        ensures ok { IfOk result (λ got. MayGet key flags got.made) }
-        ensures within { IfOk result (λ got. slot_of got.id < N.slots) }
-        ensures refused { IfErr result (MayRefuse key flags) }
-        ensures counted { MatchResult result (CountsGet seat.old seat.new)
-            (λ _. IsSame seat.old seat.new) }
-        ensures later { IsLater seat.old seat.new }
-        ensures got { IfOk result (IsGot N.slots N.last_seq key moment seat.old seat.new) }
-        ensures not_got { IfErr result (IsNotGot N.slots N.last_seq key seat.old seat.new) }
+        ensures answer { MatchResult result
+            (IsGot N.slots N.last_seq key flags moment seat.old seat.new)
+            (IsNotGot N.slots N.last_seq key flags seat.old seat.new) }
     {
         let mut keys = self.keys.lock(rt);
         let answer = self.get(rt, &mut *keys, seat, key, flags, moment);
@@ -48,14 +41,9 @@ impl<P: Pledge, N: Names> System<P, N, Copies<N>> {
         flags: GetFlags,
         moment: u64,
     ) -> Result<Got, Errno>
-        ensures ok { IfOk result (λ got. MayGet key flags got.made) }
-        ensures within { IfOk result (λ got. slot_of got.id < N.slots) }
-        ensures refused { IfErr result (MayRefuse key flags) }
-        ensures counted { MatchResult result (CountsGet seat.old seat.new)
-            (λ _. IsSame seat.old seat.new) }
-        ensures later { IsLater seat.old seat.new }
-        ensures got { IfOk result (IsGot N.slots N.last_seq key moment seat.old seat.new) }
-        ensures not_got { IfErr result (IsNotGot N.slots N.last_seq key seat.old seat.new) }
+        ensures answer { MatchResult result
+            (IsGot N.slots N.last_seq key flags moment seat.old seat.new)
+            (IsNotGot N.slots N.last_seq key flags seat.old seat.new) }
     {
         if key == 0 {
             return self.make(rt, keys, seat, key, moment);
@@ -75,15 +63,14 @@ impl<P: Pledge, N: Names> System<P, N, Copies<N>> {
     /// The id of the queue with this key, which is not 0, as the table and then its slot have it. A
     /// pair without its queue would be forgotten, and a queue without its pair found in its slot: no
     /// run meets either.
-    #[tactic(auto, using(mq_shared::proofs::LaterLemmas::same_self, mq_shared::proofs::LaterLemmas::later_self, mq_shared::proofs::LaterLemmas::same_trans, mq_shared::proofs::LaterLemmas::later_trans))]
+    #[tactic(auto, using(mq_shared::proofs::LaterLemmas::look_self, mq_shared::proofs::LaterLemmas::look_trans))]
     fn find<R: Wait>(&self, rt: &R, keys: &mut Keys<N>, seat: &mut Seat<N>, key: i32) -> Option<Id>
         requires some { key ≢ pos 0 }
         ensures within { IfSome result (λ id. slot_of id < N.slots) }
         ensures found { IfSome result (IsFound key seat.old seat.new) }
         ensures absent { IfNone result (id_of_key keys.new key ≡ None) }
         ensures lacked { IfNone result (WasBelow (Lacks key) seat.old seat.new N.slots) }
-        ensures same { IsSame seat.old seat.new }
-        ensures later { IsLater seat.old seat.new }
+        ensures look { IsLook seat.old seat.new }
     {
         if let Some(id) = self.look(rt, keys, seat, key) {
             return Some(id);
@@ -95,14 +82,13 @@ impl<P: Pledge, N: Names> System<P, N, Copies<N>> {
     }
 
     /// The id of the queue with this key, as the table has it.
-    #[tactic(auto, using(mq_shared::proofs::LaterLemmas::same_self, mq_shared::proofs::LaterLemmas::later_self, mq_shared::proofs::LaterLemmas::same_trans, mq_shared::proofs::LaterLemmas::later_trans))]
+    #[tactic(auto, using(mq_shared::proofs::LaterLemmas::look_self, mq_shared::proofs::LaterLemmas::look_trans))]
     fn look<R: Wait>(&self, rt: &R, keys: &mut Keys<N>, seat: &mut Seat<N>, key: i32) -> Option<Id>
         requires some { key ≢ pos 0 }
         ensures within { IfSome result (λ id. slot_of id < N.slots) }
         ensures found { IfSome result (IsFound key seat.old seat.new) }
         ensures absent { IfNone result (id_of_key keys.new key ≡ None) }
-        ensures same { IsSame seat.old seat.new }
-        ensures later { IsLater seat.old seat.new }
+        ensures look { IsLook seat.old seat.new }
     {
         let Some(id) = keys.look(key) else {
             return None;
@@ -121,8 +107,7 @@ impl<P: Pledge, N: Names> System<P, N, Copies<N>> {
         ensures within { IfSome result (λ id. slot_of id < N.slots) }
         ensures found { IfSome result (IsFound key seat.old seat.new) }
         ensures lacked { IfNone result (WasBelow (Lacks key) seat.old seat.new N.slots) }
-        ensures same { IsSame seat.old seat.new }
-        ensures later { IsLater seat.old seat.new }
+        ensures look { IsLook seat.old seat.new }
     {
         for number in 0..self.slots() {
             if let Some(found) = self.places[number as usize].with_key(rt, seat, number, key) {
@@ -133,7 +118,7 @@ impl<P: Pledge, N: Names> System<P, N, Copies<N>> {
     }
 
     /// Makes a queue in the first slot that is free.
-    #[tactic(auto, using(mq_shared::proofs::LaterLemmas::same_trans, mq_shared::proofs::LaterLemmas::later_trans))]
+    #[tactic(auto, using(mq_shared::proofs::LaterLemmas::look_trans))]
     fn make<R: Wait>(
         &self,
         rt: &R,
@@ -143,14 +128,10 @@ impl<P: Pledge, N: Names> System<P, N, Copies<N>> {
         moment: u64,
     ) -> Result<Got, Errno>
         requires absent { key ≢ pos 0 → id_of_key keys.old key ≡ None }
-        ensures made { IfOk result (λ got. IsSome got.made) }
-        ensures within { IfOk result (λ got. slot_of got.id < N.slots) }
-        ensures refused { IfErr result (λ errno. (errno ≡ ENOSPC) ⊎ (errno ≡ ENOMEM)) }
-        ensures counted { MatchResult result (λ got. IsCounted seat.old seat.new (slot_of got.id))
-            (λ _. IsSame seat.old seat.new) }
-        ensures later { IsLater seat.old seat.new }
-        ensures new { IfOk result (IsNew N.slots N.last_seq key moment seat.old seat.new) }
-        ensures not_new { IfErr result (IsNotNew N.slots N.last_seq seat.old seat.new) }
+        ensures answer { MatchResult result
+            (IsNew N.slots N.last_seq key moment seat.old seat.new)
+            (IsNotNew N.slots N.last_seq seat.old seat.new) }
+        ensures look { OnErr result (IsLook seat.old seat.new) }
     {
         for number in 0..self.slots() {
             let place = &self.places[number as usize];

@@ -1,13 +1,8 @@
-ghost use Rattle.std.specs.Prelude.{◌≡◌, ◌||◌, false, length, IfOk, IfErr, OnOk, MatchResult};
-ghost use Rattle.mq_queue.specs.declared.event.Event.TheVariants.{Sent};
+ghost use Rattle.std.specs.Prelude.{◌≡◌, ◌||◌, length, IfErr, MatchResult};
 ghost use Rattle.mq_select.specs.Selection.{selection_of};
-ghost use Rattle.mq_table.specs.Ids.{seq_of, slot_of};
 ghost use Rattle.mq_one_thread.specs.Look.{refused_early};
 ghost use Rattle.mq_one_thread.specs.declared.errno.Errno.TheVariants.{EINVAL};
-ghost use Rattle.mq_shared.specs.Pledge.{MeetsPledge, MeetsWhole};
-ghost use Rattle.mq_shared.specs.Refusals.{Refuses, MayReceive, MaySend, never_sent, out_of_slots};
-ghost use Rattle.mq_shared.specs.Seat.{IsCounted, IsLater, IsSame};
-ghost use Rattle.mq_shared.specs.Seen.{IsDecided, IsDone, IsReceipt, receive_verdict, send_verdict};
+ghost use Rattle.mq_shared.specs.Outcome.{IsNotReceived, IsNotSent, IsReceived, IsSent};
 
 use crate::{
     Delivered, Errno, Forever, Names, Patience, Pledge, RecvFlags, Refused, Seat, SendFlags,
@@ -33,18 +28,11 @@ impl<P: Pledge, N: Names> System<P, N, Copies<N>> {
         moment: u64,
     ) -> Result<u64, SendRefused<TextOf<N>>>
         requires pledge { P.kept seat.old.number tag mtype text.bytes }
-        ensures ok { OnOk result (never_sent N.slots id mtype ≡ false) }
-        ensures refused { IfErr result (λ r.
-            Refuses (never_sent N.slots id mtype) (MaySend flags.nowait) r.refused) }
+        ensures answer { MatchResult result
+            (IsSent N.slots id mtype tag (length text.bytes) moment seat.old seat.new)
+            (λ r. IsNotSent N.slots id mtype (length text.bytes) flags.nowait seat.old seat.new
+            r.refused) }
         ensures handed_back { IfErr result (λ r. r.text ≡ text) }
-        ensures counted { MatchResult result (λ _. IsCounted seat.old seat.new (slot_of id))
-            (λ _. IsSame seat.old seat.new) }
-        ensures later { IsLater seat.old seat.new }
-        ensures done { IfOk result (λ entry. IsDone seat.old seat.new (slot_of id)
-            (send_verdict (seq_of id) mtype (length text.bytes)) entry
-            (Sent seat.old.number moment tag mtype (length text.bytes))) }
-        ensures decided { IfErr result (λ r. IsDecided seat.old seat.new (slot_of id)
-            (send_verdict (seq_of id) mtype (length text.bytes)) r.refused) }
     {
         let patience = &mut Forever;
         self.msgsnd_within(rt, seat, id, mtype, tag, text, flags, patience, moment)
@@ -52,7 +40,7 @@ impl<P: Pledge, N: Names> System<P, N, Copies<N>> {
 
     /// Sends a text as `msgsnd` does, and waits for room no longer than until the patience ends. Then
     /// it answers EAGAIN, which is what it saw last, as with IPC_NOWAIT.
-    #[tactic(auto, using(mq_shared::proofs::LaterLemmas::same_self, mq_shared::proofs::LaterLemmas::later_self))]
+    #[tactic(auto, using(mq_shared::proofs::LaterLemmas::look_self))]
     pub fn msgsnd_within<R: Wait, T: Patience>(
         &self,
         rt: &R,
@@ -66,19 +54,11 @@ impl<P: Pledge, N: Names> System<P, N, Copies<N>> {
         moment: u64,
     ) -> Result<u64, SendRefused<TextOf<N>>>
         requires pledge { P.kept seat.old.number tag mtype text.bytes }
-        ensures ok { OnOk result (never_sent N.slots id mtype ≡ false) }
-        ensures refused { IfErr result (λ r.
-            Refuses (never_sent N.slots id mtype)
-            (MaySend (T.ends || flags.nowait)) r.refused) }
+        ensures answer { MatchResult result
+            (IsSent N.slots id mtype tag (length text.bytes) moment seat.old seat.new)
+            (λ r. IsNotSent N.slots id mtype (length text.bytes) (T.ends || flags.nowait)
+            seat.old seat.new r.refused) }
         ensures handed_back { IfErr result (λ r. r.text ≡ text) }
-        ensures counted { MatchResult result (λ _. IsCounted seat.old seat.new (slot_of id))
-            (λ _. IsSame seat.old seat.new) }
-        ensures later { IsLater seat.old seat.new }
-        ensures done { IfOk result (λ entry. IsDone seat.old seat.new (slot_of id)
-            (send_verdict (seq_of id) mtype (length text.bytes)) entry
-            (Sent seat.old.number moment tag mtype (length text.bytes))) }
-        ensures decided { IfErr result (λ r. IsDecided seat.old seat.new (slot_of id)
-            (send_verdict (seq_of id) mtype (length text.bytes)) r.refused) }
     {
         let number = id.slot() as usize;
         if mtype < 1 || number >= self.places.len() {
@@ -100,25 +80,18 @@ impl<P: Pledge, N: Names> System<P, N, Copies<N>> {
         flags: RecvFlags,
         moment: u64,
     ) -> Result<Delivered<TextOf<N>>, Refused>
-        ensures ok { OnOk result (out_of_slots N.slots id ≡ false) }
-        ensures pledge { IfOk result (MeetsPledge P.kept size) }
-        ensures whole { IfOk result (λ d. flags.noerror ≡ false → MeetsWhole P.kept d) }
-        ensures refused { IfErr result
-            (Refuses (out_of_slots N.slots id) (MayReceive flags.nowait flags.noerror)) }
-        ensures counted { MatchResult result (λ _. IsCounted seat.old seat.new (slot_of id))
-            (λ _. IsSame seat.old seat.new) }
-        ensures later { IsLater seat.old seat.new }
-        ensures done { IfOk result (IsReceipt seat.old seat.new (slot_of id) (seq_of id) size
-            (selection_of msgtyp flags.except) flags.noerror moment) }
-        ensures decided { IfErr result (IsDecided seat.old seat.new (slot_of id)
-            (receive_verdict (seq_of id) size (selection_of msgtyp flags.except) flags.noerror)) }
+        ensures answer { MatchResult result
+            (IsReceived P.kept N.slots id size (selection_of msgtyp flags.except) flags.noerror
+            moment seat.old seat.new)
+            (IsNotReceived N.slots id size (selection_of msgtyp flags.except) flags.noerror
+            flags.nowait seat.old seat.new) }
     {
         self.msgrcv_within(rt, seat, id, size, msgtyp, flags, &mut Forever, moment)
     }
 
     /// Receives a message as `msgrcv` does, and waits for one no longer than until the patience ends.
     /// Then it answers ENOMSG, which is what it saw last, as with IPC_NOWAIT.
-    #[tactic(auto, using(mq_shared::proofs::LaterLemmas::same_self, mq_shared::proofs::LaterLemmas::later_self))]
+    #[tactic(auto, using(mq_shared::proofs::LaterLemmas::look_self))]
     pub fn msgrcv_within<R: Wait, T: Patience>(
         &self,
         rt: &R,
@@ -130,19 +103,11 @@ impl<P: Pledge, N: Names> System<P, N, Copies<N>> {
         patience: &mut T,
         moment: u64,
     ) -> Result<Delivered<TextOf<N>>, Refused>
-        ensures ok { OnOk result (out_of_slots N.slots id ≡ false) }
-        ensures pledge { IfOk result (MeetsPledge P.kept size) }
-        ensures whole { IfOk result (λ d. flags.noerror ≡ false → MeetsWhole P.kept d) }
-        ensures refused { IfErr result
-            (Refuses (out_of_slots N.slots id)
-            (MayReceive (T.ends || flags.nowait) flags.noerror)) }
-        ensures counted { MatchResult result (λ _. IsCounted seat.old seat.new (slot_of id))
-            (λ _. IsSame seat.old seat.new) }
-        ensures later { IsLater seat.old seat.new }
-        ensures done { IfOk result (IsReceipt seat.old seat.new (slot_of id) (seq_of id) size
-            (selection_of msgtyp flags.except) flags.noerror moment) }
-        ensures decided { IfErr result (IsDecided seat.old seat.new (slot_of id)
-            (receive_verdict (seq_of id) size (selection_of msgtyp flags.except) flags.noerror)) }
+        ensures answer { MatchResult result
+            (IsReceived P.kept N.slots id size (selection_of msgtyp flags.except) flags.noerror
+            moment seat.old seat.new)
+            (IsNotReceived N.slots id size (selection_of msgtyp flags.except) flags.noerror
+            (T.ends || flags.nowait) seat.old seat.new) }
     {
         let number = id.slot() as usize;
         if number >= self.places.len() {

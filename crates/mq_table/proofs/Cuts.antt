@@ -1,19 +1,18 @@
 -- What a cut hands out is of the slot's whole list, of which the slot keeps the rest.
 use Rattle.std.proofs.Common.{◌≡◌, ◌⊎◌, inl, inr, ℕ, ◌+◌, ◌-◌, List, [], ◌∷◌, append-nil, length, length-append, take, drop, Some, None, Bool, true, false, if◌then◌else◌, refl, ap, sym, ◌∙◌, arith}
 use Rattle.std.proofs.Math.Seq.{drop-append_seam, take-append_seam}
-use Rattle.mq_queue.specs.declared.base.Base.{Base}
 use Rattle.mq_queue.specs.declared.event.Event.{Event}
 use Rattle.mq_queue.specs.Base.{base_after, base_of}
 use Rattle.mq_queue.specs.LawfulFrom.{IsOpen}
 use Rattle.mq_queue.specs.Row.{is_live, last_log, made_count}
 use Rattle.mq_queue.proofs.Bases.{goes_on}
 use Rattle.mq_table.specs.Cut.{IsCutOf, base_left, cut_of, kept_cuts}
-use Rattle.mq_table.specs.Kept.{KeptSlot, base_now, kept_of, queue_base}
+use Rattle.mq_table.specs.Kept.{KeptSlot, base_now, kept_of}
 use Rattle.mq_table.specs.KeptPart.{IsKeptPart, base_at}
 use Rattle.mq_table.specs.SlotList.{IsSlotList, live_log, offset}
 use Rattle.mq_table.proofs.Grown.{log_there}
 use Rattle.mq_table.proofs.Kepts.{entries_is, live_is, made_is}
-use Rattle.mq_table.proofs.KeptTurns.{its_log, no_log, none_open}
+use Rattle.mq_table.proofs.KeptTurns.{counts, fresh, its_log, no_log, none_open}
 
 module _ {B : Type 0} (list : List Event) (s : KeptSlot B) (k : IsKeptPart list s) where
   -- a cut hands out a cut of the list
@@ -30,26 +29,15 @@ module _ {B : Type 0} (list : List Event) (s : KeptSlot B) (k : IsKeptPart list 
         entries = sym rest;
         made = k.made ∙ ap made_count (sym front);
         base = k.base ∙ ap base_at (sym front);
-        past = by (fresh s.past k.based);
+        past = by (fresh list s k);
       }
     where
-      counts : length list ≡ length k.gone + (length s.past + length s.last)
-      counts =
-          ap length k.whole ∙ length-append k.gone (kept_of s)
-          ∙ ap (λ n. length k.gone + n) (length-append s.past s.last)
-
-      -- where an entry of a removed queue is kept, nothing was cut off of the next one's log
-      fresh : (past : List Event) → queue_base s.base past ≡ base_of k.before
-          → (length past ≡ 0) ⊎ (length k.before ≡ 0)
-      fresh [] is = inl refl
-      fresh (e ∷ es) is = inr (sym (ap (λ (b : Base). b.places) is))
-
       log : length (live_log list) ≡ length k.before + length s.last
       log = ap length k.log ∙ length-append k.before s.last
 
       by : (length s.past ≡ 0) ⊎ (length k.before ≡ 0) → length s.past ≡ offset list - s.first
-      by (inl none) = omega (arith, none, log, counts, k.first)
-      by (inr none) = omega (arith, none, log, counts, k.first)
+      by (inl none) = omega (arith, none, log, counts list s k, k.first)
+      by (inr none) = omega (arith, none, log, counts list s k, k.first)
 
   -- the base that a cut keeps
   base_is : base_left s ≡ base_at list

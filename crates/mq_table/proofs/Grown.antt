@@ -1,6 +1,6 @@
 -- A slot list is split into the log of the queue that is there and those of removed queues, and it
 -- grows by one event more.
-use Rattle.std.proofs.Common.{◌≡◌, ℕ, suc, ◌+◌, ◌-◌, ◌≤◌, ℤ, List, [], ◌∷◌, ◌++◌, append_assoc, append-nil, length, take, Bool, true, false, not, ◌&&◌, refl, ap, sym, subst, ◌∙◌, arith, true≢false, All}
+use Rattle.std.proofs.Common.{◌≡◌, ℕ, suc, ◌+◌, ◌-◌, ◌≤◌, ℤ, List, [], ◌∷◌, ◌++◌, append_assoc, append-nil, length, length-append, take, Bool, true, false, not, ◌&&◌, refl, ap, sym, subst, ◌∙◌, arith, true≢false, All}
 use Rattle.std.proofs.lemmas.Bool.{and_parts}
 use Rattle.std.proofs.lemmas.List.Elements.{All-cons, All-head, All-nil, All-tail}
 use Rattle.mq_queue.specs.declared.event.Event.{Event}
@@ -147,14 +147,20 @@ module _ (last_seq : ℕ) (list : List Event) (h : IsSlotList last_seq list) whe
       subst ArePast (sym h.whole)
       (past_of h.logs (record { lawful = h.lawful; ended = h.ended }) (rw h.whole at off))
 
+  its_last : (live : is_live list ≡ true) → last_log list ≡ (split live).log
+  its_last live =
+      let sp = split live in ap last_log sp.whole ∙ last_log_is sp.past sp.log sp.lawful
+
   -- the log of the queue that is there
   pub log_there : is_live list ≡ true
       → Lawful (last_log list) × (ends_with_removed (last_log list) ≡ false)
-  log_there live =
+  log_there live = let sp = split live in rw (its_last live) (sp.lawful, sp.unended)
+
+  -- it is within the list
+  pub log_within : is_live list ≡ true → length (last_log list) ≤ length list
+  log_within live =
       let sp = split live in
-      let its : last_log list ≡ sp.log =
-      ap last_log sp.whole ∙ last_log_is sp.past sp.log sp.lawful in
-      rw its (sp.lawful, sp.unended)
+      omega (arith, ap length (its_last live), ap length sp.whole, length-append sp.past sp.log)
 
   -- with an event more that can happen in the queue that is there it is a slot list
   pub list_more : (e : Event) → is_live list ≡ true → is_made e ≡ false
@@ -162,8 +168,7 @@ module _ (last_seq : ℕ) (list : List Event) (h : IsSlotList last_seq list) whe
       → IsSlotList last_seq (list ++ e ∷ [])
   list_more e live unmade allowed =
       let sp = split live in
-      let its : last_log list ≡ sp.log =
-      ap last_log sp.whole ∙ last_log_is sp.past sp.log sp.lawful in
+      let its : last_log list ≡ sp.log = its_last live in
       let log : List Event = sp.log ++ e ∷ [] in
       let lawful : Lawful log =
       lawful_more sp.log log e refl sp.lawful sp.unended unmade (rw its at allowed) in

@@ -1,5 +1,5 @@
 -- The calls of a slot by its kept part are those of the whole slot, of which the rest is kept.
-use Rattle.std.proofs.Common.{◌≡◌, ℕ, ℤ, pos, List, [], ◌∷◌, ◌++◌, append_assoc, append-nil, length, Option, None, unwrap_or, true, false, not, inl, refl, ap, sym, ◌∙◌}
+use Rattle.std.proofs.Common.{◌≡◌, ◌⊎◌, ℕ, ℤ, pos, ◌+◌, List, [], ◌∷◌, ◌++◌, append_assoc, append-nil, length, length-append, Option, None, unwrap_or, true, false, not, inl, inr, refl, ap, sym, ◌∙◌}
 use Rattle.std.proofs.lemmas.List.Sums.{fold-append}
 use Rattle.mq_message.specs.declared.message.Message.{Message}
 use Rattle.mq_queue.specs.declared.base.Base.{Base}
@@ -71,6 +71,20 @@ none_kept s first made base key past last = record {
 }
 
 module _ {B : Type 0} (list : List Event) (s : KeptSlot B) (k : IsKeptPart list s) where
+  -- where an entry of a removed queue is kept, nothing was cut off of the next one's log
+  pub fresh : (length s.past ≡ 0) ⊎ (length k.before ≡ 0)
+  fresh = by s.past k.based
+    where
+      by : (past : List Event) → queue_base s.base past ≡ base_of k.before
+          → (length past ≡ 0) ⊎ (length k.before ≡ 0)
+      by [] is = inl refl
+      by (e ∷ es) is = inr (sym (ap (λ (b : Base). b.places) is))
+
+  pub counts : length list ≡ length k.gone + (length s.past + length s.last)
+  counts =
+      ap length k.whole ∙ length-append k.gone (kept_of s)
+      ∙ ap (λ n. length k.gone + n) (length-append s.past s.last)
+
   -- where no queue is, the base is that of no event
   pub no_base : is_live list ≡ false → base_now s ≡ base_of []
   no_base off =

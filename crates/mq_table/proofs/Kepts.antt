@@ -9,11 +9,11 @@ use Rattle.mq_queue.specs.Room.{quota}
 use Rattle.mq_queue.specs.Row.{is_live, last_log, made_count, row, slot_figures}
 use Rattle.mq_queue.specs.Waiting.{waiting}
 use Rattle.mq_queue.proofs.Bases.{goes_on, quota_on}
-use Rattle.mq_table.specs.Kept.{KeptSlot, entries_of, is_live_kept, kept_figures, kept_of, live_from, made_of, offset_now, places_now, quota_now, waiting_now}
+use Rattle.mq_table.specs.Kept.{KeptSlot, entries_of, is_live_kept, kept_figures, kept_of, live_from, made_of, places_now, quota_now, waiting_now}
 use Rattle.mq_table.specs.KeptPart.{IsKeptPart, base_at, whole}
-use Rattle.mq_table.specs.KeptShown.{event_now, is_free_now, last_id_now, next_id_now, row_now, standing_now}
+use Rattle.mq_table.specs.KeptShown.{is_free_now, last_id_now, next_id_now, row_now, standing_now}
 use Rattle.mq_table.specs.Slot.{last_id, next_id}
-use Rattle.mq_table.specs.SlotList.{is_free, live_log, offset, standing}
+use Rattle.mq_table.specs.SlotList.{is_free, live_log, standing}
 use Rattle.mq_table.proofs.Logs.{begun, counted, ends_as}
 
 -- after one event more a queue is there, unless that is a removal
@@ -84,9 +84,6 @@ module _ {B : Type 0} (list : List Event) (s : KeptSlot B) (k : IsKeptPart list 
   pub places_is : places_now s ≡ length (live_log list)
   places_is = rw (k.log, k.based) (sym (length-append k.before s.last))
 
-  pub offset_is : offset_now s ≡ offset list
-  offset_is = rw (entries_is, places_is) refl
-
   -- its figures, which are published
   pub figures_is : kept_figures s ≡ slot_figures list
   figures_is =
@@ -110,12 +107,23 @@ module _ {B : Type 0} (list : List Event) (s : KeptSlot B) (k : IsKeptPart list 
   pub last_id_is : last_id_now s ≡ last_id (whole list s)
   last_id_is = rw made_is refl
 
-  -- the entries that are not cut off
-  pub event_is : (i : ℕ) → s.first ≤ i → event_now s i ≡ slice_get list i
-  event_is i low =
-      let later : nat_lt i s.first ≡ false = le-ltb i s.first low in
-      let place : i ≡ length k.gone + (i - s.first) = omega (arith, low, k.first) in
-      let there : slice_get list i ≡ slice_get (kept_of s) (i - s.first) =
-      ap (slice_get list) place ∙ ap (λ l. slice_get l (length k.gone + (i - s.first))) k.whole
-      ∙ behind k.gone (kept_of s) (i - s.first) in
-      rw (later, there) refl
+-- a slot whose list has one event more
+module _ {B : Type 0} (list : List Event) (s : KeptSlot B) (k : IsKeptPart list s)
+    (e : Event) (t : KeptSlot B) (k' : IsKeptPart (list ++ e ∷ []) t) where
+  -- one entry more
+  pub one_more : entries_of t ≡ entries_of s + 1
+  one_more =
+      omega (
+        arith,
+        entries_is list s k,
+        entries_is (list ++ e ∷ []) t k',
+        length-append list (e ∷ []),
+      )
+
+  -- its makings, and whether a queue is there
+  pub made_more : made_of t ≡ made_of s + made_count (e ∷ [])
+  made_more =
+      omega (arith, made_is list s k, made_is (list ++ e ∷ []) t k', counted list (e ∷ []))
+
+  pub there_more : is_live_kept t ≡ not (is_removed e)
+  there_more = live_is (list ++ e ∷ []) t k' ∙ live_more list e

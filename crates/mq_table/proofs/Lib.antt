@@ -5,8 +5,8 @@ pub mod Grown
 pub mod KeptStays
 pub mod KeptTurns
 pub mod Kepts
-pub mod Lasts
 pub mod Logs
+pub mod OneMore
 pub mod Pasts
 pub mod Removed
 pub mod SlotEnds

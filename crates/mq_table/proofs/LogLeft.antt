@@ -12,9 +12,8 @@ use Rattle.mq_table.specs.Cut.{cut_places}
 use Rattle.mq_table.specs.Kept.{KeptSlot, base_now, kept_of, queue_base}
 use Rattle.mq_table.specs.KeptPart.{IsKeptPart}
 use Rattle.mq_table.specs.SlotList.{IsSlotList}
-use Rattle.mq_table.proofs.Grown.{split}
-use Rattle.mq_table.proofs.KeptTurns.{its_log}
-use Rattle.mq_table.proofs.Logs.{last_log_is}
+use Rattle.mq_table.proofs.Grown.{log_within}
+use Rattle.mq_table.proofs.KeptTurns.{counts, fresh, its_log}
 
 module _ {B : Type 0} (last_seq : ℕ) (list : List Event) (s : KeptSlot B) (k : IsKeptPart list s)
     (lawful : IsSlotList last_seq list) (live : is_live list ≡ true) (seat moment : ℕ) where
@@ -41,33 +40,18 @@ module _ {B : Type 0} (last_seq : ℕ) (list : List Event) (s : KeptSlot B) (k :
         drop-append_seam k.before tail,
       ) refl
 
-  -- where an entry of a removed queue is kept, nothing was cut off of the next one's log
-  fresh : (past : List Event) → queue_base s.base past ≡ base_of k.before
-      → (length past ≡ 0) ⊎ (length k.before ≡ 0)
-  fresh [] is = inl refl
-  fresh (e ∷ es) is = inr (sym (ap (λ (b : Base). b.places) is))
-
-  counts : length list ≡ length k.gone + (length s.past + length s.last)
-  counts =
-      ap length k.whole ∙ length-append k.gone (kept_of s)
-      ∙ ap (λ n. length k.gone + n) (length-append s.past s.last)
-
   log_is : length (last_log list) ≡ length k.before + length s.last
   log_is =
       ap length (sym (its_log list live) ∙ k.log) ∙ length-append k.before s.last
 
   short : length (last_log list) ≤ length list
-  short =
-      let sp = split last_seq list lawful live in
-      let its : last_log list ≡ sp.log =
-      ap last_log sp.whole ∙ last_log_is sp.past sp.log sp.lawful in
-      omega (arith, ap length its, ap length sp.whole, length-append sp.past sp.log)
+  short = log_within last_seq list lawful live
 
   -- so many events of it were cut off
   pub places_left : (base_now s).places ≡ cut_places s.first (list ++ gone ∷ [])
   places_left =
       ap (λ (b : Base). b.places) k.based
-      ∙ by (fresh s.past k.based) (length-append list (gone ∷ []))
+      ∙ by (fresh list s k) (length-append list (gone ∷ []))
       (ap length its ∙ length-append k.before tail
       ∙ ap (λ n. length k.before + n) (length-append s.last (gone ∷ [])))
     where
@@ -75,5 +59,5 @@ module _ {B : Type 0} (last_seq : ℕ) (list : List Event) (s : KeptSlot B) (k :
           → length (list ++ gone ∷ []) ≡ length list + 1
           → length (last_log (list ++ gone ∷ [])) ≡ length k.before + (length s.last + 1)
           → length k.before ≡ cut_places s.first (list ++ gone ∷ [])
-      by (inl none) one two = omega (arith, none, one, two, log_is, counts, k.first, short)
-      by (inr none) one two = omega (arith, none, one, two, log_is, counts, k.first, short)
+      by (inl none) one two = omega (arith, none, one, two, log_is, counts list s k, k.first, short)
+      by (inr none) one two = omega (arith, none, one, two, log_is, counts list s k, k.first, short)

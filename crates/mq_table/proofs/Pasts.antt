@@ -1,5 +1,5 @@
 -- The events of queues that were removed, and the slot list.
-use Rattle.std.proofs.Common.{◌≡◌, ℕ, ◌+◌, ◌-◌, ◌≤◌, true, false, List, [], ◌∷◌, ◌++◌, length, append_assoc, refl, ap, sym, ◌∙◌, true≢false, arith}
+use Rattle.std.proofs.Common.{◌≡◌, ℕ, ◌+◌, ◌-◌, ◌≤◌, true, List, [], ◌∷◌, ◌++◌, length, append_assoc, refl, ap, sym, ◌∙◌, true≢false, arith}
 use Rattle.std.specs.Prelude.{All}
 use Rattle.std.proofs.lemmas.List.{append-nil, length_push}
 use Rattle.std.proofs.lemmas.List.Elements.{All-push, All-take, All-tail}
@@ -9,8 +9,8 @@ use Rattle.mq_queue.specs.Lawful.{Lawful}
 use Rattle.mq_queue.specs.Log.{ends_with_removed}
 use Rattle.mq_queue.specs.Row.{made_count, is_live}
 use Rattle.mq_table.specs.Slot.{IsEnded, ArePast}
-use Rattle.mq_table.specs.SlotList.{live_log, joined, IsSlotList}
-use Rattle.mq_table.proofs.Logs.{counted, gone, made_once}
+use Rattle.mq_table.specs.SlotList.{joined, IsSlotList}
+use Rattle.mq_table.proofs.Logs.{counted, made_once}
 
 -- one more log goes last
 joined_push : (logs : List (List Event)) (log : List Event)
@@ -18,19 +18,6 @@ joined_push : (logs : List (List Event)) (log : List Event)
 joined_push [] log = append-nil log
 joined_push (l ∷ ls) log =
     ap (λ rest. l ++ rest) (joined_push ls log) ∙ sym (append_assoc l (joined ls) log)
-
--- no queue is there where each was removed
-none_from : (logs : List (List Event)) (before : List Event) → is_live before ≡ false
-    → All IsEnded logs → is_live (before ++ joined logs) ≡ false
-none_from [] before none ended = rw append-nil none
-none_from (log ∷ logs) before none ended =
-    let first : IsEnded log = ended 0 log (omega arith) in
-    rw (← append_assoc before log (joined logs))
-    (none_from logs (before ++ log) (gone before log first.lawful first.removed)
-    (All-tail IsEnded log logs ended))
-
-pub none_live : (past : List Event) → ArePast past → is_live past ≡ false
-none_live past h = rw h.whole (none_from h.logs [] refl h.ended)
 
 -- one more queue was removed
 pub past_grows : (past log : List Event) → ArePast past → IsEnded log → ArePast (past ++ log)
@@ -71,10 +58,6 @@ made_some last_seq events h live = by h.logs h.whole (list_counted last_seq even
 -- the logs of removed queues are lawful
 all_lawful : (logs : List (List Event)) → All IsEnded logs → All Lawful logs
 all_lawful logs ended k d within = (ended k d within).lawful
-
--- no event is in the log of a queue where none is there
-pub none_logged : (past : List Event) → ArePast past → live_log past ≡ []
-none_logged past h = rw (none_live past h) refl
 
 -- the events of removed queues are a slot list
 pub list_of_past : (last_seq : ℕ) (past : List Event) → ArePast past

@@ -36,12 +36,13 @@ module _ {B : Type 0} (bytes : B → List ℕ) (number first gone : ℕ) (key : 
   pub made_slot : is_live_kept slot ≡ false → made_of slot ≤ MAX_SEQ
       → (new : ℤ) (seat moment : ℕ) (q : Queue B)
       → q.base ≡ base_of [] → q.tail ≡ event.Made seat moment new ∷ [] → q.messages ≡ []
-      → IsSlot bytes (made + 1) (Some q) (slot_with number first gone new base past (Some q))
-  made_slot off few new seat moment q based tail none =
+      → (made' : ℕ) → made' ≡ made + 1
+      → IsSlot bytes made' (Some q) (slot_with number first gone new base past (Some q))
+  made_slot off few new seat moment q based tail none made' more =
       let with : slot_with number first gone new base past (Some q)
       ≡ kept_makes slot new seat moment =
       rw (none_is bytes made live slot h off, based, tail, none) refl in
-      rw with (makes_slot bytes made live slot h off few new seat moment q based tail none)
+      rw (more, with) (makes_slot bytes made live slot h off few new seat moment q based tail none)
 
   -- the queue that is there is removed
   module _ (q : Queue B) (is : live ≡ Some q) (seat moment : ℕ) (base' : Option Base)

@@ -1,5 +1,5 @@
 -- What the calls of a slot leave is a slot, by its fields.
-use Rattle.std.proofs.Common.{◌≡◌, ℕ, ℤ, List, [], ◌∷◌, ◌++◌, length, Option, None, Some, Result, Ok, Err, unwrap_or, Bool, false, refl, ap, sym, ◌∙◌}
+use Rattle.std.proofs.Common.{◌≡◌, ℕ, ℤ, List, [], ◌∷◌, ◌++◌, length, Option, None, Some, Ok, unwrap_or, Bool, false, refl, ap, sym, ◌∙◌}
 use Rattle.mq_message.specs.declared.message.Message.{Message}
 use Rattle.mq_select.specs.declared.header.Header.{Header}
 use Rattle.mq_select.specs.declared.selection.Selection.{Selection}
@@ -9,13 +9,15 @@ use Rattle.mq_queue.specs.declared.error.QueueError.{QueueError}
 use Rattle.mq_queue.specs.declared.error.QueueError.TheVariants.{Memory}
 use Rattle.mq_queue.specs.declared.event.Event.{Event}
 use Rattle.mq_queue.specs.declared.event.Event.TheVariants as event
-use Rattle.mq_queue.specs.Answer.{receive_answer, refusal_or_memory, send_refusal, set_refusal}
+use Rattle.mq_queue.specs.Answer.{received_header, send_refusal}
 use Rattle.mq_queue.specs.Base.{quota_from, waiting_from}
 use Rattle.mq_queue.specs.Lawful.{CanHappen}
 use Rattle.mq_queue.specs.Log.{is_made, is_removed, key_told}
 use Rattle.mq_queue.specs.Queue.{Queue}
+use Rattle.mq_queue.specs.QueueCalls.{IsHandedOut, IsQueued, IsQuotaSet, sending}
+use Rattle.mq_queue.specs.declared.received.Received.{Received}
 use Rattle.mq_table.specs.Kept.{KeptSlot, base_now, quota_now, waiting_now}
-use Rattle.mq_table.specs.KeptCalls.{kept_goes_on, kept_received, kept_receives, kept_refusal_of, kept_sends, kept_unless}
+use Rattle.mq_table.specs.KeptCalls.{kept_goes_on, kept_refusal_of, kept_sends, kept_unless}
 use Rattle.mq_table.specs.SlotParts.{IsSlot, slot_with}
 use Rattle.mq_table.proofs.Can.{received_can, sent_can, set_can}
 use Rattle.mq_table.proofs.Slots.{base_is_its, goes_slot, last_is, there_is}
@@ -25,12 +27,6 @@ refused_for : {B : Type 0} (o : Option QueueError) (s after : KeptSlot B)
     → kept_refusal_of (kept_unless o s after) ≡ unwrap_or o Memory
 refused_for None s after = refl
 refused_for (Some refusal) s after = refl
-
--- and why a receipt is
-refused_receipt : {B : Type 0} (s : KeptSlot B) (e : Header → Event) (a : Result Header QueueError)
-    → kept_refusal_of (kept_received s e a) ≡ refusal_or_memory a
-refused_receipt s e (Ok m) = refl
-refused_receipt s e (Err refusal) = refl
 
 module _ {B : Type 0} (bytes : B → List ℕ) (number first gone : ℕ) (key : ℤ) (base : Option Base)
     (past : List Event) (made : ℕ) (live : Option (Queue B))
@@ -66,53 +62,40 @@ module _ {B : Type 0} (bytes : B → List ℕ) (number first gone : ℕ) (key : 
       rw (waiting_its, quota_its)
       (refused_for (send_refusal headers quota m.mtype (length (bytes m.body))) _ _)
 
-  -- and a receiver
-  pub refused_receive : (size : ℕ) (selection : Selection) (noerror : Bool) (seat moment : ℕ)
-      → kept_refusal_of (kept_receives (slot live) size selection noerror seat moment)
-      ≡ refusal_or_memory (receive_answer headers size selection noerror)
-  refused_receive size selection noerror seat moment =
-      rw waiting_its
-      (refused_receipt (slot live)
-      (λ m. event.Received seat moment m.place selection size noerror)
-      (receive_answer headers size selection noerror))
-
   -- the queue goes on
-  module _ (q' : Queue B) (based : q'.base ≡ q.base)
-      (waits : headers_of bytes q'.messages ≡ waiting_from q'.base q'.tail) where
-    -- with one event more
-    gone_on : (e : Event) → q'.tail ≡ q.tail ++ e ∷ [] → is_made e ≡ false → is_removed e ≡ false
-        → key_told e ≡ None → CanHappen headers quota e
-        → IsSlot bytes made (Some q') (slot (Some q'))
-    gone_on e tail unmade stays untold allowed =
-        let there = there_is bytes made live (slot live) h q is in
-        let with : slot (Some q') ≡ kept_goes_on (slot live) e q'.messages =
-        rw (is, based, tail) refl in
-        rw with
-        (goes_slot bytes made live (slot live) h there e unmade stays untold
-        (rw (waiting_its, quota_its) allowed) q' (based ∙ sym base_its)
-        (tail ∙ ap (λ t. t ++ e ∷ []) (sym last_its)) waits)
+  module _ (q' : Queue B) (waits : headers_of bytes q'.messages ≡ waiting_from q'.base q'.tail)
+    where
+      -- with one event more
+      gone_on : (e : Event) → q'.base ≡ q.base → q'.tail ≡ q.tail ++ e ∷ [] → is_made e ≡ false
+          → is_removed e ≡ false → key_told e ≡ None → CanHappen headers quota e
+          → IsSlot bytes made (Some q') (slot (Some q'))
+      gone_on e based tail unmade stays untold allowed =
+          let there = there_is bytes made live (slot live) h q is in
+          let with : slot (Some q') ≡ kept_goes_on (slot live) e q'.messages =
+          rw (is, based, tail) refl in
+          rw with
+          (goes_slot bytes made live (slot live) h there e unmade stays untold
+          (rw (waiting_its, quota_its) allowed) q' (based ∙ sym base_its)
+          (tail ∙ ap (λ t. t ++ e ∷ []) (sym last_its)) waits)
 
-    pub sent_slot : (m : Message B) (moment : ℕ)
-        → send_refusal headers quota m.mtype (length (bytes m.body)) ≡ None
-        → q'.tail
-        ≡ q.tail ++ event.Sent m.sender moment m.tag m.mtype (length (bytes m.body)) ∷ []
-        → IsSlot bytes made (Some q') (slot (Some q'))
-    sent_slot m moment accepted tail =
-        let n = length (bytes m.body) in
-        gone_on (event.Sent m.sender moment m.tag m.mtype n) tail refl refl refl
-        (sent_can headers quota m.sender moment m.tag m.mtype n accepted)
+      pub sent_slot : (m : Message B) (moment answer : ℕ) → IsQueued bytes m moment q q' answer
+          → IsSlot bytes made (Some q') (slot (Some q'))
+      sent_slot m moment answer sent =
+          gone_on (sending bytes m moment) sent.base sent.tail refl refl refl
+          (sent_can headers quota m.sender moment m.tag m.mtype (length (bytes m.body)) sent.accepted)
 
-    pub got_slot : (size : ℕ) (selection : Selection) (noerror : Bool) (seat moment : ℕ)
-        (m : Header) → receive_answer headers size selection noerror ≡ Ok m
-        → q'.tail ≡ q.tail ++ event.Received seat moment m.place selection size noerror ∷ []
-        → IsSlot bytes made (Some q') (slot (Some q'))
-    got_slot size selection noerror seat moment m accepted tail =
-        gone_on (event.Received seat moment m.place selection size noerror) tail refl refl refl
-        (received_can headers quota seat moment size selection noerror m accepted)
+      pub got_slot : (size : ℕ) (selection : Selection) (noerror : Bool) (seat moment : ℕ)
+          (r : Received B) → IsHandedOut size selection noerror seat moment q q' r
+          → IsSlot bytes made (Some q') (slot (Some q'))
+      got_slot size selection noerror seat moment r got =
+          gone_on (event.Received seat moment r.place selection size noerror) got.base got.tail refl
+          refl refl
+          (received_can headers quota seat moment size selection noerror (received_header r)
+          got.accepted)
 
-    pub changed_slot : (seat moment qbytes : ℕ) → set_refusal qbytes ≡ None
-        → q'.tail ≡ q.tail ++ event.Changed seat moment qbytes ∷ []
-        → IsSlot bytes made (Some q') (slot (Some q'))
-    changed_slot seat moment qbytes accepted tail =
-        gone_on (event.Changed seat moment qbytes) tail refl refl refl
-        (set_can headers quota seat moment qbytes accepted)
+      pub changed_slot : (qbytes seat moment answer : ℕ)
+          → IsQuotaSet qbytes seat moment q q' answer
+          → IsSlot bytes made (Some q') (slot (Some q'))
+      changed_slot qbytes seat moment answer changed =
+          gone_on (event.Changed seat moment qbytes) changed.base changed.tail refl refl refl
+          (set_can headers quota seat moment qbytes changed.accepted)

@@ -7,40 +7,18 @@ use Rattle.mq_queue.specs.Base.{base_of, waiting_from}
 use Rattle.mq_queue.specs.Lawful.{CanHappen}
 use Rattle.mq_queue.specs.Log.{is_made, is_removed, key_told}
 use Rattle.mq_queue.specs.Queue.{Queue}
-use Rattle.mq_queue.specs.Row.{is_live, made_count}
+use Rattle.mq_queue.specs.Row.{is_live, last_log, made_count}
 use Rattle.mq_table.specs.Cut.{cut_queue, kept_cuts}
 use Rattle.mq_table.specs.Kept.{KeptSlot, base_now, entries_of, is_live_kept, made_of, quota_now, waiting_now}
 use Rattle.mq_table.specs.KeptCalls.{kept_goes_on, kept_makes, kept_removes}
-use Rattle.mq_table.specs.KeptPart.{IsKeptPart}
-use Rattle.mq_table.specs.SlotList.{live_log}
+use Rattle.mq_table.specs.KeptPart.{IsKeptPart, WaitsNow}
 use Rattle.mq_table.specs.SlotParts.{IsSlot, messages_of, tail_of}
 use Rattle.mq_table.specs.declared.limits.TheConstants.{MAX_PAST, MAX_SEQ}
 use Rattle.mq_table.proofs.Cuts.{cut_kept}
-use Rattle.mq_table.proofs.Grown.{list_made, list_more}
-use Rattle.mq_table.proofs.Kepts.{entries_is, live_is, live_more, made_is, places_is, waiting_is}
-use Rattle.mq_table.proofs.KeptTurns.{base_behind, kept_more, makes_kept, no_base, quota_last, removes_kept, waits_last}
-use Rattle.mq_table.proofs.Lasts.{log_within}
-use Rattle.mq_table.proofs.Logs.{counted}
-
-module _ {B : Type 0} (list : List Event) (s : KeptSlot B) (k : IsKeptPart list s)
-    (e : Event) (t : KeptSlot B) (k' : IsKeptPart (list ++ e ∷ []) t) where
-  -- one entry more
-  one_more : entries_of t ≡ entries_of s + 1
-  one_more =
-      omega (
-        arith,
-        entries_is list s k,
-        entries_is (list ++ e ∷ []) t k',
-        length-append list (e ∷ []),
-      )
-
-  -- its makings, and whether a queue is there
-  made_more : made_of t ≡ made_of s + made_count (e ∷ [])
-  made_more =
-      omega (arith, made_is list s k, made_is (list ++ e ∷ []) t k', counted list (e ∷ []))
-
-  there_more : is_live_kept t ≡ not (is_removed e)
-  there_more = live_is (list ++ e ∷ []) t k' ∙ live_more list e
+use Rattle.mq_table.proofs.Grown.{list_more, log_within}
+use Rattle.mq_table.proofs.Kepts.{entries_is, live_is, made_is, made_more, one_more, there_more, waiting_is}
+use Rattle.mq_table.proofs.KeptTurns.{base_behind, kept_more, no_base, places_last, quota_last, waits_last}
+use Rattle.mq_table.proofs.Turned.{IsTurned, made_turned, removed_turned}
 
 module _ {B : Type 0} (bytes : B → List ℕ) (made : ℕ) (live : Option (Queue B)) (s : KeptSlot B)
     (h : IsSlot bytes made live s) where
@@ -77,43 +55,49 @@ module _ {B : Type 0} (bytes : B → List ℕ) (made : ℕ) (live : Option (Queu
     -- its log is within the list
     pub within : q.base.places + length q.tail ≤ entries_of s
     within =
-        let log : q.base.places + length q.tail ≡ length (live_log list) =
-        rw (← base_is_its, ← last_is) (places_is list s part) in
-        omega (arith, log, log_within list, entries_is list s part)
+        let live' = live_list true there_is in
+        let log : q.base.places + length q.tail ≡ length (last_log list) =
+        rw (← base_is_its, ← last_is) (places_last list s part live') in
+        omega (arith, log, log_within MAX_SEQ list h.lawful.lawful live', entries_is list s part)
 
-    pub messages_is : s.messages ≡ q.messages
-    messages_is = h.messages ∙ ap messages_of is
+  -- the slot goes on by this event, with so many makings and this queue in it
+  turned_slot : (e : Event) (t : KeptSlot B) → IsTurned MAX_SEQ list e s t → (made' : ℕ)
+      → made' ≡ made + made_count (e ∷ []) → made' ≤ MAX_SEQ + 1
+      → t.first + length t.past ≤ MAX_PAST → (live' : Option (Queue B))
+      → is_some live' ≡ not (is_removed e) → IfSome live' (λ queue. queue.base ≡ base_now t)
+      → t.last ≡ tail_of live' → t.messages ≡ messages_of live' → WaitsNow bytes t
+      → IsSlot bytes made' live' t
+  turned_slot e t turn made' more few short live' there based last messages waits = record {
+    numbered = omega (arith, h.numbered, turn.number);
+    counted = omega (arith, h.counted, more, made_more list s part e t turn.keeps);
+    few = few;
+    short = short;
+    lawful = record { list = list ++ e ∷ []; part = turn.keeps; lawful = turn.lawful };
+    there = there ∙ sym (there_more list s part e t turn.keeps);
+    based = based;
+    last = last;
+    messages = messages;
+    waits = waits;
+  }
 
   -- one event more of the queue that is there
-  module _ (there : is_live_kept s ≡ true) (e : Event) where
-    pub goes_slot : is_made e ≡ false → is_removed e ≡ false → key_told e ≡ None
-        → CanHappen (waiting_now s) (quota_now s) e
-        → (q : Queue B) → q.base ≡ base_now s → q.tail ≡ s.last ++ e ∷ []
-        → headers_of bytes q.messages ≡ waiting_from q.base q.tail
-        → IsSlot bytes made (Some q) (kept_goes_on s e q.messages)
-    goes_slot unmade stays untold allowed q based tail waits =
-        let live' = live_list true there in
-        let t = kept_goes_on s e q.messages in
-        let k' = kept_more list s part live' e q.messages unmade stays untold in
-        let can =
-        rw (waits_last list s part live', quota_last list s part live') at allowed in
-        let none : made_count (e ∷ []) ≡ 0 = rw unmade refl in
-        record {
-          numbered = h.numbered;
-          counted = omega (arith, h.counted, made_more list s part e t k', none);
-          few = h.few;
-          short = h.short;
-          lawful = record {
-            list = list ++ e ∷ [];
-            part = k';
-            lawful = list_more MAX_SEQ list h.lawful.lawful e live' unmade can;
-          };
-          there = sym (there_more list s part e t k' ∙ ap not stays);
-          based = based;
-          last = sym tail;
-          messages = refl;
-          waits = waits ∙ rw (based, tail) refl;
-        }
+  pub goes_slot : is_live_kept s ≡ true → (e : Event) → is_made e ≡ false → is_removed e ≡ false
+      → key_told e ≡ None → CanHappen (waiting_now s) (quota_now s) e
+      → (q : Queue B) → q.base ≡ base_now s → q.tail ≡ s.last ++ e ∷ []
+      → headers_of bytes q.messages ≡ waiting_from q.base q.tail
+      → IsSlot bytes made (Some q) (kept_goes_on s e q.messages)
+  goes_slot there e unmade stays untold allowed q based tail waits =
+      let live' = live_list true there in
+      let can = rw (waits_last list s part live', quota_last list s part live') at allowed in
+      let none : made_count (e ∷ []) ≡ 0 = rw unmade refl in
+      let turn : IsTurned MAX_SEQ list e s (kept_goes_on s e q.messages) = record {
+        keeps = kept_more list s part live' e q.messages unmade stays untold;
+        lawful = list_more MAX_SEQ list h.lawful.lawful e live' unmade can;
+        number = refl;
+        first = refl;
+      } in
+      turned_slot e (kept_goes_on s e q.messages) turn made (omega (arith, none)) h.few h.short
+      (Some q) (sym (ap not stays)) based (sym tail) refl (waits ∙ rw (based, tail) refl)
 
   -- a queue is made where none is
   pub makes_slot : is_live_kept s ≡ false → made_of s ≤ MAX_SEQ
@@ -121,56 +105,25 @@ module _ {B : Type 0} (bytes : B → List ℕ) (made : ℕ) (live : Option (Queu
       → q.tail ≡ event.Made seat moment key ∷ [] → q.messages ≡ []
       → IsSlot bytes (made + 1) (Some q) (kept_makes s key seat moment)
   makes_slot off few key seat moment q based tail none =
-      let e : Event = event.Made seat moment key in
       let off' = live_list false off in
-      let t = kept_makes s key seat moment in
-      let k' = makes_kept list s part key seat moment off' in
-      let one : made_count (e ∷ []) ≡ 1 = refl in
-      record {
-        numbered = h.numbered;
-        counted = omega (arith, h.counted, made_more list s part e t k', one);
-        few = omega (arith, h.counted, few);
-        short = h.short;
-        lawful = record {
-          list = list ++ e ∷ [];
-          part = k';
-          lawful =
-              list_made MAX_SEQ list h.lawful.lawful seat moment key off'
-              (omega (arith, few, made_is list s part));
-        };
-        there = sym (there_more list s part e t k');
-        based = based ∙ sym (no_base list s part off');
-        last = sym tail;
-        messages = sym none;
-        waits = rw (no_base list s part off') refl;
-      }
+      let base = no_base list s part off' in
+      turned_slot (event.Made seat moment key) (kept_makes s key seat moment)
+      (made_turned MAX_SEQ list s part h.lawful.lawful key seat moment off'
+      (omega (arith, few, made_is list s part)))
+      (made + 1) refl (omega (arith, h.counted, few)) h.short (Some q) refl (based ∙ sym base)
+      (sym tail) (sym none) (rw base refl)
 
   -- the queue that is there is removed
   pub removes_slot : is_live_kept s ≡ true → entries_of s < MAX_PAST → (seat moment : ℕ)
       → IsSlot bytes made None (kept_removes s seat moment)
   removes_slot there room seat moment =
       let e : Event = event.Removed seat moment in
-      let live' = live_list true there in
       let t = kept_removes s seat moment in
-      let k' = removes_kept list s part live' seat moment in
+      let turn = removed_turned MAX_SEQ list s part h.lawful.lawful (live_list true there) seat moment in
       let none : made_count (e ∷ []) ≡ 0 = refl in
-      record {
-        numbered = h.numbered;
-        counted = omega (arith, h.counted, made_more list s part e t k', none);
-        few = h.few;
-        short =
-            omega (arith, room, one_more list s part e t k', length-append t.past []);
-        lawful = record {
-          list = list ++ e ∷ [];
-          part = k';
-          lawful = list_more MAX_SEQ list h.lawful.lawful e live' refl tt;
-        };
-        there = sym (there_more list s part e t k');
-        based = tt;
-        last = refl;
-        messages = refl;
-        waits = rw (base_behind s.base (s.past ++ s.last) e) refl;
-      }
+      turned_slot e t turn made (omega (arith, none)) h.few
+      (omega (arith, room, one_more list s part e t turn.keeps, length-append t.past [])) None refl
+      tt refl refl (rw (base_behind s.base (s.past ++ s.last) e) refl)
 
   -- the list is cut
   pub cuts_slot : entries_of s ≤ MAX_PAST → IsSlot bytes made (cut_queue live) (kept_cuts s)

@@ -1,6 +1,5 @@
 -- What a call of a slot's queue leaves as it was.
 use Rattle.std.proofs.Common.{◌≡◌, ℕ, ℤ, pos, ◌+◌, ◌≤◌, Bool, true, false, List, [], ◌∷◌, ◌++◌, length, Option, None, Some, Result, Ok, Err, unwrap_or, refl, ap, ◌∙◌, arith}
-use Rattle.std.proofs.Math.Bool.{and-false}
 use Rattle.std.proofs.lemmas.List.Sums.{fold-append}
 use Rattle.mq_message.specs.declared.message.Message.{Message}
 use Rattle.mq_select.specs.declared.selection.Selection.{Selection}
@@ -11,6 +10,7 @@ use Rattle.mq_queue.specs.declared.event.Event.{Event}
 use Rattle.mq_queue.specs.declared.event.Event.TheVariants as event
 use Rattle.mq_queue.specs.Answer.{send_refusal, receive_answer, set_refusal}
 use Rattle.mq_queue.specs.Log.{is_made, is_removed, key_told, made_key}
+use Rattle.mq_queue.specs.QueueCalls.{sending}
 use Rattle.mq_queue.specs.Room.{quota}
 use Rattle.mq_queue.specs.Row.{made_count, is_live, log_after, last_log}
 use Rattle.mq_queue.specs.Waiting.{waiting}
@@ -64,24 +64,25 @@ stays_as : {B : Type 0} (s after t : SlotState B) → after ≡ t → Stays s af
 stays_as s after t e h = rw (← e) h
 
 module _ {B : Type 0} (s t : SlotState B) (live : is_live s.events ≡ true) where
+  unless_stays : (o : Option QueueError) (e : Event) (messages : List (ℕ × Message B)) (entry : ℕ)
+      → is_made e ≡ false → is_removed e ≡ false → key_told e ≡ None
+      → unless o s (goes_on s e messages) ≡ Ok (entry, t) → Stays s t
+  unless_stays o e messages entry unmade left untold is =
+      stays_as s (goes_on s e messages) t (left_is o s (goes_on s e messages) t entry is)
+      (goes s e messages live unmade left untold)
+
   pub sent_stays : (bytes : B → List ℕ) (m : Message B) (moment entry : ℕ)
       → sends bytes s m moment ≡ Ok (entry, t) → Stays s t
   sent_stays bytes m moment entry e =
       let log = last_log s.events in
-      let n = length (bytes m.body) in
-      let sent = event.Sent m.sender moment m.tag m.mtype n in
-      let messages = s.messages ++ (length log, m) ∷ [] in
-      stays_as s (goes_on s sent messages) t
-      (left_is (send_refusal (waiting log) (quota log) m.mtype n) s (goes_on s sent messages) t entry e)
-      (goes s sent messages live refl refl refl)
+      unless_stays (send_refusal (waiting log) (quota log) m.mtype (length (bytes m.body)))
+      (sending bytes m moment) (s.messages ++ (length log, m) ∷ []) entry refl refl refl e
 
   pub set_stays : (qbytes seat moment entry : ℕ)
       → sets s qbytes seat moment ≡ Ok (entry, t) → Stays s t
   set_stays qbytes seat moment entry e =
-      let changed = event.Changed seat moment qbytes in
-      stays_as s (goes_on s changed s.messages) t
-      (left_is (set_refusal qbytes) s (goes_on s changed s.messages) t entry e)
-      (goes s changed s.messages live refl refl refl)
+      unless_stays (set_refusal qbytes) (event.Changed seat moment qbytes) s.messages entry refl refl
+      refl e
 
   receipt_stays : (size : ℕ) (selection : Selection) (noerror : Bool) (seat moment : ℕ)
       (answer : Result Header QueueError) (r : Receipt)
@@ -106,24 +107,9 @@ module _ {B : Type 0} (s : SlotState B) (seat moment : ℕ) where
       → made_count (makes s key seat moment).events ≡ made_count s.events + 1
   makes_one_more key = counted s.events (event.Made seat moment key ∷ [])
 
-  -- its queue is there
-  pub makes_live : (key : ℤ) → is_live (makes s key seat moment).events ≡ true
-  makes_live key =
-      let e = event.Made seat moment key in
-      rw (begun s.events e, ends_as s.events (e ∷ []) refl) refl
-
-  -- with its key
-  pub makes_key : (key : ℤ) → made_key (last_log (makes s key seat moment).events) ≡ key
-  makes_key key =
-      ap made_key (fold-append log_after [] s.events (event.Made seat moment key ∷ []))
-
   -- a removal is no making
   pub removes_none : made_count (removes s seat moment).events ≡ made_count s.events
   removes_none = counted s.events (event.Removed seat moment ∷ []) ∙ omega arith
-
-  -- and leaves no queue
-  pub removes_live : is_live (removes s seat moment).events ≡ false
-  removes_live = rw (ends_as s.events (event.Removed seat moment ∷ []) refl) (and-false _)
 
 -- a slot list is one for a lesser seq, where its makings are few enough
 pub narrowed : (most last_seq : ℕ) (events : List Event) → IsSlotList most events

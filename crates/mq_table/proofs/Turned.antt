@@ -1,26 +1,26 @@
 -- A slot goes on with one more event: its whole list is a slot list again, of which it keeps its
 -- part.
-use Rattle.std.proofs.Common.{◌≡◌, ℕ, ℤ, ◌≤◌, List, [], ◌∷◌, ◌++◌, length, Option, None, Some, Result, Ok, Err, Bool, true, false, refl, ap, sym}
+use Rattle.std.proofs.Common.{◌≡◌, ℕ, ℤ, ◌≤◌, List, [], ◌∷◌, ◌++◌, length, Ok, Bool, true, false, not, refl, ap, sym, ◌∙◌, arith}
 use Rattle.mq_message.specs.declared.message.Message.{Message}
-use Rattle.mq_select.specs.declared.header.Header.{Header}
 use Rattle.mq_select.specs.declared.selection.Selection.{Selection}
-use Rattle.mq_queue.specs.declared.error.QueueError.{QueueError}
+use Rattle.mq_select.specs.Waiting.{headers_of}
 use Rattle.mq_queue.specs.declared.event.Event.{Event}
 use Rattle.mq_queue.specs.declared.event.Event.TheVariants as event
-use Rattle.mq_queue.specs.Answer.{send_refusal, receive_answer, set_refusal}
-use Rattle.mq_queue.specs.Room.{quota}
 use Rattle.mq_queue.specs.Row.{is_live, last_log, made_count}
 use Rattle.mq_queue.specs.Waiting.{waiting}
-use Rattle.mq_table.specs.Calls.{Receipt, Turn, goes_on, received, unless}
-use Rattle.mq_table.specs.Kept.{KeptSlot, places_now, quota_now, waiting_now}
-use Rattle.mq_table.specs.KeptCalls.{KeptTurn, kept_goes_on, kept_makes, kept_received, kept_receives, kept_removes, kept_sends, kept_sets, kept_unless}
-use Rattle.mq_table.specs.KeptPart.{IsKeptPart, whole}
-use Rattle.mq_table.specs.Slot.{SlotState}
+use Rattle.mq_queue.proofs.Steps.{none_ahead, waits_after}
+use Rattle.mq_table.specs.Calls.{Receipt}
+use Rattle.mq_table.specs.Cut.{kept_cuts}
+use Rattle.mq_table.specs.Kept.{KeptSlot, is_live_kept, made_of, waiting_now}
+use Rattle.mq_table.specs.KeptCalls.{kept_makes, kept_receives, kept_removes, kept_sends, kept_sets}
+use Rattle.mq_table.specs.KeptPart.{IsKeptPart, IsLawfulSlot, WaitsNow}
 use Rattle.mq_table.specs.SlotList.{IsSlotList}
-use Rattle.mq_table.proofs.Can.{received_can, sent_can, set_can}
-use Rattle.mq_table.proofs.Grown.{list_made, list_more}
-use Rattle.mq_table.proofs.KeptTurns.{makes_kept, removes_kept}
-use Rattle.mq_table.proofs.Whole.{receives_whole, sends_whole, sets_whole}
+use Rattle.mq_table.proofs.Cuts.{cut_kept}
+use Rattle.mq_table.proofs.Grown.{list_made, list_more, log_there}
+use Rattle.mq_table.proofs.Kepts.{live_is, live_more, made_is, waiting_is}
+use Rattle.mq_table.proofs.KeptTurns.{base_behind, kept_more, makes_kept, no_base, places_last, quota_last, removes_kept, waits_last}
+use Rattle.mq_table.proofs.OneMore.{IsOneMore, received_more, sent_more, set_more}
+use Rattle.mq_table.proofs.Stays.{grows}
 
 pub record IsTurned {B : Type 0} (last_seq : ℕ) (list : List Event) (e : Event) (s t : KeptSlot B)
     : Type 0 where
@@ -28,44 +28,6 @@ pub record IsTurned {B : Type 0} (last_seq : ℕ) (list : List Event) (e : Event
   pub lawful : IsSlotList last_seq (list ++ e ∷ [])
   pub number : t.number ≡ s.number
   pub first : t.first ≡ s.first
-
--- a call that answers an entry was not refused
-free_of : {B : Type 0} (o : Option QueueError) (s after t : SlotState B) (n : ℕ)
-    → unless o s after ≡ Ok (n, t) → o ≡ None
-free_of None s after t n e = refl
-free_of (Some refusal) s after t n e = cc
-
--- the slot that such a call leaves
-left_by : {B : Type 0} (o : Option QueueError) (s after t : KeptSlot B) (n : ℕ)
-    → kept_unless o s after ≡ Ok (n, t) → after ≡ t
-left_by {B} None s after t n e = ap left e
-  where
-    left : KeptTurn B ℕ → KeptSlot B
-    left (Ok turn) = turn.1
-    left (Err refusal) = s
-left_by (Some refusal) s after t n e = cc
-
--- what a receiver was answered
-got_of : {B : Type 0} (s t : SlotState B) (e : Header → Event) (answer : Result Header QueueError)
-    (r : Receipt) → received s e answer ≡ Ok (r, t) → answer ≡ Ok r.message
-got_of {B} s t e (Ok m) r is = ap (λ turn. Ok (message_of turn)) is
-  where
-    message_of : Turn B Receipt → Header
-    message_of (Ok turn) = turn.0.message
-    message_of (Err refusal) = m
-got_of s t e (Err refusal) r is = cc
-
--- what stays in the slot
-stays_by : {B : Type 0} (s t : KeptSlot B) (e : Header → Event) (answer : Result Header QueueError)
-    (r : Receipt) → kept_received s e answer ≡ Ok (r, t)
-    → (t.number ≡ s.number) × (t.first ≡ s.first)
-stays_by {B} s t e (Ok m) r is =
-    (sym (ap (λ turn. (left turn).number) is), sym (ap (λ turn. (left turn).first) is))
-  where
-    left : KeptTurn B Receipt → KeptSlot B
-    left (Ok turn) = turn.1
-    left (Err refusal) = s
-stays_by s t e (Err refusal) r is = cc
 
 module _ {B : Type 0} (last_seq : ℕ) (list : List Event) (s : KeptSlot B) (k : IsKeptPart list s)
     (lawful : IsSlotList last_seq list) where
@@ -81,30 +43,41 @@ module _ {B : Type 0} (last_seq : ℕ) (list : List Event) (s : KeptSlot B) (k :
   }
 
   module _ (live : is_live list ≡ true) where
+    -- the queue that is there goes on
+    module _ (bytes : B → List ℕ) (t : KeptSlot B) (e : Event) (more : IsOneMore bytes s t e) where
+      pub more_turned : IsTurned last_seq list e s t
+      more_turned = record {
+        keeps =
+            rw more.left
+            (kept_more list s k live e more.messages more.unmade more.stays more.untold);
+        lawful =
+            list_more last_seq list lawful e live more.unmade
+            (rw (waits_last list s k live, quota_last list s k live) at more.allowed);
+        number = ap (λ (x : KeptSlot B). x.number) more.left;
+        first = ap (λ (x : KeptSlot B). x.first) more.left;
+      }
+
+      pub more_waits : WaitsNow bytes s → WaitsNow bytes t
+      more_waits waits =
+          let log : List Event = last_log list in
+          let follows = (log_there last_seq list lawful live).0 in
+          let there : is_live (list ++ e ∷ []) ≡ true = live_more list e ∙ ap not more.stays in
+          let last : waiting_now t ≡ waiting (log ++ e ∷ []) =
+          waits_last (list ++ e ∷ []) t more_turned.keeps there
+          ∙ ap waiting (grows list e more.unmade) in
+          let after = more.waits waits in
+          ap (λ (x : KeptSlot B). headers_of bytes x.messages) more.left
+          ∙ (rw (waits_last list s k live, quota_last list s k live, places_last list s k live)
+          at after)
+          ∙ sym (waits_after log e (none_ahead log follows.each)) ∙ sym last
+
     -- msgsnd
     pub sent_turned : (bytes : B → List ℕ) (m : Message B) (moment entry : ℕ) (t : KeptSlot B)
         → kept_sends bytes s m moment ≡ Ok (entry, t)
         → IsTurned last_seq list
         (event.Sent m.sender moment m.tag m.mtype (length (bytes m.body))) s t
-    sent_turned bytes m moment entry t e =
-        let n = length (bytes m.body) in
-        let log = last_log list in
-        let sent : Event = event.Sent m.sender moment m.tag m.mtype n in
-        let all : SlotState B = whole list s in
-        let after : SlotState B = goes_on all sent (s.messages ++ (length log, m) ∷ []) in
-        let refusal = send_refusal (waiting log) (quota log) m.mtype n in
-        let turn = sends_whole list s k live bytes m moment entry t e in
-        let left = whole (list ++ sent ∷ []) t in
-        let free = free_of refusal all after left entry turn.answers in
-        let goes = left_by (send_refusal (waiting_now s) (quota_now s) m.mtype n) s
-        (kept_goes_on s sent (s.messages ++ (places_now s, m) ∷ [])) t entry e in
-        record {
-          keeps = turn.keeps;
-          lawful = list_more last_seq list lawful sent live refl
-              (sent_can (waiting log) (quota log) m.sender moment m.tag m.mtype n free);
-          number = sym (ap (λ (x : KeptSlot B). x.number) goes);
-          first = sym (ap (λ (x : KeptSlot B). x.first) goes);
-        }
+    sent_turned bytes m moment entry t is =
+        more_turned bytes t _ (sent_more bytes s t m moment entry is)
 
     -- msgrcv
     pub received_turned : (size : ℕ) (selection : Selection) (noerror : Bool) (seat moment : ℕ)
@@ -112,45 +85,16 @@ module _ {B : Type 0} (last_seq : ℕ) (list : List Event) (s : KeptSlot B) (k :
         → kept_receives s size selection noerror seat moment ≡ Ok (r, t)
         → IsTurned last_seq list
         (event.Received seat moment r.message.place selection size noerror) s t
-    received_turned size selection noerror seat moment r t e =
-        let log = last_log list in
-        let got : Event = event.Received seat moment r.message.place selection size noerror in
-        let turn = receives_whole list s k live size selection noerror seat moment r t e in
-        let answer = receive_answer (waiting log) size selection noerror in
-        let its = got_of (whole list s) (whole (list ++ got ∷ []) t)
-        (λ m. event.Received seat moment m.place selection size noerror) answer r turn.answers in
-        let stays = stays_by s t (λ m. event.Received seat moment m.place selection size noerror)
-        (receive_answer (waiting_now s) size selection noerror) r e in
-        record {
-          keeps = turn.keeps;
-          lawful = list_more last_seq list lawful got live refl
-              (received_can (waiting log) (quota log) seat moment size selection noerror r.message
-              its);
-          number = stays.0;
-          first = stays.1;
-        }
+    received_turned size selection noerror seat moment r t is =
+        more_turned (λ _. []) t _
+        (received_more (λ _. []) s t size selection noerror seat moment r is)
 
     -- IPC_SET
     pub set_turned : (qbytes seat moment entry : ℕ) (t : KeptSlot B)
         → kept_sets s qbytes seat moment ≡ Ok (entry, t)
         → IsTurned last_seq list (event.Changed seat moment qbytes) s t
-    set_turned qbytes seat moment entry t e =
-        let log = last_log list in
-        let changed : Event = event.Changed seat moment qbytes in
-        let all : SlotState B = whole list s in
-        let after : SlotState B = goes_on all changed s.messages in
-        let refusal = set_refusal qbytes in
-        let goes = left_by refusal s (kept_goes_on s changed s.messages) t entry e in
-        let turn = sets_whole list s k live qbytes seat moment entry t e in
-        let left = whole (list ++ changed ∷ []) t in
-        let free = free_of refusal all after left entry turn.answers in
-        record {
-          keeps = turn.keeps;
-          lawful = list_more last_seq list lawful changed live refl
-              (set_can (waiting log) (quota log) seat moment qbytes free);
-          number = sym (ap (λ (x : KeptSlot B). x.number) goes);
-          first = sym (ap (λ (x : KeptSlot B). x.first) goes);
-        }
+    set_turned qbytes seat moment entry t is =
+        more_turned (λ _. []) t _ (set_more (λ _. []) s t qbytes seat moment entry is)
 
     -- IPC_RMID
     pub removed_turned : (seat moment : ℕ)
@@ -161,3 +105,59 @@ module _ {B : Type 0} (last_seq : ℕ) (list : List Event) (s : KeptSlot B) (k :
       number = refl;
       first = refl;
     }
+
+-- what holds of a slot at any time, where its ids end with this seq
+pub record IsHeld {B : Type 0} (last_seq : ℕ) (bytes : B → List ℕ) (s : KeptSlot B) : Type 0 where
+  pub lawful : IsLawfulSlot last_seq s
+  pub waits : WaitsNow bytes s
+
+module _ {B : Type 0} (last_seq : ℕ) (bytes : B → List ℕ) (s : KeptSlot B)
+    (h : IsHeld last_seq bytes s) where
+  abbrev list : List Event
+  list = h.lawful.list
+
+  abbrev part : IsKeptPart list s
+  part = h.lawful.part
+
+  live_list : (b : Bool) → is_live_kept s ≡ b → is_live list ≡ b
+  live_list b there = sym (live_is list s part) ∙ there
+
+  lawful_by : (e : Event) (t : KeptSlot B) → IsTurned last_seq list e s t → IsLawfulSlot last_seq t
+  lawful_by e t turn = record { list = list ++ e ∷ []; part = turn.keeps; lawful = turn.lawful }
+
+  pub more_held : (t : KeptSlot B) (e : Event) → is_live_kept s ≡ true → IsOneMore bytes s t e
+      → IsHeld last_seq bytes t
+  more_held t e there more =
+      let live = live_list true there in record {
+        lawful =
+            lawful_by e t
+            (more_turned last_seq list s part h.lawful.lawful live bytes t e more);
+        waits = more_waits last_seq list s part h.lawful.lawful live bytes t e more h.waits;
+      }
+
+  pub makes_held : (key : ℤ) (seat moment : ℕ) → is_live_kept s ≡ false → made_of s ≤ last_seq
+      → IsHeld last_seq bytes (kept_makes s key seat moment)
+  makes_held key seat moment none few =
+      let off = live_list false none in record {
+        lawful =
+            lawful_by (event.Made seat moment key) (kept_makes s key seat moment)
+            (made_turned last_seq list s part h.lawful.lawful key seat moment off
+            (omega (arith, few, made_is list s part)));
+        waits = rw (no_base list s part off) refl;
+      }
+
+  pub removes_held : (seat moment : ℕ) → is_live_kept s ≡ true
+      → IsHeld last_seq bytes (kept_removes s seat moment)
+  removes_held seat moment there = record {
+    lawful =
+        lawful_by (event.Removed seat moment) (kept_removes s seat moment)
+        (removed_turned last_seq list s part h.lawful.lawful (live_list true there) seat moment);
+    waits = rw (base_behind s.base (s.past ++ s.last) (event.Removed seat moment)) refl;
+  }
+
+  pub cuts_held : IsHeld last_seq bytes (kept_cuts s)
+  cuts_held =
+      let k' = cut_kept list s part last_seq h.lawful.lawful in record {
+        lawful = record { list = list; part = k'; lawful = h.lawful.lawful };
+        waits = h.waits ∙ waiting_is list s part ∙ sym (waiting_is list (kept_cuts s) k');
+      }

@@ -9,5 +9,6 @@ pub mod Keys
 pub mod Laws
 pub mod Shown
 pub mod Slot
+pub mod SlotCalls
 pub mod SlotList
 pub mod SlotParts

@@ -1,11 +1,10 @@
-ghost use Rattle.std.specs.Prelude.{◌≡◌, [], is_some, IfOk, OnErr, OnOk, IfNone, IfSome};
+ghost use Rattle.std.specs.Prelude.{◌≡◌, [], is_some, IfOk, IfSome, MatchResult};
 ghost use Rattle.mq_table.specs.Cut.{cut_of, cut_queue, kept_cuts, shown};
 ghost use Rattle.mq_table.specs.Kept.{base_now, is_live_kept};
-ghost use Rattle.mq_table.specs.KeptPart.{IsLawfulSlot, WaitsNow};
-ghost use Rattle.mq_table.specs.SlotParts.{either, live_base, messages_of, tail_of};
+ghost use Rattle.mq_table.specs.SlotParts.{live_base, slot_with, tail_of};
 
 use crate::turnover::either;
-use crate::{MAX_PAST, MAX_SEQ, Slot};
+use crate::{MAX_PAST, Slot};
 use mq_message::Body;
 use mq_queue::{Base, Event, QueueState};
 use mq_select::Waiting;
@@ -41,10 +40,10 @@ fn cut_live<B: Body, W: Waiting<B>>(
     alloc: Global,
     live: &mut Option<QueueState<B, W>>,
 ) -> Result<LogCut, AllocError>
-    ensures base { IfOk result (λ c. c.base ≡ live_base live.old) }
-    ensures last { IfOk result (λ c. c.last.items ≡ tail_of live.old) }
-    ensures after { OnOk result (live.new ≡ cut_queue live.old) }
-    ensures unchanged { OnErr result (live.new ≡ live.old) }
+    ensures handed { IfOk result (λ c.
+        (c.base ≡ live_base live.old) × (c.last.items ≡ tail_of live.old)) }
+    ensures after { MatchResult result (λ _. live.new ≡ cut_queue live.old)
+        (λ _. live.new ≡ live.old) }
 {
     let Some(queue) = live else {
         return Ok(LogCut {
@@ -62,10 +61,8 @@ impl<B: Body, W: Waiting<B>> Slot<B, W> {
     /// what is known of those before. What waits stays. `Err` means out of memory.
     pub fn cut(&mut self) -> Result<Cut, AllocError>
         ensures handed { IfOk result (λ c. shown c ≡ cut_of self.old) }
-        ensures after { OnOk result (self.new ≡ kept_cuts self.old) }
-        ensures unchanged { OnErr result (self.new ≡ self.old) }
-        ensures lawful { IsLawfulSlot MAX_SEQ self.new }
-        ensures waits { WaitsNow B.bytes self.new }
+        ensures after { MatchResult result (λ _. self.new ≡ kept_cuts self.old)
+            (λ _. self.new ≡ self.old) }
     {
         let entries = self.events();
         if entries > MAX_PAST {
@@ -89,17 +86,11 @@ impl<B: Body, W: Waiting<B>> Slot<B, W> {
     /// What a cut would hand out, but for the entries and the base of the queue that is there, and
     /// that queue. This is no change of the slot, and takes no memory.
     pub fn into_parts(self) -> (Cut, Option<QueueState<B, W>>)
-        ensures first { result.0.first ≡ self.first }
-        ensures made { result.0.made ≡ self.made }
-        ensures base { either (live_base result.1) result.0.base ≡ self.base }
-        ensures past { result.0.past.items ≡ self.past }
-        ensures last { (result.0.last.items ≡ []) × (tail_of result.1 ≡ self.last) }
-        ensures messages { self.messages ≡ messages_of result.1 }
+        ensures parts { self ≡ slot_with self.number result.0.first result.0.made self.key
+            result.0.base result.0.past.items result.1 }
+        ensures none { result.0.last.items ≡ [] }
         ensures live { is_some result.1 ≡ is_live_kept self }
-        ensures cut { IfNone result.1 (shown result.0 ≡ cut_of self) }
         ensures based { IfSome result.1 (λ queue. queue.base ≡ base_now self) }
-        ensures lawful { IsLawfulSlot MAX_SEQ self }
-        ensures waits { WaitsNow B.bytes self }
     {
         let alloc = self.allocator();
         let Slot {

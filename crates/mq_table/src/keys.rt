@@ -1,5 +1,5 @@
 ghost use Rattle.std.specs.Prelude.{◌≡◌, ◌≢◌, ◌<◌, ◌==◌, ℤ, ℕ, not, ◌++◌, ◌∷◌, [], None, Some, pos, length, slice_get};
-ghost use Rattle.std.specs.Prelude.{OnOk, OnErr};
+ghost use Rattle.std.specs.Prelude.{MatchResult};
 ghost use Rattle.std.specs.Option.{option_map};
 ghost use Rattle.std.specs.Ordering.{int_eq};
 ghost use Rattle.mq_table.specs.Keys.{id_of_key, forget, forget_key, AreKeys};
@@ -36,6 +36,13 @@ impl KeyTable {
         }
     }
 
+    /// What holds of each table: no key is there twice, and none is 0.
+    pub fn holds(&self)
+        ensures { AreKeys self.now }
+    {
+        let _ = &self.ids;
+    }
+
     /// The id of the queue with this key, if there is one.
     pub fn look(&self, key: i32) -> Option<Id>
         ensures { result ≡ id_of_key self.now key }
@@ -47,9 +54,8 @@ impl KeyTable {
     pub fn enter(&mut self, key: i32, id: Id) -> Result<(), AllocError>
         requires key { key ≢ pos 0 }
         requires absent { id_of_key self.old key ≡ None }
-        ensures ok { OnOk result (self.new ≡ self.old ++ (key, id) ∷ []) }
-        ensures unchanged { OnErr result (self.new ≡ self.old) }
-        ensures keys { AreKeys self.new }
+        ensures { MatchResult result (λ _. self.new ≡ self.old ++ (key, id) ∷ [])
+            (λ _. self.new ≡ self.old) }
     {
         self.ids.insert(key, id)?;
         Ok(())
@@ -57,8 +63,7 @@ impl KeyTable {
 
     /// Takes out each entry with this id. The others keep their order.
     pub fn forget(&mut self, id: Id)
-        ensures left { self.new ≡ forget id self.old }
-        ensures keys { AreKeys self.new }
+        ensures { self.new ≡ forget id self.old }
     {
         self.ids.retain(
             |_key: &i32, entry: &mut Id| -> bool
@@ -71,7 +76,6 @@ impl KeyTable {
     pub fn forget_key(&mut self, key: i32)
         ensures left { self.new ≡ forget_key key self.old }
         ensures absent { id_of_key self.new key ≡ None }
-        ensures keys { AreKeys self.new }
     {
         self.ids.retain(
             |entry: &i32, id: &mut Id| -> bool
@@ -81,17 +85,15 @@ impl KeyTable {
     }
 
     /// Takes out the entry that was entered last.
-    pub fn drop_last(&mut self)
+    pub(crate) fn drop_last(&mut self)
         requires { 0 < length self.old }
-        ensures last { (entry : ℤ × ℕ) × (self.old ≡ self.new ++ entry ∷ []) }
-        ensures keys { AreKeys self.new }
+        ensures { (entry : ℤ × ℕ) × (self.old ≡ self.new ++ entry ∷ []) }
     {
         let _last = self.ids.pop();
     }
 
     pub fn len(&self) -> usize
-        ensures count { result ≡ length self.now }
-        ensures keys { AreKeys self.now }
+        ensures { result ≡ length self.now }
     {
         self.ids.len()
     }

@@ -1,13 +1,11 @@
-ghost use Rattle.std.specs.Prelude.{◌≡◌, true, Ok, length, min, take};
-ghost use Rattle.std.specs.Prelude.{OnOk, OnErr, IfOk, IfErr, IsSomeAnd};
-ghost use Rattle.mq_queue.specs.Answer.{receive_answer, receive_refusal, received_header, send_refusal};
-ghost use Rattle.mq_select.specs.Waiting.{header_of, message_at};
-ghost use Rattle.mq_table.specs.Calls.{receipt_of};
+ghost use Rattle.std.specs.Prelude.{◌≡◌, true, Ok, MatchResult};
+ghost use Rattle.mq_queue.specs.Answer.{receive_answer, receive_refusal, send_refusal};
+ghost use Rattle.mq_queue.specs.QueueCalls.{IsHandedBack, IsRefusedBy, sending};
 ghost use Rattle.mq_table.specs.Kept.{is_live_kept, kept_figures, quota_now, waiting_now};
 ghost use Rattle.mq_table.specs.KeptCalls.{kept_receives, kept_refusal_of, kept_sends, kept_sets};
-ghost use Rattle.mq_table.specs.KeptPart.{IsLawfulSlot, WaitsNow};
+ghost use Rattle.mq_table.specs.SlotCalls.{IsTakenIn};
 
-use crate::{MAX_SEQ, Slot};
+use crate::Slot;
 use mq_message::{Body, Message};
 use mq_queue::{Event, Figures, Notice, QueueError, Received};
 use mq_select::{Selection, Waiting};
@@ -53,24 +51,21 @@ impl<B: Body, W: Waiting<B>> Slot<B, W> {
         notice: &mut N,
     ) -> Result<u64, (QueueError, Message<B>)>
         requires live { is_live_kept self.old ≡ true }
-        ensures ok { IfOk result (λ entry.
-            kept_sends B.bytes self.old message moment ≡ Ok (entry, self.new)) }
-        ensures refused { IfErr result (λ r.
-            r.0 ≡ kept_refusal_of (kept_sends B.bytes self.old message moment)) }
-        ensures handed_back { IfErr result (λ r. r.1 ≡ message) }
-        ensures unchanged { OnErr result (self.new ≡ self.old) }
-        ensures lawful { IsLawfulSlot MAX_SEQ self.new }
-        ensures waits { WaitsNow B.bytes self.new }
-        ensures noticed { OnOk result (N.takes notice.old (Event.Sent message.sender moment
-            message.tag message.mtype (length (B.bytes message.body)))
-            (kept_figures self.new) notice.new) }
-        ensures unnoticed { OnErr result (notice.new ≡ notice.old) }
+        ensures answer { MatchResult result
+            (λ entry. kept_sends B.bytes self.old message moment ≡ Ok (entry, self.new))
+            (IsHandedBack (kept_refusal_of (kept_sends B.bytes self.old message moment)) message
+            self.old self.new) }
+        ensures noticed { MatchResult result
+            (λ _. N.takes notice.old (sending B.bytes message moment) (kept_figures self.new)
+            notice.new)
+            (λ _. notice.new ≡ notice.old) }
     {
         let entry = self.events();
         let Some(queue) = &mut self.live else {
             unreachable!()
         };
         queue.send(message, moment, notice)?;
+        queue.holds();
         Ok(entry)
     }
 
@@ -87,29 +82,22 @@ impl<B: Body, W: Waiting<B>> Slot<B, W> {
         notice: &mut N,
     ) -> Result<Received<B>, QueueError>
         requires live { is_live_kept self.old ≡ true }
-        ensures ok { IfOk result (λ r.
-            kept_receives self.old size selection noerror seat moment
-            ≡ Ok (receipt_of r, self.new)) }
-        ensures body { IfOk result (λ r. IsSomeAnd (message_at r.place self.old.messages) (λ m.
-            (B.bytes r.body ≡ take size (B.bytes m.body)) × B.keeps m.body r.body)) }
-        ensures sent { IfOk result (λ r. IsSomeAnd (message_at r.place self.old.messages) (λ m.
-            received_header r ≡ header_of B.bytes (r.place, m))) }
-        ensures length { IfOk result (λ r. length (B.bytes r.body) ≡ min r.length size) }
-        ensures refused { IfErr result (λ e.
-            e ≡ kept_refusal_of (kept_receives self.old size selection noerror seat moment)) }
-        ensures unchanged { OnErr result (self.new ≡ self.old) }
-        ensures lawful { IsLawfulSlot MAX_SEQ self.new }
-        ensures waits { WaitsNow B.bytes self.new }
-        ensures noticed { IfOk result (λ r. N.takes notice.old
+        ensures answer { MatchResult result
+            (IsTakenIn B.bytes B.keeps size selection noerror seat moment self.old self.new)
+            (IsRefusedBy (kept_refusal_of
+            (kept_receives self.old size selection noerror seat moment)) self.old self.new) }
+        ensures noticed { MatchResult result
+            (λ r. N.takes notice.old
             (Event.Received seat moment r.place selection size noerror)
-            (kept_figures self.new) notice.new) }
-        ensures unnoticed { OnErr result (notice.new ≡ notice.old) }
+            (kept_figures self.new) notice.new)
+            (λ _. notice.new ≡ notice.old) }
     {
         let entry = self.events();
         let Some(queue) = &mut self.live else {
             unreachable!()
         };
         let received = queue.receive(size, selection, noerror, seat, moment, notice)?;
+        queue.holds();
         Ok(Received { entry, ..received })
     }
 
@@ -123,22 +111,21 @@ impl<B: Body, W: Waiting<B>> Slot<B, W> {
         notice: &mut N,
     ) -> Result<u64, QueueError>
         requires live { is_live_kept self.old ≡ true }
-        ensures ok { IfOk result (λ entry.
-            kept_sets self.old qbytes seat moment ≡ Ok (entry, self.new)) }
-        ensures refused { IfErr result (λ e.
-            e ≡ kept_refusal_of (kept_sets self.old qbytes seat moment)) }
-        ensures unchanged { OnErr result (self.new ≡ self.old) }
-        ensures lawful { IsLawfulSlot MAX_SEQ self.new }
-        ensures waits { WaitsNow B.bytes self.new }
-        ensures noticed { OnOk result (N.takes notice.old (Event.Changed seat moment qbytes)
-            (kept_figures self.new) notice.new) }
-        ensures unnoticed { OnErr result (notice.new ≡ notice.old) }
+        ensures answer { MatchResult result
+            (λ entry. kept_sets self.old qbytes seat moment ≡ Ok (entry, self.new))
+            (IsRefusedBy (kept_refusal_of (kept_sets self.old qbytes seat moment))
+            self.old self.new) }
+        ensures noticed { MatchResult result
+            (λ _. N.takes notice.old (Event.Changed seat moment qbytes) (kept_figures self.new)
+            notice.new)
+            (λ _. notice.new ≡ notice.old) }
     {
         let entry = self.events();
         let Some(queue) = &mut self.live else {
             unreachable!()
         };
         queue.set(qbytes, seat, moment, notice)?;
+        queue.holds();
         Ok(entry)
     }
 

@@ -75,8 +75,6 @@ impl<B: Body, W: Waiting<B>> Slot<B, W> {
     pub fn number(&self) -> u8
         ensures value { result ≡ self.now.number }
         ensures within { result < MAX_SLOTS }
-        ensures lawful { IsLawfulSlot MAX_SEQ self.now }
-        ensures waits { WaitsNow B.bytes self.now }
     {
         self.number
     }

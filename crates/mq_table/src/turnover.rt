@@ -1,9 +1,8 @@
-ghost use Rattle.std.specs.Prelude.{◌≡◌, ◌<◌, ◌+◌, ◌-◌, ◌^◌, ◌≤◌, ◌++◌, ◌∷◌, [], ℕ, None, Some, true, false, length};
-ghost use Rattle.std.specs.Prelude.{OnOk, OnErr, IfOk, vec_len, vec_capacity};
-ghost use Rattle.mq_queue.specs.Base.{base_of};
+ghost use Rattle.std.specs.Prelude.{◌≡◌, ◌+◌, ◌≤◌, ◌++◌, [], ℕ, None, Some, true, false, length};
+ghost use Rattle.std.specs.Prelude.{OnOk, IfOk, MatchResult, vec_len, vec_capacity};
+ghost use Rattle.mq_queue.specs.QueueCalls.{IsNewQueue};
 ghost use Rattle.mq_table.specs.Kept.{is_live_kept, kept_figures, made_of};
-ghost use Rattle.mq_table.specs.KeptCalls.{kept_removes, log_removed};
-ghost use Rattle.mq_table.specs.KeptPart.{IsLawfulSlot, WaitsNow};
+ghost use Rattle.mq_table.specs.SlotCalls.{IsTakenOut};
 ghost use Rattle.mq_table.specs.SlotParts.{either, some_base};
 
 use crate::{MAX_PAST, MAX_SEQ, Slot};
@@ -79,13 +78,8 @@ impl<B: Body, W: Waiting<B>> Slot<B, W> {
     pub(crate) fn put(&mut self, key: i32, queue: QueueState<B, W>)
         requires empty { is_live_kept self.old ≡ false }
         requires unused { made_of self.old ≤ MAX_SEQ }
-        requires based { queue.base ≡ base_of [] }
-        requires made { (seat : ℕ) × (moment : ℕ)
-            × (queue.tail ≡ Event.Made seat moment key ∷ []) }
-        requires empty_queue { queue.messages ≡ [] }
-        ensures put { self.new ≡ record self.old { key = key; last = queue.tail; messages = [] } }
-        ensures lawful { IsLawfulSlot MAX_SEQ self.new }
-        ensures waits { WaitsNow B.bytes self.new }
+        requires made { (seat : ℕ) × (moment : ℕ) × IsNewQueue seat moment key queue }
+        ensures { self.new ≡ record self.old { key = key; last = queue.tail; messages = [] } }
     {
         self.made += 1;
         self.key = key;
@@ -101,15 +95,13 @@ impl<B: Body, W: Waiting<B>> Slot<B, W> {
         notice: &mut N,
     ) -> Result<(Log, W), AllocError>
         requires live { is_live_kept self.old ≡ true }
-        ensures removed { OnOk result (self.new ≡ kept_removes self.old seat moment) }
-        ensures log { IfOk result (λ r. r.0 ≡ log_removed self.old seat moment) }
-        ensures messages { IfOk result (λ r. W.messages r.1 ≡ self.old.messages) }
-        ensures unchanged { OnErr result (self.new ≡ self.old) }
-        ensures lawful { IsLawfulSlot MAX_SEQ self.new }
-        ensures waits { WaitsNow B.bytes self.new }
-        ensures noticed { OnOk result (N.takes notice.old (Event.Removed seat moment)
-            (kept_figures self.new) notice.new) }
-        ensures unnoticed { OnErr result (notice.new ≡ notice.old) }
+        ensures answer { MatchResult result
+            (λ r. IsTakenOut seat moment self.old self.new r.0 (W.messages r.1))
+            (λ _. self.new ≡ self.old) }
+        ensures noticed { MatchResult result
+            (λ _. N.takes notice.old (Event.Removed seat moment) (kept_figures self.new)
+            notice.new)
+            (λ _. notice.new ≡ notice.old) }
     {
         let entries = self.events();
         if entries >= MAX_PAST {

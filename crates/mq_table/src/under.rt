@@ -1,10 +1,8 @@
 ghost use Rattle.std.specs.Prelude.{◌≡◌, ◌≢◌, ◌<◌, ◌≤◌, ℕ, ℤ, List, None, pos, true, false, length};
-ghost use Rattle.std.specs.Prelude.{OnOk, OnErr, IfOk};
-ghost use Rattle.mq_table.specs.Keys.{id_of_key, entered, forget};
+ghost use Rattle.std.specs.Prelude.{MatchResult};
+ghost use Rattle.mq_table.specs.Keys.{id_of_key, entered};
 ghost use Rattle.mq_table.specs.Kept.{is_live_kept, kept_figures, made_of};
-ghost use Rattle.mq_table.specs.KeptCalls.{kept_makes, kept_removes, log_removed};
-ghost use Rattle.mq_table.specs.KeptPart.{IsLawfulSlot, WaitsNow};
-ghost use Rattle.mq_table.specs.KeptShown.{last_id_now, next_id_now};
+ghost use Rattle.mq_table.specs.SlotCalls.{IsMadeUnder, IsRemovedUnder};
 
 use crate::{Id, KeyTable, MAX_SEQ, Slot};
 use mq_message::Body;
@@ -25,16 +23,14 @@ pub fn make_under<B: Body, W: Waiting<B>, N: Notice>(
     requires empty { is_live_kept slot.old ≡ false }
     requires unused { made_of slot.old ≤ MAX_SEQ }
     requires absent { key ≢ pos 0 → id_of_key keys.old key ≡ None }
-    ensures id { IfOk result (λ id. id ≡ next_id_now slot.old) }
-    ensures made { OnOk result (slot.new ≡ kept_makes slot.old key seat moment) }
-    ensures entered { IfOk result (λ id. keys.new ≡ entered key id keys.old) }
-    ensures unchanged { OnErr result ((slot.new ≡ slot.old) × (keys.new ≡ keys.old)) }
-    ensures lawful { IsLawfulSlot MAX_SEQ slot.new }
-    ensures waits { WaitsNow B.bytes slot.new }
-    ensures noticed { OnOk result (N.takes notice.old (Event.Made seat moment key)
-        (kept_figures slot.new) notice.new) }
-    ensures unnoticed { OnErr result (notice.new ≡ notice.old) }
+    ensures answer { MatchResult result
+        (IsMadeUnder key seat moment slot.old slot.new keys.old keys.new)
+        (λ _. (slot.new ≡ slot.old) × (keys.new ≡ keys.old)) }
+    ensures noticed { MatchResult result
+        (λ _. N.takes notice.old (Event.Made seat moment key) (kept_figures slot.new) notice.new)
+        (λ _. notice.new ≡ notice.old) }
 {
+    slot.holds();
     let id = Id::of(slot.number(), slot.made());
     enter_key(keys, key, id)?;
     match QueueState::made(slot.allocator(), key, seat, moment, notice) {
@@ -52,8 +48,8 @@ pub fn make_under<B: Body, W: Waiting<B>, N: Notice>(
 /// Enters a key that is not 0.
 fn enter_key(keys: &mut KeyTable, key: i32, id: Id) -> Result<(), AllocError>
     requires { key ≢ pos 0 → id_of_key keys.old key ≡ None }
-    ensures ok { OnOk result (keys.new ≡ entered key id keys.old) }
-    ensures unchanged { OnErr result (keys.new ≡ keys.old) }
+    ensures { MatchResult result (λ _. keys.new ≡ entered key id keys.old)
+        (λ _. keys.new ≡ keys.old) }
 {
     if key == 0 {
         return Ok(());
@@ -83,17 +79,15 @@ pub fn remove_under<B: Body, W: Waiting<B>, N: Notice>(
     notice: &mut N,
 ) -> Result<(Log, W), AllocError>
     requires live { is_live_kept slot.old ≡ true }
-    ensures removed { OnOk result (slot.new ≡ kept_removes slot.old seat moment) }
-    ensures forgotten { OnOk result (keys.new ≡ forget (last_id_now slot.old) keys.old) }
-    ensures log { IfOk result (λ r. r.0 ≡ log_removed slot.old seat moment) }
-    ensures messages { IfOk result (λ r. W.messages r.1 ≡ slot.old.messages) }
-    ensures unchanged { OnErr result ((slot.new ≡ slot.old) × (keys.new ≡ keys.old)) }
-    ensures lawful { IsLawfulSlot MAX_SEQ slot.new }
-    ensures waits { WaitsNow B.bytes slot.new }
-    ensures noticed { OnOk result (N.takes notice.old (Event.Removed seat moment)
-        (kept_figures slot.new) notice.new) }
-    ensures unnoticed { OnErr result (notice.new ≡ notice.old) }
+    ensures answer { MatchResult result
+        (λ r. IsRemovedUnder seat moment slot.old slot.new keys.old keys.new r.0
+        (W.messages r.1))
+        (λ _. (slot.new ≡ slot.old) × (keys.new ≡ keys.old)) }
+    ensures noticed { MatchResult result
+        (λ _. N.takes notice.old (Event.Removed seat moment) (kept_figures slot.new) notice.new)
+        (λ _. notice.new ≡ notice.old) }
 {
+    slot.holds();
     let id = Id::of(slot.number(), slot.made() - 1);
     let removed = slot.take_out(seat, moment, notice)?;
     keys.forget(id);

@@ -64,12 +64,18 @@ pub(crate) fn send<J: Naming>(
     let _small = queue.log_len();
     let row = reader.figures();
     let message = match queue.send(message, moment, writer) {
-        Ok(place) => return place,
+        Ok(place) => {
+            queue.holds();
+            return place;
+        }
         Err((_refused, message)) => message,
     };
     sees(rt, reader, row);
     match queue.send(message, moment, writer) {
-        Ok(place) => place,
+        Ok(place) => {
+            queue.holds();
+            place
+        }
         Err((refused, _message)) => panic!(rt; "not sent: {refused}"),
     }
 }
@@ -89,11 +95,15 @@ pub(crate) fn receive<J: Naming>(
     let _small = queue.log_len();
     let row = reader.figures();
     if let Ok(received) = queue.receive(8, selection, false, 2, moment, writer) {
+        queue.holds();
         return received;
     }
     sees(rt, reader, row);
     match queue.receive(8, selection, false, 2, moment, writer) {
-        Ok(received) => received,
+        Ok(received) => {
+            queue.holds();
+            received
+        }
         Err(refused) => panic!(rt; "not received: {refused}"),
     }
 }
@@ -112,11 +122,15 @@ pub(crate) fn set<J: Naming>(
     let _small = queue.log_len();
     let row = reader.figures();
     if let Ok(place) = queue.set(qbytes, 1, moment, writer) {
+        queue.holds();
         return place;
     }
     sees(rt, reader, row);
     match queue.set(qbytes, 1, moment, writer) {
-        Ok(place) => place,
+        Ok(place) => {
+            queue.holds();
+            place
+        }
         Err(refused) => panic!(rt; "not set: {refused}"),
     }
 }

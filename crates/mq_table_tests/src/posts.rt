@@ -46,6 +46,7 @@ pub(crate) fn open<J: Naming, R: Wait>(
     ensures unchanged { OnErr result (writer.new ≡ writer.old) }
 {
     let queue = Queue::made(alloc, 7, 1, 10, writer)?;
+    queue.holds();
     writer.publish(rt);
     Ok(queue)
 }
@@ -73,6 +74,7 @@ pub(crate) fn send<J: Naming, R: Wait>(
     let Ok(_place) = queue.send(message, 20, writer) else {
         return Err(AllocError);
     };
+    queue.holds();
     writer.publish(rt);
     Ok(())
 }

@@ -53,17 +53,22 @@ right_same (suc half) i old new e l r h = elim h [
   | inr p ↦ inr (e ∙ p ∙ ap (λ x. parent half x (node_at old (2 * i + 1))) (sym l) ∙ ap (λ x. parent half (node_at new (2 * i)) x) (sym r))
 ]
 
+-- the node of a place keeps to the rule at whatever height it is said to have
+right_at : (height k m p i : ℕ) (nodes : List ℕ) → Place height k p → IsRight k p nodes → Place height m i → i ≡ p → IsRight m i nodes
+right_at height k m p i nodes place new q e =
+    let P : ℕ → Type 0 = λ x. IsRight x i nodes in
+    let Q : ℕ → Type 0 = λ x. IsRight k x nodes in
+    subst P (place_height (subst (λ x. Place height k x) (sym e) place) q) (subst Q (sym e) new)
+
 -- where node p is written and keeps to the rule, just the one over it may not
 pub tree_set : (height k p but v : ℕ) (nodes : List ℕ) → IsTreeBut height but nodes → Place height k p → ((i : ℕ) → 0 < i → i ≢ p → i ≢ but)
     → IsRight k p (set nodes p v) → IsTreeBut height (p / 2) (set nodes p v)
 tree_set height k p but v nodes tree place others new = record {
+  low = tree.low;
   len = length-set nodes p v ∙ tree.len;
   right =
       λ m i q n. elim (cases_eq i p) [
-        | inl e ↦
-            let P : ℕ → Type 0 = λ x. IsRight x i (set nodes p v) in
-            let Q : ℕ → Type 0 = λ x. IsRight k x (set nodes p v) in
-            subst P (place_height (subst (λ x. Place height k x) (sym e) place) q) (subst Q (sym e) new)
+        | inl e ↦ right_at height k m p i (set nodes p v) place new q e
         | inr e ↦
             right_same m i nodes (set nodes p v) (get_or-set_other nodes p i v 0 e)
             (get_or-set_other nodes p (2 * i) v 0 (λ f. n (omega (arith, f))))
@@ -75,15 +80,9 @@ tree_set height k p but v nodes tree place others new = record {
 -- where that node keeps to the rule, all do
 pub tree_whole : (height k p : ℕ) (nodes : List ℕ) → IsTreeBut height p nodes → Place height k p → IsRight k p nodes → IsTree height nodes
 tree_whole height k p nodes tree place new = record {
+  low = tree.low;
   len = tree.len;
-  right =
-      λ m i q n. elim (cases_eq i p) [
-        | inl e ↦
-            let P : ℕ → Type 0 = λ x. IsRight x i nodes in
-            let Q : ℕ → Type 0 = λ x. IsRight k x nodes in
-            subst P (place_height (subst (λ x. Place height k x) (sym e) place) q) (subst Q (sym e) new)
-        | inr e ↦ tree.right m i q e
-      ];
+  right = λ m i q n. elim (cases_eq i p) [ inl e ↦ right_at height k m p i nodes place new q e | inr e ↦ tree.right m i q e ];
 }
 
 -- ---- a run is marked as lent, or as free again

@@ -1,13 +1,13 @@
 -- How many pages are free: a block takes as many as it has, and gives as many back.
-use Rattle.std.proofs.Common.{◌≡◌, ℕ, ◌+◌, ◌^◌, ◌<◌, ◌≤◌, refl, sym, ap, ◌∙◌, arith, inl, inr, Bool, true, false, not, cond, ◌&&◌, List, [], ◌∷◌, Some, leb, ltb}
+use Rattle.std.proofs.Common.{◌≡◌, ℕ, ◌+◌, ◌^◌, ◌<◌, ◌≤◌, ◌⊎◌, refl, sym, ap, ◌∙◌, arith, inl, inr, Bool, true, false, not, cond, ◌&&◌, List, [], ◌∷◌, Some, leb, ltb}
 use Rattle.std.specs.List.{All, AllPairs, sum_by}
-use Rattle.std.proofs.lemmas.Bool.{cases_Bool, or_cases, and_from, and_left, and_right, and_parts, le-leb, lt-leb, lt-ltb, le-ltb, leb-true, ltb-true, false_from_ne_true, not_from_false, cond-true, cond-false}
+use Rattle.std.proofs.lemmas.Bool.{cases_Bool, cases_lt, or_cases, both_ways, and_from, and_left, and_right, and_parts, le-leb, lt-leb, lt-ltb, le-ltb, leb-true, ltb-true, false_from_ne_true, not_from_false, cond-true, cond-false}
 use Rattle.std.proofs.lemmas.List.Elements.{All-cons, All-filter, All-contains}
 use Rattle.std.proofs.lemmas.List.Sums.{list_all-from_AllPass, sum_by-cons}
 use Rattle.mq_tree.specs.Blocks.{Block, block, HasPage, has_page, page_count, IsInArena, AreApart, is_block}
 use Rattle.mq_tree.specs.LentSet.{IsLentSet, joined, left, is_lent, is_free_page, free_pages}
 use Rattle.mq_tree.specs.Fit.{fit}
-use Rattle.mq_tree.proofs.Ranges.{tally, tally_is, tally_more, tally_all}
+use Rattle.mq_tree.proofs.Ranges.{count_more, count_all}
 use Rattle.mq_tree.proofs.LentSets.{AllPairs-head, AllPairs-tail, is_block-true}
 use Rattle.mq_tree.proofs.Kept.{AreApart-sym, IsLentSet-head, IsLentSet-tail, fit_apart, lent_member}
 use Rattle.mq_tree.proofs.Fits.{fit_passes}
@@ -21,13 +21,23 @@ page_before b page l = and_left (leb b.start page) (ltb page (b.start + 2 ^ b.or
 page_after : (b : Block) (page : ℕ) → b.start + 2 ^ b.order ≤ page → has_page b page ≡ false
 page_after b page l = and_right (leb b.start page) (ltb page (b.start + 2 ^ b.order)) (le-ltb page (b.start + 2 ^ b.order) l)
 
-page_of : (b : Block) (page : ℕ) → has_page b page ≡ true → HasPage b page
+pub page_of : (b : Block) (page : ℕ) → has_page b page ≡ true → HasPage b page
 page_of b page t =
     let p = and_parts (leb b.start page) (ltb page (b.start + 2 ^ b.order)) t in
     record { from = leb-true b.start page p.0; below = ltb-true page (b.start + 2 ^ b.order) p.1 }
 
+-- a page that is not in a block lies beside it
+pub page_beside : (b : Block) (page : ℕ) → has_page b page ≡ false → (page < b.start) ⊎ (b.start + 2 ^ b.order ≤ page)
+page_beside b page out = elim (cases_lt page b.start) [
+  | inl before ↦ inl before
+  | inr from ↦ elim (cases_lt page (b.start + 2 ^ b.order)) [
+    | inl below ↦ absurd (both_ways (has_page b page) out (page_in b page from below))
+    | inr past ↦ inr past
+  ]
+]
+
 -- a block apart from each lent one has free pages alone
-free_when_apart : (b : Block) (lent : List Block) → All (AreApart b) lent → (page : ℕ) → HasPage b page → is_free_page lent page ≡ true
+pub free_when_apart : (b : Block) (lent : List Block) → All (AreApart b) lent → (page : ℕ) → HasPage b page → is_free_page lent page ≡ true
 free_when_apart b lent apart page h =
     list_all-from_AllPass (λ c. not (has_page c page)) lent
     (λ k d u. not_from_false (has_page _ page) (false_from_ne_true (has_page _ page) (λ t. apart k d u page h (page_of _ page t))))
@@ -39,25 +49,23 @@ free_less : (height : ℕ) (b : Block) (small big : List Block) → IsInArena he
     → free_pages height small ≡ free_pages height big + 2 ^ b.order
 unfolding free_pages
 free_less height b small big within split free =
-    let more : tally (is_free_page small) 0 (2 ^ height) ≡ tally (is_free_page big) 0 (2 ^ height) + 2 ^ b.order =
-    tally_more (is_free_page small) (is_free_page big) b.start (2 ^ b.order) (2 ^ height) within
+    count_more (is_free_page small) (is_free_page big) b.start (2 ^ b.order) (2 ^ height) within
     (λ x l u. free x (record { from = l; below = u }))
     (λ x l u. split x ∙ ap (λ t. not t && is_free_page small x) (page_in b x l u))
     (λ x l. sym (split x ∙ ap (λ t. not t && is_free_page small x) (page_before b x l)))
-    (λ x l. sym (split x ∙ ap (λ t. not t && is_free_page small x) (page_after b x l))) in
-    tally_is (is_free_page small) 0 (2 ^ height) ∙ more ∙ ap (λ n. n + 2 ^ b.order) (sym (tally_is (is_free_page big) 0 (2 ^ height)))
+    (λ x l. sym (split x ∙ ap (λ t. not t && is_free_page small x) (page_after b x l)))
 
 -- with nothing lent each page is free
 pub new_free : (height : ℕ) → free_pages height [] ≡ 2 ^ height
 unfolding free_pages
-new_free height = tally_is (λ _. true) 0 (2 ^ height) ∙ tally_all 0 (2 ^ height)
+new_free height = count_all 0 (2 ^ height)
 
 and_swap : (a b c : Bool) → (a && (b && c)) ≡ (b && (a && c))
 and_swap true b c = refl
 and_swap false true c = refl
 and_swap false false c = refl
 
-is_free_page-joined : (b : Block) (lent : List Block) (page : ℕ) → is_free_page (joined b lent) page ≡ (not (has_page b page) && is_free_page lent page)
+pub is_free_page-joined : (b : Block) (lent : List Block) (page : ℕ) → is_free_page (joined b lent) page ≡ (not (has_page b page) && is_free_page lent page)
 is_free_page-joined b [] page = refl
 is_free_page-joined b (c ∷ cs) page =
     elim (ltb b.start c.start) as (λ t. is_free_page (cond t (b ∷ c ∷ cs) (c ∷ joined b cs)) page ≡ (not (has_page b page) && is_free_page (c ∷ cs) page)) [
@@ -97,7 +105,7 @@ and_agree : (a b x y : Bool) → (a && x) ≡ (a && y) → (a && (b && x)) ≡ (
 and_agree true b x y e = ap (λ t. b && t) e
 and_agree false b x y e = refl
 
-is_free_page-left : (b : Block) (lent : List Block) (page : ℕ) → (not (has_page b page) && is_free_page lent page) ≡ (not (has_page b page) && is_free_page (left b lent) page)
+pub is_free_page-left : (b : Block) (lent : List Block) (page : ℕ) → (not (has_page b page) && is_free_page lent page) ≡ (not (has_page b page) && is_free_page (left b lent) page)
 is_free_page-left b [] page = refl
 is_free_page-left b (c ∷ cs) page = elim (cases_Bool (is_block b c)) [
   | inl e ↦

@@ -4,11 +4,13 @@ use Rattle.std.proofs.lemmas.Bool.{cases_eq}
 use Rattle.std.proofs.lemmas.Nat.{pow_pos}
 use Rattle.std.proofs.lemmas.List.{length-set, get_or-set_same, get_or-set_other}
 use Rattle.mq_tree.specs.Nodes.{node_at, IsRight}
-use Rattle.mq_tree.specs.Trees.{lent_blocks, Place, IsTree, ArePagesFree}
+use Rattle.mq_tree.specs.Trees.{Place, IsTree, IsTreeOf, ArePagesFree}
+use Rattle.mq_tree.specs.declared.limits.TheConstants.{MAX_HEIGHT}
 use Rattle.mq_tree.proofs.Heap.{to_left, to_right, place_pos, place_below, at_root, page_nodes, no_page_nodes, place_of}
 use Rattle.mq_tree.proofs.Trees.{parent_free, free_blocks}
 
 pub record AreFreeFrom (height at : ℕ) (nodes : List ℕ) : Type 0 where
+  pub low : height ≤ MAX_HEIGHT
   pub len : length nodes ≡ 2 * 2 ^ height
   pub some : 0 < at
   pub free : (k i : ℕ) → Place height k i → at ≤ i → node_at nodes i ≡ k + 2
@@ -21,15 +23,16 @@ module _ {height at : ℕ} {nodes : List ℕ} (f : AreFreeFrom height at nodes) 
       ∙ sym (parent_free half (node_at nodes (2 * i)) (node_at nodes (2 * i + 1))
       (f.free half (2 * i) (to_left height half i p) (omega (arith, first, place_pos p))) (f.free half (2 * i + 1) (to_right height half i p) (omega (arith, first)))))
 
-  pub all_free : IsTree height nodes
-  all_free = record { len = f.len; right = λ k i p n. all_right k i p }
+  tree : IsTree height nodes
+  tree = record { low = f.low; len = f.len; right = λ k i p n. all_right k i p }
 
-  pub none_lent : lent_blocks height nodes ≡ []
-  none_lent = free_blocks height nodes all_free height 1 (at_root height) (f.free height 1 (at_root height) first)
+  pub all_free : IsTreeOf height nodes []
+  all_free = record { tree = tree; lent_is = free_blocks height nodes tree height 1 (at_root height) (f.free height 1 (at_root height) first) }
 
 -- at first those of the pages are
 pub pages_free : (height pages : ℕ) (nodes : List ℕ) → pages ≡ 2 ^ height → ArePagesFree height nodes → AreFreeFrom height pages nodes
 pages_free height pages nodes e a = record {
+  low = a.low;
   len = a.len;
   some = omega (arith, e, pow_pos height);
   free =
@@ -50,6 +53,7 @@ module _ {height next : ℕ} {nodes : List ℕ} (f : AreFreeFrom height next nod
 
   pub one_more : AreFreeFrom height at (set nodes at (node_at nodes (2 * at) + 1))
   one_more = record {
+    low = f.low;
     len = length-set nodes at (node_at nodes (2 * at) + 1) ∙ f.len;
     some = some;
     free =

@@ -1,19 +1,19 @@
 -- A block by its node: it is lent where the node says so, and the node, once free, gives it back.
-use Rattle.std.proofs.Common.{◌≡◌, ℕ, ◌+◌, ◌*◌, ◌/◌, ◌%◌, ◌^◌, ◌<◌, ◌≤◌, zero, suc, sym, ap, ◌∙◌, arith, inl, inr, true, false, not, cond, ◌||◌, List, [], ◌∷◌, ◌++◌, set, eqb, subst}
+use Rattle.std.proofs.Common.{◌≡◌, ℕ, ◌+◌, ◌*◌, ◌/◌, ◌^◌, ◌<◌, ◌≤◌, zero, suc, sym, ap, ◌∙◌, arith, inl, inr, true, false, not, cond, ◌||◌, List, [], ◌∷◌, ◌++◌, set, eqb, subst}
 use Rattle.std.specs.List.{All}
 use Rattle.std.proofs.lemmas.Bool.{cases_eq, eq-eqb, ne_eqb, false_from_ne_true}
-use Rattle.std.proofs.lemmas.Nat.{pow_pos}
 use Rattle.std.proofs.lemmas.List.{get_or-set_same, get_or-set_other}
-use Rattle.std.proofs.lemmas.List.Elements.{All-nil, All-cons, All-weaker}
+use Rattle.std.proofs.lemmas.List.Elements.{All-nil, All-cons, All-contains}
 use Rattle.mq_tree.specs.Blocks.{Block, block, is_block, IsInArena, IsAligned, moved_up}
 use Rattle.mq_tree.specs.LentSet.{IsLentSet, left, is_lent}
 use Rattle.mq_tree.specs.Nodes.{node_at}
-use Rattle.mq_tree.specs.Trees.{blocks_under, lent_blocks, Place, IsTree, IsClear, IsRunOf}
+use Rattle.mq_tree.specs.Trees.{blocks_under, lent_blocks, Place, IsTree, IsClear, IsOpen, IsRunOf}
 use Rattle.mq_tree.proofs.Heap.{up_last, up_none, one_of_halves, over_root, over_differs, to_left, to_right, place_pos, place_below}
-use Rattle.mq_tree.proofs.LentSets.{is_block_itself, is_block_order, is_block_start, is_block-true}
+use Rattle.mq_tree.proofs.LentSets.{is_block_itself, is_block_order}
 use Rattle.mq_tree.proofs.Trees.{free_halves, free_blocks, free_under_lent, blocks_lent, blocks_leaf, blocks_halves, blocks_lent_set}
-use Rattle.mq_tree.proofs.Halves.{is_lent_left, is_lent_right, left_left, left_right, is_lent_absent, over_absent, whole_absent}
-use Rattle.mq_tree.proofs.Changes.{other_half, later_kept, clear_marked}
+use Rattle.mq_tree.proofs.Halves.{is_lent_left, is_lent_right, left_left, left_right, is_lent_absent, whole_absent}
+use Rattle.mq_tree.proofs.Kept.{lent_member}
+use Rattle.mq_tree.proofs.Changes.{other_half, later_kept, clear_marked, marked_free}
 use Rattle.mq_tree.proofs.Starts.{start_in, start_none, start_left, start_right, start_whole, start_below, pow_sum}
 
 module _ (height order j : ℕ) (nodes : List ℕ) (tree : IsTree height nodes) (place : Place height order j) where
@@ -183,24 +183,15 @@ module _ {height order start j : ℕ} {nodes : List ℕ} (tree : IsTree height n
     | inr z ↦ omega (arith, z)
   ]
 
-  pub clear_freed : node_at nodes j ≡ 0 → IsClear j (set nodes j (order + 2))
-  clear_freed e = clear_marked height order j nodes tree run.place (order + 2) (clear_over e)
+  pub open_freed : node_at nodes j ≡ 0 → IsOpen height order j (set nodes j (order + 2))
+  open_freed e = record {
+    place = run.place;
+    clear = clear_marked height order j nodes tree run.place (order + 2) (clear_over e);
+    tree = marked_free height order j nodes tree run.place e;
+  }
 
--- ---- no block that is lent has an order over the height, starts outside the arena, or where its order does not
-module _ (height : ℕ) (lent : List Block) (order start : ℕ) (set : IsLentSet height lent) where
-  pub over_not_lent : height < order → is_lent (block start order) lent ≡ false
-  over_not_lent l = is_lent_absent (block start order) lent (over_absent height lent start order set.in_arena l)
-
-  pub outside_not_lent : 2 ^ height ≤ start → is_lent (block start order) lent ≡ false
-  outside_not_lent l =
-      is_lent_absent (block start order) lent
-      (All-weaker (IsInArena height) (λ c. is_block (block start order) c ≡ false)
-      (λ c within. is_block_start (block start order) c (λ e. omega (arith, within, e, l, pow_pos c.order))) lent set.in_arena)
-
-  pub unaligned_not_lent : (start % 2 ^ order ≡ 0 → ⊥) → is_lent (block start order) lent ≡ false
-  unaligned_not_lent n =
-      is_lent_absent (block start order) lent
-      (All-weaker IsAligned (λ c. is_block (block start order) c ≡ false)
-      (λ c a. false_from_ne_true (is_block (block start order) c) (λ t.
-      let P : Block → Type 0 = λ b. IsAligned b in
-      n (subst P (sym (is_block-true (block start order) c t)) a))) lent set.aligned)
+-- a block that is lent is aligned, and in the arena
+pub not_lent : (height : ℕ) (lent : List Block) (b : Block) → IsLentSet height lent → (IsAligned b → IsInArena height b → ⊥) → is_lent b lent ≡ false
+not_lent height lent b s n = false_from_ne_true (is_lent b lent) (λ t.
+    let there = lent_member b lent t in
+    n (All-contains IsAligned lent b s.aligned there) (All-contains (IsInArena height) lent b s.in_arena there))

@@ -83,18 +83,12 @@ module _ (half : ℕ) (xs ys : List Block) (order : ℕ) (inside : All (IsInAren
 pub is_lent_absent : (b : Block) (lent : List Block) → All (λ c. is_block b c ≡ false) lent → is_lent b lent ≡ false
 is_lent_absent b lent h = list_any_none (is_block b) lent h
 
--- no block of an order over the height is lent
-pub over_absent : (height : ℕ) (lent : List Block) (start order : ℕ) → All (IsInArena height) lent → height < order → All (λ c. is_block (block start order) c ≡ false) lent
-over_absent height lent start order inside l =
-    All-weaker (IsInArena height) (λ c. is_block (block start order) c ≡ false)
-    (λ c within. is_block_order (block start order) c (λ e. omega (arith, l, e, order_le c.order height (omega (arith, within))))) lent inside
-
 -- the blocks of two halves are of lower orders than the whole
 pub whole_absent : (half : ℕ) (xs ys : List Block) (start : ℕ) → All (IsInArena half) xs → All (IsInArena half) ys
     → All (λ c. is_block (block start (suc half)) c ≡ false) (xs ++ moved_up (2 ^ half) ys)
 whole_absent half xs ys start low high =
     let P : Block → Type 0 = λ c. is_block (block start (suc half)) c ≡ false in
-    All-append P xs (moved_up (2 ^ half) ys) (over_absent half xs start (suc half) low (omega arith))
-    (All-map P (λ y. block (2 ^ half + y.start) y.order) ys
-    (All-weaker (IsInArena half) (λ c. P (block (2 ^ half + c.start) c.order))
-    (λ c within. is_block_order (block start (suc half)) (block (2 ^ half + c.start) c.order) (λ e. omega (arith, e, order_le c.order half (omega (arith, within))))) ys high))
+    let lower : (c : Block) (s : ℕ) → IsInArena half c → P (block s c.order) =
+    λ c s within. is_block_order (block start (suc half)) (block s c.order) (λ e. omega (arith, e, order_le c.order half (omega (arith, within)))) in
+    All-append P xs (moved_up (2 ^ half) ys) (All-weaker (IsInArena half) P (λ c within. lower c c.start within) xs low)
+    (All-map P (λ y. block (2 ^ half + y.start) y.order) ys (All-weaker (IsInArena half) (λ c. P (block (2 ^ half + c.start) c.order)) (λ c within. lower c (2 ^ half + c.start) within) ys high))

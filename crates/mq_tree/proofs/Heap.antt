@@ -1,7 +1,7 @@
 -- The layout of a heap: the nodes over a node, and its halves.
 use Rattle.std.proofs.Common.{◌≡◌, ◌≢◌, ℕ, ◌+◌, ◌-◌, ◌*◌, ◌/◌, ◌%◌, ◌^◌, ◌<◌, ◌≤◌, zero, suc, refl, sym, ap, ◌∙◌, arith, inl, inr, ◌⊎◌, subst}
 use Rattle.std.proofs.Math.Nat.{div-le_self}
-use Rattle.std.proofs.lemmas.Bool.{cases_lt}
+use Rattle.std.proofs.lemmas.Bool.{cases_lt, cases_order}
 use Rattle.std.proofs.lemmas.Nat.{pow_pos, shr-shr, shr_split}
 use Rattle.mq_tree.specs.Trees.{Place}
 use Rattle.mq_tree.proofs.Powers.{pow_suc, pow_le}
@@ -45,33 +45,27 @@ to_parent {height = height} {k = k} {i = i} p l =
     let e : 1 + k ≡ suc k = omega arith in
     subst (λ h. Place height h (i / 2)) e (to_over height k i 1 p (omega arith))
 
-module _ {height k i : ℕ} (p : Place height k i) where
-  pub within : (2 ^ p.depth ≤ i) × (i < 2 ^ suc p.depth)
-  within =
-      let s : 1 * 2 ^ p.depth + i % 2 ^ p.depth ≡ i = ap (λ x. x * 2 ^ p.depth + i % 2 ^ p.depth) (sym p.root_is) ∙ shr_split i p.depth in
-      (omega (arith, s), omega (arith, s, pow_suc p.depth, pow_pos p.depth))
+within : {height k i : ℕ} (p : Place height k i) → (2 ^ p.depth ≤ i) × (i < 2 ^ suc p.depth)
+within {i = i} p =
+    let s : 1 * 2 ^ p.depth + i % 2 ^ p.depth ≡ i = ap (λ x. x * 2 ^ p.depth + i % 2 ^ p.depth) (sym p.root_is) ∙ shr_split i p.depth in
+    (omega (arith, s), omega (arith, s, pow_suc p.depth, pow_pos p.depth))
 
+module _ {height k i : ℕ} (p : Place height k i) where
   pub place_pos : 0 < i
-  place_pos = omega (arith, within.0, pow_pos p.depth)
+  place_pos = omega (arith, (within p).0, pow_pos p.depth)
 
   pub place_below : i < 2 * 2 ^ height
-  place_below = omega (arith, within.1, pow_le (suc p.depth) (suc height) (omega (arith, p.depth_is)), pow_suc height)
+  place_below = omega (arith, (within p).1, pow_le (suc p.depth) (suc height) (omega (arith, p.depth_is)), pow_suc height)
 
   -- a node has one height
   pub place_height : {m : ℕ} (q : Place height m i) → k ≡ m
-  place_height q = elim (cases_lt p.depth q.depth) [
-    | inl l ↦ absurd (omega (arith, within.1, from q, pow_le (suc p.depth) q.depth l))
-    | inr l ↦ elim (cases_lt q.depth p.depth) [
-      | inl m ↦ absurd (omega (arith, within.0, below q, pow_le (suc q.depth) p.depth m))
-      | inr m ↦ omega (arith, p.depth_is, q.depth_is)
+  place_height q = elim (cases_order p.depth q.depth) [
+    | inl e ↦ omega (arith, p.depth_is, q.depth_is)
+    | inr o ↦ elim o [
+      | inl l ↦ absurd (omega (arith, (within p).1, (within q).0, pow_le (suc p.depth) q.depth l))
+      | inr l ↦ absurd (omega (arith, (within p).0, (within q).1, pow_le (suc q.depth) p.depth l))
     ]
   ]
-    where
-      from : {m : ℕ} (q : Place height m i) → 2 ^ q.depth ≤ i
-      from q = let s : 1 * 2 ^ q.depth + i % 2 ^ q.depth ≡ i = ap (λ x. x * 2 ^ q.depth + i % 2 ^ q.depth) (sym q.root_is) ∙ shr_split i q.depth in omega (arith, s)
-
-      below : {m : ℕ} (q : Place height m i) → i < 2 ^ suc q.depth
-      below q = let s : 1 * 2 ^ q.depth + i % 2 ^ q.depth ≡ i = ap (λ x. x * 2 ^ q.depth + i % 2 ^ q.depth) (sym q.root_is) ∙ shr_split i q.depth in omega (arith, s, pow_suc q.depth, pow_pos q.depth)
 
   -- the nodes over it end at the root
   pub over_root : (n : ℕ) → 0 < i / 2 ^ n → n + k ≤ height

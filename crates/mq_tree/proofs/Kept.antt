@@ -1,19 +1,18 @@
 -- What stays a lent set: nothing lent, a whole arena, two halves, a block more, a block less.
 use Rattle.std.proofs.Common.{◌≡◌, ℕ, ◌+◌, ◌^◌, ◌<◌, ◌≤◌, suc, sym, ◌∙◌, arith, inl, inr, true, false, not, List, [], ◌∷◌, ◌++◌, Some}
-use Rattle.std.proofs.Math.Nat.{zero-mod}
 use Rattle.std.specs.List.{All, Contains}
 use Rattle.std.proofs.lemmas.Bool.{or_cases}
 use Rattle.std.proofs.lemmas.Nat.{pow_pos}
-use Rattle.std.proofs.lemmas.List.Elements.{All-nil, All-cons, All-head, All-tail, All-append, All-map, All-filter, All-weaker}
+use Rattle.std.proofs.lemmas.List.Elements.{All-nil, All-head, All-tail, All-append, All-map, All-filter, All-weaker}
 use Rattle.std.proofs.lemmas.List.Sums.{AllPass-from_list_all}
 use Rattle.mq_tree.specs.Blocks.{Block, block, IsAligned, IsInArena, AreApart, is_block, are_apart, moved_up}
 use Rattle.mq_tree.specs.LentSet.{IsLentSet, StartsBefore, joined, left, is_lent}
 use Rattle.mq_tree.specs.Fit.{fit}
 use Rattle.mq_tree.proofs.Powers.{pow_suc, mod_up, order_le}
 use Rattle.mq_tree.proofs.Apart.{apart_from_test, test_from_apart}
-use Rattle.mq_tree.proofs.Fits.{fit_passes}
+use Rattle.mq_tree.proofs.Fits.{fit_passes, fit_empty}
 use Rattle.mq_tree.proofs.Halving.{apart_moved}
-use Rattle.mq_tree.proofs.LentSets.{AllPairs-cons, AllPairs-nil, AllPairs-head, AllPairs-tail, AllPairs-append, AllPairs-map, AllPairs-filter, All-joined, AllPairs-joined, is_block-true, is_block_start, left-joined}
+use Rattle.mq_tree.proofs.LentSets.{AllPairs-nil, AllPairs-head, AllPairs-tail, AllPairs-append, AllPairs-map, AllPairs-filter, All-joined, AllPairs-joined, is_block-true, is_block_start, left-joined}
 
 pub AreApart-sym : (a b : Block) → AreApart a b → AreApart b a
 AreApart-sym a b apart page h k = apart page k h
@@ -24,16 +23,6 @@ apart_before a b l page h k = omega (arith, l, h.below, k.from)
 
 pub IsLentSet-nil : (height : ℕ) → IsLentSet height []
 IsLentSet-nil height = record { aligned = All-nil IsAligned; in_arena = All-nil (IsInArena height); apart = AllPairs-nil AreApart; in_order = AllPairs-nil StartsBefore }
-
-pub IsLentSet-whole : (height : ℕ) → IsLentSet height (block 0 height ∷ [])
-IsLentSet-whole height =
-    let b = block 0 height in
-    record {
-      aligned = All-cons IsAligned b [] (zero-mod (2 ^ height)) (All-nil IsAligned);
-      in_arena = All-cons (IsInArena height) b [] (omega arith) (All-nil (IsInArena height));
-      apart = AllPairs-cons AreApart b [] (All-nil (AreApart b)) (AllPairs-nil AreApart);
-      in_order = AllPairs-cons StartsBefore b [] (All-nil (StartsBefore b)) (AllPairs-nil StartsBefore);
-    }
 
 pub IsLentSet-head : (height : ℕ) (b : Block) (lent : List Block) → IsLentSet height (b ∷ lent) → (IsInArena height b) × All (AreApart b) lent
 IsLentSet-head height b lent s = (All-head (IsInArena height) b lent s.in_arena, AllPairs-head AreApart b lent s.apart)
@@ -118,6 +107,10 @@ module _ (height : ℕ) (lent : List Block) (order start : ℕ) (found : fit hei
     where
       before : (c : Block) → AreApart (block start order) c → c.start ≤ start → c.start < start
       before c a l = omega (arith, other_start c a, l)
+
+-- the whole arena as one block
+pub IsLentSet-whole : (height : ℕ) → IsLentSet height (block 0 height ∷ [])
+IsLentSet-whole height = IsLentSet-joined height [] height 0 (fit_empty height height (omega arith)) (IsLentSet-nil height)
 
 -- a block less
 pub IsLentSet-left : (height : ℕ) (b : Block) (lent : List Block) → IsLentSet height lent → IsLentSet height (left b lent)

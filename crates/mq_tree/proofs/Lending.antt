@@ -1,14 +1,14 @@
 -- The first free run of an order, on the way down by the largest orders.
-use Rattle.std.proofs.Common.{◌≡◌, ℕ, ◌+◌, ◌-◌, ◌*◌, ◌/◌, ◌^◌, ◌<◌, ◌≤◌, zero, suc, refl, sym, ap, ◌∙◌, arith, inl, inr, false, cond, List, [], ◌∷◌, ◌++◌, Some, set, length, leb, subst}
+use Rattle.std.proofs.Common.{◌≡◌, ℕ, ◌+◌, ◌-◌, ◌*◌, ◌/◌, ◌^◌, ◌<◌, ◌≤◌, suc, sym, ap, ◌∙◌, arith, inl, inr, false, List, [], ◌∷◌, ◌++◌, Some, set, length, leb, subst}
 use Rattle.std.specs.List.{All}
 use Rattle.std.specs.Option.{is_some}
-use Rattle.std.proofs.lemmas.Bool.{cases_Bool, cases_lt, cond-true, cond-false, leb-true, le-leb, lt-leb}
+use Rattle.std.proofs.lemmas.Bool.{cases_lt, lt-leb}
 use Rattle.std.proofs.lemmas.List.{get_or-set_same, get_or-set_other}
 use Rattle.mq_tree.specs.Blocks.{Block, block, IsInArena, moved_up}
 use Rattle.mq_tree.specs.LentSet.{joined}
 use Rattle.mq_tree.specs.Fit.{fit}
 use Rattle.mq_tree.specs.Nodes.{node_at}
-use Rattle.mq_tree.specs.Trees.{blocks_under, lent_blocks, start_of, Place, IsTree, Found}
+use Rattle.mq_tree.specs.Trees.{blocks_under, lent_blocks, start_of, Place, IsTree, HasRoom, Found}
 use Rattle.mq_tree.proofs.Fits.{fit_empty}
 use Rattle.mq_tree.proofs.Heap.{up_last, up_none, at_root, over_root, over_differs, to_left, to_right, place_pos, place_below}
 use Rattle.mq_tree.proofs.Trees.{bounded, room_is, free_blocks, blocks_lent, blocks_halves, blocks_lent_set, right_room}
@@ -17,19 +17,6 @@ use Rattle.mq_tree.proofs.Changes.{other_half}
 use Rattle.mq_tree.proofs.Starts.{start_in, start_none, start_left, start_right, start_whole, pow_sum}
 
 module _ (height order : ℕ) (nodes : List ℕ) (tree : IsTree height nodes) where
-  -- d steps down from node i, each to the left half where that has room
-  pub pick : ℕ → ℕ → ℕ
-  pick zero i = i
-  pick (suc d) i = cond (leb (order + 2) (node_at nodes (2 * i))) (pick d (2 * i)) (pick d (2 * i + 1))
-
-  pub pick_none : (i : ℕ) → pick 0 i ≡ i
-  unfolding pick
-  pick_none i = refl
-
-  pub pick_step : (d i : ℕ) → pick (suc d) i ≡ cond (leb (order + 2) (node_at nodes (2 * i))) (pick d (2 * i)) (pick d (2 * i + 1))
-  unfolding pick
-  pick_step d i = refl
-
   -- node j, d steps under node i of height k, has the first free run of the order there
   pub record IsPicked (d k i j : ℕ) : Type 0 where
     pub over : j / 2 ^ d ≡ i
@@ -38,7 +25,7 @@ module _ (height order : ℕ) (nodes : List ℕ) (tree : IsTree height nodes) wh
     pub fit_is : fit k (blocks_under k i nodes) order ≡ Some (start_in d order j)
     pub lent_is : blocks_under k i (set nodes j 0) ≡ joined (block (start_in d order j) order) (blocks_under k i nodes)
 
-  picked_here : (i : ℕ) → Place height order i → order + 2 ≤ node_at nodes i → IsPicked 0 order i i
+  pub picked_here : (i : ℕ) → Place height order i → order + 2 ≤ node_at nodes i → IsPicked 0 order i i
   picked_here i p room =
       let e : node_at nodes i ≡ order + 2 = omega (arith, bounded height nodes tree order i p) in
       let none = free_blocks height nodes tree order i p e in
@@ -78,7 +65,7 @@ module _ (height order : ℕ) (nodes : List ℕ) (tree : IsTree height nodes) wh
     split_new : j / 2 ^ suc d ≡ i → blocks_under (suc half) i (set nodes j 0) ≡ blocks_under half (2 * i) (set nodes j 0) ++ moved_up (2 ^ half) (blocks_under half (2 * i + 1) (set nodes j 0))
     split_new e = blocks_halves half i (set nodes j 0) (λ z. omega (arith, z, room, get_or-set_other nodes j i 0 0 (over_differs j d i e (place_pos p))))
 
-    picked_left : IsPicked d half (2 * i) j → IsPicked (suc d) (suc half) i j
+    pub picked_left : IsPicked d half (2 * i) j → IsPicked (suc d) (suc half) i j
     picked_left q =
         let over : j / 2 ^ suc d ≡ i = omega (arith, up_last d j, q.over) in
         let s : start_in (suc d) order j ≡ start_in d order j = start_left d order j i q.over in
@@ -97,7 +84,7 @@ module _ (height order : ℕ) (nodes : List ℕ) (tree : IsTree height nodes) wh
               ∙ ap (λ x. joined (block (start_in (suc d) order j) order) x) (sym split);
         }
 
-    picked_right : leb (order + 2) (node_at nodes (2 * i)) ≡ false → IsPicked d half (2 * i + 1) j → IsPicked (suc d) (suc half) i j
+    pub picked_right : leb (order + 2) (node_at nodes (2 * i)) ≡ false → IsPicked d half (2 * i + 1) j → IsPicked (suc d) (suc half) i j
     picked_right full q =
         let over : j / 2 ^ suc d ≡ i = omega (arith, up_last d j, q.over) in
         let s : start_in (suc d) order j ≡ 2 ^ half + start_in d order j = start_right d order j i q.over ∙ ap (λ x. x + start_in d order j) (sym (pow_sum d order half sum)) in
@@ -117,78 +104,64 @@ module _ (height order : ℕ) (nodes : List ℕ) (tree : IsTree height nodes) wh
               ∙ ap (λ x. joined (block (start_in (suc d) order j) order) x) (sym split);
         }
 
-  picked : (d k i : ℕ) → d + order ≡ k → Place height k i → order + 2 ≤ node_at nodes i → IsPicked d k i (pick d i)
-  unfolding pick
-  picked zero k i e p room =
-      let f : order ≡ k = omega (arith, e) in
-      subst (λ h. IsPicked 0 h i i) f (picked_here i (subst (λ h. Place height h i) (sym f) p) room)
-  picked (suc d) zero i e p room = absurd (omega (arith, e))
-  picked (suc d) (suc half) i e p room = elim (cases_Bool (leb (order + 2) (node_at nodes (2 * i)))) [
-    | inl t ↦
-        subst (λ j. IsPicked (suc d) (suc half) i j) (sym (cond-true (leb (order + 2) (node_at nodes (2 * i))) (pick d (2 * i)) (pick d (2 * i + 1)) t))
-        (picked_left d half i (pick d (2 * i)) p room (omega (arith, e))
-        (picked d half (2 * i) (omega (arith, e)) (to_left height half i p) (leb-true (order + 2) (node_at nodes (2 * i)) t)))
-    | inr t ↦
-        subst (λ j. IsPicked (suc d) (suc half) i j) (sym (cond-false (leb (order + 2) (node_at nodes (2 * i))) (pick d (2 * i)) (pick d (2 * i + 1)) t))
-        (picked_right d half i (pick d (2 * i + 1)) p room (omega (arith, e)) t
-        (picked d half (2 * i + 1) (omega (arith, e)) (to_right height half i p) (right_room height nodes tree half i p order (omega (arith, e)) room t)))
-  ]
-
--- the first free run in the arena
-pub found_by : {height order : ℕ} {nodes : List ℕ} (tree : IsTree height nodes) → order ≤ height → order + 2 ≤ node_at nodes 1
-    → Found height order (pick height order nodes tree (height - order) 1) nodes
-found_by {height = height} {order = order} {nodes = nodes} tree low room =
-    let d = height - order in
-    let q = picked height order nodes tree d height 1 (omega (arith, low)) (at_root height) room in
-    let place : Place height order (pick height order nodes tree d 1) = record { depth = d; depth_is = omega (arith, low); root_is = q.over } in
-    let s : start_in d order (pick height order nodes tree d 1) ≡ start_of height order (pick height order nodes tree d 1) = start_whole height order (pick height order nodes tree d 1) place in
-    record {
-      place = place;
-      free = q.free;
-      clear = λ n l. q.clear n (omega (arith, low, over_root place (suc n) l));
-      fit_is = q.fit_is ∙ ap (λ x. Some x) s;
-      lent_is = q.lent_is ∙ ap (λ x. joined (block x order) (lent_blocks height nodes)) s;
-    }
-
--- the way down: node i, of height k, has the run that is found under it
+-- the way down: the first free run under node i, of height k, is the first one in the arena
 pub record Down (height order k i : ℕ) (nodes : List ℕ) : Type 0 where
-  pub tree : IsTree height nodes
+  pub has : HasRoom height order nodes
   pub low : order ≤ k
-  pub room : order + 2 ≤ node_at nodes 1
   pub place : Place height k i
-  pub same : pick height order nodes tree (height - order) 1 ≡ pick height order nodes tree (k - order) i
+  pub room : order + 2 ≤ node_at nodes i
+  pub picked : (j : ℕ) → IsPicked height order nodes has.tree (k - order) k i j → IsPicked height order nodes has.tree (height - order) height 1 j
+
+pub down_first : {height order : ℕ} {nodes : List ℕ} → HasRoom height order nodes → Down height order height 1 nodes
+down_first {height = height} has = record { has = has; low = has.low; place = at_root height; room = has.room; picked = λ j q. q }
 
 module _ {height order k i : ℕ} {nodes : List ℕ} (down : Down height order k i nodes) where
   pub down_found : k ≤ order → Found height order i nodes
   down_found l =
-      let whole : k - order ≡ 0 = omega arith in
-      subst (λ j. Found height order j nodes) (down.same ∙ ap (λ d. pick height order nodes down.tree d i) whole ∙ pick_none height order nodes down.tree i)
-      (found_by down.tree (omega (arith, down.low, l)) down.room)
+      let d = height - order in
+      let at : k ≡ order = omega (arith, down.low, l) in
+      let none : 0 ≡ k - order = omega (arith, l) in
+      let here = picked_here height order nodes down.has.tree i (subst (λ h. Place height h i) at down.place) down.room in
+      let q = down.picked i (subst (λ n. IsPicked height order nodes down.has.tree n k i i) none (subst (λ h. IsPicked height order nodes down.has.tree 0 h i i) (sym at) here)) in
+      let place : Place height order i = record { depth = d; depth_is = omega (arith, down.has.low); root_is = q.over } in
+      let s : start_in d order i ≡ start_of height order i = start_whole height order i place in
+      record {
+        place = place;
+        free = q.free;
+        clear = λ n l. q.clear n (omega (arith, down.has.low, over_root place (suc n) l));
+        fit_is = q.fit_is ∙ ap (λ x. Some x) s;
+        lent_is = q.lent_is ∙ ap (λ x. joined (block x order) (lent_blocks height nodes)) s;
+      }
 
   module _ (below : order < k) where
     half_place : Place height (suc (k - 1)) i
     half_place = let e : k ≡ suc (k - 1) = omega (arith, below) in subst (λ h. Place height h i) e down.place
 
     pub halves_in : 2 * i + 1 < length nodes
-    halves_in = omega (arith, down.tree.len, place_below (to_right height (k - 1) i half_place))
+    halves_in = omega (arith, down.has.tree.len, place_below (to_right height (k - 1) i half_place))
 
-    steps : pick height order nodes down.tree (k - order) i ≡ cond (leb (order + 2) (node_at nodes (2 * i))) (pick height order nodes down.tree (k - 1 - order) (2 * i)) (pick height order nodes down.tree (k - 1 - order) (2 * i + 1))
-    steps = let e : k - order ≡ suc (k - 1 - order) = omega (arith, below) in ap (λ d. pick height order nodes down.tree d i) e ∙ pick_step height order nodes down.tree (k - 1 - order) i
+    step : (j : ℕ) → IsPicked height order nodes down.has.tree (suc (k - 1 - order)) (suc (k - 1)) i j → IsPicked height order nodes down.has.tree (height - order) height 1 j
+    step j q =
+        let d : suc (k - 1 - order) ≡ k - order = omega (arith, below) in
+        let e : suc (k - 1) ≡ k = omega (arith, below) in
+        down.picked j (subst (λ n. IsPicked height order nodes down.has.tree n k i j) d (subst (λ h. IsPicked height order nodes down.has.tree (suc (k - 1 - order)) h i j) e q))
 
     pub goes_left : order + 2 ≤ node_at nodes (2 * i) → Down height order (k - 1) (2 * i) nodes
     goes_left room = record {
-      tree = down.tree;
+      has = down.has;
       low = omega (arith, below);
-      room = down.room;
       place = to_left height (k - 1) i half_place;
-      same = down.same ∙ steps ∙ cond-true _ _ _ (le-leb (order + 2) (node_at nodes (2 * i)) room);
+      room = room;
+      picked = λ j q. step j (picked_left height order nodes down.has.tree (k - 1 - order) (k - 1) i j half_place down.room (omega (arith, below)) q);
     }
 
     pub goes_right : node_at nodes (2 * i) < order + 2 → Down height order (k - 1) (2 * i + 1) nodes
-    goes_right full = record {
-      tree = down.tree;
-      low = omega (arith, below);
-      room = down.room;
-      place = to_right height (k - 1) i half_place;
-      same = down.same ∙ steps ∙ cond-false _ _ _ (lt-leb (order + 2) (node_at nodes (2 * i)) full);
-    }
+    goes_right less =
+        let full = lt-leb (order + 2) (node_at nodes (2 * i)) less in
+        record {
+          has = down.has;
+          low = omega (arith, below);
+          place = to_right height (k - 1) i half_place;
+          room = right_room height nodes down.has.tree (k - 1) i half_place order (omega (arith, below)) down.room full;
+          picked = λ j q. step j (picked_right height order nodes down.has.tree (k - 1 - order) (k - 1) i j half_place down.room (omega (arith, below)) full q);
+        }

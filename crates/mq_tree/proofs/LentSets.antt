@@ -1,18 +1,14 @@
 -- A lent set that gains or loses a block, and one that is made of two halves.
-use Rattle.std.proofs.Common.{◌≡◌, ℕ, ◌+◌, ◌<◌, ◌≤◌, zero, suc, refl, sym, ap, ◌∙◌, arith, inl, inr, Bool, true, false, not, cond, ◌&&◌, ◌||◌, List, [], ◌∷◌, ◌++◌, map, ltb, eqb}
-use Rattle.std.specs.List.{All, AllPairs, filter}
-use Rattle.std.proofs.lemmas.Bool.{cases_Bool, cond-true, cond-false, ltb-true, ltb-false, lt-ltb, le-ltb, eq-eqb, ne_eqb, eqb-true, and_parts, and_left, and_right, cases_lt, cases_eq, or_parts}
-use Rattle.std.proofs.lemmas.List.Elements.{All-nil, All-cons, All-head, All-tail, All-append, All-map, All-filter, All-weaker}
+use Rattle.std.proofs.Common.{◌≡◌, ℕ, ◌+◌, ◌<◌, ◌≤◌, suc, refl, sym, ap, ◌∙◌, arith, inl, inr, true, false, not, cond, ◌&&◌, ◌||◌, List, [], ◌∷◌, ◌++◌, map, ltb, eqb}
+use Rattle.std.specs.List.{All, AllPairs}
+use Rattle.std.proofs.lemmas.Bool.{cond_both, cond-true, cond-false, ltb-true, ltb-false, lt-ltb, le-ltb, eq-eqb, ne_eqb, eqb-true, and_parts, and_left, and_right, cases_lt, cases_eq, or_parts}
+pub use Rattle.std.proofs.lemmas.List.Kept.{AllPairs-cons, AllPairs-filter}
+use Rattle.std.proofs.lemmas.List.Elements.{All-nil, All-cons, All-head, All-tail, All-append, All-map, All-weaker}
+use Rattle.std.proofs.lemmas.List.Folds.{list_any_none}
 use Rattle.mq_tree.specs.Blocks.{Block, block, is_block, moved_up}
 use Rattle.mq_tree.specs.LentSet.{StartsBefore, joined, left, is_lent}
 
 -- ---- pairs
-pub AllPairs-cons : (R : Block → Block → Type 0) (x : Block) (xs : List Block) → All (R x) xs → AllPairs R xs → AllPairs R (x ∷ xs)
-AllPairs-cons R x xs h t zero zero d l u = absurd (omega arith)
-AllPairs-cons R x xs h t zero (suc j) d l u = h j d (omega arith)
-AllPairs-cons R x xs h t (suc i) zero d l u = absurd (omega arith)
-AllPairs-cons R x xs h t (suc i) (suc j) d l u = t i j d (omega arith) (omega arith)
-
 pub AllPairs-head : (R : Block → Block → Type 0) (x : Block) (xs : List Block) → AllPairs R (x ∷ xs) → All (R x) xs
 AllPairs-head R x xs h k d l = h 0 (suc k) d (omega arith) (omega arith)
 
@@ -33,16 +29,6 @@ AllPairs-map R S f step [] p = AllPairs-nil S
 AllPairs-map R S f step (x ∷ xs) p =
     AllPairs-cons S (f x) (map f xs) (All-map (S (f x)) f xs (All-weaker (R x) (λ y. S (f x) (f y)) (λ y r. step x y r) xs (AllPairs-head R x xs p)))
     (AllPairs-map R S f step xs (AllPairs-tail R x xs p))
-
-pub AllPairs-filter : (R : Block → Block → Type 0) (p : Block → Bool) (xs : List Block) → AllPairs R xs → AllPairs R (filter p xs)
-AllPairs-filter R p [] h = h
-AllPairs-filter R p (x ∷ xs) h =
-    let rest = AllPairs-filter R p xs (AllPairs-tail R x xs h) in
-    let P : List Block → Type 0 = λ l. AllPairs R l in
-    elim (p x) as (λ b. P (cond b (x ∷ filter p xs) (filter p xs))) [
-      | true ↦ AllPairs-cons R x (filter p xs) (All-filter p (R x) xs (AllPairs-head R x xs h)) rest
-      | false ↦ rest
-    ]
 
 -- ---- one block
 pub is_block_itself : (b : Block) → is_block b b ≡ true
@@ -75,10 +61,8 @@ ltb_moved c m n = elim (cases_lt m n) [
 pub All-joined : (P : Block → Type 0) (b : Block) (xs : List Block) → P b → All P xs → All P (joined b xs)
 All-joined P b [] p h = All-cons P b [] p h
 All-joined P b (c ∷ cs) p h =
-    elim (ltb b.start c.start) as (λ t. All P (cond t (b ∷ c ∷ cs) (c ∷ joined b cs))) [
-      | true ↦ All-cons P b (c ∷ cs) p h
-      | false ↦ All-cons P c (joined b cs) (All-head P c cs h) (All-joined P b cs p (All-tail P c cs h))
-    ]
+    cond_both (ltb b.start c.start) (b ∷ c ∷ cs) (c ∷ joined b cs) (All P) (λ _. All-cons P b (c ∷ cs) p h)
+    (λ _. All-cons P c (joined b cs) (All-head P c cs h) (All-joined P b cs p (All-tail P c cs h)))
 
 joined_first : (b : Block) (ys : List Block) → All (λ c. b.start < c.start) ys → joined b ys ≡ b ∷ ys
 joined_first b [] h = refl
@@ -114,26 +98,25 @@ pub AllPairs-joined : (R : Block → Block → Type 0) (b : Block) (xs : List Bl
     → All (λ c. b.start < c.start → R b c) xs → All (λ c. c.start ≤ b.start → R c b) xs → AllPairs R (joined b xs)
 AllPairs-joined R b [] o p before after = AllPairs-cons R b [] (All-nil (R b)) (AllPairs-nil R)
 AllPairs-joined R b (c ∷ cs) o p before after =
-    elim (cases_Bool (ltb b.start c.start)) [
-      | inl t ↦
-          let l : b.start < c.start = ltb-true b.start c.start t in
-          let first : All (R b) (c ∷ cs) =
-          All-cons (R b) c cs (All-head (λ c. b.start < c.start → R b c) c cs before l)
-          (λ k d u. All-tail (λ c. b.start < c.start → R b c) c cs before k d u (omega (arith, l, AllPairs-head StartsBefore c cs o k d u))) in
-          let P : List Block → Type 0 = λ l. AllPairs R l in
-          rw t (AllPairs-cons R b (c ∷ cs) first p)
-      | inr t ↦
-          let l : c.start ≤ b.start = ltb-false b.start c.start t in
-          let rest = AllPairs-joined R b cs (AllPairs-tail StartsBefore c cs o) (AllPairs-tail R c cs p) (All-tail (λ c. b.start < c.start → R b c) c cs before) (All-tail (λ c. c.start ≤ b.start → R c b) c cs after) in
-          rw t (AllPairs-cons R c (joined b cs) (All-joined (R c) b cs (All-head (λ c. c.start ≤ b.start → R c b) c cs after l) (AllPairs-head R c cs p)) rest)
-    ]
+    cond_both (ltb b.start c.start) (b ∷ c ∷ cs) (c ∷ joined b cs) (AllPairs R)
+    (λ t.
+    let l : b.start < c.start = ltb-true b.start c.start t in
+    let later : All (R b) cs = λ k d u. All-tail (λ c. b.start < c.start → R b c) c cs before k d u (omega (arith, l, AllPairs-head StartsBefore c cs o k d u)) in
+    AllPairs-cons R b (c ∷ cs) (All-cons (R b) c cs (All-head (λ c. b.start < c.start → R b c) c cs before l) later) p)
+    (λ t.
+    AllPairs-cons R c (joined b cs) (All-joined (R c) b cs (All-head (λ c. c.start ≤ b.start → R c b) c cs after (ltb-false b.start c.start t)) (AllPairs-head R c cs p))
+    (AllPairs-joined R b cs (AllPairs-tail StartsBefore c cs o) (AllPairs-tail R c cs p) (All-tail (λ c. b.start < c.start → R b c) c cs before) (All-tail (λ c. c.start ≤ b.start → R c b) c cs after)))
 
 -- ---- left
+-- where the block is not lent, nothing leaves
+pub left_not_lent : (b : Block) (xs : List Block) → is_lent b xs ≡ false → left b xs ≡ xs
+left_not_lent b [] t = refl
+left_not_lent b (c ∷ cs) t =
+    let p = or_parts (is_block b c) (is_lent b cs) t in
+    cond-true (not (is_block b c)) (c ∷ left b cs) (left b cs) (ap not p.0) ∙ ap (λ l. c ∷ l) (left_not_lent b cs p.1)
+
 pub left_absent : (b : Block) (xs : List Block) → All (λ c. is_block b c ≡ false) xs → left b xs ≡ xs
-left_absent b [] h = refl
-left_absent b (c ∷ cs) h =
-    cond-true (not (is_block b c)) (c ∷ left b cs) (left b cs) (ap not (All-head (λ c. is_block b c ≡ false) c cs h))
-    ∙ ap (λ l. c ∷ l) (left_absent b cs (All-tail (λ c. is_block b c ≡ false) c cs h))
+left_absent b xs h = left_not_lent b xs (list_any_none (is_block b) xs h)
 
 pub is_block_moved : (c : ℕ) (b y : Block) → is_block (block (c + b.start) b.order) (block (c + y.start) y.order) ≡ is_block b y
 is_block_moved c b y = ap (λ t. t && eqb y.order b.order) (eqb_moved c y.start b.start)
@@ -163,23 +146,3 @@ left-joined b (c ∷ cs) h =
           cond-true (not (is_block b c)) (c ∷ left b (joined b cs)) (left b (joined b cs)) (ap not (All-head (λ c. is_block b c ≡ false) c cs h))
           ∙ ap (λ l. c ∷ l) (left-joined b cs (All-tail (λ c. is_block b c ≡ false) c cs h))
     ]
-
--- the block that joined is lent
-pub is_lent-joined : (b : Block) (xs : List Block) → is_lent b (joined b xs) ≡ true
-is_lent-joined b [] = ap (λ t. t || false) (is_block_itself b)
-is_lent-joined b (c ∷ cs) =
-    elim (ltb b.start c.start) as (λ t. is_lent b (cond t (b ∷ c ∷ cs) (c ∷ joined b cs)) ≡ true) [
-      | true ↦ ap (λ t. t || is_lent b (c ∷ cs)) (is_block_itself b)
-      | false ↦ ap (λ t. is_block b c || t) (is_lent-joined b cs) ∙ or_true (is_block b c)
-    ]
-  where
-    or_true : (t : Bool) → (t || true) ≡ true
-    or_true true = refl
-    or_true false = refl
-
--- where the block is not lent, nothing leaves
-pub left_not_lent : (b : Block) (xs : List Block) → is_lent b xs ≡ false → left b xs ≡ xs
-left_not_lent b [] t = refl
-left_not_lent b (c ∷ cs) t =
-    let p = or_parts (is_block b c) (is_lent b cs) t in
-    cond-true (not (is_block b c)) (c ∷ left b cs) (left b cs) (ap not p.0) ∙ ap (λ l. c ∷ l) (left_not_lent b cs p.1)

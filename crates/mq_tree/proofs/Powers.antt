@@ -1,6 +1,6 @@
 -- Powers of two: lengths of blocks and of arenas.
 use Rattle.std.proofs.Common.{◌≡◌, ℕ, ◌+◌, ◌-◌, ◌*◌, ◌/◌, ◌%◌, ◌^◌, ◌<◌, ◌≤◌, suc, sym, ap, ◌∙◌, arith, inl, inr, lit<}
-use Rattle.std.proofs.Math.Nat.{two-pow-succ, pow-le-pow_right, mul-mod_left, mul-add-mod_self_right}
+use Rattle.std.proofs.Math.Nat.{two-pow-succ, pow-le-pow_right, mul-add-mod_self_right}
 use Rattle.std.proofs.lemmas.Nat.{pow_pos, pow-add, pow_below, row_fits, div_below, shr_split}
 use Rattle.std.proofs.lemmas.Bool.{cases_lt}
 
@@ -16,9 +16,6 @@ order_le k h p = elim (cases_lt h k) [ inl l ↦ absurd (omega (arith, pow_below
 
 pow_split : (k h : ℕ) → k ≤ h → 2 ^ h ≡ 2 ^ (h - k) * 2 ^ k
 pow_split k h p = let e : (h - k) + k ≡ h = omega arith in ap (λ x. 2 ^ x) (sym e) ∙ pow-add 2 (h - k) k
-
-pub pow_mod : (k h : ℕ) → k ≤ h → 2 ^ h % 2 ^ k ≡ 0
-pow_mod k h p = ap (λ x. x % 2 ^ k) (pow_split k h p) ∙ mul-mod_left (2 ^ (h - k)) (2 ^ k)
 
 -- the right half begins at a multiple of each length that fits in it
 pub mod_up : (k h s : ℕ) → k ≤ h → (2 ^ h + s) % 2 ^ k ≡ s % 2 ^ k

@@ -3,7 +3,7 @@ use Rattle.std.proofs.Common.{◌≡◌, ℕ, ◌+◌, ◌-◌, ◌<◌, ◌≤�
 use Rattle.std.specs.List.{range_with_len, find, count_by}
 use Rattle.std.specs.Option.{option_map}
 use Rattle.std.proofs.lemmas.Bool.{cases_Bool, cond-true, cond-false, cases_eq}
-use Rattle.std.proofs.lemmas.List.Sums.{sum_by-cons}
+use Rattle.std.proofs.lemmas.List.Sums.{sum_by-append, sum_by-cons}
 
 pub range-add : (a m n : ℕ) → range_with_len a (m + n) ≡ range_with_len a m ++ range_with_len (a + m) n
 range-add a zero n = rw (zero-add n, add-zero a)
@@ -26,21 +26,12 @@ find_moved p q c a (suc n) agree =
     ap (λ x. find p (range_with_len x n)) (add_assoc c a 1) ∙ find_moved p q c (a + 1) n (λ x l u. agree x (omega arith) (omega arith)) in
     ap (λ b. cond b (Some (c + a)) (find p (range_with_len ((c + a) + 1) n))) e ∙ cond-moved (q a) c a _ _ rest
 
-cond-rest : (b : Bool) (a : ℕ) (r s : Option ℕ) → r ≡ s → cond b (Some a) r ≡ cond b (Some a) s
-cond-rest b a r s h = ap (λ t. cond b (Some a) t) h
-
 -- two tests that agree find the same
 pub find_same : (p q : ℕ → Bool) (a n : ℕ) → ((x : ℕ) → a ≤ x → x < a + n → p x ≡ q x) → find p (range_with_len a n) ≡ find q (range_with_len a n)
 find_same p q a zero agree = refl
 find_same p q a (suc n) agree =
     ap (λ b. cond b (Some a) (find p (range_with_len (a + 1) n))) (agree a (omega arith) (omega arith))
-    ∙ cond-rest (q a) a _ _ (find_same p q (a + 1) n (λ x l u. agree x (omega arith) (omega arith)))
-
-pub find_none : (p : ℕ → Bool) (a n : ℕ) → ((x : ℕ) → a ≤ x → x < a + n → p x ≡ false) → find p (range_with_len a n) ≡ None
-find_none p a zero fails = refl
-find_none p a (suc n) fails =
-    cond-false (p a) (Some a) (find p (range_with_len (a + 1) n)) (fails a (omega arith) (omega arith))
-    ∙ find_none p (a + 1) n (λ x l u. fails x (omega arith) (omega arith))
+    ∙ ap (cond (q a) (Some a)) (find_same p q (a + 1) n (λ x l u. agree x (omega arith) (omega arith)))
 
 -- what a search found: it passes, and nothing before it does
 pub record IsFirst (p : ℕ → Bool) (a n s : ℕ) : Type 0 where
@@ -78,57 +69,39 @@ find_nowhere p a (suc n) h x l u = elim (cases_Bool (p a)) [
       elim (cases_eq a x) [ inl g ↦ ap p (sym g) ∙ t | inr g ↦ find_nowhere p (a + 1) n e x (omega arith) (omega arith) ]
 ]
 
--- a count over a run of numbers, by recursion
-pub tally : (ℕ → Bool) → ℕ → ℕ → ℕ
-tally p a zero = 0
-tally p a (suc n) = cond (p a) 1 0 + tally p (a + 1) n
+-- ---- counts over a run of numbers
+count-add : (p : ℕ → Bool) (a m n : ℕ) → count_by p (range_with_len a (m + n)) ≡ count_by p (range_with_len a m) + count_by p (range_with_len (a + m) n)
+count-add p a m n = ap (count_by p) (range-add a m n) ∙ sum_by-append (λ x. cond (p x) 1 0) (range_with_len a m) (range_with_len (a + m) n)
 
-pub tally_is : (p : ℕ → Bool) (a n : ℕ) → count_by p (range_with_len a n) ≡ tally p a n
-unfolding tally
-tally_is p a zero = refl
-tally_is p a (suc n) = sum_by-cons (λ x. cond (p x) 1 0) a (range_with_len (a + 1) n) ∙ ap (λ t. cond (p a) 1 0 + t) (tally_is p (a + 1) n)
+count_first : (p : ℕ → Bool) (a n : ℕ) → count_by p (range_with_len a (suc n)) ≡ cond (p a) 1 0 + count_by p (range_with_len (a + 1) n)
+count_first p a n = sum_by-cons (λ x. cond (p x) 1 0) a (range_with_len (a + 1) n)
 
-pub tally-add : (p : ℕ → Bool) (a m n : ℕ) → tally p a (m + n) ≡ tally p a m + tally p (a + m) n
-unfolding tally
-tally-add p a zero n = rw (zero-add n, add-zero a) (sym (zero-add _))
-tally-add p a (suc m) n =
-    let e : suc m + n ≡ suc (m + n) = omega arith in
-    let f : (a + 1) + m ≡ a + suc m = omega arith in
-    let i : tally p (a + 1) (m + n) ≡ tally p (a + 1) m + tally p (a + suc m) n =
-    tally-add p (a + 1) m n ∙ ap (λ x. tally p (a + 1) m + tally p x n) f in
-    ap (λ x. tally p a x) e ∙ ap (λ t. cond (p a) 1 0 + t) i ∙ sym (add_assoc (cond (p a) 1 0) (tally p (a + 1) m) (tally p (a + suc m) n))
+count_same : (p q : ℕ → Bool) (a n : ℕ) → ((x : ℕ) → a ≤ x → x < a + n → p x ≡ q x) → count_by p (range_with_len a n) ≡ count_by q (range_with_len a n)
+count_same p q a zero agree = refl
+count_same p q a (suc n) agree =
+    let here : ◌≡◌ {A = ℕ} (cond (p a) 1 0) (cond (q a) 1 0) = ap (λ b. cond b 1 0) (agree a (omega arith) (omega arith)) in
+    omega (arith, count_first p a n, count_first q a n, here, count_same p q (a + 1) n (λ x l u. agree x (omega arith) (omega arith)))
 
-pub tally_same : (p q : ℕ → Bool) (a n : ℕ) → ((x : ℕ) → a ≤ x → x < a + n → p x ≡ q x) → tally p a n ≡ tally q a n
-unfolding tally
-tally_same p q a zero agree = refl
-tally_same p q a (suc n) agree =
-    ap (λ b. cond b 1 0 + tally p (a + 1) n) (agree a (omega arith) (omega arith))
-    ∙ ap (λ t. cond (q a) 1 0 + t) (tally_same p q (a + 1) n (λ x l u. agree x (omega arith) (omega arith)))
+pub count_all : (a n : ℕ) → count_by (λ _. true) (range_with_len a n) ≡ n
+count_all a zero = refl
+count_all a (suc n) = omega (arith, count_first (λ _. true) a n, count_all (a + 1) n)
 
-pub tally_all : (a n : ℕ) → tally (λ _. true) a n ≡ n
-unfolding tally
-tally_all a zero = refl
-tally_all a (suc n) = ap (λ t. 1 + t) (tally_all (a + 1) n) ∙ omega arith
-
-pub tally_none : (a n : ℕ) → tally (λ _. false) a n ≡ 0
-unfolding tally
-tally_none a zero = refl
-tally_none a (suc n) = ap (λ t. 0 + t) (tally_none (a + 1) n)
+count_none : (a n : ℕ) → count_by (λ _. false) (range_with_len a n) ≡ 0
+count_none a zero = refl
+count_none a (suc n) = omega (arith, count_first (λ _. false) a n, count_none (a + 1) n)
 
 -- one test passes a run of w numbers from s on that the other does not, and they agree elsewhere
-pub tally_more : (p q : ℕ → Bool) (s w n : ℕ) → s + w ≤ n
+pub count_more : (p q : ℕ → Bool) (s w n : ℕ) → s + w ≤ n
     → ((x : ℕ) → s ≤ x → x < s + w → p x ≡ true) → ((x : ℕ) → s ≤ x → x < s + w → q x ≡ false)
-    → ((x : ℕ) → x < s → p x ≡ q x) → ((x : ℕ) → s + w ≤ x → p x ≡ q x) → tally p 0 n ≡ tally q 0 n + w
-tally_more p q s w n fits passes fails before after =
+    → ((x : ℕ) → x < s → p x ≡ q x) → ((x : ℕ) → s + w ≤ x → p x ≡ q x) → count_by p (range_with_len 0 n) ≡ count_by q (range_with_len 0 n) + w
+count_more p q s w n fits passes fails before after =
     let t = n - (s + w) in
     let e : n ≡ s + (w + t) = omega arith in
     let z : 0 + s ≡ s = zero-add s in
-    let p1 : tally p 0 n ≡ tally p 0 s + (tally p (0 + s) w + tally p ((0 + s) + w) t) =
-    ap (λ x. tally p 0 x) e ∙ tally-add p 0 s (w + t) ∙ ap (λ x. tally p 0 s + x) (tally-add p (0 + s) w t) in
-    let q1 : tally q 0 n ≡ tally q 0 s + (tally q (0 + s) w + tally q ((0 + s) + w) t) =
-    ap (λ x. tally q 0 x) e ∙ tally-add q 0 s (w + t) ∙ ap (λ x. tally q 0 s + x) (tally-add q (0 + s) w t) in
-    let a1 : tally p 0 s ≡ tally q 0 s = tally_same p q 0 s (λ x l u. before x (omega arith)) in
-    let a2 : tally p (0 + s) w ≡ w = tally_same p (λ _. true) (0 + s) w (λ x l u. passes x (omega arith) (omega arith)) ∙ tally_all (0 + s) w in
-    let a3 : tally q (0 + s) w ≡ 0 = tally_same q (λ _. false) (0 + s) w (λ x l u. fails x (omega arith) (omega arith)) ∙ tally_none (0 + s) w in
-    let a4 : tally p ((0 + s) + w) t ≡ tally q ((0 + s) + w) t = tally_same p q ((0 + s) + w) t (λ x l u. after x (omega arith)) in
-    omega (arith, p1, q1, a1, a2, a3, a4)
+    let split : (r : ℕ → Bool) → count_by r (range_with_len 0 n) ≡ count_by r (range_with_len 0 s) + (count_by r (range_with_len (0 + s) w) + count_by r (range_with_len ((0 + s) + w) t)) =
+    λ r. ap (λ x. count_by r (range_with_len 0 x)) e ∙ count-add r 0 s (w + t) ∙ ap (λ x. count_by r (range_with_len 0 s) + x) (count-add r (0 + s) w t) in
+    let a1 = count_same p q 0 s (λ x l u. before x (omega arith)) in
+    let a2 = count_same p (λ _. true) (0 + s) w (λ x l u. passes x (omega arith) (omega arith)) ∙ count_all (0 + s) w in
+    let a3 = count_same q (λ _. false) (0 + s) w (λ x l u. fails x (omega arith) (omega arith)) ∙ count_none (0 + s) w in
+    let a4 = count_same p q ((0 + s) + w) t (λ x l u. after x (omega arith)) in
+    omega (arith, split p, split q, a1, a2, a3, a4)

@@ -1,23 +1,25 @@
 -- What a whole tree keeps beside its nodes: how many pages are free.
-use Rattle.std.proofs.Common.{◌≡◌, ℕ, ◌+◌, ◌^◌, ◌≤◌, ◌<◌, sym, ap, ◌∙◌, arith, true, false, List, [], ◌++◌, length, take, drop, Some, None}
+use Rattle.std.proofs.Common.{◌≡◌, ℕ, ◌+◌, ◌^◌, ◌≤◌, ◌<◌, sym, ap, ◌∙◌, arith, true, List, [], ◌++◌, length, take, drop, Some, None}
 use Rattle.std.proofs.lemmas.Bool.{lt-leb}
 use Rattle.std.proofs.lemmas.List.{take_at}
-use Rattle.mq_tree.specs.Blocks.{block}
+use Rattle.mq_tree.specs.Blocks.{Block, block}
 use Rattle.mq_tree.specs.LentSet.{joined, left, is_lent, free_pages}
 use Rattle.mq_tree.specs.Fit.{fit, largest}
 use Rattle.mq_tree.specs.Nodes.{node_at, largest_under}
-use Rattle.mq_tree.specs.Trees.{lent_blocks, IsTree, IsWhole}
+use Rattle.mq_tree.specs.Trees.{lent_blocks, IsTree, IsTreeOf, IsWhole}
 use Rattle.mq_tree.proofs.Powers.{pow_le}
 use Rattle.mq_tree.proofs.FreePages.{free_joined, free_left, free_sum, new_free}
 use Rattle.mq_tree.proofs.Heap.{at_root}
 use Rattle.mq_tree.proofs.Largest.{largest_is}
-use Rattle.mq_tree.proofs.LentSets.{left_not_lent}
 use Rattle.mq_tree.proofs.Halves.{none_is}
 use Rattle.mq_tree.proofs.Trees.{bounded, room_is, blocks_lent_set}
 
 -- the nodes of a vector whose slice was rewritten
 pub refilled : {height len : ℕ} {items new : List ℕ} → IsTree height items → len ≡ length items → IsTree height new → take len (new ++ drop (length new) items) ≡ new
 refilled {len = len} {items = items} {new = new} t l u = take_at new (drop (length new) items) len (omega (arith, l, t.len, u.len))
+
+pub seen : {height len : ℕ} {items new : List ℕ} {lent : List Block} → IsTree height items → len ≡ length items → IsTreeOf height new lent → lent_blocks height (take len (new ++ drop (length new) items)) ≡ lent
+seen {height = height} t l u = ap (lent_blocks height) (refilled t l u.tree) ∙ u.lent_is
 
 -- ---- what the root tells
 pub root_largest : {height : ℕ} {nodes : List ℕ} → IsTree height nodes → largest_under (node_at nodes 1) ≡ largest height (lent_blocks height nodes)
@@ -29,28 +31,23 @@ root_full {height = height} {nodes = nodes} t order l =
     none_is (fit height (lent_blocks height nodes) order) (room_is height nodes t height 1 (at_root height) order ∙ lt-leb (order + 2) (node_at nodes 1) l)
 
 -- ---- how many pages are free
-module _ (height order start : ℕ) (old new : List ℕ) where
-  pub free_after_lend : fit height (lent_blocks height old) order ≡ Some start → lent_blocks height new ≡ joined (block start order) (lent_blocks height old)
-      → free_pages height (lent_blocks height old) ≡ free_pages height (lent_blocks height new) + 2 ^ order
-  free_after_lend found e = free_joined height (lent_blocks height old) order start found ∙ ap (λ x. free_pages height x + 2 ^ order) (sym e)
+module _ {height free : ℕ} {old new : List ℕ} (w : IsWhole height free old) (order start : ℕ) where
+  pub lent_free : fit height (lent_blocks height old) order ≡ Some start → IsTreeOf height new (joined (block start order) (lent_blocks height old))
+      → free ≡ free_pages height (lent_blocks height new) + 2 ^ order
+  lent_free found t = w.free_is ∙ free_joined height (lent_blocks height old) order start found ∙ ap (λ l. free_pages height l + 2 ^ order) (sym t.lent_is)
 
-  pub free_after_give : true ≡ is_lent (block start order) (lent_blocks height old) → lent_blocks height new ≡ left (block start order) (lent_blocks height old)
-      → free_pages height (lent_blocks height new) ≡ free_pages height (lent_blocks height old) + 2 ^ order
-  free_after_give lent e =
-      ap (λ x. free_pages height x) e ∙ free_left height (lent_blocks height old) (block start order) (blocks_lent_set height 1 old) (sym lent)
-
-  -- where nothing was given back, nothing has left
-  pub kept_blocks : is_lent (block start order) (lent_blocks height old) ≡ false → lent_blocks height new ≡ left (block start order) (lent_blocks height old)
-      → lent_blocks height new ≡ lent_blocks height old
-  kept_blocks lent e = e ∙ left_not_lent (block start order) (lent_blocks height old) lent
+  pub given_free : is_lent (block start order) (lent_blocks height old) ≡ true → IsTreeOf height new (left (block start order) (lent_blocks height old))
+      → free_pages height (lent_blocks height new) ≡ free + 2 ^ order
+  given_free lent t =
+      ap (free_pages height) t.lent_is ∙ free_left height (lent_blocks height old) (block start order) (blocks_lent_set height 1 old) lent ∙ ap (λ n. n + 2 ^ order) (sym w.free_is)
 
 -- no more pages are free than there are
 pub free_bound : (height : ℕ) (nodes : List ℕ) → height ≤ 10 → free_pages height (lent_blocks height nodes) ≤ 2 ^ 10
 free_bound height nodes l = omega (arith, free_sum height (lent_blocks height nodes) (blocks_lent_set height 1 nodes), pow_le height 10 l)
 
 -- ---- a new tree
-pub new_whole : (height pages len : ℕ) (items new : List ℕ) → height ≤ 10 → pages ≡ 2 ^ height → len ≡ length items → length new ≡ length items → IsTree height new → lent_blocks height new ≡ []
+pub new_whole : (height pages len : ℕ) (items new : List ℕ) → pages ≡ 2 ^ height → len ≡ length items → length new ≡ length items → IsTreeOf height new []
     → IsWhole height pages (take len (new ++ drop (length new) items))
-new_whole height pages len items new low e l same t none =
+new_whole height pages len items new e l same t =
     rw (take_at new (drop (length new) items) len (omega (arith, l, same)))
-    (record { low = low; tree = t; free_is = e ∙ sym (new_free height) ∙ ap (λ x. free_pages height x) (sym none) })
+    (record { tree = t.tree; free_is = e ∙ sym (new_free height) ∙ ap (free_pages height) (sym t.lent_is) })

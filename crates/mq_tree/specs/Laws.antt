@@ -1,26 +1,16 @@
--- The laws of lending, each the contract of a function of `laws`.
-use Rattle.std.specs.Prelude.{◌≡◌, ℕ, ◌+◌, ◌^◌, ◌≤◌, true, List, Some, None, IsSome, IsSomeAnd, Contains, sum_by}
+-- The laws of lending, each a clause of the function of `laws`.
+use Rattle.std.specs.Prelude.{◌≡◌, ℕ, ◌+◌, ◌^◌, ◌≤◌, ◌↔◌, true, List, Some, None, IsSome, IsSomeAnd, Contains, sum_by}
 use Rattle.mq_tree.specs.Blocks.{Block, block, HasPage, page_count}
 use Rattle.mq_tree.specs.LentSet.{IsLentSet, joined, left, is_lent, free_pages}
 use Rattle.mq_tree.specs.Fit.{fit, largest, IsFit, HasNoFit}
 
--- the start that `fit` answers is aligned, in the arena and free, and no smaller one is
+-- `fit` answers the least start that is aligned, in the arena and free, and just that one; `None`
+-- just where no start is
 abbrev pub FitIsLeast : Type 0
 FitIsLeast =
-    (height : ℕ) (lent : List Block) (order start : ℕ)
-    → fit height lent order ≡ Some start → IsFit height lent order start
-
--- it answers `None` only where no start is
-abbrev pub NoneHasNoFit : Type 0
-NoneHasNoFit =
     (height : ℕ) (lent : List Block) (order : ℕ)
-    → fit height lent order ≡ None → HasNoFit height lent order
-
--- the least start at which a block fits is what `fit` answers
-abbrev pub FitIsComplete : Type 0
-FitIsComplete =
-    (height : ℕ) (lent : List Block) (order start : ℕ)
-    → IsFit height lent order start → fit height lent order ≡ Some start
+    → ((start : ℕ) → (fit height lent order ≡ Some start) ↔ IsFit height lent order start)
+    × ((fit height lent order ≡ None) ↔ HasNoFit height lent order)
 
 -- the largest order fits, and each order that fits is at most that
 abbrev pub LargestFits : Type 0
@@ -37,34 +27,23 @@ LentSetIsApart =
     → IsLentSet height lent → Contains lent a → Contains lent b
     → HasPage a page → HasPage b page → a ≡ b
 
--- the free pages and the lengths of the lent blocks add up to the arena
+-- a block that is lent and given back leaves the lent set as it was; a lent set with one more block
+-- that fits, or with one less, is a lent set
+abbrev pub StaysLentSet : Type 0
+StaysLentSet =
+    (height : ℕ) (lent : List Block)
+    → ((order start : ℕ) → fit height lent order ≡ Some start
+    → (left (block start order) (joined (block start order) lent) ≡ lent)
+    × (IsLentSet height lent → IsLentSet height (joined (block start order) lent)))
+    × ((b : Block) → IsLentSet height lent → IsLentSet height (left b lent))
+
+-- the free pages and the lengths of the lent blocks add up to the arena; a block that is lent takes
+-- its pages, and a lent block that is given back leaves them free
 abbrev pub FreePagesAddUp : Type 0
 FreePagesAddUp =
     (height : ℕ) (lent : List Block)
-    → IsLentSet height lent → free_pages height lent + sum_by page_count lent ≡ 2 ^ height
-
--- a block that is lent and given back leaves the lent set as it was
-abbrev pub LentAndGivenBack : Type 0
-LentAndGivenBack =
-    (height : ℕ) (lent : List Block) (order start : ℕ) → fit height lent order ≡ Some start
-    → left (block start order) (joined (block start order) lent) ≡ lent
-
--- a lent set with one more block that fits, or with one less, is a lent set
-abbrev pub StaysLentSet : Type 0
-StaysLentSet =
-    (height : ℕ) (lent : List Block) → IsLentSet height lent
-    → ((order start : ℕ)
-    → fit height lent order ≡ Some start → IsLentSet height (joined (block start order) lent))
-    × ((b : Block) → IsLentSet height (left b lent))
-
--- a block that is lent takes its pages
-abbrev pub LendTakesPages : Type 0
-LendTakesPages =
-    (height : ℕ) (lent : List Block) (order start : ℕ) → fit height lent order ≡ Some start
-    → free_pages height lent ≡ free_pages height (joined (block start order) lent) + 2 ^ order
-
--- a lent block that is given back leaves its pages free
-abbrev pub GiveFreesPages : Type 0
-GiveFreesPages =
-    (height : ℕ) (lent : List Block) (b : Block) → IsLentSet height lent → is_lent b lent ≡ true
-    → free_pages height (left b lent) ≡ free_pages height lent + 2 ^ b.order
+    → (IsLentSet height lent → free_pages height lent + sum_by page_count lent ≡ 2 ^ height)
+    × ((order start : ℕ) → fit height lent order ≡ Some start
+    → free_pages height lent ≡ free_pages height (joined (block start order) lent) + 2 ^ order)
+    × ((b : Block) → IsLentSet height lent → is_lent b lent ≡ true
+    → free_pages height (left b lent) ≡ free_pages height lent + 2 ^ b.order)

@@ -8,6 +8,10 @@ pub record Lending : Type 0 where
   pub height : ℕ
   pub lent : List Block
 
+-- the arena with these blocks lent
+abbrev pub with_lent : Lending → List Block → Lending
+with_lent arena lent = record { height = arena.height; lent = lent }
+
 -- the one block starts before the other
 abbrev pub StartsBefore : Block → Block → Type 0
 StartsBefore a b = a.start < b.start

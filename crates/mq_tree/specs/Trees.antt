@@ -24,8 +24,10 @@ pub record Place (height k i : ℕ) : Type 0 where
   pub depth_is : depth + k ≡ height
   pub root_is : i / 2 ^ depth ≡ 1
 
--- the nodes are those of a tree of that height, but for the rule of one
+-- the nodes are those of a tree of that height, which is not over the greatest one, but for the
+-- rule of one
 pub record IsTreeBut (height but : ℕ) (nodes : List ℕ) : Type 0 where
+  pub low : height ≤ MAX_HEIGHT
   pub len : length nodes ≡ 2 * 2 ^ height
   pub right : (k i : ℕ) → Place height k i → i ≢ but → IsRight k i nodes
 
@@ -33,9 +35,26 @@ pub record IsTreeBut (height but : ℕ) (nodes : List ℕ) : Type 0 where
 abbrev pub IsTree : ℕ → List ℕ → Type 0
 IsTree height nodes = IsTreeBut height 0 nodes
 
+-- the nodes are a tree in which just these blocks are lent
+pub record IsTreeOf (height : ℕ) (nodes : List ℕ) (lent : List Block) : Type 0 where
+  pub tree : IsTree height nodes
+  pub lent_is : lent_blocks height nodes ≡ lent
+
 -- no node above node i is lent as one block
 abbrev pub IsClear : ℕ → List ℕ → Type 0
 IsClear i nodes = (n : ℕ) → 0 < i / 2 ^ suc n → 0 < node_at nodes (i / 2 ^ suc n)
+
+-- just the node over node i, of height k, may break the rule, and none over it is lent as one block
+pub record IsOpen (height k i : ℕ) (nodes : List ℕ) : Type 0 where
+  pub place : Place height k i
+  pub clear : IsClear i nodes
+  pub tree : IsTreeBut height (i / 2) nodes
+
+-- a tree with room for a block of that order
+pub record HasRoom (height order : ℕ) (nodes : List ℕ) : Type 0 where
+  pub tree : IsTree height nodes
+  pub low : order ≤ height
+  pub room : whole_free order ≤ node_at nodes 1
 
 -- the first page of the run of node i, of that height
 abbrev pub start_of : ℕ → ℕ → ℕ → ℕ
@@ -63,11 +82,11 @@ pub record Found (height order i : ℕ) (nodes : List ℕ) : Type 0 where
 
 -- all pages of a tree to be are free
 pub record ArePagesFree (height : ℕ) (nodes : List ℕ) : Type 0 where
+  pub low : height ≤ MAX_HEIGHT
   pub len : length nodes ≡ 2 * 2 ^ height
   pub pages : (i : ℕ) → i < length nodes → node_at nodes i ≡ whole_free 0
 
--- what an `OrderTree` keeps: a tree no higher than the greatest height, and how many are free
+-- what an `OrderTree` keeps: a tree, and how many pages of it are free
 pub record IsWhole (height free : ℕ) (nodes : List ℕ) : Type 0 where
-  pub low : height ≤ MAX_HEIGHT
   pub tree : IsTree height nodes
   pub free_is : free ≡ free_pages height (lent_blocks height nodes)

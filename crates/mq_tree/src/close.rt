@@ -1,18 +1,12 @@
-ghost use Rattle.std.specs.Prelude.{◌≡◌, ◌/◌, ◌≤◌};
-ghost use Rattle.mq_tree.specs.Trees.{IsTree, IsTreeBut, Place, IsClear, lent_blocks};
+ghost use Rattle.mq_tree.specs.Trees.{IsOpen, IsTreeOf, lent_blocks};
 
-use crate::limits::MAX_HEIGHT;
 use crate::node::{Node, over};
 
 // Makes each node above that one the parent of its two halves, from the lowest up. Where a node
 // stays as it was, so do those above it.
 pub(crate) fn close(nodes: &mut [Node], height: u8, order: u8, below: usize)
-    requires low { height ≤ MAX_HEIGHT }
-    requires place { Place height order below }
-    requires clear { IsClear below nodes.old }
-    requires tree { IsTreeBut height (below / 2) nodes.old }
-    ensures tree { IsTree height nodes.new }
-    ensures lent { lent_blocks height nodes.new ≡ lent_blocks height nodes.old }
+    requires { IsOpen height order below nodes.old }
+    ensures { IsTreeOf height nodes.new (lent_blocks height nodes.old) }
 {
     let mut at = below / 2;
     for half in order..height {

@@ -1,8 +1,8 @@
-ghost use Rattle.std.specs.Prelude.{◌≡◌, ◌≤◌, IfSome, OnSome, IfNone};
+ghost use Rattle.std.specs.Prelude.{◌≡◌, ◌≤◌, MatchOption};
 ghost use Rattle.std.specs.Bool.{OnTrue};
 ghost use Rattle.mq_tree.specs.Blocks.{block};
 ghost use Rattle.mq_tree.specs.LentSet.{left as without, is_lent};
-ghost use Rattle.mq_tree.specs.Trees.{IsTree, IsRunOf, IsNoRun, lent_blocks};
+ghost use Rattle.mq_tree.specs.Trees.{IsTree, IsTreeOf, IsRunOf, IsNoRun, lent_blocks};
 
 use crate::close::close;
 use crate::limits::MAX_HEIGHT;
@@ -11,9 +11,7 @@ use crate::node::{LENT, Node, free_run, pages_in};
 // The node of that run of pages, if the arena has one.
 fn run_at(height: u8, start: u32, order: u8) -> Option<usize>
     requires { height ≤ MAX_HEIGHT }
-    ensures order { OnSome result (order ≤ height) }
-    ensures run { IfSome result (λ at. IsRunOf height order start at) }
-    ensures none { IfNone result (IsNoRun height order start) }
+    ensures { MatchOption result (IsNoRun height order start) (IsRunOf height order start) }
 {
     if order > height {
         return None;
@@ -32,13 +30,11 @@ fn run_at(height: u8, start: u32, order: u8) -> Option<usize>
 
 // Takes that block back, if it is lent, and merges buddies that are free on the way up.
 pub(crate) fn give_in(nodes: &mut [Node], height: u8, start: u32, order: u8) -> bool
-    requires tree { IsTree height nodes.old }
-    requires low { height ≤ MAX_HEIGHT }
-    ensures tree { IsTree height nodes.new }
+    requires { IsTree height nodes.old }
     ensures order { OnTrue result (order ≤ height) }
     ensures lent { result ≡ is_lent (block start order) (lent_blocks height nodes.old) }
-    ensures left { lent_blocks height nodes.new
-        ≡ without (block start order) (lent_blocks height nodes.old) }
+    ensures left { IsTreeOf height nodes.new
+        (without (block start order) (lent_blocks height nodes.old)) }
 {
     let Some(at) = run_at(height, start, order) else {
         return false;

@@ -1,20 +1,15 @@
-ghost use Rattle.std.specs.Prelude.{◌≡◌, ◌+◌, ◌≤◌, Some};
+ghost use Rattle.std.specs.Prelude.{◌≡◌, Some};
 ghost use Rattle.mq_tree.specs.Blocks.{block};
 ghost use Rattle.mq_tree.specs.LentSet.{joined};
 ghost use Rattle.mq_tree.specs.Fit.{fit};
-ghost use Rattle.mq_tree.specs.Nodes.{whole_free, node_at};
-ghost use Rattle.mq_tree.specs.Trees.{IsTree, Found, lent_blocks};
+ghost use Rattle.mq_tree.specs.Trees.{HasRoom, IsTreeOf, Found, lent_blocks};
 
 use crate::close::close;
-use crate::limits::MAX_HEIGHT;
 use crate::node::{LENT, Node, free_run, pages_in};
 
 // The first node of that height whose run is free, by the largest orders on the way down.
 fn first_free(nodes: &[Node], height: u8, order: u8) -> usize
-    requires tree { IsTree height nodes.now }
-    requires low { height ≤ MAX_HEIGHT }
-    requires order { order ≤ height }
-    requires room { whole_free order ≤ node_at nodes.now 1 }
+    requires { HasRoom height order nodes.now }
     ensures { Found height order result nodes.now }
 {
     let free = free_run(order);
@@ -30,14 +25,10 @@ fn first_free(nodes: &[Node], height: u8, order: u8) -> usize
 
 // Lends the first block of that order that fits.
 pub(crate) fn lend_in(nodes: &mut [Node], height: u8, order: u8) -> u32
-    requires tree { IsTree height nodes.old }
-    requires low { height ≤ MAX_HEIGHT }
-    requires order { order ≤ height }
-    requires room { whole_free order ≤ node_at nodes.old 1 }
-    ensures tree { IsTree height nodes.new }
+    requires { HasRoom height order nodes.old }
     ensures fit { fit height (lent_blocks height nodes.old) order ≡ Some result }
-    ensures lent { lent_blocks height nodes.new
-        ≡ joined (block result order) (lent_blocks height nodes.old) }
+    ensures lent { IsTreeOf height nodes.new
+        (joined (block result order) (lent_blocks height nodes.old)) }
 {
     let at = first_free(nodes, height, order);
     nodes[at] = LENT;

@@ -1,7 +1,7 @@
-ghost use Rattle.std.specs.Prelude.{◌≡◌, ◌+◌, ◌^◌, ◌<◌, ◌≤◌, ◌↔◌, [], IfOk, IsErrOf, IfSome, OnSome, IfNone};
-ghost use Rattle.std.specs.Bool.{OnTrue, OnFalse};
+ghost use Rattle.std.specs.Prelude.{◌≡◌, ◌^◌, ◌<◌, ◌↔◌, [], IfOk, IsErrOf, IfSome, IfNone};
+ghost use Rattle.std.specs.Bool.{OnFalse};
 ghost use Rattle.mq_tree.specs.Blocks.{block};
-ghost use Rattle.mq_tree.specs.LentSet.{IsLentSet, joined, left, is_lent, free_pages};
+ghost use Rattle.mq_tree.specs.LentSet.{IsLentSet, joined, left, is_lent, free_pages, with_lent};
 ghost use Rattle.mq_tree.specs.Fit.{fit, largest};
 
 use crate::error::TreeError;
@@ -62,14 +62,9 @@ impl OrderTree {
     pub fn lend(&mut self, order: u8) -> Option<u32>
         ensures fit { result ≡ fit self.old.height self.old.lent order }
         ensures lent { IfSome result
-            (λ start. self.new.lent ≡ joined (block start order) self.old.lent) }
+            (λ start. self.new ≡ with_lent self.old (joined (block start order) self.old.lent)) }
         ensures unchanged { IfNone result (self.new ≡ self.old) }
-
-        ensures height { self.new.height ≡ self.old.height }
         ensures lent_set { IsLentSet self.new.height self.new.lent }
-        ensures free { OnSome result
-            (free_pages self.old.height self.old.lent
-            ≡ free_pages self.old.height self.new.lent + 2 ^ order) }
     {
         if order > self.height {
             return None;
@@ -85,14 +80,9 @@ impl OrderTree {
     /// Takes a lent block back: false, with nothing changed, where that very block is not lent.
     pub fn give(&mut self, start: u32, order: u8) -> bool
         ensures lent { result ≡ is_lent (block start order) self.old.lent }
-        ensures left { self.new.lent ≡ left (block start order) self.old.lent }
+        ensures left { self.new ≡ with_lent self.old (left (block start order) self.old.lent) }
         ensures kept { OnFalse result (self.new ≡ self.old) }
-
-        ensures height { self.new.height ≡ self.old.height }
         ensures lent_set { IsLentSet self.new.height self.new.lent }
-        ensures free { OnTrue result
-            (free_pages self.old.height self.new.lent
-            ≡ free_pages self.old.height self.old.lent + 2 ^ order) }
     {
         if !give_in(self.nodes.as_mut_slice(), self.height, start, order) {
             return false;

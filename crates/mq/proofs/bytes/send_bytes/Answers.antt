@@ -8,16 +8,23 @@ use Rattle.mq_one_thread.specs.declared.results.Refused.{Refused}
 use Rattle.mq.proofs.SendLemmas.{refused_whole, spent}
 use Rattle.mq.proofs.bytes.send_bytes.Goals as goal
 
-pub returns-in-Err-msgsnd-clause-refused : goal.returns-in-Err-msgsnd-clause-refused
-returns-in-Err-msgsnd-clause-refused g c =
+pub returns-in-Err-msgsnd : goal.returns-in-Err-msgsnd
+returns-in-Err-msgsnd g c =
     let fits : SFits w64 c.args.mtype = search rules in
-    let is = simp to_z-of_z at c.in-Err-msgsnd.ensures.refused in
-    inl (ap (λ (r : Refused). r.errno)
-    (refused_whole c.args.queues.now c.draft_of.new.self c.args.seat c.args.id c.args.mtype c.args.tag c.args.bytes.now c.args.moment
-    c.in-Ok.text c.in-Err-msgsnd.refusal.refused c.in-Ok.ensures.ok is))
-
-pub returns-in-Err-msgsnd-clause-unchanged : goal.returns-in-Err-msgsnd-clause-unchanged
-returns-in-Err-msgsnd-clause-unchanged g c =
-    c.spend.ensures.back ∙ ap (λ (t : PlainText). spent t c.msgsnd.new.self) c.in-Err-msgsnd.ensures.handed_back
-    ∙ ap (λ (s : State). spent c.in-Ok.text s) c.in-Err-msgsnd.ensures.unchanged
-    ∙ spent_after c.args.queues.now c.draft_of.new.self c.args.bytes.now c.in-Ok.text c.in-Ok.ensures.ok
+    let back = c.in-Err-msgsnd.ensures.answer in
+    let is = simp to_z-of_z at back.refused in
+    record {
+      answer = record {
+        refused =
+            inl (ap (λ (r : Refused). r.errno)
+            (refused_whole c.args.queues.now c.draft_of.new.self c.args.seat c.args.id c.args.mtype
+            c.args.tag c.args.bytes.now c.args.moment c.in-Ok.text c.in-Err-msgsnd.refusal.refused
+            c.in-Ok.ensures.answer is));
+        unchanged =
+            c.spend.ensures.back
+            ∙ ap (λ (t : PlainText). spent t c.msgsnd.new.self) back.handed_back
+            ∙ ap (λ (s : State). spent c.in-Ok.text s) back.unchanged
+            ∙ spent_after c.args.queues.now c.draft_of.new.self c.args.bytes.now c.in-Ok.text
+            c.in-Ok.ensures.answer;
+      };
+    }

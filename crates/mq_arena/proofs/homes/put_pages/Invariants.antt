@@ -1,4 +1,4 @@
-use Rattle.std.proofs.Common.{◌≡◌, ◌≤◌, ◌<◌, ◌+◌, ℕ, length}
+use Rattle.std.proofs.Common.{◌≤◌, ◌<◌, ◌+◌, ℕ, length}
 use Rattle.mq_arena.specs.Bytes.{AreWhole}
 use Rattle.mq_arena.specs.Homes.{SameOutside, IsHome}
 use Rattle.mq_arena.proofs.homes.put_pages.Given as goal

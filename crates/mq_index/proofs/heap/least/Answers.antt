@@ -1,5 +1,5 @@
 use Rattle.std.proofs.Common.{true, refl, arith}
-use Rattle.mq_index.proofs.Leasts.{root_least, least_of_entry}
+use Rattle.mq_index.proofs.Entries.{root_least, least_of_entry}
 use Rattle.mq_index.proofs.heap.least.Goals as goal
 
 pub returns : goal.returns

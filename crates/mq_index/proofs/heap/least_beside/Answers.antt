@@ -1,7 +1,7 @@
 use Rattle.std.proofs.Common.{not}
 use Rattle.std.specs.Ordering.{int_eq}
 use Rattle.std.proofs.lemmas.Int.{to_z-of_z}
-use Rattle.mq_index.proofs.Leasts.{least_of_entry, none_of_entries}
+use Rattle.mq_index.proofs.Entries.{least_of_entry, none_of_entries}
 use Rattle.mq_index.proofs.heap.least_beside.Goals as goal
 
 pub returns-in_err-first : goal.returns-in_err-first

@@ -1,12 +1,11 @@
-use Rattle.std.proofs.Common.{◌≡◌, ℤ, ◌<◌, ◌≤◌}
+use Rattle.std.proofs.Common.{◌≡◌, ℤ, ◌≤◌}
 use Rattle.std.specs.Ordering.{int_eq}
-use Rattle.indexmap.specs.IndexMap.{get, index_map_len, spare}
+use Rattle.indexmap.specs.IndexMap.{get, spare}
 use Rattle.mq_index.specs.Heap.{IsHeapUpTo}
 use Rattle.mq_index.proofs.heap.rise.Given as goal
 
 abbrev pub invariant-loop-above : goal.invariant-loop-above
 invariant-loop-above l = record {
-  inside : l.at < index_map_len l.heap;
   heap : IsHeapUpTo l.at l.heap.entries;
   same : (t : ℤ) → get int_eq l.heap t ≡ get int_eq l.initial.heap t;
   room : spare l.initial.heap ≤ spare l.heap;

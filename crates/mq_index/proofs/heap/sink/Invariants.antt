@@ -1,4 +1,4 @@
-use Rattle.std.proofs.Common.{◌≡◌, ℤ, ◌<◌, ◌≤◌, ◌-◌}
+use Rattle.std.proofs.Common.{◌≡◌, ℤ, ◌≤◌, ◌-◌}
 use Rattle.std.specs.Ordering.{int_eq}
 use Rattle.indexmap.specs.IndexMap.{get, index_map_len, spare}
 use Rattle.mq_index.specs.Heap.{IsHeapDownTo}
@@ -6,7 +6,6 @@ use Rattle.mq_index.proofs.heap.sink.Given as goal
 
 abbrev pub invariant-loop-below : goal.invariant-loop-below
 invariant-loop-below l = record {
-  inside : l.at < index_map_len l.heap;
   heap : IsHeapDownTo l.at l.heap.entries;
   same : (t : ℤ) → get int_eq l.heap t ≡ get int_eq l.initial.heap t;
   room : spare l.initial.heap ≤ spare l.heap;

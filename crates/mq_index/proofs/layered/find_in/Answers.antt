@@ -1,5 +1,5 @@
 use Rattle.std.proofs.Common.{refl, true, false, Some, None}
-use Rattle.mq_index.proofs.Picks.{found_both}
+use Rattle.mq_index.proofs.Sames.{found_both}
 use Rattle.mq_index.proofs.layered.find_in.Goals as goal
 
 pub returns-then-is_preferred : goal.returns-then-is_preferred

@@ -6,13 +6,15 @@ use Rattle.mq_table_tests.proofs.calls.remove.Goals as goal
 pub returns-in-Ok : goal.returns-in-Ok
 returns-in-Ok g c =
     let removed = c.in-Ok.ensures in
-    pending _ _ _ _ _ _ _ removed.base c.requires removed.noticed removed.tail removed.lawful (omega arith)
+    pending _ _ _ _ _ _ _ removed.answer.base c.requires removed.noticed removed.answer.tail
+    removed.lawful (omega arith)
 
 pub returns : goal.returns
 returns g c =
     let refused = c.in-Err.ensures in
     let removed = c.in-Ok-remove.ensures in
     let shown : IsShown c.in-Err.queue.base c.in-Err.queue.tail c.remove.new.notice =
-    rw (refused.handed_back, refused.unnoticed) c.requires in
-    let short : length c.in-Err.queue.tail < 2 ^ 63 = rw refused.handed_back (omega arith) in
-    pending _ _ _ _ _ _ _ removed.base shown removed.noticed removed.tail removed.lawful short
+    rw (refused.answer, refused.noticed) c.requires in
+    let short : length c.in-Err.queue.tail < 2 ^ 63 = rw refused.answer (omega arith) in
+    pending _ _ _ _ _ _ _ removed.answer.base shown removed.noticed removed.answer.tail
+    removed.lawful short

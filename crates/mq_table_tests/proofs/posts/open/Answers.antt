@@ -5,6 +5,6 @@ use Rattle.mq_table_tests.proofs.posts.open.Goals as goal
 pub publish-requires : goal.publish-requires
 publish-requires g c =
     let made = c.in_ok-queue.ensures in
-    taken_from _ _ _ c.in_ok-queue.queue.tail _ made.base c.requires.idle made.noticed
-    (rw c.requires.empty made.tail)
-    made.sound.lawful (omega (arith, ap length c.requires.empty))
+    taken_from _ _ _ c.in_ok-queue.queue.tail _ made.answer.base c.requires.idle made.noticed
+    (rw c.requires.empty made.answer.tail)
+    c.holds.ensures.lawful (omega (arith, ap length c.requires.empty))

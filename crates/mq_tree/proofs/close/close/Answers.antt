@@ -1,7 +1,10 @@
 use Rattle.std.proofs.Common.{◌≡◌, ◌∙◌, arith}
 use Rattle.mq_tree.specs.Nodes.{node_at}
-use Rattle.mq_tree.proofs.Closing.{at_in, right_in, stays, next_over, under_root}
+use Rattle.mq_tree.proofs.Closing.{closes_first, at_in, right_in, stays, next_over, all_closed}
 use Rattle.mq_tree.proofs.close.close.Goals as goal
+
+pub loop-half-init : goal.loop-half-init
+loop-half-init c = closes_first c.requires
 
 pub bounds-nodes-at : goal.bounds-nodes-at
 bounds-nodes-at c = omega (arith, right_in c.loop-half.invariant c.loop-half-test.true)
@@ -12,10 +15,10 @@ bounds-nodes-at-in-loop-half c = right_in c.loop-half.invariant c.loop-half-test
 pub bounds-nodes-at-in-loop-half-2 : goal.bounds-nodes-at-in-loop-half-2
 bounds-nodes-at-in-loop-half-2 c = at_in c.loop-half.invariant c.loop-half-test.true
 
-pub returns-then-node-nodes-clause-tree : goal.returns-then-node-nodes-clause-tree
-returns-then-node-nodes-clause-tree c =
+pub returns-then-node-nodes : goal.returns-then-node-nodes
+returns-then-node-nodes c =
     let same : node_at c.loop-half.nodes c.loop-half.at ≡ c.over-node.result = omega (arith, c.if-node-nodes.true) in
-    stays c.loop-half.invariant c.loop-half-test.true (same ∙ c.over-node.ensures)
+    record { tree = stays c.loop-half.invariant c.loop-half-test.true (same ∙ c.over-node.ensures); lent_is = c.loop-half.invariant.lent_is }
 
 pub bounds-nodes-at-in-loop-half-3 : goal.bounds-nodes-at-in-loop-half-3
 bounds-nodes-at-in-loop-half-3 c = at_in c.loop-half.invariant c.loop-half-test.true
@@ -23,5 +26,5 @@ bounds-nodes-at-in-loop-half-3 c = at_in c.loop-half.invariant c.loop-half-test.
 pub loop-half-preserved : goal.loop-half-preserved
 loop-half-preserved c = next_over c.loop-half.invariant c.loop-half-test.true c.over-node.result c.over-node.ensures
 
-pub returns-clause-tree : goal.returns-clause-tree
-returns-clause-tree c = under_root c.loop-half.invariant (omega (arith, c.loop-half-test.false))
+pub returns : goal.returns
+returns c = record { tree = all_closed c.loop-half.invariant (omega (arith, c.loop-half-test.false)); lent_is = c.loop-half.invariant.lent_is }

@@ -1,22 +1,45 @@
-use Rattle.std.proofs.Common.{rules, ◌||◌}
+use Rattle.std.proofs.Common.{rules, arith, inr, ◌≡◌, ◌≤◌, ◌∙◌, length, to_z, of_z, w64}
 use Rattle.std.proofs.lemmas.Int.{to_z-of_z}
-use Rattle.mq_select.specs.Selection.{selection_of}
-use Rattle.mq_shared.specs.Refusals.{MayReceive, out_of_slots}
-use Rattle.mq_shared.specs.Seen.{receive_verdict}
-use Rattle.mq_table.specs.Ids.{seq_of, slot_of}
-use Rattle.mq.specs.Caller.{IsRefusal}
+use Rattle.std.proofs.lemmas.List.{length-take}
 use Rattle.mq.proofs.caller.Caller.receive_within.Goals as goal
 
-pub returns-in-Err-clause-decided : goal.returns-in-Err-clause-decided
-returns-in-Err-clause-decided g c =
-    let decided = simp (to_z-of_z, c.ranges.msgtyp) at c.in-Err.ensures.decided in
-    let told : IsRefusal (out_of_slots g.N.Names.slots c.args.id) (MayReceive (g.T.Patience.ends || c.args.flags.nowait) c.args.flags.noerror)
-    c.args.self.now.seat.now c.msgrcv_within.new.seat (slot_of c.args.id)
-    (receive_verdict (seq_of c.args.id) c.args.size (selection_of c.args.msgtyp c.args.flags.except) c.args.flags.noerror)
-    c.in-Err.refused.errno =
-    record {
-      entry = c.in-Err.refused.entry;
-      refuses = c.in-Err.ensures.refused;
-      decided = decided;
-    } in
-    search (rules, told)
+pub returns-clause-answer : goal.returns-clause-answer
+returns-clause-answer g c =
+    let told = simp (to_z-of_z, c.ranges.msgtyp) at c.in-Ok-msgrcv_within.ensures.answer in
+    let text = c.in-Ok-msgrcv_within.received.text.bytes in
+    let same : c.copy_out.new.bytes.items ≡ text = search rules in
+    let mtype : to_z w64 (of_z w64 c.in-Ok-msgrcv_within.received.mtype)
+    ≡ c.in-Ok-msgrcv_within.received.mtype = search rules in
+    let short : length text ≤ c.args.size =
+    rw told.pledge.cut (omega (arith, length-take c.args.size told.pledge.whole)) in record {
+      fits = rw same short;
+      pledge = λ all. rw (same, mtype) (told.whole all);
+      received = record {
+        early = told.early;
+        step = told.step;
+        receipt = record {
+          message = told.receipt.message;
+          done = told.receipt.done;
+          named = told.receipt.named;
+          mtype = mtype ∙ told.receipt.mtype;
+          sender = told.receipt.sender;
+          tag = told.receipt.tag;
+          long = told.receipt.long;
+        };
+        pledge = record {
+          whole = told.pledge.whole;
+          long = told.pledge.long;
+          pledge = rw mtype told.pledge.pledge;
+          cut = same ∙ told.pledge.cut;
+        };
+        whole = λ all. rw (same, mtype) (told.whole all);
+      };
+    }
+
+pub returns-in-Err-clause-answer : goal.returns-in-Err-clause-answer
+returns-in-Err-clause-answer g c =
+    let turned = simp (to_z-of_z, c.ranges.msgtyp) at c.in-Err.ensures.answer in record {
+      allowed = search (rules, turned);
+      look = search (rules, turned);
+      why = inr (record { entry = c.in-Err.refused.entry; turned = search (rules, turned) });
+    }

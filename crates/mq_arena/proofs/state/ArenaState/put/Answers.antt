@@ -1,9 +1,10 @@
 use Rattle.std.proofs.Common.{◌≡◌, ◌∙◌, ◌+◌, ◌++◌, ◌^◌, ℕ, List, length, take, drop, sym, ap, subst, vec_len, vec_capacity, arith}
+use Rattle.std.proofs.lemmas.List.{take_at}
 use Rattle.mq_arena.specs.Homes.{AreHome, SameOutside}
-use Rattle.mq_arena.specs.Stocked.{IsArena, IsShelled}
+use Rattle.mq_arena.specs.Stocked.{IsArena}
 use Rattle.mq_tree.specs.Blocks.{block}
-use Rattle.mq_arena.proofs.Shells.{shell_out, shelled_given}
-use Rattle.mq_arena.proofs.Stock.{lent_inside, put_back, arena_given}
+use Rattle.mq_arena.proofs.Shells.{shell_out}
+use Rattle.mq_arena.proofs.Stock.{lent_inside, arena_given}
 use Rattle.mq_arena.proofs.state.ArenaState.put.Goals as goal
 
 pub put_pages-places-requires-clause-within : goal.put_pages-places-requires-clause-within
@@ -40,24 +41,14 @@ invariant_of-self-2 g c =
     omega (arith, c.sub.ensures.total, c.page_count.ensures) in
     let more : c.merge-2.new.self.parts ≡ c.self.inside.parts.parts + 2 ^ c.block.inside.order =
     omega (arith, c.merge-2.ensures.parts, c.sub.ensures.parts, c.block.invariant.parted) in
-    let lent = sym c.if-not-give.ensures.lent in
-    let old : ℕ = vec_len c.self.inside.shells in
-    let new : ℕ = vec_len c.push_reserved.new.self in
-    let shelled : IsShelled c.give.new.self new (vec_capacity c.push_reserved.new.self) =
-    shelled_given c.self.inside.tree c.give.new.self (block start c.block.inside.order) old new
-    (vec_capacity c.self.inside.shells) (vec_capacity c.push_reserved.new.self) c.self.invariant.shelled
-    c.self.invariant.stocked.lent_set lent c.if-not-give.ensures.height c.if-not-give.ensures.left
-    c.push_reserved.ensures.len c.push_reserved.ensures.capacity in
-    let arena : IsArena c.give.new.self now new (vec_capacity c.push_reserved.new.self) c.sub.new.self.total c.merge-2.new.self.parts =
-    arena_given c.self.inside.tree c.give.new.self homes now c.block.inside.order start old
-    (vec_capacity c.self.inside.shells) new (vec_capacity c.push_reserved.new.self) c.self.inside.out.total
-    c.sub.new.self.total c.self.inside.parts.parts c.merge-2.new.self.parts c.self.invariant
-    c.if-not-give.ensures.height c.if-not-give.ensures.left c.if-not-give.ensures.lent_set
-    c.if-not-give.ensures.free (c.put_pages-places.auto.homes ∙ ap length c.as_mut_slice.ensures.value) home same shelled less
-    more in
-    let whole : IsArena c.give.new.self (take (vec_len c.self.inside.homes) (now ++ drop (length now) homes)) new
+    let arena =
+    arena_given c.self.inside.tree homes now c.block.inside.order start (vec_len c.self.inside.shells)
+    (vec_capacity c.self.inside.shells) c.self.inside.out.total c.self.inside.parts.parts (vec_len c.push_reserved.new.self)
+    (vec_capacity c.push_reserved.new.self) c.sub.new.self.total c.merge-2.new.self.parts c.self.invariant (sym c.if-not-give.ensures.lent)
+    (c.put_pages-places.auto.homes ∙ ap length c.as_mut_slice.ensures.value) home same
+    c.push_reserved.ensures.len c.push_reserved.ensures.capacity less more in
+    let back = take_at now (drop (length now) homes) c.self.inside.homes.len (c.put_pages-places.auto.homes ∙ c.as_mut_slice.ensures.len) in
+    let whole : IsArena c.give.new.self (take (vec_len c.self.inside.homes) (now ++ drop (length now) homes)) (vec_len c.push_reserved.new.self)
     (vec_capacity c.push_reserved.new.self) c.sub.new.self.total c.merge-2.new.self.parts =
-    subst (λ pages. IsArena c.give.new.self pages new (vec_capacity c.push_reserved.new.self) c.sub.new.self.total c.merge-2.new.self.parts)
-    (sym (put_back now (drop (length now) homes) c.self.inside.homes.len
-    (c.put_pages-places.auto.homes ∙ c.as_mut_slice.ensures.len))) arena in
+    rw (c.if-not-give.ensures.left, back) arena in
     search whole

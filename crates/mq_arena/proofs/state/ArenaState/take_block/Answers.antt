@@ -1,22 +1,22 @@
 use Rattle.std.proofs.Common.{◌≡◌, ◌∙◌, ◌+◌, ◌^◌, ◌<◌, ℕ, List, length, drop, sym, ap, subst, vec_len, vec_capacity, arith}
+use Rattle.std.proofs.lemmas.List.{take_at}
 use Rattle.mq_arena.specs.Homes.{IsHome, SameOutside}
-use Rattle.mq_tree.specs.Blocks.{block}
-use Rattle.mq_arena.specs.Stocked.{IsArena, IsShelled}
-use Rattle.mq_arena.proofs.Stock.{fit_inside, fit_home, put_back, arena_taken, lent_back, arena_back}
-use Rattle.mq_arena.proofs.Shells.{shelled_taken, shell_there}
+use Rattle.mq_tree.proofs.Fits.{fit_passes}
+use Rattle.mq_tree.proofs.FreePages.{free_joined}
+use Rattle.mq_arena.proofs.Stock.{fit_home, arena_taken, arena_back, lent_back}
+use Rattle.mq_arena.proofs.Shells.{shell_there}
 use Rattle.mq_arena.proofs.state.ArenaState.take_block.Goals as goal
 
 pub unreachable-requires : goal.unreachable-requires
 unreachable-requires g c =
-    let some = shell_there c.self.inside.tree c.lend.new.self (block c.in-Some.start c.args.order)
-    (vec_len c.self.inside.shells) (vec_capacity c.self.inside.shells) c.self.invariant.shelled
-    c.in-Some.ensures.height c.in-Some.ensures.lent c.in-Some.ensures.lent_set in
+    let some = shell_there c.self.inside.tree c.args.order c.in-Some.start (vec_len c.self.inside.shells) (vec_capacity c.self.inside.shells)
+    c.self.invariant.shelled c.self.invariant.stocked.lent_set (sym c.in-Some.ensures.fit) in
     omega (arith, some, c.in_default-pop.ensures.cases.0)
 
 pub take_pages-pages-requires-clause-within : goal.take_pages-pages-requires-clause-within
 take_pages-pages-requires-clause-within g c =
     let tree = c.self.inside.tree in
-    omega (arith, fit_inside tree.height tree.lent c.args.order c.in-Some.start (sym c.in-Some.ensures.fit), c.page_count-count.ensures, c.self.invariant.stocked.long, ap length c.as_mut_slice-homes.ensures.value)
+    omega (arith, (fit_passes tree.height tree.lent c.args.order c.in-Some.start (sym c.in-Some.ensures.fit)).in_arena, c.page_count-count.ensures, c.self.invariant.stocked.long, ap length c.as_mut_slice-homes.ensures.value)
 
 pub take_pages-pages-requires-clause-there : goal.take_pages-pages-requires-clause-there
 take_pages-pages-requires-clause-there g c page from below =
@@ -24,6 +24,17 @@ take_pages-pages-requires-clause-there g c page from below =
     c.self.invariant.stocked (sym c.in-Some.ensures.fit) page from
     (subst (λ n. page < c.in-Some.start + n) c.page_count-count.ensures below) in
     subst (λ pages. IsHome pages page) (sym c.as_mut_slice-homes.ensures.value) home
+
+-- the block's pages were counted as free
+pub split_off-share-requires-clause-has_parts : goal.split_off-share-requires-clause-has_parts
+split_off-share-requires-clause-has_parts g c =
+    let less = free_joined c.self.inside.tree.height c.self.inside.tree.lent c.args.order c.in-Some.start (sym c.in-Some.ensures.fit) in
+    omega (arith, less, c.self.invariant.adds_up.parted, c.page_count-count.ensures)
+
+pub split_off-share-requires-clause-left_backed : goal.split_off-share-requires-clause-left_backed
+split_off-share-requires-clause-left_backed g c =
+    let less = free_joined c.self.inside.tree.height c.self.inside.tree.lent c.args.order c.in-Some.start (sym c.in-Some.ensures.fit) in
+    omega (arith, less, c.self.invariant.adds_up.parted, c.page_count-count.ensures)
 
 pub invariant_of-self-2 : goal.invariant_of-self-2
 invariant_of-self-2 g c =
@@ -35,29 +46,19 @@ invariant_of-self-2 g c =
     subst (SameOutside homes now c.in-Some.start) c.page_count-count.ensures
     (subst (λ pages. SameOutside pages now c.in-Some.start c.page_count-count.result)
     c.as_mut_slice-homes.ensures.value c.take_pages-pages.ensures.others) in
-    let shells : ℕ = vec_len c.self.inside.shells in
-    let shelled : IsShelled c.lend.new.self (vec_len c.pop.new.self) (vec_capacity c.pop.new.self) =
-    shelled_taken c.self.inside.tree c.lend.new.self (block c.in-Some.start c.args.order) shells
-    (vec_len c.pop.new.self) (vec_capacity c.self.inside.shells) (vec_capacity c.pop.new.self)
-    c.self.invariant.shelled c.in-Some.ensures.height c.in-Some.ensures.lent
-    c.in-Some-pop.ensures.cases c.pop.ensures.capacity in
-    let arena : IsArena c.lend.new.self now (vec_len c.pop.new.self) (vec_capacity c.pop.new.self)
-    c.add.new.self.total c.split_off-share.new.self.parts =
-    arena_taken c.self.inside.tree c.lend.new.self homes now c.args.order c.in-Some.start
-    shells (vec_capacity c.self.inside.shells) (vec_len c.pop.new.self) (vec_capacity c.pop.new.self)
-    c.self.inside.out.total c.add.new.self.total c.self.inside.parts.parts c.split_off-share.new.self.parts
-    c.self.invariant (sym c.in-Some.ensures.fit) c.in-Some.ensures.height c.in-Some.ensures.lent
-    c.in-Some.ensures.lent_set c.in-Some.ensures.free same_length same shelled (omega arith) (omega arith) in
-    subst (λ pages. IsArena c.lend.new.self pages (vec_len c.pop.new.self) (vec_capacity c.pop.new.self)
-    c.add.new.self.total c.split_off-share.new.self.parts)
-    (sym (put_back now (drop (length now) homes) c.self.inside.homes.len
-    (c.take_pages-pages.auto.homes ∙ c.as_mut_slice-homes.ensures.len))) arena
+    let less = free_joined c.self.inside.tree.height c.self.inside.tree.lent c.args.order c.in-Some.start (sym c.in-Some.ensures.fit) in
+    let arena =
+    arena_taken c.self.inside.tree homes now c.args.order c.in-Some.start (vec_len c.self.inside.shells)
+    (vec_capacity c.self.inside.shells) c.self.inside.out.total c.self.inside.parts.parts (vec_len c.pop.new.self)
+    (vec_capacity c.pop.new.self) c.add.new.self.total c.split_off-share.new.self.parts c.self.invariant (sym c.in-Some.ensures.fit) same_length same
+    c.in-Some-pop.ensures.cases c.pop.ensures.capacity (omega arith) (omega (arith, less)) in
+    rw (c.in-Some.ensures.lent, take_at now (drop (length now) homes) c.self.inside.homes.len (c.take_pages-pages.auto.homes ∙ c.as_mut_slice-homes.ensures.len)) arena
 
 pub invariant_of-self-in-Err : goal.invariant_of-self-in-Err
 invariant_of-self-in-Err g c =
     let back =
     lent_back c.self.inside.tree c.lend.new.self c.give.new.self c.args.order c.in-Some.start (sym c.in-Some.ensures.fit)
-    c.in-Some.ensures.height c.in-Some.ensures.lent c.give.ensures.height c.give.ensures.left in
+    c.in-Some.ensures.lent c.give.ensures.left in
     arena_back c.self.inside.tree c.give.new.self c.self.inside.homes.items (vec_len c.self.inside.shells)
     (vec_capacity c.self.inside.shells) (vec_len c.push_reserved.new.self) (vec_capacity c.push_reserved.new.self)
     c.self.inside.out.total c.self.inside.parts.parts c.self.invariant back
@@ -66,5 +67,5 @@ invariant_of-self-in-Err g c =
 pub returns-in-Err-clause-unchanged : goal.returns-in-Err-clause-unchanged
 returns-in-Err-clause-unchanged g c =
     lent_back c.self.inside.tree c.lend.new.self c.give.new.self c.args.order c.in-Some.start (sym c.in-Some.ensures.fit)
-    c.in-Some.ensures.height c.in-Some.ensures.lent c.give.ensures.height c.give.ensures.left
+    c.in-Some.ensures.lent c.give.ensures.left
     ∙ c.self.view_is

@@ -7,4 +7,4 @@ use Rattle.mq_arena.proofs.unopened.Unopened.new.Goals as goal
 pub returns-clause-parts : goal.returns-clause-parts
 returns-clause-parts c =
     subst (λ n. 2 ^ n < LEDGER_PARTS) (ap (λ tree. tree.height) c.tree.view_is)
-    (omega (arith, pow_le c.tree.inside.height MAX_HEIGHT c.tree.invariant.low))
+    (omega (arith, pow_le c.tree.inside.height MAX_HEIGHT c.tree.invariant.tree.low))

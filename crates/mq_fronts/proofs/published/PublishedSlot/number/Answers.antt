@@ -4,4 +4,4 @@ use Rattle.mq_fronts.proofs.published.PublishedSlot.number.Goals as goal
 
 pub returns-clause-waits : goal.returns-clause-waits
 returns-clause-waits g c =
-    rw (← c.self.view_is) (c.number.ensures.waits ∙ waiting_is _ _ c.self.invariant.kept)
+    rw (← c.self.view_is) (c.holds.ensures.waits ∙ waiting_is _ _ c.self.invariant.kept)

@@ -22,13 +22,13 @@ make_under-requires-clause-unused g c =
 
 pub returns-clause-id : goal.returns-clause-id
 returns-clause-id g c =
-    rw (← c.self.view_is, ← next_id_is _ _ c.self.invariant.kept) c.in_ok-id.ensures.id
+    rw (← c.self.view_is, ← next_id_is _ _ c.self.invariant.kept) c.in_ok-id.ensures.answer.id
 
 pub publish-requires : goal.publish-requires
 publish-requires g c =
     let had = c.self.invariant in
     let fits : SFits w32 c.args.key = search rules in
-    let made = simp to_z-of_z at c.in_ok-id.ensures.made in
+    let made = simp to_z-of_z at c.in_ok-id.ensures.answer.made in
     let noticed = simp to_z-of_z at c.in_ok-id.ensures.noticed in
     let empty = rw (← c.self.view_is) at c.requires.empty in
     let unused = rw (← c.self.view_is) at c.requires.unused in
@@ -44,7 +44,7 @@ pub invariant_of-self-2 : goal.invariant_of-self-2
 invariant_of-self-2 g c =
     let had = c.self.invariant in
     let fits : SFits w32 c.args.key = search rules in
-    let made = simp to_z-of_z at c.in_ok-id.ensures.made in
+    let made = simp to_z-of_z at c.in_ok-id.ensures.answer.made in
     let noticed = simp to_z-of_z at c.in_ok-id.ensures.noticed in
     let empty = rw (← c.self.view_is) at c.requires.empty in
     let unused = rw (← c.self.view_is) at c.requires.unused in
@@ -59,7 +59,7 @@ pub returns-clause-made : goal.returns-clause-made
 returns-clause-made g c =
     let had = c.self.invariant in
     let fits : SFits w32 c.args.key = search rules in
-    let made = simp to_z-of_z at c.in_ok-id.ensures.made in
+    let made = simp to_z-of_z at c.in_ok-id.ensures.answer.made in
     let noticed = simp to_z-of_z at c.in_ok-id.ensures.noticed in
     let empty = rw (← c.self.view_is) at c.requires.empty in
     let unused = rw (← c.self.view_is) at c.requires.unused in
@@ -72,4 +72,4 @@ returns-clause-made g c =
     rw (← c.self.view_is, events, made) refl
 
 pub returns-clause-first : goal.returns-clause-first
-returns-clause-first g c = rw (← c.self.view_is, c.in_ok-id.ensures.made) refl
+returns-clause-first g c = rw (← c.self.view_is, c.in_ok-id.ensures.answer.made) refl

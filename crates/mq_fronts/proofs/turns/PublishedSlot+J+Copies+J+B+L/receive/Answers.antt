@@ -23,7 +23,7 @@ publish-requires g c =
     let had = c.self.invariant in
     let live = rw (← c.self.view_is) at c.requires.live in
     let turn = received_turned MAX_SEQ c.self.inside.writer.events _ had.kept had.lawful live c.args.size c.args.selection
-    c.args.noerror c.args.seat c.args.moment _ _ c.in_ok-received.ensures.ok in
+    c.args.noerror c.args.seat c.args.moment _ _ c.in_ok-received.ensures.answer.ok in
     let room = rw (← c.self.view_is) at c.has_room.ensures.events in
     let few = rw (← c.self.view_is) at c.has_room.ensures.made in
     ready c.self.inside.writer _ _ _ _ had turn c.in_ok-received.ensures.noticed room few
@@ -33,7 +33,7 @@ invariant_of-self-2 g c =
     let had = c.self.invariant in
     let live = rw (← c.self.view_is) at c.requires.live in
     let turn = received_turned MAX_SEQ c.self.inside.writer.events _ had.kept had.lawful live c.args.size c.args.selection
-    c.args.noerror c.args.seat c.args.moment _ _ c.in_ok-received.ensures.ok in
+    c.args.noerror c.args.seat c.args.moment _ _ c.in_ok-received.ensures.answer.ok in
     next c.self.inside.writer _ _ _ _ had turn c.in_ok-received.ensures.noticed _ c.publish.ensures.published
 
 pub returns-clause-ok : goal.returns-clause-ok
@@ -41,15 +41,15 @@ returns-clause-ok g c =
     let had = c.self.invariant in
     let live = rw (← c.self.view_is) at c.requires.live in
     let turn = received_turned MAX_SEQ c.self.inside.writer.events _ had.kept had.lawful live c.args.size c.args.selection
-    c.args.noerror c.args.seat c.args.moment _ _ c.in_ok-received.ensures.ok in
+    c.args.noerror c.args.seat c.args.moment _ _ c.in_ok-received.ensures.answer.ok in
     let events = events_are c.self.inside.writer _ _ _ _ had turn c.in_ok-received.ensures.noticed _ c.publish.ensures.published in
     rw (← c.self.view_is, events) (receives_whole c.self.inside.writer.events _ had.kept live c.args.size c.args.selection
-    c.args.noerror c.args.seat c.args.moment _ _ c.in_ok-received.ensures.ok).answers
+    c.args.noerror c.args.seat c.args.moment _ _ c.in_ok-received.ensures.answer.ok).answers
 
 pub returns-clause-first : goal.returns-clause-first
 returns-clause-first g c =
     let had = c.self.invariant in
     let live = rw (← c.self.view_is) at c.requires.live in
     let turn = received_turned MAX_SEQ c.self.inside.writer.events _ had.kept had.lawful live c.args.size c.args.selection
-    c.args.noerror c.args.seat c.args.moment _ _ c.in_ok-received.ensures.ok in
+    c.args.noerror c.args.seat c.args.moment _ _ c.in_ok-received.ensures.answer.ok in
     rw (← c.self.view_is) turn.first

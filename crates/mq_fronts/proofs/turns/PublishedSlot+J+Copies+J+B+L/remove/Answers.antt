@@ -18,7 +18,7 @@ publish-requires g c =
     let live = rw (← c.self.view_is) at c.requires.live in
     let turn : IsTurned MAX_SEQ c.self.inside.writer.events (Removed c.args.seat c.args.moment)
     c.self.inside.slot c.remove_under.new.slot =
-    rw c.in_ok-removed.ensures.removed
+    rw c.in_ok-removed.ensures.answer.taken.removed
     (removed_turned MAX_SEQ _ _ had.kept had.lawful live c.args.seat c.args.moment) in
     let room = rw (← c.self.view_is) at c.has_room.ensures.events in
     let few = rw (← c.self.view_is) at c.has_room.ensures.made in
@@ -30,7 +30,7 @@ invariant_of-self-2 g c =
     let live = rw (← c.self.view_is) at c.requires.live in
     let turn : IsTurned MAX_SEQ c.self.inside.writer.events (Removed c.args.seat c.args.moment)
     c.self.inside.slot c.remove_under.new.slot =
-    rw c.in_ok-removed.ensures.removed
+    rw c.in_ok-removed.ensures.answer.taken.removed
     (removed_turned MAX_SEQ _ _ had.kept had.lawful live c.args.seat c.args.moment) in
     next c.self.inside.writer _ _ _ _ had turn c.in_ok-removed.ensures.noticed _
     c.publish.ensures.published
@@ -41,15 +41,15 @@ returns-clause-removed g c =
     let live = rw (← c.self.view_is) at c.requires.live in
     let turn : IsTurned MAX_SEQ c.self.inside.writer.events (Removed c.args.seat c.args.moment)
     c.self.inside.slot c.remove_under.new.slot =
-    rw c.in_ok-removed.ensures.removed
+    rw c.in_ok-removed.ensures.answer.taken.removed
     (removed_turned MAX_SEQ _ _ had.kept had.lawful live c.args.seat c.args.moment) in
     let events = events_are c.self.inside.writer _ _ _ _ had turn
     c.in_ok-removed.ensures.noticed _ c.publish.ensures.published in
-    rw (← c.self.view_is, events, c.in_ok-removed.ensures.removed) refl
+    rw (← c.self.view_is, events, c.in_ok-removed.ensures.answer.taken.removed) refl
 
 pub returns-clause-forgotten : goal.returns-clause-forgotten
 returns-clause-forgotten g c =
-    rw (← c.self.view_is, ← last_id_is _ _ c.self.invariant.kept) c.in_ok-removed.ensures.forgotten
+    rw (← c.self.view_is, ← last_id_is _ _ c.self.invariant.kept) c.in_ok-removed.ensures.answer.forgotten
 
 pub returns-clause-log : goal.returns-clause-log
 returns-clause-log g c =
@@ -57,11 +57,11 @@ returns-clause-log g c =
     let live = rw (← c.self.view_is) at c.requires.live in
     let turn : IsTurned MAX_SEQ c.self.inside.writer.events (Removed c.args.seat c.args.moment)
     c.self.inside.slot c.remove_under.new.slot =
-    rw c.in_ok-removed.ensures.removed
+    rw c.in_ok-removed.ensures.answer.taken.removed
     (removed_turned MAX_SEQ _ _ had.kept had.lawful live c.args.seat c.args.moment) in
     let events = events_are c.self.inside.writer _ _ _ _ had turn
     c.in_ok-removed.ensures.noticed _ c.publish.ensures.published in
-    rw (events, c.in_ok-removed.ensures.log)
+    rw (events, c.in_ok-removed.ensures.answer.taken.log)
     (log_left MAX_SEQ _ _ had.kept had.lawful live c.args.seat c.args.moment)
 
 pub returns-clause-places : goal.returns-clause-places
@@ -70,12 +70,12 @@ returns-clause-places g c =
     let live = rw (← c.self.view_is) at c.requires.live in
     let turn : IsTurned MAX_SEQ c.self.inside.writer.events (Removed c.args.seat c.args.moment)
     c.self.inside.slot c.remove_under.new.slot =
-    rw c.in_ok-removed.ensures.removed
+    rw c.in_ok-removed.ensures.answer.taken.removed
     (removed_turned MAX_SEQ _ _ had.kept had.lawful live c.args.seat c.args.moment) in
     let events = events_are c.self.inside.writer _ _ _ _ had turn
     c.in_ok-removed.ensures.noticed _ c.publish.ensures.published in
-    rw (← c.self.view_is, events, c.in_ok-removed.ensures.log)
+    rw (← c.self.view_is, events, c.in_ok-removed.ensures.answer.taken.log)
     (places_left MAX_SEQ _ _ had.kept had.lawful live c.args.seat c.args.moment)
 
 pub returns-clause-first : goal.returns-clause-first
-returns-clause-first g c = rw (← c.self.view_is, c.in_ok-removed.ensures.removed) refl
+returns-clause-first g c = rw (← c.self.view_is, c.in_ok-removed.ensures.answer.taken.removed) refl

@@ -3,12 +3,8 @@ use Rattle.mq_index.specs.Index.{merged}
 use Rattle.mq_index.proofs.Counts.{count_is, pairs_rise}
 use Rattle.mq_index.proofs.by_type.ByType.len.Goals as goal
 
-pub returns-clause-count : goal.returns-clause-count
-returns-clause-count g c =
+pub returns : goal.returns
+returns g c =
     let counted = c.len.ensures.len in
     let all = count_is (λ m. m.mtype) (merged c.self.inside.queues.entries) c.self.inside.types.entries c.self.invariant.0.rising c.len.ensures.unique c.self.invariant.0.typed in
-    rw (← c.self.view_is) (omega (arith, counted, all))
-
-pub returns-clause-rising : goal.returns-clause-rising
-returns-clause-rising g c =
-    rw (← c.self.view_is) (pairs_rise (merged c.self.inside.queues.entries) c.self.invariant.0.rising)
+    rw (← c.self.view_is) (record { count = omega (arith, counted, all); rising = pairs_rise (merged c.self.inside.queues.entries) c.self.invariant.0.rising })

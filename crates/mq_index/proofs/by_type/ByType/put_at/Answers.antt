@@ -1,4 +1,4 @@
-use Rattle.std.proofs.Common.{arith, ◌∙◌, ◌<◌, ℕ, nat_eq, sym}
+use Rattle.std.proofs.Common.{arith, ◌∙◌, ◌<◌, ℕ, Some, nat_eq, ap, refl, sym}
 use Rattle.std.specs.Ordering.{int_eq}
 use Rattle.std.proofs.lemmas.Int.{to_z-of_z}
 use Rattle.std.proofs.lemmas.List.Elements.{All-filter, All-same, recursion_from_All}
@@ -12,49 +12,35 @@ use Rattle.mq_index.proofs.by_type.ByType.put_at.Goals as goal
 
 pub enter-requires-clause-above : goal.enter-requires-clause-above
 enter-requires-clause-above g c t n h =
-    let above = rw (← c.self.view_is) at c.requires.above in
+    let above = rw (← c.self.view_is) at c.requires.room.above in
     let all = merged c.self.inside.queues.entries in
     let below = front_below (λ m. m.mtype) all c.args.place t n (recursion_from_All (λ (m : ℕ × Message g.row.B.Denot). m.0 < c.args.place) all above) (sym (c.self.invariant.0.fronted t) ∙ h) in
     omega (arith, below)
 
 pub enter-requires-clause-room : goal.enter-requires-clause-room
 enter-requires-clause-room g c =
-    let was = rw (← c.self.view_is) at c.requires.prepared in
+    let was = (rw (← c.self.view_is) at c.requires.room.prepared) ∙ ap Some c.requires.of_type in
     (c.self.invariant.1 c.args.mtype was).front
 
 pub unreachable-requires : goal.unreachable-requires
 unreachable-requires g c =
-    let was = rw (← c.self.view_is) at c.requires.prepared in
+    let was = (rw (← c.self.view_is) at c.requires.room.prepared) ∙ ap Some c.requires.of_type in
     let ok = c.in-Err.ensures.succeeds (c.self.invariant.1 c.args.mtype was).place in
     cc (ok)
 
-pub put-requires-clause-there : goal.put-requires-clause-there
-put-requires-clause-there g c =
-    let was = rw (← c.self.view_is) at c.requires.prepared in
-    simp (to_z-of_z, c.ranges.mtype) (c.self.invariant.1 c.args.mtype was).queue
-
-pub put-requires-clause-room : goal.put-requires-clause-room
-put-requires-clause-room g c =
-    let was = rw (← c.self.view_is) at c.requires.prepared in
-    (c.self.invariant.1 c.args.mtype was).node
-
-pub put-requires-clause-few : goal.put-requires-clause-few
-put-requires-clause-few g c =
-    let was = rw (← c.self.view_is) at c.requires.prepared in
-    simp (to_z-of_z, c.ranges.mtype) (c.self.invariant.1 c.args.mtype was).few
-
-pub put-requires-clause-above : goal.put-requires-clause-above
-put-requires-clause-above g c =
-    let above = rw (← c.self.view_is) at c.requires.above in
+pub put-requires : goal.put-requires
+put-requires g c =
+    let ready = c.self.invariant.1 c.args.mtype ((rw (← c.self.view_is) at c.requires.room.prepared) ∙ ap Some c.requires.of_type) in
+    let above = rw (← c.self.view_is) at c.requires.room.above in
     let all = merged c.self.inside.queues.entries in
     let P : ℕ × Message g.row.B.Denot → Type 0 = λ m. m.0 < c.args.place in
-    simp (to_z-of_z, c.ranges.mtype)
-    (All-same P (queue_of c.self.inside.queues.entries c.args.mtype) (of_type (λ m. m.mtype) all c.args.mtype) (c.self.invariant.0.parted c.args.mtype) (All-filter (λ (m : ℕ × Message g.row.B.Denot). int_eq m.1.mtype c.args.mtype) P all above))
+    let later = All-same P (queue_of c.self.inside.queues.entries c.args.mtype) (of_type (λ m. m.mtype) all c.args.mtype) (c.self.invariant.0.parted c.args.mtype) (All-filter (λ (m : ℕ × Message g.row.B.Denot). int_eq m.1.mtype c.args.mtype) P all above) in
+    simp (to_z-of_z, c.ranges.mtype) (record { there = ready.queue; room = ready.node; few = ready.few; above = later })
 
 pub invariant_of-self : goal.invariant_of-self
 invariant_of-self g c =
-    let was = rw (← c.self.view_is) at c.requires.prepared in
-    let above = rw (← c.self.view_is) at c.requires.above in
+    let was = (rw (← c.self.view_is) at c.requires.room.prepared) ∙ ap Some c.requires.of_type in
+    let above = rw (← c.self.view_is) at c.requires.room.above in
     let all = merged c.self.inside.queues.entries in
     let index = rw was at c.self.invariant.0 in
     let at = simp (to_z-of_z, c.ranges.mtype) at c.put.ensures.at in
@@ -64,10 +50,10 @@ invariant_of-self g c =
     let whole = settled _ _ _ _ _ _ new in
     (whole.1, λ x e. absurd (none-some x e))
 
-pub returns-clause-added : goal.returns-clause-added
-returns-clause-added g c =
-    let was = rw (← c.self.view_is) at c.requires.prepared in
-    let above = rw (← c.self.view_is) at c.requires.above in
+pub returns : goal.returns
+returns g c =
+    let was = (rw (← c.self.view_is) at c.requires.room.prepared) ∙ ap Some c.requires.of_type in
+    let above = rw (← c.self.view_is) at c.requires.room.above in
     let all = merged c.self.inside.queues.entries in
     let index = rw was at c.self.invariant.0 in
     let at = simp (to_z-of_z, c.ranges.mtype) at c.put.ensures.at in
@@ -75,4 +61,4 @@ returns-clause-added g c =
     let type = simp (to_z-of_z, c.ranges.mtype) at c.in-Ok.ensures.updates.0 in
     let new = put_last (λ m. m.mtype) all c.self.inside.queues.entries c.put.new.queues.entries (first_of c.self.inside.fronts) (first_of c.enter.new.self) (get nat_eq c.self.inside.types) (get nat_eq c.insert.new.self) c.args.mtype c.args.place c.args.message index c.requires.of_type (recursion_from_All (λ (m : ℕ × Message g.row.B.Denot). m.0 < c.args.place) all above) c.put.ensures.ordered at front type in
     let whole = settled _ _ _ _ _ _ new in
-    rw (← c.self.view_is) whole.0
+    record { added = rw (← c.self.view_is) whole.0; unprepared = refl }

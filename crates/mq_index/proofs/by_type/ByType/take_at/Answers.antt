@@ -42,15 +42,8 @@ invariant_of-self g c =
     let whole = settled _ _ _ _ _ _ new in
     (rw none whole.1, λ x e. absurd (none-some x (sym none ∙ e)))
 
-pub returns-clause-taken : goal.returns-clause-taken
-returns-clause-taken g c =
-    let fits : FitsSigned w64 c.type_at-mtype.result = record { sfits = c.type_at-mtype.type_inv } in
-    let p = placed (λ m. m.mtype) (merged c.self.inside.queues.entries) c.self.inside.queues.entries (first_of c.self.inside.fronts) (get nat_eq c.self.inside.types) c.self.inside.prepared c.args.place c.type_at-mtype.result c.self.invariant.0 c.type_at-mtype.ensures in
-    let taken = simp (to_z-of_z, fits) at c.take-message.ensures.taken in
-    rw (← c.forget_prepared.ensures.unchanged, ← c.self.view_is) (p.at ∙ sym p.queued ∙ taken)
-
-pub returns-clause-rest : goal.returns-clause-rest
-returns-clause-rest g c =
+pub returns : goal.returns
+returns g c =
     let fits : FitsSigned w64 c.type_at-mtype.result = record { sfits = c.type_at-mtype.type_inv } in
     let p = placed (λ m. m.mtype) (merged c.self.inside.queues.entries) c.self.inside.queues.entries (first_of c.self.inside.fronts) (get nat_eq c.self.inside.types) c.self.inside.prepared c.args.place c.type_at-mtype.result c.self.invariant.0 c.type_at-mtype.ensures in
     let none = rw (← c.self.view_is) at c.forget_prepared.ensures.unprepared in
@@ -60,4 +53,5 @@ returns-clause-rest g c =
     let front = simp (to_z-of_z, fits) at (rw first at c.renew.ensures) in
     let new = taken_of (λ m. m.mtype) (merged c.self.inside.queues.entries) c.self.inside.queues.entries c.take-message.new.queues.entries (first_of c.self.inside.fronts) (first_of c.renew.new.self) (get nat_eq c.self.inside.types) (get nat_eq c.swap_remove-mtype.new.self) c.args.place c.type_at-mtype.result index p c.take-message.ensures.ordered at front c.swap_remove-mtype.ensures.updates.0 in
     let whole = settled _ _ _ _ _ _ new in
-    rw (← c.forget_prepared.ensures.unchanged, ← c.self.view_is) whole.0
+    let taken = simp (to_z-of_z, fits) at c.take-message.ensures.taken in
+    record { taken = rw (← c.forget_prepared.ensures.unchanged, ← c.self.view_is) (p.at ∙ sym p.queued ∙ taken); rest = rw (← c.forget_prepared.ensures.unchanged, ← c.self.view_is) whole.0; unprepared = none }

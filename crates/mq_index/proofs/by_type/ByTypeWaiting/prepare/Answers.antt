@@ -33,7 +33,7 @@ pub invariant_of-self-in_err-make : goal.invariant_of-self-in_err-make
 invariant_of-self-in_err-make g c = (
   same_index (λ m. m.mtype) (merged c.self.inside.queues.entries) c.self.inside.queues.entries (first_of c.self.inside.fronts) (first_of c.reserve.new.self) (get nat_eq c.self.inside.types) (get nat_eq c.reserve-2.new.self) c.self.inside.prepared c.self.invariant.0 c.reserve.ensures.unchanged (λ n. ap (lookup (nat_eq n)) c.reserve-2.ensures.entries),
   λ x e. let r = c.self.invariant.1 x e in let more = c.reserve.ensures.room in let most = c.reserve-2.ensures.room.0 in
-      record { queue = r.queue; few = r.few; front = omega (arith, r.front, more); place = omega (arith, r.place, most); node = c.in_err-make.ensures.unchanged ∙ r.node },
+      record { queue = r.queue; few = r.few; front = omega (arith, r.front, more); place = omega (arith, r.place, most); node = c.in_err-make.ensures.refused.1 ∙ sym c.in_err-make.ensures.refused.0 ∙ r.node },
 )
 
 pub invariant_of-self-2 : goal.invariant_of-self-2
@@ -59,13 +59,13 @@ invariant_of-self-2 g c =
           }),
     )
 
-pub returns-clause-unchanged : goal.returns-clause-unchanged
-returns-clause-unchanged g c =
+pub returns-clause-prepared : goal.returns-clause-prepared
+returns-clause-prepared g c =
     let made = simp (to_z-of_z, c.ranges.mtype) at c.in_ok-make-2.ensures.ok in
     let kept = simp (to_z-of_z, c.ranges.mtype) at c.forget_older.ensures.kept in
     let new = prepared (λ m. m.mtype) (merged c.self.inside.queues.entries) c.self.inside.queues.entries c.make-2.new.queues.entries c.forget_older.new.queues.entries (first_of c.self.inside.fronts) (first_of c.reserve.new.self) (get nat_eq c.self.inside.types) (get nat_eq c.reserve-2.new.self) c.self.inside.prepared c.args.mtype c.self.invariant.0 c.forget_older.ensures.ordered made c.forget_older.ensures.same kept c.reserve.ensures.unchanged (λ n. ap (lookup (nat_eq n)) c.reserve-2.ensures.entries) in
     let whole = settled _ _ _ _ _ _ new in
-    rw (← c.self.view_is) whole.0
+    record { unchanged = rw (← c.self.view_is) whole.0; ok = simp (to_z-of_z, c.ranges.mtype) refl; err = tt }
 
 -- what holds anyway holds of a refusal
 on_err : {T E : Type 0} (P : Type 0) (r : Result T E) → P → OnErr r P
@@ -101,7 +101,7 @@ returns-in_err-make-clause-refused g c =
     (λ e.
     let ready = c.self.invariant.1 c.args.mtype (rw (← c.self.view_is) at e) in
     let node = ready.node in
-    let none = c.in_err-make.ensures.refused in
+    let none = c.in_err-make.ensures.refused.0 in
     cc)
 
 pub returns-in_err-make-2-clause-refused : goal.returns-in_err-make-2-clause-refused

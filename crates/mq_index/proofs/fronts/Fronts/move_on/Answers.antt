@@ -1,6 +1,6 @@
 use Rattle.std.proofs.Common.{◌∙◌, sym}
 use Rattle.std.proofs.lemmas.Int.{to_z-of_z}
-use Rattle.mq_index.proofs.Edits.{written, written_at, index_is, is_there, later_is, length-written}
+use Rattle.mq_index.proofs.Entries.{written, written_at, index_is, is_there, later_is}
 use Rattle.mq_index.proofs.fronts.Fronts.move_on.Goals as goal
 
 pub unwrap-i-requires : goal.unwrap-i-requires
@@ -9,14 +9,8 @@ unwrap-i-requires c =
     let later = rw (← c.self.view_is) at c.requires.later in
     found ∙ is_there _ _ later
 
-pub sink-requires-clause-inside : goal.sink-requires-clause-inside
-sink-requires-clause-inside c =
-    let index = simp (to_z-of_z, c.ranges.mtype) at c.get_index_of.ensures.index in
-    let is = index_is c.self.inside.heap.entries c.args.mtype c.unwrap-i.result (sym index ∙ c.unwrap-i.ensures) in
-    rw (length-written c.self.inside.heap.entries c.unwrap-i.result c.args.place) is.0
-
-pub sink-requires-clause-heap : goal.sink-requires-clause-heap
-sink-requires-clause-heap c =
+pub sink-requires : goal.sink-requires
+sink-requires c =
     let index = simp (to_z-of_z, c.ranges.mtype) at c.get_index_of.ensures.index in
     let later = rw (← c.self.view_is) at c.requires.later in
     let is = index_is c.self.inside.heap.entries c.args.mtype c.unwrap-i.result (sym index ∙ c.unwrap-i.ensures) in

@@ -21,17 +21,12 @@ invariant_of-self g c =
     let is = removed c.self.inside.nodes c.taken_at.new.nodes c.unwrap-index.result c.self.invariant.0 c.taken_at.ensures.rest in
     (all_filled _ _ is, rw (filled_is _ _ is) (rising_remove c.args.place (filled c.self.inside.nodes) c.unwrap-index.result index c.self.invariant.1))
 
-pub returns-clause-taken : goal.returns-clause-taken
-returns-clause-taken g c =
+pub returns : goal.returns
+returns g c =
     let index = sym (index_is c.self.inside.nodes c.args.place c.self.invariant.0) ∙ sym c.index_of.ensures ∙ c.unwrap-index.ensures in
     let items = filled c.self.inside.nodes in
     let message : ℕ × Message g.row.B.Denot = (c.in-Some.field-0-0, c.in-Some.message) in
     let here = node_is c.self.inside.nodes c.unwrap-index.result message c.self.invariant.0 c.in-Some.ensures.taken in
-    rw (← c.self.view_is)
-    (at_index c.args.place items c.unwrap-index.result message index ∙ ap (λ m. Some m.1) (get_or_from_slice_get items c.unwrap-index.result message message here))
-
-pub returns-clause-rest : goal.returns-clause-rest
-returns-clause-rest g c =
-    let index = sym (index_is c.self.inside.nodes c.args.place c.self.invariant.0) ∙ sym c.index_of.ensures ∙ c.unwrap-index.ensures in
     let is = removed c.self.inside.nodes c.taken_at.new.nodes c.unwrap-index.result c.self.invariant.0 c.taken_at.ensures.rest in
-    rw (← c.self.view_is) (filled_is _ _ is ∙ without_is c.args.place (filled c.self.inside.nodes) c.unwrap-index.result c.self.invariant.1 index)
+    rw (← c.self.view_is)
+    (record { taken = at_index c.args.place items c.unwrap-index.result message index ∙ ap (λ m. Some m.1) (get_or_from_slice_get items c.unwrap-index.result message message here); rest = filled_is _ _ is ∙ without_is c.args.place items c.unwrap-index.result c.self.invariant.1 index })

@@ -3,20 +3,14 @@ use Rattle.std.specs.Option.{option_map}
 use Rattle.mq_index.proofs.Sames.{same_picks}
 use Rattle.mq_index.proofs.same.SameType.find.Goals as goal
 
-pub returns-then-is_picked-clause-found : goal.returns-then-is_picked-clause-found
-returns-then-is_picked-clause-found g c =
+pub returns-then-is_picked : goal.returns-then-is_picked
+returns-then-is_picked g c =
     let tested = rw (← c.self.view_is) at c.is_picked.ensures in
     let is = same_picks (λ m. m.1.mtype) c.self.inside.mtype c.self.inside.list.messages c.args.selection c.self.invariant.0 true (cc (tested, c.if-is_picked.true)) in
-    rw (← c.self.view_is) (c.find.ensures ∙ ap (option_map (λ m. m.0)) (sym is))
+    rw (← c.self.view_is) (record { found = c.find.ensures ∙ ap (option_map (λ m. m.0)) (sym is); same = c.self.invariant.0 })
 
-pub returns-else-is_picked-clause-found : goal.returns-else-is_picked-clause-found
-returns-else-is_picked-clause-found g c =
+pub returns-else-is_picked : goal.returns-else-is_picked
+returns-else-is_picked g c =
     let tested = rw (← c.self.view_is) at c.is_picked.ensures in
     let is = same_picks (λ m. m.1.mtype) c.self.inside.mtype c.self.inside.list.messages c.args.selection c.self.invariant.0 false (cc (tested, c.if-is_picked.false)) in
-    rw (← c.self.view_is) (ap (option_map (λ m. m.0)) (sym is))
-
-pub returns-then-is_picked-clause-same : goal.returns-then-is_picked-clause-same
-returns-then-is_picked-clause-same g c = rw (← c.self.view_is) c.self.invariant.0
-
-pub returns-else-is_picked-clause-same : goal.returns-else-is_picked-clause-same
-returns-else-is_picked-clause-same g c = rw (← c.self.view_is) c.self.invariant.0
+    rw (← c.self.view_is) (record { found = ap (option_map (λ m. m.0)) (sym is); same = c.self.invariant.0 })

@@ -1,6 +1,6 @@
 use Rattle.std.proofs.Common.{◌≡◌, refl}
 use Rattle.mq_message.specs.Text.{text_part}
-use Rattle.mq_message.proofs.Parts.{part_of, IsPartOf}
+use Rattle.mq_message.proofs.Parts.{held_by, part_of}
 use Rattle.mq_message.proofs.Loans.{part_left}
 use Rattle.mq_message.proofs.text.Text.part_mut.Goals as goal
 
@@ -8,16 +8,12 @@ pub returns : goal.returns
 returns g c =
     let text = c.args.self.now in
     let i = c.args.i in
-    let len = c.self.inside.len in
-    let b = c.in-Some.block in
-    let is : IsPartOf text len i b =
-    part_of text len i c.self.inside.block b c.self.view_is c.in-Some.is c.self.invariant
-    c.requires in
+    let is = part_of i (held_by c.self.inside.len c.self.view_is c.in-Some.is c.self.invariant) c.requires in
     let value : c.front_mut.result.now ≡ text_part text.bytes i =
     rw (c.front_mut.ensures.value, c.in-Some.is, c.part_len-len.ensures, ← is.part) refl in (
       (
         refl {a = c.front_mut.result.ghost_name},
-        λ w. rw c.in-Some.is (part_left text len i b w is),
+        λ w. rw c.in-Some.is (part_left text c.self.inside.len i c.in-Some.block w is),
       ),
       record { writes_back = tt; value = value },
     )

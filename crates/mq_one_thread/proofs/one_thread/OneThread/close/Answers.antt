@@ -6,7 +6,7 @@ use Rattle.mq_table.specs.KeptPart.{IsLawfulSlot, WaitsNow}
 use Rattle.mq_one_thread.specs.State.{State}
 use Rattle.mq_one_thread.specs.Texts.{bytes_of}
 use Rattle.mq_one_thread.proofs.CloseLemmas.{all_closed}
-use Rattle.mq_one_thread.proofs.HomeLemmas.{last_home, endings_kept, none_left, reversed}
+use Rattle.mq_one_thread.proofs.HomeLemmas.{last_home, endings_kept, none_home, reversed}
 use Rattle.mq_one_thread.proofs.one_thread.OneThread.close.Goals as goal
 
 pub loop-slot-preserved : goal.loop-slot-preserved
@@ -34,7 +34,7 @@ returns-clause-slots g c =
 pub returns-clause-arena : goal.returns-clause-arena
 returns-clause-arena g c =
     let none = nil_from_length c.loop-slot.slots.items (omega (arith, c.in_default.ensures.cases, c.loop-slot.slots.ok)) in
-    sym (none_left c.loop-slot.arena) ∙ rw none at c.loop-slot.invariant.1
+    sym (none_home c.loop-slot.arena) ∙ rw none at c.loop-slot.invariant.1
     ∙ ap (λ (s : State). all_home s.slots s.arena) c.self.view_is
 
 pub returns-clause-closed : goal.returns-clause-closed

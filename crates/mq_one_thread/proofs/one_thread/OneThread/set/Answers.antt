@@ -1,6 +1,6 @@
-use Rattle.std.proofs.Common.{refl, arith}
-use Rattle.std.proofs.lemmas.Grind.{common_steps}
-use Rattle.mq_table.proofs.KeptStays.{kept_set_stays}
+use Rattle.std.proofs.Common.{refl}
+use Rattle.mq_one_thread.specs.Texts.{bytes_of}
+use Rattle.mq_table.proofs.OneMore.{set_more}
 use Rattle.mq_one_thread.proofs.KeptLemmas.{kept_on, kept_same}
 use Rattle.mq_one_thread.proofs.one_thread.OneThread.set.Goals as goal
 
@@ -8,21 +8,11 @@ pub invariant_of-self : goal.invariant_of-self
 invariant_of-self g c =
     let within = rw (← c.self.view_is) at c.in_ok-k.ensures.within in
     let live = rw (← c.self.view_is) at c.in_ok-k.ensures.live in
-    kept_on _ _ _ _ _ c.self.invariant _ within _ c.set.new.self _ c.index_mut.ensures.value
-    c.set.ensures.lawful c.set.ensures.waits live
-    (λ there. kept_set_stays _ _ there c.args.qbytes c.args.seat c.args.moment _ c.in-Ok.ensures.ok)
+    kept_on _ _ _ _ _ c.self.invariant _ within _ c.set.new.self _ c.index_mut.ensures.value live _
+    (set_more bytes_of _ _ c.args.qbytes c.args.seat c.args.moment _ c.in-Ok.ensures.answer)
 
 pub invariant_of-self-in-Err : goal.invariant_of-self-in-Err
 invariant_of-self-in-Err g c =
     let within = rw (← c.self.view_is) at c.in_ok-k.ensures.within in
     kept_same _ _ _ _ _ c.self.invariant _ within _ c.set.new.self _ c.index_mut.ensures.value
-    c.set.ensures.lawful c.set.ensures.waits _ refl c.in-Err.ensures.unchanged
-
-pub returns-in-Ok-clause-ok : goal.returns-in-Ok-clause-ok
-returns-in-Ok-clause-ok g c = grind (arith, common_steps)
-
-pub returns-in-Err-clause-refused : goal.returns-in-Err-clause-refused
-returns-in-Err-clause-refused g c = grind (arith, common_steps)
-
-pub returns-in-Err-clause-unchanged : goal.returns-in-Err-clause-unchanged
-returns-in-Err-clause-unchanged g c = grind (arith, common_steps)
+    _ refl c.in-Err.ensures.answer.unchanged

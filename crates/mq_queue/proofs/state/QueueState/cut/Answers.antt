@@ -1,6 +1,6 @@
 use Rattle.std.proofs.Common.{arith, rules, ◌+◌, ◌≤◌, length}
 use Rattle.mq_queue.specs.declared.limits.TheConstants.{MAX_CUT}
-use Rattle.mq_queue.proofs.Keeps.{cut_base, cut_kept, cut_known, sound_kept}
+use Rattle.mq_queue.proofs.Keeps.{cut_base, cut_kept, cut_known}
 use Rattle.mq_queue.proofs.state.QueueState.cut.Goals as goal
 
 pub invariant_of-self : goal.invariant_of-self
@@ -14,14 +14,3 @@ pub returns-clause-known : goal.returns-clause-known
 returns-clause-known g c =
     let after = cut_base g.B.Body.bytes c.self.inside.base _ c.self.inside.tail.items (g.W.Waiting.messages c.self.inside.waiting) c.self.inside.kept c.in_ok-places.places c.of-waiting.result (search (rules, c.replace-base.ensures.after)) (omega (arith, c.in_ok-places.ensures.value)) (search (rules, c.of-waiting.ensures, c.in_ok-entries.ensures)) in
     rw (← c.self.view_is) (cut_known g.B.Body.bytes _ _ _ _ _ c.self.invariant after)
-
-pub returns-clause-sound : goal.returns-clause-sound
-returns-clause-sound g c = sound_kept g.B.Body.bytes _ _ _ _ (invariant_of-self g c)
-
-pub returns-in_err-entries-clause-sound : goal.returns-in_err-entries-clause-sound
-returns-in_err-entries-clause-sound g c =
-    rw (← c.self.view_is) (sound_kept g.B.Body.bytes _ _ _ _ c.self.invariant)
-
-pub returns-in_err-places-clause-sound : goal.returns-in_err-places-clause-sound
-returns-in_err-places-clause-sound g c =
-    rw (← c.self.view_is) (sound_kept g.B.Body.bytes _ _ _ _ c.self.invariant)

@@ -6,80 +6,64 @@ use Rattle.mq_message.specs.Text.{PlainText}
 use Rattle.mq_message.specs.declared.message.Message.{Message}
 use Rattle.mq_one_thread.specs.declared.errno.Errno.TheVariants.{EAGAIN}
 use Rattle.mq_table.specs.Ids.{slot_of}
-use Rattle.mq_shared.proofs.RefusalLemmas.{or_right, send_may}
-use Rattle.mq_shared.proofs.SeenLemmas.{decided_send, done_send, enters_again}
+use Rattle.mq_shared.proofs.RefusalLemmas.{may_be_sent, or_right, send_may, turned_away}
+use Rattle.mq_shared.proofs.SeenLemmas.{decided_send, done_send, enters}
 use Rattle.mq_shared.proofs.messages.Place+P+N+Copies+N.send.Goals as goal
 
 pub loop-preserved : goal.loop-preserved
 loop-preserved g c =
-    let entered = c.enter-held.ensures in
-    let now = c.enter-held.new.seat in
-    let s = c.deref_mut.result.now in
-    let had = c.loop.invariant in
-    let h = enters_again c.args.seat.now c.loop.seat now (slot_of c.args.id) c.slot.result s _ c.slot.ensures.value c.deref_mut.ensures.value had.1 had.2 entered.same entered.later entered.low entered.number entered.known in
-    rw c.in-Err.ensures.same (search rules, h.same, h.later)
+    let h = enters c.args.seat.now c.loop.seat c.enter-held.new.seat (slot_of c.args.id) c.slot.result c.deref_mut.result.now _ c.slot.ensures.value c.deref_mut.ensures.value c.loop.invariant.1 c.enter-held.ensures in
+    rw c.in-Err.ensures.same (search rules, h.look)
 
-pub returns-in-Ok-clause-later : goal.returns-in-Ok-clause-later
-returns-in-Ok-clause-later g c =
-    let entered = c.enter-held.ensures in
+pub returns-in-Ok-clause-answer : goal.returns-in-Ok-clause-answer
+returns-in-Ok-clause-answer g c =
     let now = c.enter-held.new.seat in
     let s = c.deref_mut.result.now in
     let had = c.loop.invariant in
-    let h = enters_again c.args.seat.now c.loop.seat now (slot_of c.args.id) c.slot.result s _ c.slot.ensures.value c.deref_mut.ensures.value had.1 had.2 entered.same entered.later entered.low entered.number entered.known in
+    let h = enters c.args.seat.now c.loop.seat now (slot_of c.args.id) c.slot.result s _ c.slot.ensures.value c.deref_mut.ensures.value had.1 c.enter-held.ensures in
     let fits : SFits w64 c.args.mtype = search rules in
     let told = c.in-Ok.ensures in
-    (done_send c.args.seat.now now c.send.new.seat (slot_of c.args.id) s h c.args.id _
+    let done =
+    done_send c.args.seat.now now c.send.new.seat (slot_of c.args.id) s h c.args.id _
     c.args.mtype c.args.tag c.args.moment c.loop.text c.send.new.self c.requires.positive
-    told.learned (simp to_z-of_z at told.ok)).0
+    told.counted told.learned (simp to_z-of_z at told.ok) in record {
+      early = may_be_sent g.N.Names.slots c.args.id c.args.mtype c.requires.positive c.requires.within;
+      step = done.0;
+      done = rw (← had.0) done.1;
+    }
 
-pub returns-in-Ok-clause-done : goal.returns-in-Ok-clause-done
-returns-in-Ok-clause-done g c =
-    let entered = c.enter-held.ensures in
+pub returns-then-ne-clause-answer : goal.returns-then-ne-clause-answer
+returns-then-ne-clause-answer g c =
     let now = c.enter-held.new.seat in
     let s = c.deref_mut.result.now in
     let had = c.loop.invariant in
-    let h = enters_again c.args.seat.now c.loop.seat now (slot_of c.args.id) c.slot.result s _ c.slot.ensures.value c.deref_mut.ensures.value had.1 had.2 entered.same entered.later entered.low entered.number entered.known in
+    let h = enters c.args.seat.now c.loop.seat now (slot_of c.args.id) c.slot.result s _ c.slot.ensures.value c.deref_mut.ensures.value had.1 c.enter-held.ensures in
     let fits : SFits w64 c.args.mtype = search rules in
-    let told = c.in-Ok.ensures in
-    rw (← had.0)
-    (done_send c.args.seat.now now c.send.new.seat (slot_of c.args.id) s h c.args.id _
-    c.args.mtype c.args.tag c.args.moment c.loop.text c.send.new.self c.requires.positive
-    told.learned (simp to_z-of_z at told.ok)).1
-
-pub returns-then-ne-clause-refused : goal.returns-then-ne-clause-refused
-returns-then-ne-clause-refused g c =
+    let message : Message PlainText = record {
+      mtype = c.args.mtype;
+      sender = now.number;
+      tag = c.args.tag;
+      body = c.loop.text;
+    } in
+    let told = c.in-Err.ensures in
+    let refused = simp to_z-of_z at told.refused in
     let ends : Bool = g.T.Patience.ends in
     let at_once : c.in-Err.refusal.refused.errno ≡ EAGAIN → c.args.flags.nowait ≡ true =
     λ same. search (rules, same) in
-    let again : c.in-Err.refusal.refused.errno ≡ EAGAIN → (ends || c.args.flags.nowait) ≡ true =
-    λ same. or_right ends c.args.flags.nowait (at_once same) in
-    let now = c.enter-held.new.seat in
-    let message : Message PlainText = record {
-      mtype = c.args.mtype;
-      sender = now.number;
-      tag = c.args.tag;
-      body = c.loop.text;
-    } in
-    let fits : SFits w64 c.args.mtype = search rules in
-    send_may c.deref_mut.result.now (ends || c.args.flags.nowait) c.args.id message c.args.moment
-    c.in-Err.refusal.refused c.requires.positive (simp to_z-of_z at c.in-Err.ensures.refused) again
+    let may = send_may s (ends || c.args.flags.nowait) c.args.id message c.args.moment c.in-Err.refusal.refused c.requires.positive refused (λ same. or_right ends c.args.flags.nowait (at_once same)) in
+    rw (told.same, ← had.0)
+    (turned_away _ _ _ _ c.args.seat.now now c.in-Err.refusal.refused
+    (may_be_sent g.N.Names.slots c.args.id c.args.mtype c.requires.positive c.requires.within)
+    h.look may
+    (decided_send c.args.seat.now now now (slot_of c.args.id) s h c.args.id message c.args.moment _
+    h.known refused))
 
-pub returns-then-ne-clause-later : goal.returns-then-ne-clause-later
-returns-then-ne-clause-later g c =
-    let entered = c.enter-held.ensures in
+pub returns-in_default-clause-answer : goal.returns-in_default-clause-answer
+returns-in_default-clause-answer g c =
     let now = c.enter-held.new.seat in
     let s = c.deref_mut.result.now in
     let had = c.loop.invariant in
-    let h = enters_again c.args.seat.now c.loop.seat now (slot_of c.args.id) c.slot.result s _ c.slot.ensures.value c.deref_mut.ensures.value had.1 had.2 entered.same entered.later entered.low entered.number entered.known in
-    rw c.in-Err.ensures.same h.later
-
-pub returns-then-ne-clause-decided : goal.returns-then-ne-clause-decided
-returns-then-ne-clause-decided g c =
-    let entered = c.enter-held.ensures in
-    let now = c.enter-held.new.seat in
-    let s = c.deref_mut.result.now in
-    let had = c.loop.invariant in
-    let h = enters_again c.args.seat.now c.loop.seat now (slot_of c.args.id) c.slot.result s _ c.slot.ensures.value c.deref_mut.ensures.value had.1 had.2 entered.same entered.later entered.low entered.number entered.known in
+    let h = enters c.args.seat.now c.loop.seat now (slot_of c.args.id) c.slot.result s _ c.slot.ensures.value c.deref_mut.ensures.value had.1 c.enter-held.ensures in
     let fits : SFits w64 c.args.mtype = search rules in
     let message : Message PlainText = record {
       mtype = c.args.mtype;
@@ -88,34 +72,12 @@ returns-then-ne-clause-decided g c =
       body = c.loop.text;
     } in
     let told = c.in-Err.ensures in
+    let refused = simp to_z-of_z at told.refused in
+    let ends : (g.T.Patience.ends || c.args.flags.nowait) ≡ true = search rules in
+    let may = send_may s (g.T.Patience.ends || c.args.flags.nowait) c.args.id message c.args.moment c.in-Err.refusal.refused c.requires.positive refused (λ same. ends) in
     rw (told.same, ← had.0)
-    (decided_send c.args.seat.now now now (slot_of c.args.id) s h c.args.id message
-    c.args.moment _ h.known (simp to_z-of_z at told.refused))
-
-pub returns-in_default-clause-later : goal.returns-in_default-clause-later
-returns-in_default-clause-later g c =
-    let entered = c.enter-held.ensures in
-    let now = c.enter-held.new.seat in
-    let s = c.deref_mut.result.now in
-    let had = c.loop.invariant in
-    let h = enters_again c.args.seat.now c.loop.seat now (slot_of c.args.id) c.slot.result s _ c.slot.ensures.value c.deref_mut.ensures.value had.1 had.2 entered.same entered.later entered.low entered.number entered.known in
-    rw c.in-Err.ensures.same h.later
-
-pub returns-in_default-clause-decided : goal.returns-in_default-clause-decided
-returns-in_default-clause-decided g c =
-    let entered = c.enter-held.ensures in
-    let now = c.enter-held.new.seat in
-    let s = c.deref_mut.result.now in
-    let had = c.loop.invariant in
-    let h = enters_again c.args.seat.now c.loop.seat now (slot_of c.args.id) c.slot.result s _ c.slot.ensures.value c.deref_mut.ensures.value had.1 had.2 entered.same entered.later entered.low entered.number entered.known in
-    let fits : SFits w64 c.args.mtype = search rules in
-    let message : Message PlainText = record {
-      mtype = c.args.mtype;
-      sender = now.number;
-      tag = c.args.tag;
-      body = c.loop.text;
-    } in
-    let told = c.in-Err.ensures in
-    rw (told.same, ← had.0)
-    (decided_send c.args.seat.now now now (slot_of c.args.id) s h c.args.id message
-    c.args.moment _ h.known (simp to_z-of_z at told.refused))
+    (turned_away _ _ _ _ c.args.seat.now now c.in-Err.refusal.refused
+    (may_be_sent g.N.Names.slots c.args.id c.args.mtype c.requires.positive c.requires.within)
+    h.look may
+    (decided_send c.args.seat.now now now (slot_of c.args.id) s h c.args.id message c.args.moment _
+    h.known refused))

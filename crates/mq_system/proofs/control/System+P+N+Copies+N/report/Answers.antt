@@ -1,5 +1,5 @@
 use Rattle.std.proofs.Common.{◌≡◌, ◌+◌, ◌<◌, ◌∙◌, length, slice_set, arith, rules, sym}
-use Rattle.mq_shared.proofs.LaterLemmas.{later_trans, same_trans}
+use Rattle.mq_shared.proofs.LaterLemmas.{look_trans}
 use Rattle.mq_system.proofs.ReportLemmas.{AreRows, all_rows, rows_more}
 use Rattle.mq_system.proofs.control.System+P+N+Copies+N.report.Goals as goal
 
@@ -12,13 +12,12 @@ loop-number-preserved g c =
     let slots : c.slots-number-end.result ≡ g.N.Names.slots = search rules in
     let within : c.loop-number.number < length c.loop-number.rows = search rules in
     let low : c.loop-number.number < length seat.fronts =
-    omega (arith, had.2.count, c.holds.ensures.fronts, slots, c.loop-number-test.true) in
+    omega (arith, had.1.later.count, c.holds.ensures.fronts, slots, c.loop-number-test.true) in
     let more : AreRows now.fronts (slice_set c.loop-number.rows c.loop-number.number c.row.result) (c.loop-number.number + 1) =
     rows_more seat now c.loop-number.rows c.loop-number.number c.row.result within low told.others
-    told.row had.3 in (
+    told.row had.2 in (
       search rules,
-      same_trans c.args.seat.now seat now had.1 told.same,
-      later_trans c.args.seat.now seat now had.2 told.later,
+      look_trans c.args.seat.now seat now had.1 (record { same = told.same; later = told.later }),
       search (rules, more),
     )
 
@@ -28,6 +27,6 @@ returns-clause-rows g c =
     let seat = c.loop-number.seat in
     let slots : c.slots-number-end.result ≡ g.N.Names.slots = search rules in
     let same : length c.loop-number.rows ≡ length seat.fronts =
-    omega (arith, had.0, c.requires, had.2.count, c.holds.ensures.fronts) in
+    omega (arith, had.0, c.requires, had.1.later.count, c.holds.ensures.fronts) in
     all_rows seat.fronts c.loop-number.rows same
-    (λ k d less. had.3 k d (omega (arith, less, had.0, c.requires, slots, c.loop-number.end-fits)))
+    (λ k d less. had.2 k d (omega (arith, less, had.0, c.requires, slots, c.loop-number.end-fits)))

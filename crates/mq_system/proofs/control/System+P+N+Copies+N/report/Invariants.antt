@@ -1,10 +1,10 @@
 use Rattle.std.proofs.Common.{◌≡◌, length}
-use Rattle.mq_shared.specs.Seat.{IsLater, IsSame}
+use Rattle.mq_shared.specs.Outcome.{IsLook}
 use Rattle.mq_system.proofs.ReportLemmas.{AreRows}
 use Rattle.mq_system.proofs.control.System+P+N+Copies+N.report.Given as goal
 
 -- the rows so far
 abbrev pub invariant-loop-number : goal.invariant-loop-number
 invariant-loop-number g l =
-    (length l.rows ≡ length l.fn.rows) × IsSame l.fn.seat l.seat × IsLater l.fn.seat l.seat
+    (length l.rows ≡ length l.fn.rows) × IsLook l.fn.seat l.seat
     × AreRows l.seat.fronts l.rows l.number

@@ -12,7 +12,7 @@ returns-in-Some-search-clause-found g c =
     let mid = c.look.new.seat in
     let now = c.search.new.seat in
     let told = simp to_z-of_z at c.in-Some-search.ensures.found in
-    found_before c.args.key c.args.seat.now mid now _ c.look.ensures.later told
+    found_before c.args.key c.args.seat.now mid now _ c.look.ensures.look.later told
 
 pub returns-in-None-clause-lacked : goal.returns-in-None-clause-lacked
 returns-in-None-clause-lacked g c =
@@ -20,4 +20,4 @@ returns-in-None-clause-lacked g c =
     let mid = c.look.new.seat in
     let now = c.search.new.seat in
     let told = simp to_z-of_z at c.in-None.ensures.lacked in
-    below_around _ c.args.seat.now mid now now _ c.look.ensures.later (later_self now) told
+    below_around _ c.args.seat.now mid now now _ c.look.ensures.look.later (later_self now) told

@@ -1,33 +1,30 @@
-use Rattle.std.proofs.Common.{ℕ, ◌≡◌, rules, refl}
+use Rattle.std.proofs.Common.{rules}
 use mir.Val.{SFits}
 use mir.Syntax.{w32}
 use Rattle.std.proofs.lemmas.Int.{to_z-of_z}
-use Rattle.mq_shared.proofs.LaterLemmas.{later_self, later_trans, same_self, same_trans}
-use Rattle.mq_system.proofs.GetLemmas.{below_around, below_more, found, made_before}
+use Rattle.mq_shared.proofs.LaterLemmas.{look_trans}
+use Rattle.mq_system.proofs.GetLemmas.{below_more, found}
 use Rattle.mq_system.proofs.get.System+P+N+Copies+N.search.Goals as goal
 
 pub returns-in-Some-clause-found : goal.returns-in-Some-clause-found
 returns-in-Some-clause-found g c =
     let fits : SFits w32 c.args.key = search rules in
-    let had = c.loop-number.invariant in
-    let now = c.with_key.new.seat in
-    let told = simp to_z-of_z at c.in-Some.ensures.found in
-    found c.loop-number.number c.args.key c.args.seat.now c.loop-number.seat now _
-    had.1 c.with_key.ensures.later told
+    let told = simp to_z-of_z at c.in-Some.ensures.answer in
+    found c.loop-number.number c.args.key c.args.seat.now c.loop-number.seat c.with_key.new.seat _
+    c.loop-number.invariant.0.later c.with_key.ensures.look.later told
 
-pub returns-in-Some-clause-later : goal.returns-in-Some-clause-later
-returns-in-Some-clause-later g c =
-    let had = c.loop-number.invariant in
-    later_trans c.args.seat.now c.loop-number.seat c.with_key.new.seat had.1 c.with_key.ensures.later
+pub returns-in-Some-clause-look : goal.returns-in-Some-clause-look
+returns-in-Some-clause-look g c =
+    look_trans c.args.seat.now c.loop-number.seat c.with_key.new.seat c.loop-number.invariant.0
+    c.with_key.ensures.look
 
 pub loop-number-preserved : goal.loop-number-preserved
 loop-number-preserved g c =
     let had = c.loop-number.invariant in
     let seat = c.loop-number.seat in
     let now = c.with_key.new.seat in
-    let told = c.in_default.ensures.lacking in (
-      same_trans c.args.seat.now seat now had.0 c.with_key.ensures.same,
-      later_trans c.args.seat.now seat now had.1 c.with_key.ensures.later,
-      below_more _ c.args.seat.now seat now c.loop-number.number had.1 c.with_key.ensures.later
-          told had.2,
+    let look = c.with_key.ensures.look in (
+      look_trans c.args.seat.now seat now had.0 look,
+      below_more _ c.args.seat.now seat now c.loop-number.number had.0.later look.later
+          c.in_default.ensures.answer had.1,
     )

@@ -15,11 +15,8 @@ invariant_of-self-2 c =
     rw told (search (rules, put)) in
     keys_entered _ _ c.args.key c.args.id c.self.invariant grown c.requires.key c.in_ok-insert.ensures.unique
 
-pub returns-clause-keys : goal.returns-clause-keys
-returns-clause-keys c = invariant_of-self-2 c
-
-pub returns-clause-ok : goal.returns-clause-ok
-returns-clause-ok c =
+pub returns : goal.returns
+returns c =
     let fits : SFits w32 c.args.key = search rules in
     let told = simp to_z-of_z at c.in_ok-insert.ensures.entries in
     let absent = rw (← c.self.view_is) at c.requires.absent in

@@ -9,11 +9,8 @@ invariant_of-self c =
     (λ k v b w g call. search rules) _ _ c.retain.ensures.filtered in
     keys_left _ _ _ c.self.invariant left c.retain.ensures.unique
 
-pub returns-clause-keys : goal.returns-clause-keys
-returns-clause-keys c = invariant_of-self c
-
-pub returns-clause-left : goal.returns-clause-left
-returns-clause-left c =
+pub returns : goal.returns
+returns c =
     let left = filter-RetainsPairs _ (λ p. not (p.1 == c.args.id)) _
     (λ k v b w g call. search rules) _ _ c.retain.ensures.filtered in
     rw (← c.self.view_is) (cc (left))

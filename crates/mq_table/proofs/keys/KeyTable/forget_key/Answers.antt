@@ -14,9 +14,6 @@ invariant_of-self c =
     (λ k v b w g call. simp to_z-of_z (search rules)) _ _ c.retain.ensures.filtered in
     keys_left _ _ _ c.self.invariant left c.retain.ensures.unique
 
-pub returns-clause-keys : goal.returns-clause-keys
-returns-clause-keys c = invariant_of-self c
-
 pub returns-clause-left : goal.returns-clause-left
 returns-clause-left c =
     let fits : SFits w32 c.args.key = search rules in

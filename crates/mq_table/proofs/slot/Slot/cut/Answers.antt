@@ -20,9 +20,3 @@ returns-clause-after g c =
     (rw c.replace-past.ensures.after c.new.ensures.items) c.cut_live.new.live c.in_ok-base.ensures.after
     (omega (arith, c.replace-made.ensures.after)) in
     rw (← c.self.view_is) (search (rules, told))
-
-pub returns-clause-lawful : goal.returns-clause-lawful
-returns-clause-lawful g c = (invariant_of-self-2 g c).lawful
-
-pub returns-clause-waits : goal.returns-clause-waits
-returns-clause-waits g c = (invariant_of-self-2 g c).waits

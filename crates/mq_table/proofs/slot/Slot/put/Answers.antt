@@ -8,23 +8,8 @@ use Rattle.mq_table.proofs.slot.Slot.put.Goals as goal
 pub invariant_of-self : goal.invariant_of-self
 invariant_of-self g c =
     let fits : SFits w32 c.args.key = search rules in
-    let next =
-    made_slot _ _ _ _ _ _ _ _ _ c.self.invariant (rw (← c.self.view_is) at c.requires.empty)
+    let new = c.requires.made.2 in
+    rw (to_z-of_z w32 _ fits, c.put_in.ensures)
+    (made_slot _ _ _ _ _ _ _ _ _ c.self.invariant (rw (← c.self.view_is) at c.requires.empty)
     (rw (← c.self.view_is) at c.requires.unused) c.args.key
-    c.requires.made.0 c.requires.made.1 c.args.queue c.requires.based c.requires.made.2
-    c.requires.empty_queue in
-    rw (to_z-of_z w32 _ fits, c.put_in.ensures) (record {
-      numbered = next.numbered;
-      counted = omega (arith, next.counted);
-      few = omega (arith, next.few);
-      short = next.short;
-      lawful = next.lawful;
-      there = next.there;
-      based = next.based;
-      last = next.last;
-      messages = next.messages;
-      waits = next.waits;
-    })
-
-pub returns-clause-lawful : goal.returns-clause-lawful
-returns-clause-lawful g c = (invariant_of-self g c).lawful
+    c.requires.made.0 c.requires.made.1 c.args.queue new.base new.tail new.messages _ (omega arith))

@@ -2,8 +2,8 @@ use Rattle.std.proofs.Common.{rules}
 use Rattle.mq_table.proofs.SlotFields.{refused_send, sent_slot}
 use Rattle.mq_table.proofs.slot.Slot.send.Goals as goal
 
-pub returns-in_err-send-clause-refused : goal.returns-in_err-send-clause-refused
-returns-in_err-send-clause-refused g c =
+pub returns-in_err-send-clause-answer : goal.returns-in_err-send-clause-answer
+returns-in_err-send-clause-answer g c =
     let told = refused_send _ _ _ _ _ _ _ _ _ c.self.invariant _ c.in-Some.is
     c.args.message c.args.moment in
     rw (← c.self.view_is, told) (search rules)
@@ -11,8 +11,4 @@ returns-in_err-send-clause-refused g c =
 pub invariant_of-self-2 : goal.invariant_of-self-2
 invariant_of-self-2 g c =
     sent_slot _ _ _ _ _ _ _ _ _ c.self.invariant _ c.in-Some.is c.send.new.self
-    c.send.ensures.base c.send.ensures.sound.waits
-    c.args.message c.args.moment c.in_ok-send.ensures.accepted c.in_ok-send.ensures.tail
-
-pub returns-clause-lawful : goal.returns-clause-lawful
-returns-clause-lawful g c = (invariant_of-self-2 g c).lawful
+    c.holds.ensures.waits _ _ _ c.in_ok-send.ensures.answer

@@ -20,10 +20,7 @@ invariant_of-self-in-Ok g c =
     let e : Event = Removed c.args.seat c.args.moment in
     let grown : c.append.new.past.items
     ≡ c.self.inside.past.items ++ (c.in-Some-take.queue.tail ++ e ∷ []) =
-    rw (c.prepare_end.ensures.items, c.in-Ok.ensures.tail) at c.append.ensures in
+    rw (c.prepare_end.ensures.items, c.in-Ok.ensures.answer.tail) at c.append.ensures in
     rw c.take.ensures.after
     (removed_slot _ _ _ _ _ _ _ _ _ c.self.invariant c.in-Some-take.queue there
     c.args.seat c.args.moment _ kept _ grown (rw (← c.self.view_is) at room))
-
-pub returns-in-Ok-clause-lawful : goal.returns-in-Ok-clause-lawful
-returns-in-Ok-clause-lawful g c = (invariant_of-self-in-Ok g c).lawful

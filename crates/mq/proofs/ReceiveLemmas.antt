@@ -1,0 +1,48 @@
+-- Bytes that one thread receives.
+use Rattle.std.proofs.Common.{◌≡◌, ℕ, ℤ, ◌≤◌, Bool, length, Result, Ok, Err, refl, ap, subst, arith}
+use Rattle.std.proofs.lemmas.List.{length-take}
+use Rattle.mq_message.specs.Text.{PlainText}
+use Rattle.mq_select.specs.Selection.{selection_of}
+use Rattle.mq_table.specs.Calls.{Receipt}
+use Rattle.mq_table.specs.Ids.{slot_of}
+use Rattle.mq_table.specs.KeptCalls.{KeptTurn, kept_receives}
+use Rattle.mq_one_thread.specs.Answer.{delivered, delivers, once}
+use Rattle.mq_one_thread.specs.Calls.{msgrcv}
+use Rattle.mq_one_thread.specs.Look.{Answer, in_slot, look}
+use Rattle.mq_one_thread.specs.Memory.{or_memory}
+use Rattle.mq_one_thread.specs.State.{State, slot_at}
+use Rattle.mq_one_thread.specs.Texts.{text_at}
+use Rattle.mq_one_thread.specs.declared.results.Delivered.{Delivered}
+use Rattle.mq_one_thread.specs.declared.results.Refused.{Refused}
+use Rattle.mq.specs.Bytes.{copied_out}
+
+-- what is handed out is no longer than there is room
+pub received_fits : (s after : State) (seat id size : ℕ) (msgtyp : ℤ) (except noerror : Bool)
+    (moment : ℕ) (d : Delivered PlainText)
+    → msgrcv s seat id size msgtyp except noerror moment ≡ Ok (d, after)
+    → length d.text.bytes ≤ size
+received_fits s after seat id size msgtyp except noerror moment d is =
+    by (look s id)
+    (kept_receives (slot_at s (slot_of id)) size (selection_of msgtyp except) noerror seat moment) is
+  where
+    told : Answer (Delivered PlainText) → Delivered PlainText
+    told (Ok turn) = turn.0
+    told (Err refused) = d
+
+    by : (looked : Result (Unit {0}) Refused) (turn : KeptTurn PlainText Receipt)
+        → once looked (in_slot s id (delivers (slot_at s (slot_of id)).messages size turn))
+        ≡ Ok (d, after)
+        → length d.text.bytes ≤ size
+    by (Ok _) (Ok turn) its =
+        let messages = (slot_at s (slot_of id)).messages in
+        let same : delivered messages size turn.0 ≡ d = ap told its in
+        subst (λ (d : Delivered PlainText). length d.text.bytes ≤ size) same
+        (omega (arith, length-take size (text_at turn.0.message.place messages).bytes))
+    by (Ok _) (Err refusal) its = cc
+    by (Err refused) turn its = cc
+
+-- that a text is copied out changes no refusal
+pub copied_memory : (memory : Refused) (answer : Answer (Delivered PlainText))
+    → or_memory memory answer ≡ or_memory memory (copied_out answer)
+copied_memory memory (Ok turn) = refl
+copied_memory memory (Err refused) = refl
