@@ -30,7 +30,7 @@ def handed_on():
     text = (CRATES / "mq" / "src" / "lib.rt").read_text()
     uses = re.findall(r"pub use ([\w:]+)::(?:(\w+)|\{([^}]*)\});", text)
     names = {it.strip() for _, one, more in uses for it in (one or more).split(",") if it.strip()}
-    crates = {path.split("::")[0] for path, _, _ in uses} | {"mq", "mq_shared"}
+    crates = {path.split("::")[0] for path, _, _ in uses} | {"mq"}
     files = [it for crate in sorted(crates) for it in sorted((CRATES / crate).glob("src/**/*.rt"))]
     return names, [it.read_text() for it in files]
 

@@ -1,6 +1,6 @@
 -- Two workers, and their answers in a list.
 use Rattle.std.proofs.Common.{◌≡◌, List, [], ◌∷◌, ◌++◌, ap, refl}
-use Rattle.mq_shared.specs.Seat.{SeatState}
+use Rattle.mq_system.specs.Seat.{SeatState}
 use Rattle.mq.specs.Either.{after_either}
 use Rattle.mq.specs.Workers.{AreAfter}
 use Rattle.mq.specs.declared.either.Either.{Either}

@@ -23,11 +23,11 @@ use Rattle.mq_table.proofs.Removed.{stays}
 use Rattle.mq_table.specs.Ids.{seq_of}
 use Rattle.mq_table.specs.Slot.{ArePast, IsEnded}
 use Rattle.mq_table.specs.SlotList.{IsSlotList, Removed, joined, standing}
-use Rattle.mq_fronts.specs.Fronts.{figures_by, stat_answer}
 use Rattle.mq_one_thread.specs.declared.errno.Errno.TheVariants.{EIDRM, EINVAL, ENOMEM}
-use Rattle.mq_shared.specs.Refusals.{out_of_slots}
-use Rattle.mq_shared.specs.Seat.{SeatState, front_of}
-use Rattle.mq_shared.specs.Seen.{Verdict, in_queue, receive_verdict, remove_verdict, send_verdict, set_verdict}
+use Rattle.mq_system.specs.Refusals.{out_of_slots}
+use Rattle.mq_system.specs.Seat.{SeatState, front_of}
+use Rattle.mq_system.specs.Seen.{Verdict, in_queue, receive_verdict, remove_verdict, send_verdict, set_verdict}
+use Rattle.mq_system.specs.Shown.{figures_by, stat_answer}
 use Rattle.mq_system.specs.Shown.{named, stat_of}
 use Rattle.mq.specs.Laws.{FindsRemoved, KnowsRemoved, StaysRefused, StaysWritten}
 

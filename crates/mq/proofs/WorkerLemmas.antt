@@ -3,7 +3,7 @@ use Rattle.std.proofs.Common.{◌≡◌, ℕ, zero, suc, ◌*◌, List, [], ◌�
 use Rattle.std.proofs.Math.Seq.{take-length}
 use Rattle.std.proofs.lemmas.List.Folds.{sum_by-replicate}
 use Rattle.mq_one_thread.specs.declared.close.ClosedSlot.{ClosedSlot}
-use Rattle.mq_shared.specs.Seat.{SeatState, counted_by, fresh_seat}
+use Rattle.mq_system.specs.Seat.{SeatState, counted_by, fresh_seat}
 use Rattle.mq_system.specs.Closed.{IsEnd, entries_in}
 use Rattle.mq_system.specs.Started.{AreFresh}
 use Rattle.mq.specs.Ended.{AreChanges}

@@ -9,11 +9,11 @@ use Rattle.mq_one_thread.specs.declared.errno.Errno.{Errno}
 use Rattle.mq_one_thread.specs.declared.errno.Errno.TheVariants.{EINVAL, ENOMEM}
 use Rattle.mq_one_thread.specs.declared.results.Delivered.{Delivered}
 use Rattle.mq_one_thread.specs.declared.results.GetFlags.{GetFlags}
-use Rattle.mq_shared.specs.Outcome.{IsLook, IsReceived, IsRefusal}
-use Rattle.mq_shared.specs.Pledge.{Pledged}
-use Rattle.mq_shared.specs.Refusals.{MayReceive, MaySend, never_sent, out_of_slots}
-use Rattle.mq_shared.specs.Seat.{SeatState}
-use Rattle.mq_shared.specs.Seen.{Verdict, receive_verdict, send_verdict}
+use Rattle.mq_system.specs.Outcome.{IsLook, IsReceived, IsRefusal}
+use Rattle.mq_system.specs.Pledge.{Pledged}
+use Rattle.mq_system.specs.Refusals.{MayReceive, MaySend, never_sent, out_of_slots}
+use Rattle.mq_system.specs.Seat.{SeatState}
+use Rattle.mq_system.specs.Seen.{Verdict, receive_verdict, send_verdict}
 use Rattle.mq_system.specs.Get.{IsGot}
 use Rattle.mq.specs.Bytes.{with_text}
 

@@ -1,6 +1,6 @@
 -- Workers of two types, and what is known of their answers.
 use Rattle.std.specs.Prelude.{◌≡◌, List, [], ◌∷◌}
-use Rattle.mq_shared.specs.Seat.{SeatState}
+use Rattle.mq_system.specs.Seat.{SeatState}
 use Rattle.mq.specs.declared.either.Either.{Either}
 use Rattle.mq.specs.declared.either.Either.TheVariants.{One, Other}
 

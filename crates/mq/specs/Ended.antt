@@ -5,7 +5,7 @@ use Rattle.mq_one_thread.specs.Closed.{IsClosed, all_home, ending_of, ends}
 use Rattle.mq_one_thread.specs.State.{State}
 use Rattle.mq_one_thread.specs.declared.close.ClosedSlot.{ClosedSlot}
 use Rattle.mq_one_thread.specs.declared.config.Config.{Config}
-use Rattle.mq_shared.specs.Seat.{SeatState, counted_by}
+use Rattle.mq_system.specs.Seat.{SeatState, counted_by}
 use Rattle.mq_system.specs.Closed.{AreDistinct, IsEnd, entries_in}
 use Rattle.mq.specs.declared.ended.Ended.{Ended}
 

@@ -6,9 +6,9 @@ use Rattle.mq_table.specs.Ids.{seq_of, slot_of}
 use Rattle.mq_table.specs.SlotList.{IsSlotList, Removed, standing}
 use Rattle.mq_one_thread.specs.declared.errno.Errno.{Errno}
 use Rattle.mq_one_thread.specs.declared.errno.Errno.TheVariants.{EIDRM}
-use Rattle.mq_shared.specs.Refusals.{out_of_slots}
-use Rattle.mq_shared.specs.Seat.{IsLater, SeatState, front_of}
-use Rattle.mq_shared.specs.Seen.{IsDone, IsRefused, Verdict, receive_verdict, remove_verdict, send_verdict, set_verdict}
+use Rattle.mq_system.specs.Refusals.{out_of_slots}
+use Rattle.mq_system.specs.Seat.{IsLater, SeatState, front_of}
+use Rattle.mq_system.specs.Seen.{IsDone, IsRefused, Verdict, receive_verdict, remove_verdict, send_verdict, set_verdict}
 use Rattle.mq_system.specs.Shown.{stat_of}
 
 -- a change that a seat made stays at its entry in all that the seat knows later

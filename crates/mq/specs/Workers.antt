@@ -1,6 +1,6 @@
 -- What is known of the answers of workers, and of the seats that they leave.
 use Rattle.std.specs.Prelude.{◌≡◌, ℕ, List, [], ◌∷◌, Option, Some, IfSome, slice_get}
-use Rattle.mq_shared.specs.Seat.{SeatState}
+use Rattle.mq_system.specs.Seat.{SeatState}
 use Rattle.mq_one_thread.specs.declared.close.ClosedSlot.{ClosedSlot}
 use Rattle.mq.specs.Ended.{AreChanges}
 

@@ -3,10 +3,10 @@ ghost use Rattle.mq_select.specs.Selection.{selection_of};
 ghost use Rattle.mq_table.specs.Cut.{IsCutOf, shown};
 ghost use Rattle.mq_table.specs.Ids.{seq_of, slot_of};
 ghost use Rattle.mq_one_thread.specs.declared.errno.Errno.TheVariants.{ENOMEM};
-ghost use Rattle.mq_shared.specs.Outcome.{IsLook, IsRefusal, IsRemoved, IsSent};
-ghost use Rattle.mq_shared.specs.Refusals.{MayRemove, MaySend, never_sent, out_of_slots};
-ghost use Rattle.mq_shared.specs.Seat.{front_of};
-ghost use Rattle.mq_shared.specs.Seen.{remove_verdict, send_verdict};
+ghost use Rattle.mq_system.specs.Outcome.{IsLook, IsRefusal, IsRemoved, IsSent};
+ghost use Rattle.mq_system.specs.Refusals.{MayRemove, MaySend, never_sent, out_of_slots};
+ghost use Rattle.mq_system.specs.Seat.{front_of};
+ghost use Rattle.mq_system.specs.Seen.{remove_verdict, send_verdict};
 ghost use Rattle.mq_system.specs.Get.{IsNotGot};
 ghost use Rattle.mq.specs.Caller.{creating, IsAsked, IsGotId, IsNotDrafted, IsNotDraftedWithin, IsNotReceivedInto, IsNotSentFrom, IsReceivedInto, IsTurnedBack};
 

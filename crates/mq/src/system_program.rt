@@ -1,8 +1,8 @@
 ghost use Rattle.std.specs.Prelude.{◌≡◌, ◌↔◌, ◌≤◌, ℕ, List, true, false, length, IfOk, IsErrOf};
 ghost use Rattle.mq_one_thread.specs.Limits.{keeps_limits};
 ghost use Rattle.mq_one_thread.specs.declared.config.Config.{Config as Sizes};
-ghost use Rattle.mq_shared.specs.Seat.{SeatState, AreNumbered};
-ghost use Rattle.mq_shared.specs.Sizes.{AreNames};
+ghost use Rattle.mq_system.specs.Seat.{SeatState, AreNumbered};
+ghost use Rattle.mq_system.specs.Sizes.{AreNames};
 ghost use Rattle.mq_system.specs.Started.{AreFresh};
 ghost use Rattle.mq.specs.Ended.{IsAfterAll, IsEnded};
 

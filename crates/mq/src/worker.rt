@@ -1,4 +1,4 @@
-ghost use Rattle.mq_shared.specs.Seat.{SeatState};
+ghost use Rattle.mq_system.specs.Seat.{SeatState};
 
 use mq_system::{Names, Pledge, Seat, System};
 use std::alloc::Global;

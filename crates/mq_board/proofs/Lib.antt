@@ -1,6 +1,7 @@
 pub mod Fronts
 pub mod Cells
 pub mod Adding
+pub mod Names
 pub mod Rolling
 pub mod Rows
 pub mod Seats

@@ -1,5 +1,6 @@
 pub mod Entries
 pub mod Histories
+pub mod Named
 pub mod Readers
 pub mod Rolls
 pub mod Rows

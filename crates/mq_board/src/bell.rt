@@ -15,24 +15,24 @@ pub(crate) struct Bell {
 
 impl Bell {
     /// A new bell, which was not rung.
-    pub fn new(alloc: Global) -> Result<Bell, AllocError> {
+    pub(crate) fn new(alloc: Global) -> Result<Bell, AllocError> {
         let shown = Arc::new(alloc, CachePadded::new(AtomicU64::new(0)))?;
         Ok(Bell { shown })
     }
 
     /// Another handle to the same bell.
-    pub fn again(&self) -> Result<Bell, AllocError> {
+    pub(crate) fn again(&self) -> Result<Bell, AllocError> {
         let shown = Arc::try_clone(&self.shown)?;
         Ok(Bell { shown })
     }
 
     /// Says that so many events are shown.
-    pub fn ring(&self, count: u64) {
+    pub(crate) fn ring(&self, count: u64) {
         self.shown.store(count, Ordering::SeqCst);
     }
 
     /// How many events were shown when it was last rung.
-    pub fn heard(&self) -> u64 {
+    pub(crate) fn heard(&self) -> u64 {
         self.shown.load(Ordering::SeqCst)
     }
 }

@@ -137,7 +137,7 @@ pub struct Opened {
 }
 
 impl Opened {
-    pub fn new() -> Opened {
+    pub(crate) fn new() -> Opened {
         let (seen, mut first, _second) = Seen::open(Start::alone(), 0, 0);
         Opened {
             head: Word::tracked(0, &mut first),
@@ -198,21 +198,21 @@ impl<J: Naming> Model for Front<J> {
 }
 
 impl<J: Naming> Front<J> {
-    pub fn board(&self) -> u8
+    pub(crate) fn board(&self) -> u8
         ensures { result ≡ self.now.board }
     {
         self.number
     }
 
     /// How many events it has.
-    pub fn count(&self) -> u64
+    pub(crate) fn count(&self) -> u64
         ensures { result ≡ length self.now.events }
     {
         self.count
     }
 
     /// A copy, which takes no memory.
-    pub fn again(&self) -> Front<J>
+    pub(crate) fn again(&self) -> Front<J>
         ensures { result ≡ self.now }
     {
         Front {
@@ -224,7 +224,7 @@ impl<J: Naming> Front<J> {
     }
 
     /// Whether the other front of this board is at least as long: it then begins with this one.
-    pub fn begins(&self, other: &Front<J>) -> bool
+    pub(crate) fn begins(&self, other: &Front<J>) -> bool
         requires { other.now.board ≡ self.now.board }
         ensures longer { IsTrue result ↔ (length self.now.events ≤ length other.now.events) }
         ensures prefix { IsTrue result → IsPrefix self.now.events other.now.events }
@@ -262,7 +262,7 @@ impl<J: Naming> Model for Baton<J> {
 }
 
 impl<J: Naming> Baton<J> {
-    pub fn board(&self) -> u8
+    pub(crate) fn board(&self) -> u8
         ensures { result ≡ self.now.board }
     {
         self.number
@@ -287,7 +287,7 @@ impl<J: Naming> Baton<J> {
     }
 
     /// Adds an event. It takes no memory.
-    pub fn add(&mut self, event: Event)
+    pub(crate) fn add(&mut self, event: Event)
         requires { length self.old.events < 2 ^ 64 - 1 }
         ensures { self.new ≡ history self.old.board (self.old.events ++ event ∷ []) }
     {
@@ -302,14 +302,14 @@ impl<J: Naming> Baton<J> {
     }
 
     /// How many events the history has.
-    pub fn count(&self) -> u64
+    pub(crate) fn count(&self) -> u64
         ensures { result ≡ length self.now.events }
     {
         self.count
     }
 
     /// All that was added, as a front.
-    pub fn front(&self) -> Front<J>
+    pub(crate) fn front(&self) -> Front<J>
         ensures { result ≡ self.now }
     {
         Front {
@@ -321,7 +321,7 @@ impl<J: Naming> Baton<J> {
     }
 
     /// Shows that a front of this board is a beginning of the history.
-    pub fn covers(&mut self, front: &Front<J>)
+    pub(crate) fn covers(&mut self, front: &Front<J>)
         requires { front.now.board ≡ self.old.board }
         ensures same { self.new ≡ self.old }
         ensures prefix { IsPrefix front.now.events self.old.events }

@@ -14,7 +14,7 @@ mod row;
 mod writer;
 
 pub use history::{Naming, Opened};
-pub use making::{OpenedBoard, board};
+pub use making::{OpenedBoard, board, next_board, open_boards};
 pub use posted::{Posted, Told};
 pub use posting::Posting;
 pub use reader::BoardReader;

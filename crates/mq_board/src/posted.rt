@@ -55,7 +55,7 @@ impl<J: Naming> Posted<J> {
     }
 
     /// A copy, which takes no memory.
-    pub fn again(&self) -> Posted<J>
+    pub(crate) fn again(&self) -> Posted<J>
         ensures { result ≡ self.now }
     {
         Posted {

@@ -77,7 +77,7 @@ impl<J: Naming> Model for Place<J> {
 }
 
 impl<J: Naming> Place<J> {
-    pub fn number(&self) -> u16
+    pub(crate) fn number(&self) -> u16
         ensures { result ≡ self.now.number }
     {
         self.number
@@ -94,7 +94,7 @@ pub struct OpenedRoll {
 }
 
 impl OpenedRoll {
-    pub fn new() -> OpenedRoll {
+    pub(crate) fn new() -> OpenedRoll {
         let (seen, mut first, _second) = Seen::open(Start::alone(), 0, 0);
         OpenedRoll {
             head: Word::tracked(0, &mut first),
@@ -141,7 +141,7 @@ impl<J: Naming> Model for Roll<J> {
 
 impl<J: Naming> Roll<J> {
     /// The next place, where so many were given out. `None` where it is another number.
-    pub fn give_out(&self, given: u16) -> Option<Place<J>>
+    pub(crate) fn give_out(&self, given: u16) -> Option<Place<J>>
         requires { given + 1 < 2 ^ 16 }
         ensures { IfSome result (λ place.
             place ≡ record { board = self.now.board; number = given + 1 }) }
@@ -175,7 +175,7 @@ impl<J: Naming> Roll<J> {
     }
 
     /// Takes a place home, which was not there.
-    pub fn take_home(&mut self, place: Place<J>)
+    pub(crate) fn take_home(&mut self, place: Place<J>)
         requires { place.board ≡ self.old.board }
         ensures board { self.new.board ≡ self.old.board }
         ensures away { ¬ Contains self.old.home place.number }

@@ -6,7 +6,7 @@ use Rattle.std.specs.Io.KnownBytes.{Consumes, IsAtEnd, Keeps}
 use Rattle.std.proofs.KnownBytes.{Appends-kept, Appends-trans, Consumes-all, Keeps-trans}
 use Rattle.mq_one_thread.specs.declared.close.ClosedSlot.{ClosedSlot}
 use Rattle.mq_one_thread.specs.declared.config.Config.{Config}
-use Rattle.mq_shared.specs.Seat.{SeatState, fresh_seat}
+use Rattle.mq_system.specs.Seat.{SeatState, fresh_seat}
 use Rattle.mq_system.specs.Started.{AreFresh}
 use Rattle.mq_cli.specs.declared.fault.RunFault.{RunFault}
 use Rattle.mq_cli.specs.declared.fault.RunFault.TheVariants.{Script, Size, Read, Write, Memory, Thread}

@@ -1,9 +1,9 @@
 use Rattle.std.proofs.Common.{◌≡◌, ℕ, ◌||◌, Bool, true, false, refl}
 use Rattle.mq_one_thread.specs.declared.errno.Errno.{Errno}
 use Rattle.mq_one_thread.specs.declared.results.Refused.{Refused}
-use Rattle.mq_shared.specs.Outcome.{IsRefusal, IsTurnedAway}
-use Rattle.mq_shared.specs.Seat.{SeatState}
-use Rattle.mq_shared.specs.Seen.{Verdict}
+use Rattle.mq_system.specs.Outcome.{IsRefusal, IsTurnedAway}
+use Rattle.mq_system.specs.Seat.{SeatState}
+use Rattle.mq_system.specs.Seen.{Verdict}
 
 -- without IPC_NOWAIT a call's waits end where its patience does
 pub or_none : (ends : Bool) → (ends || false) ≡ ends

@@ -6,10 +6,10 @@ use Rattle.mq_table.specs.Ids.{seq_of, slot_of}
 use Rattle.mq_one_thread.specs.declared.errno.Errno.TheVariants.{ENOMEM}
 use Rattle.mq_one_thread.specs.declared.results.GetFlags.{GetFlags}
 use Rattle.mq_one_thread.specs.declared.results.Got.{Got}
-use Rattle.mq_shared.specs.Outcome.{IsRefusal, IsSet}
-use Rattle.mq_shared.specs.Refusals.{MaySet, out_of_slots}
-use Rattle.mq_shared.specs.Seat.{SeatState}
-use Rattle.mq_shared.specs.Seen.{set_verdict}
+use Rattle.mq_system.specs.Outcome.{IsRefusal, IsSet}
+use Rattle.mq_system.specs.Refusals.{MaySet, out_of_slots}
+use Rattle.mq_system.specs.Seat.{SeatState}
+use Rattle.mq_system.specs.Seen.{set_verdict}
 use Rattle.mq_system.specs.Get.{IsGot, IsNotGot}
 use Rattle.mq_cli.specs.declared.fault.RunFault.{RunFault}
 use Rattle.mq_cli.specs.declared.fault.RunFault.TheVariants.{Write, Memory}

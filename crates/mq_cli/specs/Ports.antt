@@ -8,10 +8,10 @@ use Rattle.mq_one_thread.specs.declared.errno.Errno.{Errno}
 use Rattle.mq_one_thread.specs.declared.errno.Errno.TheVariants.{EINVAL, ENOMEM}
 use Rattle.mq_one_thread.specs.declared.results.Delivered.{Delivered}
 use Rattle.mq_one_thread.specs.declared.results.Removal.{Removal}
-use Rattle.mq_shared.specs.Outcome.{IsReceived, IsRefusal, IsRemoved, IsSent}
-use Rattle.mq_shared.specs.Refusals.{MayReceive, MayRemove, MaySend, never_sent, out_of_slots}
-use Rattle.mq_shared.specs.Seat.{SeatState}
-use Rattle.mq_shared.specs.Seen.{receive_verdict, remove_verdict, send_verdict}
+use Rattle.mq_system.specs.Outcome.{IsReceived, IsRefusal, IsRemoved, IsSent}
+use Rattle.mq_system.specs.Refusals.{MayReceive, MayRemove, MaySend, never_sent, out_of_slots}
+use Rattle.mq_system.specs.Seat.{SeatState}
+use Rattle.mq_system.specs.Seen.{receive_verdict, remove_verdict, send_verdict}
 use Rattle.mq_cli.specs.declared.taken.Taken.{Taken}
 use Rattle.mq_cli.specs.Letters.{AreLetters}
 

@@ -7,7 +7,7 @@ use Rattle.std.specs.Io.KnownBytes.{Appends, Keeps}
 use Rattle.mq_one_thread.specs.Closed.{IsClosed}
 use Rattle.mq_one_thread.specs.declared.close.ClosedSlot.{ClosedSlot}
 use Rattle.mq_one_thread.specs.declared.config.Config.{Config}
-use Rattle.mq_shared.specs.Seat.{SeatState, fresh_seat}
+use Rattle.mq_system.specs.Seat.{SeatState, fresh_seat}
 use Rattle.mq_system.specs.Closed.{IsEnd}
 use Rattle.mq_cli.specs.declared.fault.RunFault.{RunFault}
 use Rattle.mq_cli.specs.declared.fault.RunFault.TheVariants.{Write, Memory, Thread}

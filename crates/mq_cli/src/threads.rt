@@ -3,7 +3,7 @@ ghost use Rattle.std.specs.Prelude.{OnOk, IsErrOf, length, vec_len};
 ghost use Rattle.std.specs.List.{AllZip};
 ghost use Rattle.std.specs.Io.KnownBytes.{IsAtEnd, Keeps};
 ghost use Rattle.mq_one_thread.specs.Limits.{keeps_limits};
-ghost use Rattle.mq_shared.specs.Sizes.{AreNames};
+ghost use Rattle.mq_system.specs.Sizes.{AreNames};
 ghost use Rattle.mq_cli.specs.Plans.{IsCountable, IsDone};
 ghost use Rattle.mq_cli.specs.Serial.{ReadsMoreThan, ReadsUpTo};
 ghost use Rattle.mq_cli.specs.Threads.{Flushes, IsMakingFault, RanParts, RanThreads, Tells};

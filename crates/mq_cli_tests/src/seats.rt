@@ -4,7 +4,7 @@ ghost use Rattle.std.specs.Prelude.{◌≡◌, ◌≤◌, ◌+◌, map};
 ghost use Rattle.std.specs.List.{range_with_len};
 ghost use Rattle.mq_cli.specs.Drafts.{letter};
 ghost use Rattle.mq_queue.specs.declared.limits.TheConstants.{MSGMAX};
-ghost use Rattle.mq_shared.specs.Sizes.{AreNames};
+ghost use Rattle.mq_system.specs.Sizes.{AreNames};
 
 use crate::plans::{Call, FOREVER};
 use mq_arena::LEDGER_PARTS;

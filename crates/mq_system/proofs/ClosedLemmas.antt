@@ -9,7 +9,7 @@ use Rattle.mq_queue.specs.declared.event.Event.{Event}
 use Rattle.mq_table.specs.Cut.{IsCutOf}
 use Rattle.mq_one_thread.specs.Closed.{IsEndOf, cut_in, entries_of}
 use Rattle.mq_one_thread.specs.declared.close.ClosedSlot.{ClosedSlot}
-use Rattle.mq_shared.specs.Seat.{SeatState, front_of}
+use Rattle.mq_system.specs.Seat.{SeatState, front_of}
 use Rattle.mq_system.specs.Closed.{AreEnds, entries_in}
 use Rattle.mq_system.proofs.StartLemmas.{Each, each_push}
 

@@ -12,11 +12,11 @@ use Rattle.mq_one_thread.specs.declared.errno.Errno.{Errno}
 use Rattle.mq_one_thread.specs.declared.errno.Errno.TheVariants.{ENOMEM, ENOSPC}
 use Rattle.mq_one_thread.specs.declared.results.GetFlags.{GetFlags}
 use Rattle.mq_one_thread.specs.declared.results.Got.{Got}
-use Rattle.mq_shared.specs.Making.{IsMade, IsNotMade, IsThere, Lacks, make_verdict}
-use Rattle.mq_shared.specs.Outcome.{IsLook}
-use Rattle.mq_shared.specs.Seat.{IsLater, SeatState, front_of}
-use Rattle.mq_shared.specs.Seen.{IsDone, Verdict}
-use Rattle.mq_shared.proofs.LaterLemmas.{later_self, look_trans, step_after}
+use Rattle.mq_system.specs.Making.{IsMade, IsNotMade, IsThere, Lacks, make_verdict}
+use Rattle.mq_system.specs.Outcome.{IsLook}
+use Rattle.mq_system.specs.Seat.{IsLater, SeatState, front_of}
+use Rattle.mq_system.specs.Seen.{IsDone, Verdict}
+use Rattle.mq_system.proofs.LaterLemmas.{later_self, look_trans, step_after}
 use Rattle.mq_system.specs.Get.{HadFree, IsFound, IsFree, IsGot, IsNew, IsNotGot, IsNotNew, IsTaken, MayRefuse, Was, WasAt, WasBelow, WasLacked, WhyNotGot, may_make}
 
 -- it is so now

@@ -4,7 +4,7 @@ use Rattle.std.proofs.lemmas.Bool.Decides.{eqb_tells}
 use Rattle.mq_queue.specs.Row.{row}
 use Rattle.mq_queue.specs.declared.event.Event.{Event}
 use Rattle.mq_queue.specs.declared.figures.BoardRow.{BoardRow}
-use Rattle.mq_shared.specs.Seat.{SeatState, front_of}
+use Rattle.mq_system.specs.Seat.{SeatState, front_of}
 
 -- the first n are the rows of the fronts
 abbrev pub AreRows : List (List Event) → List BoardRow → ℕ → Type 0

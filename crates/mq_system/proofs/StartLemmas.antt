@@ -3,7 +3,7 @@ use Rattle.std.proofs.Common.{◌≡◌, ◌≢◌, ◌⊎◌, inl, inr, ℕ, �
 use Rattle.std.proofs.Math.Seq.{get_or-append_seam}
 use Rattle.std.proofs.lemmas.Bool.Decides.{eqb_tells}
 use Rattle.std.proofs.lemmas.List.{get_or-reverse, get_or_append_left, length-reverse}
-use Rattle.mq_shared.specs.Seat.{SeatState, fresh_seat}
+use Rattle.mq_system.specs.Seat.{SeatState, fresh_seat}
 use Rattle.mq_system.specs.Started.{AreFresh}
 
 -- each item is as it is to be at its place

@@ -6,7 +6,7 @@ use Rattle.std.proofs.lemmas.List.Sums.{sum_by-cons, sum_by_push}
 use Rattle.mq_one_thread.specs.Closed.{entries_of}
 use Rattle.mq_one_thread.specs.declared.close.ClosedSlot.{ClosedSlot}
 use Rattle.mq_system.specs.Closed.{entries_in}
-use Rattle.mq_shared.specs.Seat.{SeatState, counted_by}
+use Rattle.mq_system.specs.Seat.{SeatState, counted_by}
 
 -- one seat more
 pub counted_more : (seats : List SeatState) (seat : SeatState)

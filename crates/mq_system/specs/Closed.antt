@@ -4,10 +4,10 @@ use Rattle.std.specs.Prelude.{slice_index, slice_index_or}
 use Rattle.std.specs.List.{AllPairs, sum_by}
 use mathlib.Core.List.{IsPrefix}
 use Rattle.mq_queue.specs.declared.event.Event.{Event}
-use Rattle.mq_fronts.specs.Fronts.{FrontsState}
 use Rattle.mq_one_thread.specs.Closed.{IsEndOf, entries_of}
 use Rattle.mq_one_thread.specs.declared.close.ClosedSlot.{ClosedSlot}
-use Rattle.mq_shared.specs.Seat.{AreKnown, SeatState, front_of}
+use Rattle.mq_system.specs.Fronts.{FrontsState}
+use Rattle.mq_system.specs.Seat.{AreKnown, SeatState, front_of}
 
 -- each slot ended with the list at its place
 pub record AreEnds (last_seq : ℕ) (lists : List (List Event)) (slots : List ClosedSlot)

@@ -9,9 +9,9 @@ use Rattle.mq_one_thread.specs.declared.errno.Errno.{Errno}
 use Rattle.mq_one_thread.specs.declared.errno.Errno.TheVariants.{ENOMEM, EEXIST, ENOENT, ENOSPC}
 use Rattle.mq_one_thread.specs.declared.results.GetFlags.{GetFlags}
 use Rattle.mq_one_thread.specs.declared.results.Got.{Got}
-use Rattle.mq_shared.specs.Making.{HoldsMade, IsKeyed, IsMade, Lacks}
-use Rattle.mq_shared.specs.Outcome.{IsLook}
-use Rattle.mq_shared.specs.Seat.{SeatState, IsCounted, IsLater, IsSame, front_of}
+use Rattle.mq_system.specs.Making.{HoldsMade, IsKeyed, IsMade, Lacks}
+use Rattle.mq_system.specs.Outcome.{IsLook}
+use Rattle.mq_system.specs.Seat.{SeatState, IsCounted, IsLater, IsSame, front_of}
 
 -- key 0 is IPC_PRIVATE (msgget(2))
 abbrev pub is_private : ℤ → Bool

@@ -1,5 +1,15 @@
+pub mod Answer
 pub mod Closed
+pub mod Fronts
 pub mod Get
+pub mod Held
+pub mod Making
+pub mod Outcome
+pub mod Pledge
+pub mod Refusals
+pub mod Seat
+pub mod Seen
+pub mod Shared
 pub mod Shown
 pub mod Sizes
 pub mod Started

@@ -1,14 +1,13 @@
 -- A system in which nothing has happened.
 use Rattle.std.specs.Prelude.{◌≡◌, ℕ, ◌+◌, ◌<◌, List, length, slice_index_or}
 use Rattle.mq_message.specs.Text.{PlainText}
-use Rattle.mq_table.specs.Slot.{empty_slot}
-use Rattle.mq_fronts.specs.Published.{Published}
-use Rattle.mq_shared.specs.Seat.{SeatState, fresh_seat}
+use Rattle.mq_table.specs.Slot.{SlotState, empty_slot}
+use Rattle.mq_system.specs.Seat.{SeatState, fresh_seat}
 
 -- each slot has its place as its number, and no queue was made in it
-abbrev pub AreEmpty : {W : Type 0} → List (Published PlainText W) → Type 0
-AreEmpty {W = W} slots = (k : ℕ) (d : Published PlainText W) → k < length slots
-    → (slice_index_or slots k d).slot ≡ empty_slot k
+abbrev pub AreEmpty : List (SlotState PlainText) → Type 0
+AreEmpty slots = (k : ℕ) (d : SlotState PlainText) → k < length slots
+    → slice_index_or slots k d ≡ empty_slot k
 
 -- the seats have the numbers from 1 on, in order, have made no change and know of none
 abbrev pub AreFresh : ℕ → List SeatState → Type 0

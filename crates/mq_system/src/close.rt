@@ -1,7 +1,8 @@
 ghost use Rattle.std.specs.Prelude.{◌≡◌, ◌≢◌, ◌+◌, ◌≤◌, All, length, map, vec_capacity, vec_len};
 ghost use Rattle.std.specs.List.{AllPairs};
-ghost use Rattle.mq_shared.specs.Seat.{counted_by};
-ghost use Rattle.mq_shared.specs.Sizes.{all_changes};
+ghost use Rattle.mq_system.specs.Seat.{counted_by};
+ghost use Rattle.mq_system.specs.Sizes.{all_changes};
+ghost use Rattle.mq_table.specs.KeptPart.{IsKeptPart, whole};
 ghost use Rattle.mq_table.specs.Slot.{Waits};
 ghost use Rattle.mq_table.specs.SlotList.{IsSlotList};
 ghost use Rattle.mq_one_thread.specs.Closed.{IsClosed, IsEndOf};
@@ -9,12 +10,13 @@ ghost use Rattle.mq_one_thread.specs.Texts.{bytes_of};
 ghost use Rattle.mq_system.specs.Closed.{AreDistinct, AreWithout, IsEnd, IsRecorded, entries_in};
 ghost use Rattle.mq_system.specs.Closed.{known_by};
 
-use crate::{Closed, ClosedSlot, Names, Pages, Pledge, Seat, System};
+use crate::{
+    Closed, ClosedSlot, Entries, Fronts, Names, Pages, Pledge, Seat, SharedSlot, SlotOf, SlotParts,
+    System,
+};
 use mq_arena::ArenaState;
-use mq_board::Copies;
-use mq_fronts::Fronts;
+use mq_board::{BoardWriter, Copies};
 use mq_one_thread::end_slot;
-use mq_shared::{Entries, PublishedOf};
 use std::hint::spin_loop;
 use std::marker::Model;
 use std::sync::Wait;
@@ -69,11 +71,14 @@ impl<P: Pledge, N: Names> System<P, N, Copies<N>> {
         magazines.end(rt, &arena);
         let mut arena = arena.into_state();
         while let Some(place) = places.pop() {
-            let (slot, part) = place.into_slot().into_parts();
-            let mut slot = with_number(rt, slot, places.len());
-            come_home(&mut slot, &mut fronts);
-            parts.merge(part);
-            closed.push_reserved(end_place(rt, &mut arena, slot));
+            let SlotParts {
+                slot,
+                mut writer,
+                entries,
+            } = with_number(rt, place.into_slot(), places.len() as u8).into_parts();
+            come_home(&mut writer, &mut fronts);
+            parts.merge(entries);
+            closed.push_reserved(end_place(rt, &mut arena, slot, writer));
         }
         places.destroy_empty();
         settle(&total, &mut parts);
@@ -107,16 +112,16 @@ fn gather<N: Names>(seats: Vec<Seat<N>>, parts: &mut Share<Entries<N>>, fronts: 
 }
 
 /// The slot, which has this number: no run meets one of another.
-fn with_number<N: Names, R: Wait>(
+fn with_number<P: Pledge, N: Names, R: Wait>(
     rt: &R,
-    slot: PublishedOf<N, Copies<N>>,
-    number: usize,
-) -> PublishedOf<N, Copies<N>>
+    slot: SharedSlot<P, N>,
+    number: u8,
+) -> SharedSlot<P, N>
     ensures same { result ≡ slot }
-    ensures number { result.slot.number ≡ number }
+    ensures number { result.number ≡ number }
 {
     for _ in rt.forever() {
-        if slot.number() as usize == number {
+        if slot.is_number(number) {
             return slot;
         }
         spin_loop();
@@ -124,33 +129,37 @@ fn with_number<N: Names, R: Wait>(
     unreachable!()
 }
 
-/// The readers of this slot's board, the last in each seat's fronts, come home.
-fn come_home<N: Names>(slot: &mut PublishedOf<N, Copies<N>>, fronts: &mut Vec<Fronts<N>>)
-    requires number { All (λ f. length f.fronts ≡ slot.old.slot.number + 1) fronts.old.items }
-    ensures same { slot.new.slot ≡ slot.old.slot }
-    ensures left { AreWithout slot.old.slot.events fronts.old.items fronts.new.items }
+/// The readers of this board, the last in each seat's fronts, come home.
+fn come_home<N: Names>(writer: &mut BoardWriter<N, Copies<N>>, fronts: &mut Vec<Fronts<N>>)
+    requires number { All (λ f. length f.fronts ≡ writer.old.board + 1) fronts.old.items }
+    ensures same { writer.new ≡ record writer.old { home = writer.new.home } }
+    ensures left { AreWithout writer.old.events fronts.old.items fronts.new.items }
     ensures places { AllPairs (λ f g. f.place ≢ g.place) fronts.old.items }
 {
     for seat in 0..fronts.len() {
         let Some(reader) = fronts[seat].hand_out() else {
             unreachable!()
         };
-        slot.take_back(reader);
+        writer.take_back(reader);
     }
 }
 
-/// Ends a slot that nobody uses any more, and spends the texts that wait in it.
+/// Gives up the board of a slot that nobody uses any more, ends the slot, and spends the texts that
+/// wait in it.
 fn end_place<N: Names, R: Wait>(
     rt: &R,
     arena: &mut ArenaState<Pages<N>>,
-    slot: PublishedOf<N, Copies<N>>,
+    slot: SlotOf<N>,
+    writer: BoardWriter<N, Copies<N>>,
 ) -> ClosedSlot
-    requires lawful { IsSlotList N.last_seq slot.slot.events }
-    requires waits { Waits bytes_of slot.slot }
-    ensures ends { IsEndOf N.last_seq slot.slot.events result }
+    requires kept { IsKeptPart writer.events slot }
+    requires lawful { IsSlotList N.last_seq writer.events }
+    requires waits { Waits bytes_of (whole writer.events slot) }
+    ensures ends { IsEndOf N.last_seq writer.events result }
     ensures height { arena.new.height ≡ arena.old.height }
 {
-    end_slot(arena, slot.close(rt))
+    writer.close(rt);
+    end_slot(arena, slot)
 }
 
 /// Tells what all parts have, once they are together.

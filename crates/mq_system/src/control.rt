@@ -1,8 +1,9 @@
+//! The calls that control a queue and that show it.
 ghost use Rattle.std.specs.Prelude.{◌≡◌, length, map, MatchResult};
 ghost use Rattle.mq_queue.specs.Row.{row};
 ghost use Rattle.mq_table.specs.Ids.{slot_of};
-ghost use Rattle.mq_shared.specs.Outcome.{IsLook, IsNotRemoved, IsNotSet, IsRemoved, IsSet};
-ghost use Rattle.mq_shared.specs.Seat.{front_of};
+ghost use Rattle.mq_system.specs.Outcome.{IsLook, IsNotRemoved, IsNotSet, IsRemoved, IsSet};
+ghost use Rattle.mq_system.specs.Seat.{front_of};
 ghost use Rattle.mq_system.specs.Shown.{stat_of};
 
 use crate::messages::too_early;
@@ -16,7 +17,7 @@ use std::sync::{MutexGuard, Wait};
 impl<P: Pledge, N: Names> System<P, N, Copies<N>> {
     /// Sets the quota (msgctl(2), IPC_SET of msg_qbytes), and answers the entry. EINVAL, EIDRM,
     /// EPERM over MSGMNB, then ENOMEM.
-    #[tactic(auto, using(mq_shared::proofs::LaterLemmas::look_self))]
+    #[tactic(auto, using(crate::proofs::LaterLemmas::look_self))]
     pub fn set<R: Wait>(
         &self,
         rt: &R,
@@ -28,16 +29,26 @@ impl<P: Pledge, N: Names> System<P, N, Copies<N>> {
         ensures answer { MatchResult result (IsSet N.slots id qbytes moment seat.old seat.new)
             (IsNotSet N.slots id qbytes seat.old seat.new) }
     {
-        let number = id.slot() as usize;
-        if number >= self.places.len() {
+        let slot = id.slot();
+        if slot as usize >= self.places.len() {
             return Err(too_early());
         }
-        self.places[number].set(rt, seat, id, qbytes, moment)
+        let place = &self.places[slot as usize];
+        let mut held = place.enter(rt, seat, slot);
+        let answer = held.set(rt, seat, id, qbytes, moment);
+        MutexGuard::unlock(held);
+        match answer {
+            Ok(entry) => {
+                place.room.wake();
+                Ok(entry)
+            }
+            Err(refused) => Err(refused),
+        }
     }
 
     /// Removes the queue (msgctl(2), IPC_RMID). Who waits in it answers EIDRM, and the texts that
     /// waited in it go home. EINVAL, EIDRM, then ENOMEM.
-    #[tactic(auto, using(mq_shared::proofs::LaterLemmas::look_self))]
+    #[tactic(auto, using(crate::proofs::LaterLemmas::look_self))]
     pub fn rmid<R: Wait>(
         &self,
         rt: &R,
@@ -49,13 +60,15 @@ impl<P: Pledge, N: Names> System<P, N, Copies<N>> {
             (IsRemoved N.slots N.last_seq id moment seat.old seat.new)
             (IsNotRemoved N.slots id seat.old seat.new) }
     {
-        let number = id.slot() as usize;
-        if number >= self.places.len() {
+        let slot = id.slot();
+        if slot as usize >= self.places.len() {
             return Err(too_early());
         }
-        let place = &self.places[number];
+        let place = &self.places[slot as usize];
         let mut keys = self.keys.lock(rt);
-        let answer = place.remove(rt, &mut *keys, seat, id, moment);
+        let mut held = place.enter(rt, seat, slot);
+        let answer = held.remove(rt, &mut *keys, seat, id, moment);
+        MutexGuard::unlock(held);
         MutexGuard::unlock(keys);
         match answer {
             Ok((removal, waiting)) => {
@@ -77,7 +90,7 @@ impl<P: Pledge, N: Names> System<P, N, Copies<N>> {
 
     /// What is shown of the queue (msgctl(2), IPC_STAT), as its slot's board has it. It waits for
     /// nobody, and takes no lock and no memory. EINVAL, then EIDRM.
-    #[tactic(auto, using(mq_shared::proofs::LaterLemmas::look_self))]
+    #[tactic(auto, using(crate::proofs::LaterLemmas::look_self))]
     pub fn stat(&self, seat: &mut Seat<N>, id: Id) -> Result<Figures, Errno>
         ensures answer { result ≡ stat_of N.slots (front_of seat.new (slot_of id)) id }
         ensures look { IsLook seat.old seat.new }

@@ -3,12 +3,12 @@
 ghost use Rattle.std.specs.Prelude.{◌≡◌, ◌<◌, Some, length, MatchResult};
 ghost use Rattle.mq_table.specs.Cut.{IsCutOf, shown};
 ghost use Rattle.mq_one_thread.specs.declared.errno.Errno.TheVariants.{ENOMEM};
-ghost use Rattle.mq_shared.specs.Outcome.{IsLook};
-ghost use Rattle.mq_shared.specs.Seat.{front_of};
+ghost use Rattle.mq_system.specs.Outcome.{IsLook};
+ghost use Rattle.mq_system.specs.Seat.{front_of};
 
 use crate::{Cut, Names, Pledge, Refused, Seat, System};
 use mq_board::Copies;
-use std::sync::Wait;
+use std::sync::{MutexGuard, Wait};
 
 impl<P: Pledge, N: Names> System<P, N, Copies<N>> {
     /// Cuts the slot's list off where it ends now, and hands out what was kept of it, to be stored
@@ -21,6 +21,9 @@ impl<P: Pledge, N: Names> System<P, N, Copies<N>> {
             (λ r. r ≡ record { errno = ENOMEM; entry = Some (length (front_of seat.new slot)) }) }
         ensures look { IsLook seat.old seat.new }
     {
-        self.places[slot as usize].cut(rt, seat, slot)
+        let mut held = self.places[slot as usize].enter(rt, seat, slot);
+        let answer = held.cut();
+        MutexGuard::unlock(held);
+        answer
     }
 }

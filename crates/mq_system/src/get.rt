@@ -1,8 +1,8 @@
 ghost use Rattle.std.specs.Prelude.{◌≡◌, ◌≢◌, ◌<◌, None, pos, IfSome, IfNone, OnErr, MatchResult};
 ghost use Rattle.mq_table.specs.Ids.{slot_of};
 ghost use Rattle.mq_table.specs.Keys.{id_of_key};
-ghost use Rattle.mq_shared.specs.Making.{Lacks};
-ghost use Rattle.mq_shared.specs.Outcome.{IsLook};
+ghost use Rattle.mq_system.specs.Making.{Lacks};
+ghost use Rattle.mq_system.specs.Outcome.{IsLook};
 ghost use Rattle.mq_system.specs.Get.{IsFound, IsGot, IsNew, IsNotGot, IsNotNew, WasBelow};
 
 use crate::{Errno, GetFlags, Got, Keys, Names, Pledge, Seat, System};
@@ -63,7 +63,7 @@ impl<P: Pledge, N: Names> System<P, N, Copies<N>> {
     /// The id of the queue with this key, which is not 0, as the table and then its slot have it. A
     /// pair without its queue would be forgotten, and a queue without its pair found in its slot: no
     /// run meets either.
-    #[tactic(auto, using(mq_shared::proofs::LaterLemmas::look_self, mq_shared::proofs::LaterLemmas::look_trans))]
+    #[tactic(auto, using(crate::proofs::LaterLemmas::look_self, crate::proofs::LaterLemmas::look_trans))]
     fn find<R: Wait>(&self, rt: &R, keys: &mut Keys<N>, seat: &mut Seat<N>, key: i32) -> Option<Id>
         requires some { key ≢ pos 0 }
         ensures within { IfSome result (λ id. slot_of id < N.slots) }
@@ -82,7 +82,7 @@ impl<P: Pledge, N: Names> System<P, N, Copies<N>> {
     }
 
     /// The id of the queue with this key, as the table has it.
-    #[tactic(auto, using(mq_shared::proofs::LaterLemmas::look_self, mq_shared::proofs::LaterLemmas::look_trans))]
+    #[tactic(auto, using(crate::proofs::LaterLemmas::look_self, crate::proofs::LaterLemmas::look_trans))]
     fn look<R: Wait>(&self, rt: &R, keys: &mut Keys<N>, seat: &mut Seat<N>, key: i32) -> Option<Id>
         requires some { key ≢ pos 0 }
         ensures within { IfSome result (λ id. slot_of id < N.slots) }
@@ -118,7 +118,7 @@ impl<P: Pledge, N: Names> System<P, N, Copies<N>> {
     }
 
     /// Makes a queue in the first slot that is free.
-    #[tactic(auto, using(mq_shared::proofs::LaterLemmas::look_trans))]
+    #[tactic(auto, using(crate::proofs::LaterLemmas::look_trans))]
     fn make<R: Wait>(
         &self,
         rt: &R,

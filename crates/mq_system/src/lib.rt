@@ -1,6 +1,11 @@
 //! The queues of several threads, each at a seat of its own: keys, ids, slots and texts by the
 //! calls of the manual, which wait where the manual says so.
 //!
+//! Each slot has a board, on which all that happens in it is published under its lock. Each seat
+//! has a reader of each board, and so for each slot a front: what it knows of all that happened
+//! there, which only grows. A call learns all of it before it looks at a slot, and its own change
+//! as well. So all that a seat is answered is an answer of one history, that of its front.
+//!
 //! **Locks.** The key table has one, each slot has one, each seat's magazine has one, and the arena
 //! has one. The keys' is taken before a slot's; a magazine's is taken with neither held, and before
 //! the arena's; none is taken twice at a time.
@@ -30,23 +35,44 @@
 
 #![tactic(auto)]
 
+mod blanks;
+mod calls;
 mod close;
 mod control;
 mod cut;
+mod flags;
+mod fronts;
 mod get;
+mod keys;
 mod magazines;
+mod making;
 mod messages;
+mod names;
 mod parts;
+mod patience;
+mod place;
+mod pledge;
+mod seat;
+mod slot;
 mod system;
+mod tally;
+mod waiters;
 
+pub use blanks::Blanks;
+pub use flags::{RecvFlags, SendFlags};
+pub use fronts::Fronts;
+pub use keys::Keys;
 pub use mq_one_thread::{
     Closed, ClosedSlot, Config, DEFAULTS, Delivered, DraftError, Errno, GetFlags, Got, MAX_HEIGHT,
     MAX_SEATS, MAX_SEQ, MAX_SLOTS, OneThread, Refused, Removal, SendRefused, SysError,
 };
-pub(crate) use mq_shared::Waiters;
-pub use mq_shared::{
-    Blanks, Forever, Keys, Names, NoWait, Pages, Patience, Place, Pledge, RecvFlags, Seat,
-    SendFlags, TextOf, Until, WaitingOf,
-};
 pub use mq_table::Cut;
+pub use names::{Entries, Names, Pages, SlotOf, TextOf, WaitingOf};
+pub use patience::{Forever, NoWait, Patience, Until};
+pub(crate) use place::Place;
+pub use pledge::Pledge;
+pub use seat::Seat;
+pub use slot::{SharedSlot, SlotParts};
 pub use system::System;
+pub use tally::Tally;
+pub use waiters::Waiters;

@@ -1,16 +1,18 @@
+//! The calls that wait for a message or for room.
 ghost use Rattle.std.specs.Prelude.{◌≡◌, ◌||◌, length, IfErr, MatchResult};
 ghost use Rattle.mq_select.specs.Selection.{selection_of};
 ghost use Rattle.mq_one_thread.specs.Look.{refused_early};
 ghost use Rattle.mq_one_thread.specs.declared.errno.Errno.TheVariants.{EINVAL};
-ghost use Rattle.mq_shared.specs.Outcome.{IsNotReceived, IsNotSent, IsReceived, IsSent};
+ghost use Rattle.mq_system.specs.Outcome.{IsNotReceived, IsNotSent, IsReceived, IsSent};
 
 use crate::{
     Delivered, Errno, Forever, Names, Patience, Pledge, RecvFlags, Refused, Seat, SendFlags,
     SendRefused, System, TextOf,
 };
 use mq_board::Copies;
+use mq_select::Selection;
 use mq_table::Id;
-use std::sync::Wait;
+use std::sync::{MutexGuard, Wait};
 
 impl<P: Pledge, N: Names> System<P, N, Copies<N>> {
     /// Sends a text (msgop(2), msgsnd), and answers the entry. Where the queue is full it waits for
@@ -40,7 +42,7 @@ impl<P: Pledge, N: Names> System<P, N, Copies<N>> {
 
     /// Sends a text as `msgsnd` does, and waits for room no longer than until the patience ends. Then
     /// it answers EAGAIN, which is what it saw last, as with IPC_NOWAIT.
-    #[tactic(auto, using(mq_shared::proofs::LaterLemmas::look_self))]
+    #[tactic(auto, using(crate::proofs::LaterLemmas::look_self))]
     pub fn msgsnd_within<R: Wait, T: Patience>(
         &self,
         rt: &R,
@@ -60,12 +62,38 @@ impl<P: Pledge, N: Names> System<P, N, Copies<N>> {
             seat.old seat.new r.refused) }
         ensures handed_back { IfErr result (λ r. r.text ≡ text) }
     {
-        let number = id.slot() as usize;
-        if mtype < 1 || number >= self.places.len() {
+        let slot = id.slot();
+        if mtype < 1 || slot as usize >= self.places.len() {
             let refused = too_early();
             return Err(SendRefused { refused, text });
         }
-        self.places[number].send(rt, seat, id, mtype, tag, text, flags, patience, moment)
+        let place = &self.places[slot as usize];
+        let mut text = text;
+        for _ in rt.forever() {
+            let mut held = place.enter(rt, seat, slot);
+            match held.send(rt, seat, id, mtype, tag, text, moment) {
+                Ok(entry) => {
+                    MutexGuard::unlock(held);
+                    place.arrived.wake();
+                    return Ok(entry);
+                }
+                Err(refusal) => {
+                    if refusal.refused.errno != Errno::EAGAIN || flags.nowait {
+                        MutexGuard::unlock(held);
+                        return Err(refusal);
+                    }
+                    let seen = place.room.come();
+                    MutexGuard::unlock(held);
+                    let Some(longest) = patience.left() else {
+                        return Err(refusal);
+                    };
+                    let (_, again) = refusal.into_text();
+                    text = again;
+                    place.room.wait(rt, seen, longest);
+                }
+            }
+        }
+        unreachable!()
     }
 
     /// Receives the first message that the selection names (msgop(2), msgrcv). Where there is none
@@ -91,7 +119,7 @@ impl<P: Pledge, N: Names> System<P, N, Copies<N>> {
 
     /// Receives a message as `msgrcv` does, and waits for one no longer than until the patience ends.
     /// Then it answers ENOMSG, which is what it saw last, as with IPC_NOWAIT.
-    #[tactic(auto, using(mq_shared::proofs::LaterLemmas::look_self))]
+    #[tactic(auto, using(crate::proofs::LaterLemmas::look_self))]
     pub fn msgrcv_within<R: Wait, T: Patience>(
         &self,
         rt: &R,
@@ -109,11 +137,35 @@ impl<P: Pledge, N: Names> System<P, N, Copies<N>> {
             (IsNotReceived N.slots id size (selection_of msgtyp flags.except) flags.noerror
             (T.ends || flags.nowait) seat.old seat.new) }
     {
-        let number = id.slot() as usize;
-        if number >= self.places.len() {
+        let slot = id.slot();
+        if slot as usize >= self.places.len() {
             return Err(too_early());
         }
-        self.places[number].receive(rt, seat, id, size, msgtyp, flags, patience, moment)
+        let place = &self.places[slot as usize];
+        let selection = Selection::read(msgtyp, flags.except);
+        for _ in rt.forever() {
+            let mut held = place.enter(rt, seat, slot);
+            match held.receive(rt, seat, id, size, selection, flags.noerror, moment) {
+                Ok(delivered) => {
+                    MutexGuard::unlock(held);
+                    place.room.wake();
+                    return Ok(delivered);
+                }
+                Err(refused) => {
+                    if refused.errno != Errno::ENOMSG || flags.nowait {
+                        MutexGuard::unlock(held);
+                        return Err(refused);
+                    }
+                    let seen = place.arrived.come();
+                    MutexGuard::unlock(held);
+                    let Some(longest) = patience.left() else {
+                        return Err(refused);
+                    };
+                    place.arrived.wait(rt, seen, longest);
+                }
+            }
+        }
+        unreachable!()
     }
 }
 

@@ -1,39 +1,36 @@
 //! The parts of a system that were not used yet.
 ghost use Rattle.std.specs.Prelude.{◌≡◌, ◌+◌, ◌-◌, ◌<◌, ◌≤◌, IfOk, OnOk, length, vec_len, vec_capacity};
-ghost use Rattle.mq_fronts.specs.Fronts.{AreRows};
-ghost use Rattle.mq_fronts.specs.Named.{AreNamed};
-ghost use Rattle.mq_shared.specs.Seat.{fresh_seat};
-ghost use Rattle.mq_shared.specs.Sizes.{all_changes};
+ghost use Rattle.mq_board.specs.Named.{AreNamed};
+ghost use Rattle.mq_system.specs.Fronts.{AreRows};
+ghost use Rattle.mq_system.specs.Seat.{fresh_seat};
+ghost use Rattle.mq_system.specs.Sizes.{all_changes};
 ghost use Rattle.mq_system.specs.Started.{AreEmpty, AreFresh};
 
-use crate::{MAX_SLOTS, Names, Pages, Place, Pledge, Seat};
+use crate::{Fronts, MAX_SLOTS, Names, Pages, Place, Pledge, Seat, SharedSlot, SlotParts, Tally};
 use mq_arena::ArenaState;
-use mq_board::{BoardReader, Copies, OpenedBoard};
-use mq_fronts::{Fronts, PublishedSlot, next_board};
+use mq_board::{BoardReader, OpenedBoard, next_board};
 use mq_one_thread::end_slot;
-use mq_shared::{PublishedOf, SharedSlot, Tally};
 use mq_table::Slot;
 use std::alloc::{AllocError, Global};
 use std::sync::Wait;
-
-/// The slots of a system, before they are shared.
-pub(crate) type SlotsOf<N> = Vec<PublishedOf<N, Copies<N>>>;
 
 /// The readers of each board.
 pub(crate) type ReadersOf<N> = Vec<Vec<BoardReader<N>>>;
 
 /// The slots, in which no queue was made, with their boards, and the readers of each board. An `Err`
 /// means that memory ran out, and then those that were made are given up.
-pub(crate) fn make_slots<N: Names, R: Wait>(
+pub(crate) fn make_slots<P: Pledge, N: Names, R: Wait>(
     alloc: Global,
     rt: &R,
     arena: &mut ArenaState<Pages<N>>,
     boards: Vec<OpenedBoard>,
+    tally: &mut Tally<N>,
     count: u8,
     seats: u16,
-) -> Result<(SlotsOf<N>, ReadersOf<N>), AllocError>
-    requires count { count ≡ vec_len boards }
+) -> Result<(Vec<SharedSlot<P, N>>, ReadersOf<N>), AllocError>
+    requires count { (count ≡ vec_len boards) × (count ≡ N.slots) }
     requires few { count ≤ MAX_SLOTS }
+    requires parts { tally.old.unused.parts ≡ N.slots + N.seats }
     requires named { AreNamed N.Naming.board N.Naming.roll 0 boards.items }
     requires seats { (0 < seats) × (seats ≤ 16) }
     ensures slots { IfOk result (λ made. AreEmpty made.0.items) }
@@ -41,6 +38,8 @@ pub(crate) fn make_slots<N: Names, R: Wait>(
     ensures rows { IfOk result (λ made. AreRows seats made.1.items) }
     ensures readers { IfOk result (λ made. vec_len made.1 ≡ count) }
     ensures arena { OnOk result (arena.new ≡ arena.old) }
+    ensures parts { OnOk result (tally.new.unused.parts ≡ N.seats) }
+    ensures total { OnOk result (tally.new.book.total ≡ tally.old.book.total) }
 {
     let mut boards = boards;
     let mut rows = Vec::with_capacity(alloc, count as usize)?;
@@ -52,42 +51,45 @@ pub(crate) fn make_slots<N: Names, R: Wait>(
             give_up(rt, arena, slots);
             return Err(AllocError);
         };
-        slots.push_reserved(PublishedSlot::new(Slot::new(alloc, number), writer));
+        let slot = Slot::new(alloc, number);
+        slots.push_reserved(SharedSlot::new(slot, writer, tally.slot_part()));
         rows.push_reserved(readers);
     }
     Ok((slots, rows))
 }
 
 /// Gives up slots and their boards.
-pub(crate) fn give_up<N: Names, R: Wait>(
+pub(crate) fn give_up<P: Pledge, N: Names, R: Wait>(
     rt: &R,
     arena: &mut ArenaState<Pages<N>>,
-    slots: SlotsOf<N>,
+    slots: Vec<SharedSlot<P, N>>,
 ) {
     let mut slots = slots;
     while let Some(slot) = slots.pop() {
-        end_slot(arena, slot.close(rt));
+        let SlotParts {
+            slot,
+            writer,
+            entries: _,
+        } = slot.into_parts();
+        writer.close(rt);
+        end_slot(arena, slot);
     }
     slots.destroy_empty();
 }
 
 /// The places of these slots.
 pub(crate) fn fill_places<P: Pledge, N: Names>(
-    slots: SlotsOf<N>,
+    slots: Vec<SharedSlot<P, N>>,
     places: &mut Vec<Place<P, N>>,
-    tally: &mut Tally<N>,
 )
-    requires slots { AreEmpty slots.items }
     requires within { vec_len slots ≡ N.slots }
     requires none { vec_len places.old ≡ 0 }
     requires room { vec_len slots ≤ vec_capacity places.old }
-    requires parts { tally.old.unused.parts ≡ N.slots }
     ensures count { vec_len places.new ≡ N.slots }
-    ensures total { tally.new.book.total ≡ tally.old.book.total }
 {
     let mut slots = slots;
     while let Some(slot) = slots.pop() {
-        places.push_reserved(Place::new(SharedSlot::new(slot, tally.slot_part())));
+        places.push_reserved(Place::new(slot));
     }
     slots.destroy_empty();
     places.reverse();
@@ -104,11 +106,10 @@ pub(crate) fn make_seats<N: Names>(
     requires slots { length rows.old ≡ N.slots }
     requires few { length rows.old ≤ MAX_SLOTS }
     requires rows { AreRows count rows.old }
-    requires parts { tally.old.unused.parts ≡ N.slots + N.seats }
+    requires parts { tally.old.unused.parts ≡ N.seats }
     requires total { tally.old.book.total ≡ 0 }
     ensures count { IfOk result (λ seats. vec_len seats ≡ N.seats) }
     ensures fresh { IfOk result (λ seats. AreFresh N.slots seats.items) }
-    ensures parts { OnOk result (tally.new.unused.parts ≡ N.slots) }
     ensures total { OnOk result (tally.new.book.total ≡ all_changes N.slots N.seats) }
 {
     let mut seats = Vec::with_capacity(alloc, count as usize)?;

@@ -2,22 +2,21 @@ ghost use Rattle.std.specs.Prelude.{◌≡◌, ◌↔◌, ◌⊎◌, ◌<◌, �
 ghost use Rattle.std.specs.Prelude.{None, vec_len, IfOk, IsErrOf};
 ghost use Rattle.mq_message.specs.Text.{order_for};
 ghost use Rattle.mq_one_thread.specs.Limits.{keeps_limits};
-ghost use Rattle.mq_shared.specs.Sizes.{AreNames};
+ghost use Rattle.mq_system.specs.Sizes.{AreNames};
 ghost use Rattle.mq_system.specs.Started.{AreFresh};
 
 use crate::close::Rest;
 use crate::magazines::Magazines;
 use crate::parts::{fill_places, give_up, leave, make_seats, make_slots};
 use crate::{
-    Blanks, Config, DraftError, Keys, Names, NoWait, Pages, Patience, Place, Pledge, Seat,
-    SysError, TextOf,
+    Blanks, Config, DraftError, Entries, Keys, Names, NoWait, Pages, Patience, Place, Pledge, Seat,
+    SysError, Tally, TextOf,
 };
 use mq_arena::{Arena, Block, Homecoming, LEDGER_PARTS, TakeError, Unopened};
 use mq_board::Copies;
 use mq_message::{INLINE_LEN, Text, order_for};
 use mq_one_thread::ClosedSlot;
 use mq_queue::MSGMAX;
-use mq_shared::{Entries, Tally};
 use mq_table::MAX_SLOTS;
 use std::alloc::Global;
 use std::marker::Model;
@@ -85,17 +84,18 @@ impl<P: Pledge, N: Names> System<P, N, Copies<N>> {
             boards,
         } = blanks;
         let mut arena = arena.open::<Pages<N>>(pages);
-        let Ok((slots, mut rows)) = make_slots::<N, R>(
+        let mut tally = Tally::new(entries);
+        let Ok((slots, mut rows)) = make_slots::<P, N, R>(
             alloc,
             rt,
             &mut arena,
             boards,
+            &mut tally,
             config.slots,
             config.seats,
         ) else {
             return Err(SysError::Memory);
         };
-        let mut tally = Tally::new(entries);
         let Ok(seats) = make_seats(alloc, rows.as_mut_slice(), &mut tally, config.seats) else {
             give_up(rt, &mut arena, slots);
             return Err(SysError::Memory);
@@ -112,7 +112,7 @@ impl<P: Pledge, N: Names> System<P, N, Copies<N>> {
             places.destroy_empty();
             return Err(SysError::Memory);
         };
-        fill_places(slots, &mut places, &mut tally);
+        fill_places(slots, &mut places);
         let (total, parts) = tally.close();
         let system = System {
             places,

@@ -1,6 +1,6 @@
 //! The day of a system: it is made, a test calls it by its seats, and it is closed.
 ghost use Rattle.std.specs.Prelude.{◌≡◌, ◌≤◌};
-ghost use Rattle.mq_shared.specs.Sizes.{AreNames};
+ghost use Rattle.mq_system.specs.Sizes.{AreNames};
 
 use mq_arena::LEDGER_PARTS;
 use mq_board::Copies;

@@ -22,6 +22,8 @@ mod parts;
 #[cfg(test)]
 mod place;
 #[cfg(test)]
+mod seats;
+#[cfg(test)]
 mod seen;
 #[cfg(test)]
 mod shared;

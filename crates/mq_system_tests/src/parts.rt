@@ -1,15 +1,14 @@
 //! What a slot and its seats are made of, and what becomes of it at the end.
 ghost use Rattle.std.specs.Prelude.{◌≡◌, ◌+◌, ◌-◌, ◌<◌, ◌≤◌, length, OnOk};
 ghost use Rattle.mq_board.specs.Readers.{seats};
-ghost use Rattle.mq_fronts.specs.Fronts.{AreRows};
+ghost use Rattle.mq_system.specs.Fronts.{AreRows};
 
 use mq_arena::{ArenaState, Homecoming};
-use mq_board::{BoardReader, Copies};
-use mq_fronts::Fronts;
+use mq_board::{BoardReader, BoardWriter, Copies};
 use mq_message::Text;
 use mq_select::Waiting;
-use mq_shared::{Names, Pages, Pledge, PublishedOf, Seat, Tally, TextOf, WaitingOf};
-use mq_table::{Id, IdRefusal, Slot};
+use mq_system::{Fronts, Names, Pages, Pledge, Seat, Tally, TextOf, WaitingOf};
+use mq_table::{Id, IdRefusal};
 use std::alloc::{AllocError, Global};
 use std::process::Abort;
 
@@ -111,10 +110,14 @@ pub(crate) fn seated<N: Names>(
 }
 
 /// The seat learns what was published of the slot, which is known of no other way.
-pub(crate) fn told<N: Names>(rt: &impl Abort, slot: &PublishedOf<N, Copies<N>>, seat: &mut Seat<N>)
+pub(crate) fn told<N: Names>(
+    rt: &impl Abort,
+    writer: &BoardWriter<N, Copies<N>>,
+    seat: &mut Seat<N>,
+)
     requires slots { N.slots ≡ 1 }
 {
-    let told = slot.tell();
+    let told = writer.tell();
     holds(rt, told.board() == 0 && seat.learn(0, told), "all is known");
     holds(
         rt,
@@ -126,16 +129,16 @@ pub(crate) fn told<N: Names>(rt: &impl Abort, slot: &PublishedOf<N, Copies<N>>, 
 /// The seat's only reader comes home.
 pub(crate) fn come_home<N: Names>(
     rt: &impl Abort,
-    slot: &mut PublishedOf<N, Copies<N>>,
+    writer: &mut BoardWriter<N, Copies<N>>,
     fronts: Fronts<N>,
 ) {
     let mut fronts = fronts;
     let Some(reader) = fronts.hand_out() else {
         panic!(rt; "a seat has no reader")
     };
-    if reader.board() != slot.number() {
+    if reader.board() != writer.board() {
         panic!(rt; "a reader of another board");
     }
-    slot.take_back(reader);
+    writer.take_back(reader);
     holds(rt, fronts.hand_out().is_none(), "one reader for one slot");
 }

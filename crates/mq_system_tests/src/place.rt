@@ -1,17 +1,13 @@
-//! A day of a slot in its place, whose calls take the lock. Seat 1 makes, sends, sets and removes,
-//! and seat 2 receives.
-ghost use Rattle.std.specs.Prelude.{◌≡◌, ◌≤◌};
-
-use crate::parts::{Anything, drafted, emptied, has, holds, spent};
-use crate::shared::{Day, apart_once};
-use mq_arena::ArenaState;
-use mq_one_thread::{Config, Delivered, Errno, Refused, Removal, SendRefused};
-use mq_shared::{
-    Forever, Keys, Names, Pages, Place, RecvFlags, Seat, SendFlags, SharedSlot, TextOf,
-};
-use mq_table::{Cut, Id, IdRefusal, MAX_SEQ};
+//! A day of a system's only slot. Seat 1 makes, sends, sets and removes, and seat 2 receives.
+use crate::calls::{CREATE, NEW, NO_FLAG, TAG, cut, get, has, holds, remove, seat, set};
+use crate::day::{Anything, Day, config, left_by};
+use mq_one_thread::{Delivered, Errno, Refused, Removal, SendRefused};
+use mq_system::{Config, Names, RecvFlags, Seat, SendFlags, System, TextOf};
+use mq_table::Id;
+use std::alloc::Global;
 use std::process::Abort;
 use std::sync::Wait;
+use std::thread::Threads;
 
 /// A receiver of whole texts that does not wait.
 const AT_ONCE: RecvFlags = RecvFlags {
@@ -33,30 +29,16 @@ fn is(refused: Refused, errno: Errno, entries: u64) -> bool {
 }
 
 /// A queue is made under key 5, and no second one beside it.
-fn made<N: Names, R: Abort + Wait>(
-    rt: &R,
-    place: &Place<Anything, N>,
-    keys: &mut Keys<N>,
-    seat: &mut Seat<N>,
-    last_seq: u32,
-)
-    requires slots { N.slots ≡ 1 }
-    requires last_seq { last_seq ≡ N.last_seq }
-    requires bounded { N.last_seq ≤ MAX_SEQ }
-{
-    if keys.look(5).is_some() {
-        panic!(rt; "a key of no queue");
-    }
-    match place.make(rt, keys, seat, 0, 5, last_seq, 4) {
+fn made<N: Names, R: Abort + Wait>(rt: &R, system: &System<Anything, N>, seats: &mut [Seat<N>]) {
+    match get(rt, system, seats, 5, NEW, 4) {
         Ok(got) => holds(
             rt,
             got.id == Id::of(0, 0) && got.made == Some(0),
             "id 0, made by entry 0",
         ),
-        Err(_) => panic!(rt; "out of memory"),
+        Err(errno) => panic!(rt; "{errno}"),
     }
-    holds(rt, keys.look(5) == Some(Id::of(0, 0)), "it has its key");
-    match place.make(rt, keys, seat, 0, 0, last_seq, 4) {
+    match get(rt, system, seats, 0, CREATE, 4) {
         Ok(_) => panic!(rt; "two queues in one slot"),
         Err(errno) => holds(rt, errno == Errno::ENOSPC, "ENOSPC in a slot that is used"),
     }
@@ -65,67 +47,88 @@ fn made<N: Names, R: Abort + Wait>(
 /// The queue is found by its key alone, while it is there.
 fn found<N: Names, R: Abort + Wait>(
     rt: &R,
-    place: &Place<Anything, N>,
-    seat: &mut Seat<N>,
+    system: &System<Anything, N>,
+    seats: &mut [Seat<N>],
     wanted: Option<Id>,
-)
-    requires slots { N.slots ≡ 1 }
-{
-    holds(
-        rt,
-        place.with_key(rt, seat, 0, 5) == wanted,
-        "the queue with the key",
-    );
-    holds(
-        rt,
-        place.with_key(rt, seat, 0, 6).is_none(),
-        "no queue has another key",
-    );
+) {
+    let found = match get(rt, system, seats, 5, NO_FLAG, 4) {
+        Ok(got) => {
+            holds(rt, got.made.is_none(), "it is found, and not made");
+            Some(got.id)
+        }
+        Err(errno) => {
+            holds(
+                rt,
+                errno == Errno::ENOENT,
+                "ENOENT of a key without a queue",
+            );
+            None
+        }
+    };
+    holds(rt, found == wanted, "the queue with the key");
+    match get(rt, system, seats, 6, NO_FLAG, 4) {
+        Ok(_) => panic!(rt; "a queue has another key"),
+        Err(errno) => holds(rt, errno == Errno::ENOENT, "no queue has another key"),
+    }
 }
 
 /// A quota over the limit is refused, and one of two bytes is set.
-fn changed<N: Names, R: Abort + Wait>(rt: &R, place: &Place<Anything, N>, seat: &mut Seat<N>)
-    requires slots { N.slots ≡ 1 }
-{
-    match place.set(rt, seat, Id::of(0, 0), 131_073, 5) {
+fn changed<N: Names, R: Abort + Wait>(rt: &R, system: &System<Anything, N>, seats: &mut [Seat<N>]) {
+    match set(rt, system, seats, 0, 131_073, 5) {
         Ok(_) => panic!(rt; "a quota over the limit was set"),
         Err(refused) => holds(rt, is(refused, Errno::EPERM, 1), "EPERM over the limit"),
     }
-    match place.set(rt, seat, Id::of(0, 0), 2, 5) {
+    match set(rt, system, seats, 0, 2, 5) {
         Ok(entry) => holds(rt, entry == 1, "it is set by entry 1"),
-        Err(_) => panic!(rt; "out of memory"),
+        Err(refused) => panic!(rt; "{refused}"),
+    }
+}
+
+/// A text of two bytes.
+fn drafted<N: Names, R: Abort + Wait>(rt: &R, system: &System<Anything, N>) -> TextOf<N> {
+    match system.draft_of(rt, b"hi") {
+        Ok(text) => text,
+        Err(error) => panic!(rt; "{error}"),
     }
 }
 
 /// A text is sent where there is room, by a sender that would wait.
 fn sent<N: Names, R: Abort + Wait>(
     rt: &R,
-    place: &Place<Anything, N>,
-    seat: &mut Seat<N>,
+    system: &System<Anything, N>,
+    seats: &mut [Seat<N>],
     text: TextOf<N>,
-)
-    requires slots { N.slots ≡ 1 }
-{
+) {
     let flags = SendFlags { nowait: false };
-    match place.send(rt, seat, Id::of(0, 0), 1, 7, text, flags, &mut Forever, 6) {
+    let seat = seat(rt, seats, 0);
+    let id = Id::of(0, 0);
+    let answer = match system.msgsnd(rt, seat, id, 1, TAG, text, flags, 6) {
+        Ok(entry) => Ok(entry),
+        Err(SendRefused { refused, text }) => {
+            holds(rt, refused.errno == Errno::ENOMEM, "there is room");
+            system.msgsnd(rt, seat, id, 1, TAG, text, flags, 6)
+        }
+    };
+    match answer {
         Ok(entry) => holds(rt, entry == 2, "it is sent by entry 2"),
-        Err(_refused) => panic!(rt; "out of memory"),
+        Err(SendRefused { refused, text }) => {
+            system.spend(rt, text);
+            panic!(rt; "{refused}")
+        }
     }
 }
 
 /// A text is not sent by a sender that does not wait, and is handed back.
 fn handed_back<N: Names, R: Abort + Wait>(
     rt: &R,
-    place: &Place<Anything, N>,
+    system: &System<Anything, N>,
     seat: &mut Seat<N>,
     text: TextOf<N>,
     errno: Errno,
     entries: u64,
-) -> TextOf<N>
-    requires slots { N.slots ≡ 1 }
-{
+) -> TextOf<N> {
     let flags = SendFlags { nowait: true };
-    match place.send(rt, seat, Id::of(0, 0), 1, 8, text, flags, &mut Forever, 6) {
+    match system.msgsnd(rt, seat, Id::of(0, 0), 1, 8, text, flags, 6) {
         Ok(_) => panic!(rt; "a text was sent that is refused"),
         Err(SendRefused { refused, text }) => {
             holds(rt, is(refused, errno, entries), "why it is not sent");
@@ -138,15 +141,17 @@ fn handed_back<N: Names, R: Abort + Wait>(
 /// A receiver that does not wait gets no text of more than a byte.
 fn not_received<N: Names, R: Abort + Wait>(
     rt: &R,
-    place: &Place<Anything, N>,
-    seat: &mut Seat<N>,
+    system: &System<Anything, N>,
+    seats: &mut [Seat<N>],
     errno: Errno,
     entries: u64,
-)
-    requires slots { N.slots ≡ 1 }
-{
-    match place.receive(rt, seat, Id::of(0, 0), 1, 0, AT_ONCE, &mut Forever, 7) {
-        Ok(_delivered) => panic!(rt; "a text was received that is refused"),
+) {
+    let seat = seat(rt, seats, 1);
+    match system.msgrcv(rt, seat, Id::of(0, 0), 1, 0, AT_ONCE, 7) {
+        Ok(delivered) => {
+            system.spend(rt, delivered.text);
+            panic!(rt; "a text was received that is refused")
+        }
         Err(refused) => holds(rt, is(refused, errno, entries), "why nothing is received"),
     }
 }
@@ -154,12 +159,19 @@ fn not_received<N: Names, R: Abort + Wait>(
 /// What was sent is received, cut to a byte.
 fn received<N: Names, R: Abort + Wait>(
     rt: &R,
-    place: &Place<Anything, N>,
-    seat: &mut Seat<N>,
-) -> TextOf<N>
-    requires slots { N.slots ≡ 1 }
-{
-    match place.receive(rt, seat, Id::of(0, 0), 1, 0, CUT, &mut Forever, 7) {
+    system: &System<Anything, N>,
+    seats: &mut [Seat<N>],
+) -> TextOf<N> {
+    let seat = seat(rt, seats, 1);
+    let id = Id::of(0, 0);
+    let answer = match system.msgrcv(rt, seat, id, 1, 0, CUT, 7) {
+        Ok(delivered) => Ok(delivered),
+        Err(refused) => {
+            holds(rt, refused.errno == Errno::ENOMEM, "a message waits");
+            system.msgrcv(rt, seat, id, 1, 0, CUT, 7)
+        }
+    };
+    match answer {
         Ok(
             Delivered {
                 entry,
@@ -172,59 +184,40 @@ fn received<N: Names, R: Abort + Wait>(
         ) => {
             holds(
                 rt,
-                entry == 3 && mtype == 1 && sender == 1 && tag == 7 && length == 2,
+                entry == 3 && mtype == 1 && sender == 1 && tag == TAG && length == 2,
                 "what seat 1 sent",
             );
             holds(rt, has::<N>(&text, b"h"), "its first byte");
             text
         }
-        Err(_) => panic!(rt; "out of memory"),
-    }
-}
-
-/// A cut, made once more where it is refused.
-fn cut_once<N: Names, R: Abort + Wait>(
-    rt: &R,
-    place: &Place<Anything, N>,
-    seat: &mut Seat<N>,
-) -> Cut
-    requires slots { N.slots ≡ 1 }
-{
-    match place.cut(rt, seat, 0) {
-        Ok(cut) => cut,
-        Err(first) => match place.cut(rt, seat, 0) {
-            Ok(cut) => {
-                let entries = cut.first.saturating_add(cut.last.len() as u64);
-                holds(rt, is(first, Errno::ENOMEM, entries), "why it is not cut");
-                cut
-            }
-            Err(_) => panic!(rt; "a cut is refused twice"),
-        },
+        Err(refused) => panic!(rt; "{refused}"),
     }
 }
 
 /// A cut while the text waits hands out all that happened, and a second one nothing more.
-fn cut<N: Names, R: Abort + Wait>(rt: &R, place: &Place<Anything, N>, seat: &mut Seat<N>)
-    requires slots { N.slots ≡ 1 }
-{
-    let cut = cut_once(rt, place, seat);
+fn cut_twice<N: Names, R: Abort + Wait>(
+    rt: &R,
+    system: &System<Anything, N>,
+    seats: &mut [Seat<N>],
+) {
+    let first = cut(rt, system, seats, 0);
     holds(
         rt,
-        cut.first == 0 && cut.made == 0 && cut.base.is_none(),
+        first.first == 0 && first.made == 0 && first.base.is_none(),
         "it is the first cut",
     );
     holds(
         rt,
-        cut.past.is_empty() && cut.last.len() == 3,
+        first.past.is_empty() && first.last.len() == 3,
         "what happened in it",
     );
-    let cut = cut_once(rt, place, seat);
+    let second = cut(rt, system, seats, 0);
     holds(
         rt,
-        cut.first == 3 && cut.made == 1 && cut.last.is_empty(),
+        second.first == 3 && second.made == 1 && second.last.is_empty(),
         "nothing twice",
     );
-    match &cut.base {
+    match &second.base {
         Some(base) => holds(
             rt,
             base.places == 3 && base.waiting.len() == 1,
@@ -234,123 +227,88 @@ fn cut<N: Names, R: Abort + Wait>(rt: &R, place: &Place<Anything, N>, seat: &mut
     }
 }
 
-/// What the seat is shown of the queue, of which it knows all.
-fn shown<N: Names>(rt: &impl Abort, seat: &mut Seat<N>, waiting: u64)
-    requires slots { N.slots ≡ 1 }
-{
-    let row = seat.row(0);
-    holds(
-        rt,
-        row.live && row.made == 1 && row.key == 5,
-        "the queue's row",
-    );
-    holds(
-        rt,
-        row.figures.qnum == waiting && row.figures.qbytes == 2,
-        "what waits, and the quota",
-    );
-    holds(
-        rt,
-        seat.stat(Id::of(0, 0)) == Ok(row.figures),
-        "the same figures",
-    );
+/// What the second seat is shown of the queue, of which it knows all.
+fn shown<N: Names, R: Abort + Wait>(
+    rt: &R,
+    system: &System<Anything, N>,
+    seats: &mut [Seat<N>],
+    waiting: u64,
+) {
+    match system.stat(seat(rt, seats, 1), Id::of(0, 0)) {
+        Ok(figures) => holds(
+            rt,
+            figures.qnum == waiting && figures.qbytes == 2,
+            "what waits, and the quota",
+        ),
+        Err(errno) => panic!(rt; "{errno}"),
+    }
 }
 
-/// The queue is removed with nothing in it, and who waits is woken.
-fn removed<N: Names, R: Abort + Wait>(
-    rt: &R,
-    place: &Place<Anything, N>,
-    keys: &mut Keys<N>,
-    seat: &mut Seat<N>,
-)
-    requires slots { N.slots ≡ 1 }
-{
-    match place.remove(rt, keys, seat, Id::of(0, 0), 8) {
-        Ok((Removal { entry, log }, waiting)) => {
-            holds(rt, entry == 4 && log.len() == 5, "it is removed by entry 4");
-            emptied(rt, waiting);
+/// The queue is removed with nothing in it.
+fn removed<N: Names, R: Abort + Wait>(rt: &R, system: &System<Anything, N>, seats: &mut [Seat<N>]) {
+    match remove(rt, system, seats, 0, 8) {
+        Ok(Removal { entry, log }) => {
+            holds(rt, entry == 4 && log.len() == 5, "it is removed by entry 4")
         }
-        Err(_) => panic!(rt; "out of memory"),
+        Err(refused) => panic!(rt; "{refused}"),
     }
-    place.wake();
-    holds(rt, keys.look(5).is_none(), "its key is forgotten");
 }
 
 /// The id of a removed queue answers EIDRM, whatever is asked of it.
-fn is_gone<N: Names, R: Abort + Wait>(
-    rt: &R,
-    place: &Place<Anything, N>,
-    keys: &mut Keys<N>,
-    seat: &mut Seat<N>,
-)
-    requires slots { N.slots ≡ 1 }
-{
-    not_received(rt, place, seat, Errno::EIDRM, 5);
-    match place.set(rt, seat, Id::of(0, 0), 2, 9) {
+fn is_gone<N: Names, R: Abort + Wait>(rt: &R, system: &System<Anything, N>, seats: &mut [Seat<N>]) {
+    not_received(rt, system, seats, Errno::EIDRM, 5);
+    match set(rt, system, seats, 0, 2, 9) {
         Ok(_) => panic!(rt; "a removed queue was set"),
         Err(refused) => holds(rt, is(refused, Errno::EIDRM, 5), "EIDRM of a set"),
     }
-    match place.remove(rt, keys, seat, Id::of(0, 0), 9) {
-        Ok((_removal, _waiting)) => panic!(rt; "a removed queue was removed"),
+    match remove(rt, system, seats, 0, 9) {
+        Ok(_) => panic!(rt; "a removed queue was removed"),
         Err(refused) => holds(rt, is(refused, Errno::EIDRM, 5), "EIDRM of a removal"),
     }
-    holds(
-        rt,
-        seat.stat(Id::of(0, 0)) == Err(IdRefusal::Removed),
-        "the queue was removed",
-    );
-    holds(rt, !seat.row(0).live, "its row");
+    match system.stat(seat(rt, seats, 1), Id::of(0, 0)) {
+        Ok(_) => panic!(rt; "a removed queue is shown"),
+        Err(errno) => holds(rt, errno == Errno::EIDRM, "the queue was removed"),
+    }
 }
 
-/// All calls of the place, until the slot leaves it.
-pub(crate) fn place_day<N: Names, R: Abort + Wait>(
-    rt: &R,
-    slot: SharedSlot<Anything, N>,
-    keys: &mut Keys<N>,
-    arena: &mut ArenaState<Pages<N>>,
-    first: &mut Seat<N>,
-    second: &mut Seat<N>,
-    last_seq: u32,
-) -> SharedSlot<Anything, N>
-    requires slots { N.slots ≡ 1 }
-    requires last_seq { last_seq ≡ N.last_seq }
-    requires bounded { N.last_seq ≤ MAX_SEQ }
-{
-    let place = Place::<Anything, N>::new(slot);
-    found(rt, &place, second, None);
-    made(rt, &place, keys, first, last_seq);
-    found(rt, &place, second, Some(Id::of(0, 0)));
-    not_received(rt, &place, second, Errno::ENOMSG, 1);
-    changed(rt, &place, first);
-    let text = drafted(rt, arena);
-    sent(rt, &place, first, text);
-    let text = drafted(rt, arena);
-    let text = handed_back(rt, &place, first, text, Errno::EAGAIN, 3);
-    not_received(rt, &place, second, Errno::E2BIG, 3);
-    shown(rt, second, 1);
-    cut(rt, &place, second);
-    shown(rt, second, 1);
-    let short = received(rt, &place, second);
-    spent(rt, arena, short);
-    shown(rt, second, 0);
-    removed(rt, &place, keys, first);
-    let text = handed_back(rt, &place, second, text, Errno::EIDRM, 5);
-    spent(rt, arena, text);
-    is_gone(rt, &place, keys, second);
-    found(rt, &place, first, None);
-    place.into_slot()
+/// All calls of a system of one slot.
+#[derive(Drop)]
+struct OneSlot;
+
+impl Day<Anything> for OneSlot {
+    fn spend<N: Names, R: Abort + Threads + Wait>(
+        &self,
+        rt: &R,
+        _alloc: Global,
+        _config: Config,
+        system: &System<Anything, N>,
+        seats: &mut [Seat<N>],
+    ) {
+        found(rt, system, seats, None);
+        made(rt, system, seats);
+        found(rt, system, seats, Some(Id::of(0, 0)));
+        not_received(rt, system, seats, Errno::ENOMSG, 1);
+        changed(rt, system, seats);
+        sent(rt, system, seats, drafted(rt, system));
+        let text = drafted(rt, system);
+        let text = handed_back(rt, system, seat(rt, seats, 0), text, Errno::EAGAIN, 3);
+        not_received(rt, system, seats, Errno::E2BIG, 3);
+        shown(rt, system, seats, 1);
+        cut_twice(rt, system, seats);
+        shown(rt, system, seats, 1);
+        let short = received(rt, system, seats);
+        system.spend(rt, short);
+        shown(rt, system, seats, 0);
+        removed(rt, system, seats);
+        let text = handed_back(rt, system, seat(rt, seats, 1), text, Errno::EIDRM, 5);
+        system.spend(rt, text);
+        is_gone(rt, system, seats);
+        found(rt, system, seats, None);
+    }
 }
 
 #[test]
 fn a_slot_in_its_place_answers_both_seats(rt: HostRuntime) {
-    let config = Config {
-        height: 1,
-        slots: 1,
-        seats: 2,
-        last_seq: 9,
-    };
-    match apart_once(&rt, rt.alloc(), config, Day::Place) {
-        Ok(()) => (),
-        Err(_) => panic!(rt; "out of memory"),
-    }
+    let left = left_by(&rt, rt.alloc(), config(1, 1, 9), &OneSlot);
+    holds(&rt, left.free_pages == 2, "its pages are free");
 }

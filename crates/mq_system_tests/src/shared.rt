@@ -1,26 +1,25 @@
 //! A day of one slot, its keys and two seats, each by itself: each of their functions once.
 ghost use Rattle.std.specs.Prelude.{◌≡◌, ◌≤◌};
-ghost use Rattle.mq_shared.specs.Sizes.{AreNames};
+ghost use Rattle.mq_system.specs.Sizes.{AreNames};
 
 use crate::parts::{Anything, come_home, drafted, holds, seated, spent, told};
-use crate::place::place_day;
+use crate::seats::followed;
 use crate::slot_calls::{changed, cut, made, nothing_shown, received, removed, sent, shown};
 use mq_arena::{ArenaState, LEDGER_PARTS, Unopened};
-use mq_board::Copies;
-use mq_fronts::next_board;
+use mq_board::next_board;
 use mq_one_thread::{Config, SysError};
-use mq_shared::{Blanks, Keys, Names, Pages, PublishedOf, Seat, SharedSlot, Tally};
+use mq_system::{Blanks, Keys, Names, Pages, Seat, SharedSlot, SlotParts, Tally};
 use mq_table::{MAX_SEQ, Slot};
 use std::alloc::Global;
 use std::marker::Brand;
 use std::process::Abort;
 use std::sync::Wait;
 
-/// What the parts are tried by: the calls of the slot itself, or those of its place.
+/// What the parts are tried by: the calls of the slot itself, or what a seat sees of them.
 #[derive(Clone, Copy, PartialEq, Eq)]
 pub(crate) enum Day {
     Slot,
-    Place,
+    Seat,
 }
 
 /// All is over: the queue is removed, both readers come home, and what the slot's entries and the
@@ -36,17 +35,22 @@ fn taken_apart<N: Names, R: Abort + Wait>(
     requires seats { N.seats ≡ 2 }
 {
     let (total, _rest) = tally.close();
-    let (mut slot, mut parts) = slot.into_parts();
+    let SlotParts {
+        slot,
+        mut writer,
+        entries: mut parts,
+    } = slot.into_parts();
     let mut second = second;
-    told(rt, &slot, &mut second);
+    told(rt, &writer, &mut second);
     let (left, fronts) = first.into_parts();
     parts.merge(left);
-    come_home(rt, &mut slot, fronts);
+    come_home(rt, &mut writer, fronts);
     let (left, fronts) = second.into_parts();
     parts.merge(left);
-    come_home(rt, &mut slot, fronts);
+    come_home(rt, &mut writer, fronts);
     total.audit(&mut parts);
-    let (cut, live) = slot.close(rt).into_parts();
+    writer.close(rt);
+    let (cut, live) = slot.into_parts();
     match live {
         None => holds(
             rt,
@@ -121,8 +125,8 @@ fn apart<N: Names, R: Abort + Wait>(rt: &R, alloc: Global, config: Config, blank
         panic!(rt; "out of memory")
     };
     let mut tally = Tally::<N>::new(entries);
-    let slot = PublishedOf::<N, Copies<N>>::new(Slot::new(alloc, 0), writer);
-    let slot = SharedSlot::<Anything, N>::new(slot, tally.slot_part());
+    let slot = Slot::new(alloc, 0);
+    let slot = SharedSlot::<Anything, N>::new(slot, writer, tally.slot_part());
     let (mut first, mut second) = seated(rt, alloc, &mut tally, readers);
     let mut arena = unopened.open::<Pages<N>>(pages);
     let mut keys = Keys::<N>::new(alloc);
@@ -137,7 +141,7 @@ fn apart<N: Names, R: Abort + Wait>(rt: &R, alloc: Global, config: Config, blank
             &mut second,
             last_seq,
         ),
-        Day::Place => place_day(
+        Day::Seat => followed(
             rt,
             slot,
             &mut keys,

@@ -1,11 +1,11 @@
 //! The calls of a slot under its lock. Seat 1 makes, sends, sets and removes, and seat 2 receives.
 ghost use Rattle.std.specs.Prelude.{◌≡◌, ◌≤◌};
-ghost use Rattle.mq_shared.specs.Seat.{front_of};
+ghost use Rattle.mq_system.specs.Seat.{front_of};
 
 use crate::parts::{Anything, emptied, has, holds};
 use mq_one_thread::{Delivered, Errno, Refused, Removal};
 use mq_select::Selection;
-use mq_shared::{Keys, Names, Seat, SharedSlot, TextOf};
+use mq_system::{Keys, Names, Seat, SharedSlot, TextOf};
 use mq_table::{Cut, Id, IdRefusal, MAX_SEQ};
 use std::process::Abort;
 use std::sync::Wait;
@@ -24,7 +24,7 @@ fn cut_once<N: Names>(rt: &impl Abort, slot: &mut SharedSlot<Anything, N>) -> Cu
 }
 
 /// The seat learns all that happened in the slot, as it does once it has the slot's lock.
-fn entered<N: Names>(rt: &impl Abort, slot: &SharedSlot<Anything, N>, seat: &mut Seat<N>)
+pub(crate) fn entered<N: Names>(rt: &impl Abort, slot: &SharedSlot<Anything, N>, seat: &mut Seat<N>)
     requires number { slot.now.number ≡ 0 }
     ensures known { front_of seat.new slot.now.number ≡ slot.now.events }
 {

@@ -1,6 +1,6 @@
 //! Those who wait, by themselves.
 
-use mq_shared::{Forever, NoWait, Patience, Until, Waiters};
+use mq_system::{Forever, NoWait, Patience, Until, Waiters};
 use std::test::Fail;
 use std::time::{Duration, Instant};
 

@@ -26,10 +26,10 @@ mod looks;
 #[cfg(test)]
 mod notices;
 #[cfg(test)]
+mod opened;
+#[cfg(test)]
 mod plays;
 #[cfg(test)]
 mod posts;
-#[cfg(test)]
-mod seats;
 #[cfg(test)]
 mod slots;

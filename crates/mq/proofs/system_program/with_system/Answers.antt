@@ -1,4 +1,4 @@
-use Rattle.mq_shared.proofs.NameLemmas.{names_are}
+use Rattle.mq_system.proofs.NameLemmas.{names_are}
 use Rattle.mq.proofs.system_program.with_system.Goals as goal
 
 pub run_system-requires-clause-names : goal.run_system-requires-clause-names

@@ -1,4 +1,4 @@
-use Rattle.mq_shared.proofs.NameLemmas.{books_of, names_of}
+use Rattle.mq_system.proofs.NameLemmas.{books_of, names_of}
 use Rattle.mq.proofs.system_program.with_system.Given as goal
 
 -- the ledgers and boards that were just made, and this size

@@ -1,4 +1,4 @@
-use Rattle.mq_shared.proofs.NameLemmas.{names_are}
+use Rattle.mq_system.proofs.NameLemmas.{names_are}
 use Rattle.mq.proofs.workers.with_workers.Goals as goal
 
 pub run_workers-requires-clause-names : goal.run_workers-requires-clause-names

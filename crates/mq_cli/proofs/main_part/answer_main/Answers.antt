@@ -3,9 +3,9 @@ use Rattle.std.proofs.lemmas.Int.{to_z-of_z}
 use Rattle.std.specs.Int.{w32}
 use Rattle.std.specs.Int.RustNames.{FitsSigned}
 use Rattle.mq_table.specs.Ids.{seq_of, slot_of}
-use Rattle.mq_shared.specs.Outcome.{IsSet}
-use Rattle.mq_shared.specs.Refusals.{MaySet, out_of_slots}
-use Rattle.mq_shared.specs.Seen.{set_verdict}
+use Rattle.mq_system.specs.Outcome.{IsSet}
+use Rattle.mq_system.specs.Refusals.{MaySet, out_of_slots}
+use Rattle.mq_system.specs.Seen.{set_verdict}
 use Rattle.mq_system.specs.Get.{IsGot, IsNotGot}
 use Rattle.mq_cli.specs.declared.threads_script.MainCall.TheVariants.{Get, Set}
 use Rattle.mq_cli.specs.MainPart.{Gives}

@@ -1,5 +1,5 @@
 use Rattle.std.proofs.Common.{◌≡◌, ◌+◌, List, ℕ, Ok, subst}
-use Rattle.mq_shared.proofs.NameLemmas.{names_are}
+use Rattle.mq_system.proofs.NameLemmas.{names_are}
 use Rattle.mq_cli.specs.ThreadsParsed.{wanted_seen}
 use Rattle.mq_cli.specs.ThreadsScript.{wanted_of}
 use Rattle.mq_cli.proofs.EndLemmas.{thread_tells}

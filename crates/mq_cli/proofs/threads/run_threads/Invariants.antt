@@ -1,4 +1,4 @@
-use Rattle.mq_shared.proofs.NameLemmas.{books_of, names_of}
+use Rattle.mq_system.proofs.NameLemmas.{books_of, names_of}
 use Rattle.mq_cli.proofs.threads.run_threads.Given as goal
 
 -- the ledgers and boards that were just made, and this size with so many seats

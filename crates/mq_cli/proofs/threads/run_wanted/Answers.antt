@@ -1,7 +1,7 @@
 use Rattle.std.proofs.Common.{◌≡◌, ℕ, suc, ◌-◌, ◌<◌, ◌^◌, ◌∷◌, ◌++◌, List, length, take, drop, ap, arith, rules, sym, subst, ◌∙◌}
 use Rattle.std.specs.List.{All}
 use Rattle.mq_one_thread.specs.Closed.{IsClosed}
-use Rattle.mq_shared.specs.Seat.{SeatState}
+use Rattle.mq_system.specs.Seat.{SeatState}
 use Rattle.mq_system.specs.Closed.{IsEnd}
 use Rattle.mq_cli.specs.Threads.{AreClosed, RanParts, main_seat}
 use Rattle.mq_cli.specs.ThreadsParsed.{wanted_seen}

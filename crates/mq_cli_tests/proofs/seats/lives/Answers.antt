@@ -1,4 +1,4 @@
-use Rattle.mq_shared.proofs.NameLemmas.{names_are}
+use Rattle.mq_system.proofs.NameLemmas.{names_are}
 use Rattle.mq_cli_tests.proofs.seats.lives.Goals as goal
 
 pub lived-requires-clause-names : goal.lived-requires-clause-names

@@ -1,4 +1,4 @@
-use Rattle.mq_shared.proofs.NameLemmas.{books_of, names_of}
+use Rattle.mq_system.proofs.NameLemmas.{books_of, names_of}
 use Rattle.mq_cli_tests.proofs.seats.lives.Given as goal
 
 -- the ledgers and boards that are opened, and the size that is asked for

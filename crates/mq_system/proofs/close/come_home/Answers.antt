@@ -1,12 +1,12 @@
 use Rattle.std.proofs.Common.{◌≡◌, ap, refl, sym, ◌∙◌, subst, arith}
 use mathlib.Core.List.{IsPrefix}
-use Rattle.mq_system.proofs.HomeLemmas.{none_out, one_out}
+use Rattle.mq_system.proofs.HomeLemmas.{back_again, none_out, one_out}
 use Rattle.mq_system.proofs.close.come_home.Goals as goal
 
 pub loop-seat-init : goal.loop-seat-init
 loop-seat-init g c = (
   refl,
-  none_out c.args.slot.now.slot.events c.args.fronts.now.items c.args.slot.now.home,
+  none_out c.args.writer.now.events c.args.fronts.now.items c.args.writer.now.home,
 )
 
 pub loop-seat-preserved : goal.loop-seat-preserved
@@ -18,15 +18,15 @@ loop-seat-preserved g c =
     let is = c.index_mut.ensures.value in
     let handed = c.in-Some.ensures in
     let back = c.take_back.ensures in (
-      ap (λ p. p.slot) back.same ∙ kept.0,
-      one_out c.args.slot.now.slot.events c.loop-seat.seat reader.place c.args.fronts.now.items now
-          c.loop-seat.slot.home c.take_back.new.self.home item c.hand_out.new.self reader.events
+      back_again c.args.writer.now c.loop-seat.writer c.take_back.new.self kept.0 back.same,
+      one_out c.args.writer.now.events c.loop-seat.seat reader.place c.args.fronts.now.items now
+          c.loop-seat.writer.home c.take_back.new.self.home item c.hand_out.new.self reader.events
           kept.1
           (omega (arith, c.loop-seat-test.true, c.len-seat-end.ensures))
           (sym (ap (λ f. f.fronts) is) ∙ handed.last)
           (handed.same ∙ ap (λ f. f.place) is)
           (handed.place ∙ ap (λ f. f.place) is)
-          (subst (λ s. IsPrefix reader.events s.events) kept.0 back.front)
+          (subst (IsPrefix reader.events) (ap (λ w. w.events) kept.0) back.front)
           back.away back.home back.kept,
     )
 

@@ -1,6 +1,6 @@
 use Rattle.std.proofs.Common.{◌≡◌, ℕ, ◌-◌, List, ◌∷◌, [], ◌++◌, ◌∙◌, arith, rules, ap, length, length-append, map, take}
-use Rattle.mq_shared.specs.Seat.{SeatState, counted_by}
-use Rattle.mq_shared.proofs.CountLemmas.{one_seat_more}
+use Rattle.mq_system.specs.Seat.{SeatState, counted_by}
+use Rattle.mq_system.proofs.CountLemmas.{one_seat_more}
 use Rattle.mq_system.specs.Closed.{known_by}
 use Rattle.mq_system.proofs.HomeLemmas.{all_apart, is_known, none_apart, one_apart}
 use Rattle.mq_system.proofs.TallyLemmas.{counted_more}

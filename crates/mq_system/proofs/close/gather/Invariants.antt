@@ -1,6 +1,6 @@
 use Rattle.std.proofs.Common.{◌≡◌, ◌+◌, ◌≤◌, length, vec_capacity}
-use Rattle.mq_shared.specs.Seat.{counted_by}
-use Rattle.mq_shared.specs.Sizes.{all_changes}
+use Rattle.mq_system.specs.Seat.{counted_by}
+use Rattle.mq_system.specs.Sizes.{all_changes}
 use Rattle.mq_system.proofs.HomeLemmas.{AreApart}
 use Rattle.mq_system.proofs.close.gather.Given as goal
 

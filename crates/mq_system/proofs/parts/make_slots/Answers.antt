@@ -1,6 +1,7 @@
 use Rattle.std.proofs.Common.{ℕ, ◌≡◌, ◌∙◌, arith, rules, ap, sym, length, length-append, ◌∷◌, []}
 use Rattle.std.specs.Global.{Vec}
 use Rattle.mq_board.specs.Readers.{ReaderState, seats}
+use Rattle.mq_message.specs.Text.{PlainText}
 use Rattle.mq_table.specs.Slot.{SlotState, empty_slot}
 use Rattle.mq_system.proofs.StartLemmas.{each_push}
 use Rattle.mq_system.proofs.parts.make_slots.Goals as goal
@@ -13,16 +14,17 @@ loop-number-preserved g c =
     let board = c.in-Ok-next_board.ensures in
     let put = c.push_reserved.ensures in
     let added = c.push_reserved-in-loop-number.ensures in
-    let slot = c.new-in-loop-number.result in
-    let empty : slot.slot ≡ empty_slot (length slots) =
-    ap (λ p. p.slot) c.new-in-loop-number.ensures ∙ ap (λ s. empty_slot s.number) c.new.ensures
+    let slot = c.new.result in
+    let part = c.slot_part.ensures in
+    let empty : slot ≡ empty_slot (length slots) =
+    c.new.ensures ∙ ap (λ s. empty_slot s.number) c.new-slot.ensures
     ∙ ap (λ n. empty_slot n) (sym had.0) in
     let readers = c.in-Ok-next_board.readers in
     let all : readers.items ≡ seats (length rows) c.args.seats =
     board.readers ∙ ap (λ n. seats n c.args.seats) (sym had.1) in (
       omega (arith, ap length put.items, length-append slots (slot ∷ []), had.0),
       omega (arith, ap length added.items, length-append rows (readers ∷ []), had.1),
-      rw put.items (each_push (λ k p. p.slot ≡ empty_slot k) slots slot had.2 empty),
+      rw put.items (each_push (λ k (s : SlotState PlainText). s ≡ empty_slot k) slots slot had.2 empty),
       rw added.items
           (each_push (λ k (r : Vec ReaderState). r.items ≡ seats k c.args.seats) rows readers had.3 all),
       omega (arith, had.4, put.capacity),
@@ -30,4 +32,6 @@ loop-number-preserved g c =
       omega (arith, had.6, board.left),
       board.named,
       had.8,
+      omega (arith, had.9, part.parts),
+      part.total ∙ had.10,
     )

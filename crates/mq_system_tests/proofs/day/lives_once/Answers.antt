@@ -1,4 +1,4 @@
-use Rattle.mq_shared.proofs.NameLemmas.{names_are}
+use Rattle.mq_system.proofs.NameLemmas.{names_are}
 use Rattle.mq_system_tests.proofs.day.lives_once.Goals as goal
 
 pub lived-requires-clause-names : goal.lived-requires-clause-names

@@ -1,4 +1,4 @@
-use Rattle.mq_shared.proofs.NameLemmas.{names_are}
+use Rattle.mq_system.proofs.NameLemmas.{names_are}
 use Rattle.mq_system_tests.proofs.shared.apart_once.Goals as goal
 
 pub apart-requires-clause-names : goal.apart-requires-clause-names

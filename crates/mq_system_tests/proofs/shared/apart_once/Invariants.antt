@@ -1,4 +1,4 @@
-use Rattle.mq_shared.proofs.NameLemmas.{books_of, names_of}
+use Rattle.mq_system.proofs.NameLemmas.{books_of, names_of}
 use Rattle.mq_system_tests.proofs.shared.apart_once.Given as goal
 
 -- the ledgers and boards that are opened, and the size that is asked for

@@ -1,6 +1,6 @@
 use Rattle.std.proofs.Common.{rules}
 use Rattle.std.proofs.lemmas.Int.{to_z-of_z}
-use Rattle.mq_shared.proofs.RefusalLemmas.{in_slots}
+use Rattle.mq_system.proofs.RefusalLemmas.{in_slots}
 use Rattle.mq.proofs.caller.Caller.queue.Goals as goal
 
 pub returns-in-Ok-clause-answer : goal.returns-in-Ok-clause-answer

@@ -1,8 +1,8 @@
 use Rattle.std.proofs.Common.{inr}
 use Rattle.std.proofs.lemmas.Int.{to_z-of_z}
 use Rattle.mq_table.specs.Ids.{seq_of, slot_of}
-use Rattle.mq_shared.specs.Refusals.{MaySend, never_sent}
-use Rattle.mq_shared.specs.Seen.{send_verdict}
+use Rattle.mq_system.specs.Refusals.{MaySend, never_sent}
+use Rattle.mq_system.specs.Seen.{send_verdict}
 use Rattle.mq_cli.proofs.PortLemmas.{or_none, refused_call}
 use Rattle.mq_cli.proofs.system_port.SystemPortPort.put.Goals as goal
 

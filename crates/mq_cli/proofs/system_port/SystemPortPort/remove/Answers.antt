@@ -1,7 +1,7 @@
 use Rattle.std.proofs.Common.{rules}
 use Rattle.mq_table.specs.Ids.{seq_of, slot_of}
-use Rattle.mq_shared.specs.Refusals.{MayRemove, out_of_slots}
-use Rattle.mq_shared.specs.Seen.{remove_verdict}
+use Rattle.mq_system.specs.Refusals.{MayRemove, out_of_slots}
+use Rattle.mq_system.specs.Seen.{remove_verdict}
 use Rattle.mq_cli.proofs.PortLemmas.{refused_call}
 use Rattle.mq_cli.proofs.system_port.SystemPortPort.remove.Goals as goal
 use Rattle.mq_cli.proofs.system_port.SystemPortPort.remove.Goals.{in-Ok, in-Err}

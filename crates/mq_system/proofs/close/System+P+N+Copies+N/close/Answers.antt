@@ -1,14 +1,14 @@
 use Rattle.std.proofs.Common.{◌≡◌, ℕ, ◌+◌, ◌-◌, [], ◌∷◌, ◌++◌, arith, length, reverse, rules, slice_index_or, take, ap, sym, subst, ◌∙◌, length-append}
+use Rattle.std.specs.Prelude.{vec_len}
 use Rattle.std.specs.List.{All, sum_by}
 use Rattle.std.proofs.lemmas.List.{length-reverse}
 use mathlib.Core.List.{IsPrefix}
-use Rattle.mq_message.specs.Text.{PlainText}
-use Rattle.mq_table.specs.Slot.{SlotState, Waits}
-use Rattle.mq_table.specs.SlotList.{IsSlotList}
+use Rattle.mq_table.specs.KeptPart.{whole}
+use Rattle.mq_table.specs.Slot.{Waits}
 use Rattle.mq_one_thread.specs.Closed.{IsEndOf}
 use Rattle.mq_one_thread.specs.Texts.{bytes_of}
-use Rattle.mq_shared.specs.Seat.{counted_by, front_of}
-use Rattle.mq_shared.specs.Sizes.{all_changes}
+use Rattle.mq_system.specs.Seat.{counted_by, front_of}
+use Rattle.mq_system.specs.Sizes.{all_changes}
 use Rattle.mq_system.specs.Closed.{IsEnd, entries_in}
 use Rattle.mq_system.proofs.ClosedLemmas.{IsSeen, in_order, none_ended, one_ended, sums_agree, whole_length}
 use Rattle.mq_system.proofs.HomeLemmas.{AreLeft, IsFewer, all_counted, all_distinct, all_left, all_seen, left_length, one_fewer}
@@ -38,8 +38,11 @@ come_home-requires g c =
     let m = length c.pop.new.self.items in
     let more : length c.loop-place.places.items ≡ m + 1 =
     omega (arith, ap length c.in-Some.ensures.items, length-append c.pop.new.self.items (c.in-Some.place ∷ [])) in
-    let number : c.with_number-slot.result.slot.number ≡ m =
-    omega (arith, c.with_number-slot.ensures.number, c.len.ensures) in
+    let parts = c.into_parts-slot.ensures in
+    let board : c.into_parts-slot.result.writer.board ≡ vec_len c.pop.new.self =
+    parts.shared.published.numbered ∙ ap (λ s. s.number) parts.slot ∙ c.with_number.ensures.number
+    ∙ c.len.ensures in
+    let number : c.into_parts-slot.result.writer.board ≡ m = omega (arith, board) in
     record {
       number = λ k d low.
           omega (
@@ -50,50 +53,53 @@ come_home-requires g c =
           );
     }
 
+-- the board's list is that of the slot, also once its readers are home
+pub end_place-requires-clause-kept : goal.end_place-requires-clause-kept
+end_place-requires-clause-kept g c =
+    rw (ap (λ w. w.events) c.come_home.ensures.same) c.into_parts-slot.ensures.shared.published.kept
+
 pub end_place-requires-clause-lawful : goal.end_place-requires-clause-lawful
 end_place-requires-clause-lawful g c =
-    let had = ap (λ p. p.slot) c.with_number-slot.ensures.same ∙ c.into_parts-slot.ensures.slot in
-    subst (λ (s : SlotState PlainText). IsSlotList g.N.Names.last_seq s.events)
-    (sym (c.come_home.ensures.same ∙ had)) c.into_parts-slot.ensures.lawful
+    rw (ap (λ w. w.events) c.come_home.ensures.same) c.into_parts-slot.ensures.shared.lawful
 
 pub end_place-requires-clause-waits : goal.end_place-requires-clause-waits
 end_place-requires-clause-waits g c =
-    let had = ap (λ p. p.slot) c.with_number-slot.ensures.same ∙ c.into_parts-slot.ensures.slot in
-    subst (Waits bytes_of) (sym (c.come_home.ensures.same ∙ had)) c.into_parts-slot.ensures.waits
+    let slot = c.into_parts-slot.result.slot in
+    let had : Waits bytes_of (whole c.into_parts-slot.result.writer.events slot) =
+    subst (Waits bytes_of) (sym c.into_parts-slot.ensures.slot) c.into_parts-slot.ensures.waits in
+    subst (λ es. Waits bytes_of (whole es slot)) (sym (ap (λ w. w.events) c.come_home.ensures.same))
+    had
 
 pub loop-place-preserved : goal.loop-place-preserved
 loop-place-preserved g c =
     let slots = g.N.Names.slots in
     let seats = c.args.seats.items in
     let m = length c.pop.new.self.items in
-    let slot = c.into_slot.result in
-    let published = c.with_number-slot.result.slot in
-    let had : published ≡ slot = ap (λ p. p.slot) c.with_number-slot.ensures.same ∙ c.into_parts-slot.ensures.slot in
-    let same : c.come_home.new.slot.slot ≡ slot = c.come_home.ensures.same ∙ had in
-    let ended = c.into_parts-slot.ensures in
+    let events = c.into_parts-slot.result.writer.events in
+    let ended = c.into_parts-slot.ensures.shared in
     let grown = c.push_reserved.ensures in
     let before = c.loop-place.closed.items in
     let closed = c.end_place.result in
-    let is : IsEndOf g.N.Names.last_seq slot.events closed =
-    subst (λ (s : SlotState PlainText). IsEndOf g.N.Names.last_seq s.events closed) same c.end_place.ensures.ends in
+    let is : IsEndOf g.N.Names.last_seq events closed =
+    subst (λ es. IsEndOf g.N.Names.last_seq es closed) (ap (λ w. w.events) c.come_home.ensures.same)
+    c.end_place.ensures.ends in
     let kept = c.loop-place.invariant in
     let longer = length-append before (closed ∷ []) in
     let more : length c.loop-place.places.items ≡ m + 1 =
     omega (arith, ap length c.in-Some.ensures.items, length-append c.pop.new.self.items (c.in-Some.place ∷ [])) in
     let left : AreLeft (m + 1) seats c.loop-place.fronts.items =
     subst (λ n. AreLeft n seats c.loop-place.fronts.items) more kept.6 in
-    let fewer : IsFewer m published.events seats c.come_home.new.fronts.items =
-    one_fewer slots m published.events seats c.loop-place.fronts.items c.come_home.new.fronts.items c.gather.ensures.recorded (omega (arith, kept.0, more)) left c.come_home.ensures.left in
+    let fewer : IsFewer m events seats c.come_home.new.fronts.items =
+    one_fewer slots m events seats c.loop-place.fronts.items c.come_home.new.fronts.items c.gather.ensures.recorded (omega (arith, kept.0, more)) left c.come_home.ensures.left in
     let place : m ≡ slots - 1 - length before = omega (arith, kept.0, more) in
-    let seen : IsSeen slots seats (length before) slot.events =
-    subst (λ k. All (λ s. IsPrefix (front_of s k) slot.events) seats) place
-    (subst (λ es. All (λ s. IsPrefix (front_of s m) es) seats) (ap (λ s. s.events) had) fewer.seen) in (
+    let seen : IsSeen slots seats (length before) events =
+    subst (λ k. All (λ s. IsPrefix (front_of s k) events) seats) place fewer.seen in (
       omega (arith, more, ap length grown.items, longer, kept.0),
       omega (arith, grown.capacity, kept.1),
-      rw grown.items (one_ended slots g.N.Names.last_seq seats before kept.2 slot.events closed is seen),
+      rw grown.items (one_ended slots g.N.Names.last_seq seats before kept.2 events closed is seen),
       c.end_place.ensures.height ∙ kept.3,
       omega (arith, ap length grown.items, longer, c.merge.ensures.parts, ended.part, kept.4),
-      omega (arith, ap entries_in grown.items, entries_more before closed, whole_length slot.events closed is.kept, c.merge.ensures.amount, ended.noted, kept.5),
+      omega (arith, ap entries_in grown.items, entries_more before closed, whole_length events closed is.kept, c.merge.ensures.amount, ended.noted, kept.5),
       fewer.left,
       (λ less. all_distinct (m + 1) seats c.loop-place.fronts.items left c.come_home.ensures.places),
     )

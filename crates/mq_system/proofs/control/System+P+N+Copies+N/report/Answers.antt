@@ -1,5 +1,5 @@
 use Rattle.std.proofs.Common.{◌≡◌, ◌+◌, ◌<◌, ◌∙◌, length, slice_set, arith, rules, sym}
-use Rattle.mq_shared.proofs.LaterLemmas.{look_trans}
+use Rattle.mq_system.proofs.LaterLemmas.{look_trans}
 use Rattle.mq_system.proofs.ReportLemmas.{AreRows, all_rows, rows_more}
 use Rattle.mq_system.proofs.control.System+P+N+Copies+N.report.Goals as goal
 

@@ -1,5 +1,5 @@
 use Rattle.std.proofs.Common.{◌≡◌, length}
-use Rattle.mq_shared.specs.Outcome.{IsLook}
+use Rattle.mq_system.specs.Outcome.{IsLook}
 use Rattle.mq_system.proofs.ReportLemmas.{AreRows}
 use Rattle.mq_system.proofs.control.System+P+N+Copies+N.report.Given as goal
 

@@ -2,7 +2,7 @@ use Rattle.std.proofs.Common.{rules}
 use mir.Val.{SFits}
 use mir.Syntax.{w32}
 use Rattle.std.proofs.lemmas.Int.{to_z-of_z}
-use Rattle.mq_shared.proofs.LaterLemmas.{later_self}
+use Rattle.mq_system.proofs.LaterLemmas.{later_self}
 use Rattle.mq_system.proofs.GetLemmas.{below_around, found_before}
 use Rattle.mq_system.proofs.get.System+P+N+Copies+N.find.Goals as goal
 

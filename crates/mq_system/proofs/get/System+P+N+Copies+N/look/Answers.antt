@@ -2,7 +2,7 @@ use Rattle.std.proofs.Common.{rules}
 use mir.Val.{SFits}
 use mir.Syntax.{w32}
 use Rattle.std.proofs.lemmas.Int.{to_z-of_z}
-use Rattle.mq_shared.proofs.LaterLemmas.{later_self}
+use Rattle.mq_system.proofs.LaterLemmas.{later_self}
 use Rattle.mq_system.proofs.GetLemmas.{found}
 use Rattle.mq_system.proofs.get.System+P+N+Copies+N.look.Goals as goal
 

@@ -2,8 +2,8 @@ use Rattle.std.proofs.Common.{◌≡◌, ◌<◌, rules}
 use mir.Val.{SFits}
 use mir.Syntax.{w32}
 use Rattle.std.proofs.lemmas.Int.{to_z-of_z}
-use Rattle.mq_shared.specs.Seat.{front_of}
-use Rattle.mq_shared.proofs.LaterLemmas.{later_self, look_trans}
+use Rattle.mq_system.specs.Seat.{front_of}
+use Rattle.mq_system.proofs.LaterLemmas.{later_self, look_trans}
 use Rattle.mq_system.specs.Get.{HadFree, IsFree}
 use Rattle.mq_system.proofs.GetLemmas.{below_around, below_more, free_now, made_before, wanted}
 use Rattle.mq_system.proofs.get.System+P+N+Copies+N.make.Goals as goal

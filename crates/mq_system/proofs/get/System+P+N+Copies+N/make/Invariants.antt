@@ -1,5 +1,5 @@
 use Rattle.std.proofs.Common.{◌≡◌}
-use Rattle.mq_shared.specs.Outcome.{IsLook}
+use Rattle.mq_system.specs.Outcome.{IsLook}
 use Rattle.mq_system.specs.Get.{IsTaken, WasBelow}
 use Rattle.mq_system.proofs.get.System+P+N+Copies+N.make.Given as goal
 

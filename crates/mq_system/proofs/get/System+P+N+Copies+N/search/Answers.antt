@@ -2,7 +2,7 @@ use Rattle.std.proofs.Common.{rules}
 use mir.Val.{SFits}
 use mir.Syntax.{w32}
 use Rattle.std.proofs.lemmas.Int.{to_z-of_z}
-use Rattle.mq_shared.proofs.LaterLemmas.{look_trans}
+use Rattle.mq_system.proofs.LaterLemmas.{look_trans}
 use Rattle.mq_system.proofs.GetLemmas.{below_more, found}
 use Rattle.mq_system.proofs.get.System+P+N+Copies+N.search.Goals as goal
 

@@ -1,5 +1,5 @@
-use Rattle.mq_shared.specs.Making.{Lacks}
-use Rattle.mq_shared.specs.Outcome.{IsLook}
+use Rattle.mq_system.specs.Making.{Lacks}
+use Rattle.mq_system.specs.Outcome.{IsLook}
 use Rattle.mq_system.specs.Get.{WasBelow}
 use Rattle.mq_system.proofs.get.System+P+N+Copies+N.search.Given as goal
 

@@ -1,4 +1,0 @@
-pub mod Gathered
-pub mod Names
-pub mod Seen
-pub mod Turned

@@ -1,0 +1,49 @@
+-- What the locks of a system protect.
+use Rattle.std.specs.Prelude.{◌≡◌, ℕ, ℤ, ◌+◌, ◌<◌, List, [], ◌++◌, All, length, map}
+use Rattle.mq_message.specs.Text.{PlainText}
+use Rattle.mq_queue.specs.declared.event.Event.{Event}
+use Rattle.mq_table.specs.Ids.{slot_of}
+use Rattle.mq_table.specs.Kept.{KeptSlot}
+use Rattle.mq_table.specs.KeptPart.{IsKeptPart}
+use Rattle.mq_table.specs.SlotList.{IsSlotList}
+use Rattle.mq_board.specs.Writers.{IsReady}
+use Rattle.mq_board.specs.declared.posting.Posting.{Posting}
+use Rattle.mq_system.specs.Pledge.{Pledged, IsPledged}
+use Rattle.mq_system.specs.Seat.{seat_of}
+
+-- what is published on the board of this number is the list of the slot of the same number, which
+-- keeps a part of it, and nothing is pending
+pub record IsPublished {B : Type 0} (board : ℕ) (events : List Event) (pending : List Posting)
+    (slot : KeptSlot B) : Type 0 where
+  pub numbered : board ≡ slot.number
+  pub kept : IsKeptPart events slot
+  pub none : pending ≡ []
+
+-- a slot under its lock, with its board: it is one of the system's, its list has no more queues than
+-- ids allow, the pledge holds of each message that waits, and its part of the ledger of entries has
+-- as much as its list has entries
+pub record IsShared (kept : Pledged) (slots last_seq board : ℕ) (events : List Event)
+    (pending : List Posting) (slot : KeptSlot PlainText) (parts amount : ℕ) : Type 0 where
+  pub published : IsPublished board events pending slot
+  pub within : slot.number < slots
+  pub lawful : IsSlotList last_seq events
+  pub pledged : All (λ m. IsPledged kept m.1) slot.messages
+  pub part : parts ≡ 1
+  pub noted : amount ≡ length events
+
+-- the published list, once what is pending is published
+abbrev pub with_pending : List Event → List Posting → List Event
+with_pending events pending = events ++ map (λ p. p.event) pending
+
+-- a change of a slot is to be published, which this seat made: the slot is as it is to be once it is
+-- published, and its entry is there
+pub record IsDue (kept : Pledged) (slots last_seq seat board : ℕ) (events : List Event)
+    (pending : List Posting) (slot : KeptSlot PlainText) (parts amount : ℕ) : Type 0 where
+  pub ready : IsReady events pending
+  pub own : seat_of ready.next.event ≡ seat
+  pub shared : IsShared kept slots last_seq board (with_pending events pending) [] slot parts
+      (amount + 1)
+
+-- the key table under its lock: each id's slot is one of the system's
+abbrev pub AreWithin : ℕ → List (ℤ × ℕ) → Type 0
+AreWithin slots keys = All (λ p. slot_of p.1 < slots) keys

@@ -1,0 +1,41 @@
+ghost use Rattle.std.specs.Prelude.{◌≡◌, ◌↔◌, ◌+◌, false, vec_len, IfOk, IsErrOf};
+ghost use Rattle.mq_one_thread.specs.Limits.{keeps_limits};
+
+use mq_arena::LEDGER_PARTS;
+use mq_board::{OpenedBoard, open_boards};
+use mq_one_thread::{Config, SysError};
+use std::alloc::Global;
+use std::sync::ledger::Blank;
+
+/// What a system's ledgers and boards are opened of, before there are names for them.
+#[derive(Drop)]
+pub struct Blanks {
+    pub pages: Blank,
+    pub entries: Blank,
+    /// A board for each slot, the last slot's first.
+    pub boards: Vec<OpenedBoard>,
+}
+
+impl Blanks {
+    /// As many as a system of this size wants. `Config` where a number is out of its limits, then
+    /// `Memory`.
+    pub fn of(alloc: Global, config: Config) -> Result<Blanks, SysError>
+        ensures pages { IfOk result (λ blanks. blanks.pages.parts ≡ LEDGER_PARTS) }
+        ensures entries { IfOk result (λ blanks.
+            blanks.entries.parts ≡ config.slots + config.seats) }
+        ensures boards { IfOk result (λ blanks. vec_len blanks.boards ≡ config.slots) }
+        ensures err { IsErrOf result SysError.Config ↔ (keeps_limits config ≡ false) }
+    {
+        if !config.is_valid() {
+            return Err(SysError::Config);
+        }
+        let Ok(boards) = open_boards(alloc, config.slots) else {
+            return Err(SysError::Memory);
+        };
+        Ok(Blanks {
+            pages: Blank::new(LEDGER_PARTS),
+            entries: Blank::new(config.slots as u64 + config.seats as u64),
+            boards,
+        })
+    }
+}

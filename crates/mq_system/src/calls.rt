@@ -1,0 +1,228 @@
+//! The calls that change a slot, under its lock.
+ghost use Rattle.std.specs.Prelude.{◌≡◌, ◌≢◌, ◌≤◌, pos, true, false, None};
+ghost use Rattle.std.specs.Prelude.{IfOk, IfErr, MatchResult};
+ghost use Rattle.mq_table.specs.Keys.{id_of_key, forget};
+ghost use Rattle.mq_table.specs.Slot.{last_id};
+ghost use Rattle.mq_table.specs.SlotList.{is_free, IsSlotList};
+ghost use Rattle.mq_table.specs.declared.limits.TheConstants.{MAX_SEQ};
+ghost use Rattle.mq_system.specs.Answer.{receive as receive_answer, remove as remove_answer};
+ghost use Rattle.mq_system.specs.Answer.{send as send_answer, set as set_answer};
+ghost use Rattle.mq_system.specs.Held.{HasChanged, HasMade, HasNoted, HasRefused, MayBegin};
+ghost use Rattle.mq_system.specs.Pledge.{MeetsItsPledge};
+ghost use Rattle.mq_system.specs.Seat.{front_of};
+ghost use Rattle.mq_system.specs.Shared.{IsDue, IsShared, with_pending};
+
+use crate::{Entries, Keys, Names, Pledge, Seat, SharedSlot, SlotOf, TextOf, WaitingOf};
+use mq_board::{BoardWriter, Copies};
+use mq_message::Message;
+use mq_one_thread::{Delivered, Errno, Got, Refused, Removal, SendRefused};
+use mq_select::Selection;
+use mq_table::{Id, make_under, remove_under};
+use std::alloc::AllocError;
+use std::sync::Wait;
+use std::sync::ledger::Share;
+
+/// Publishes the event by which the slot was just changed, and notes it in the seat that made it.
+fn publish<P: Pledge, N: Names, R: Wait>(
+    rt: &R,
+    slot: &SlotOf<N>,
+    writer: &mut BoardWriter<N, Copies<N>>,
+    entries: &mut Share<Entries<N>>,
+    seat: &mut Seat<N>,
+)
+    requires due { IsDue P.kept N.slots N.last_seq seat.old.number writer.old.board
+        writer.old.events writer.old.pending slot.now entries.old.parts entries.old.amount }
+    requires known { front_of seat.old slot.now.number ≡ writer.old.events }
+    ensures shared { IsShared P.kept N.slots N.last_seq writer.new.board writer.new.events
+        writer.new.pending slot.now entries.new.parts entries.new.amount }
+    ensures events { writer.new.events ≡ with_pending writer.old.events writer.old.pending }
+    ensures noted { HasNoted seat.old seat.new slot.now.number writer.new.events }
+{
+    writer.publish(rt);
+    seat.note(entries, slot.number(), writer.tell());
+}
+
+impl<P: Pledge, N: Names> SharedSlot<P, N, Copies<N>> {
+    /// Sends a text as this seat (msgop(2), msgsnd with IPC_NOWAIT), and answers the entry. EINVAL
+    /// for the type, EINVAL for the id, EIDRM, EAGAIN, then ENOMEM; the text is then handed back.
+    pub fn send<R: Wait>(
+        &mut self,
+        rt: &R,
+        seat: &mut Seat<N>,
+        id: Id,
+        mtype: i64,
+        tag: u64,
+        text: TextOf<N>,
+        moment: u64,
+    ) -> Result<u64, SendRefused<TextOf<N>>>
+        requires begun { MayBegin id self.old seat.old }
+        requires pledge { P.kept seat.old.number tag mtype text.bytes }
+        ensures answer { MatchResult result
+            (HasChanged (send_answer self.old id
+            (record { mtype = mtype; sender = seat.old.number; tag = tag; body = text }) moment)
+            self.old self.new seat.old seat.new)
+            (λ r. HasRefused (send_answer self.old id
+            (record { mtype = mtype; sender = seat.old.number; tag = tag; body = text }) moment)
+            self.old self.new seat.old seat.new r.refused) }
+        ensures handed_back { IfErr result (λ r. r.text ≡ text) }
+    {
+        if mtype < 1 {
+            let refused = Refused {
+                errno: Errno::EINVAL,
+                entry: None,
+            };
+            return Err(SendRefused { refused, text });
+        }
+        match self.look(id) {
+            Ok(()) => (),
+            Err(refused) => return Err(SendRefused { refused, text }),
+        }
+        self.holds();
+        let message = Message {
+            mtype,
+            sender: seat.number(),
+            tag,
+            body: text,
+        };
+        match self.slot.send(message, moment, &mut self.writer) {
+            Ok(entry) => {
+                publish::<P, N, R>(rt, &self.slot, &mut self.writer, &mut self.entries, seat);
+                Ok(entry)
+            }
+            Err((refusal, message)) => Err(SendRefused {
+                refused: self.refused(Errno::from(refusal)),
+                text: message.into_body(),
+            }),
+        }
+    }
+
+    /// Receives the first message that the selection names (msgop(2), msgrcv with IPC_NOWAIT).
+    /// With `noerror`, the flag MSG_NOERROR, a longer text is cut to `size` bytes. EINVAL, EIDRM,
+    /// ENOMSG, E2BIG, then ENOMEM.
+    pub fn receive<R: Wait>(
+        &mut self,
+        rt: &R,
+        seat: &mut Seat<N>,
+        id: Id,
+        size: u64,
+        selection: Selection,
+        noerror: bool,
+        moment: u64,
+    ) -> Result<Delivered<TextOf<N>>, Refused>
+        requires begun { MayBegin id self.old seat.old }
+        ensures answer { MatchResult result
+            (HasChanged (receive_answer self.old id size selection noerror seat.old.number moment)
+            self.old self.new seat.old seat.new)
+            (HasRefused (receive_answer self.old id size selection noerror seat.old.number moment)
+            self.old self.new seat.old seat.new) }
+        ensures pledge { IfOk result (MeetsItsPledge P.kept size noerror) }
+    {
+        self.look(id)?;
+        self.holds();
+        let number = seat.number();
+        match self
+            .slot
+            .receive(size, selection, noerror, number, moment, &mut self.writer)
+        {
+            Ok(received) => {
+                publish::<P, N, R>(rt, &self.slot, &mut self.writer, &mut self.entries, seat);
+                Ok(Delivered::of(received))
+            }
+            Err(refusal) => Err(self.refused(Errno::from(refusal))),
+        }
+    }
+
+    /// Sets the quota (msgctl(2), IPC_SET of msg_qbytes), and answers the entry. EINVAL, EIDRM,
+    /// EPERM over MSGMNB, then ENOMEM.
+    pub fn set<R: Wait>(
+        &mut self,
+        rt: &R,
+        seat: &mut Seat<N>,
+        id: Id,
+        qbytes: u64,
+        moment: u64,
+    ) -> Result<u64, Refused>
+        requires begun { MayBegin id self.old seat.old }
+        ensures answer { MatchResult result
+            (HasChanged (set_answer self.old id qbytes seat.old.number moment)
+            self.old self.new seat.old seat.new)
+            (HasRefused (set_answer self.old id qbytes seat.old.number moment)
+            self.old self.new seat.old seat.new) }
+    {
+        self.look(id)?;
+        self.holds();
+        let number = seat.number();
+        match self.slot.set(qbytes, number, moment, &mut self.writer) {
+            Ok(entry) => {
+                publish::<P, N, R>(rt, &self.slot, &mut self.writer, &mut self.entries, seat);
+                Ok(entry)
+            }
+            Err(refusal) => Err(self.refused(Errno::from(refusal))),
+        }
+    }
+
+    /// Makes a queue, and enters its key, which is new or 0 (msgget(2), IPC_CREAT). An `Err` means
+    /// that memory ran out.
+    pub fn make<R: Wait>(
+        &mut self,
+        rt: &R,
+        keys: &mut Keys<N>,
+        seat: &mut Seat<N>,
+        key: i32,
+        moment: u64,
+    ) -> Result<Got, AllocError>
+        requires known { front_of seat.old self.old.number ≡ self.old.events }
+        requires free { is_free N.last_seq self.old.events ≡ true }
+        requires bounded { N.last_seq ≤ MAX_SEQ }
+        requires absent { key ≢ pos 0 → id_of_key keys.old key ≡ None }
+        ensures answer { MatchResult result
+            (HasMade key moment self.old self.new keys.old keys.new seat.old seat.new)
+            (λ _. (self.new ≡ self.old) × (keys.new ≡ keys.old) × (seat.new ≡ seat.old)) }
+    {
+        self.holds();
+        let entry = self.slot.events();
+        let number = seat.number();
+        let table = &mut keys.table;
+        let id = make_under(table, &mut self.slot, key, number, moment, &mut self.writer)?;
+        publish::<P, N, R>(rt, &self.slot, &mut self.writer, &mut self.entries, seat);
+        Ok(Got {
+            id,
+            made: Some(entry),
+        })
+    }
+
+    /// Removes the queue, and forgets its key (msgctl(2), IPC_RMID). What waited is handed out.
+    /// EINVAL, EIDRM, then ENOMEM.
+    pub fn remove<R: Wait>(
+        &mut self,
+        rt: &R,
+        keys: &mut Keys<N>,
+        seat: &mut Seat<N>,
+        id: Id,
+        moment: u64,
+    ) -> Result<(Removal, WaitingOf<N>), Refused>
+        requires begun { MayBegin id self.old seat.old }
+        ensures answer { MatchResult result
+            (λ r. HasChanged
+            (remove_answer self.old id seat.old.number moment r.0.log.base.places)
+            self.old self.new seat.old seat.new r.0)
+            (HasRefused (remove_answer self.old id seat.old.number moment 0)
+            self.old self.new seat.old seat.new) }
+        ensures keys { MatchResult result (λ _. keys.new ≡ forget (last_id self.old) keys.old)
+            (λ _. keys.new ≡ keys.old) }
+        ensures waited { IfOk result (λ r. r.1.messages ≡ self.old.messages) }
+        ensures lawful { IsSlotList N.last_seq self.new.events }
+    {
+        self.look(id)?;
+        self.holds();
+        let entry = self.slot.events();
+        let number = seat.number();
+        let table = &mut keys.table;
+        let removed = remove_under(table, &mut self.slot, number, moment, &mut self.writer);
+        let Ok((log, waiting)) = removed else {
+            return Err(self.refused(Errno::ENOMEM));
+        };
+        publish::<P, N, R>(rt, &self.slot, &mut self.writer, &mut self.entries, seat);
+        Ok((Removal { entry, log }, waiting))
+    }
+}

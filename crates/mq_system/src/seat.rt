@@ -1,0 +1,189 @@
+ghost use Rattle.std.specs.Prelude.{◌≡◌, ◌+◌, ◌*◌, ◌<◌, ◌≤◌, [], IfOk, MatchBool, length, replicate, slice_index, slice_set};
+ghost use Rattle.std.specs.List.{sum};
+ghost use Rattle.mq_queue.specs.Row.{row};
+ghost use Rattle.mq_table.specs.Ids.{seq_of, slot_of};
+ghost use Rattle.mq_system.specs.Seat.{AreKnown, IsCounted, IsLater, IsNext, IsSame, fresh_seat, front_of};
+ghost use Rattle.mq_system.specs.Shown.{stat_answer};
+ghost use Rattle.mq_system.specs.declared.seat.TheConstants.{MAX_COUNT};
+
+use crate::{Entries, Fronts, Names};
+use mq_board::{BoardReader, Told};
+use mq_queue::{BoardRow, Figures};
+use mq_table::{Id, IdRefusal};
+use std::alloc::{AllocError, Global};
+use std::marker::Model;
+use std::sync::ledger::Share;
+
+/// The place of one caller at a time, in place of the manual's process, with how many changes it
+/// made in each slot and what it knows of each. It goes back to the system when that is closed, and
+/// so it can't be dropped.
+pub struct Seat<N: Names> {
+    number: u16,
+    /// A reader of each slot's board, at the place of this number.
+    readers: Vec<BoardReader<N>>,
+    by_slot: Vec<u64>,
+    /// As much as its counts can still grow.
+    left: Share<Entries<N>>,
+}
+
+impl<N: Names> Model for Seat<N> {
+    ghost use Rattle.mq_system.specs.Fronts.{fronts_of};
+    ghost use Rattle.mq_system.specs.Seat.{SeatState, IsSeat};
+
+    ghost Value = { SeatState };
+
+    ghost view = { λ s. record {
+      number = s.number;
+      by_slot = s.by_slot.items;
+      fronts = fronts_of s.readers.items;
+    } };
+
+    ghost invariant = { λ s. IsSeat N.seats N.slots s.number s.readers.items s.by_slot.items
+        s.left.parts s.left.amount };
+}
+
+/// The greatest count.
+pub(crate) const MAX_COUNT: u64 = u64::MAX;
+
+impl<N: Names> Seat<N> {
+    /// A seat that has done nothing, whose number is the place of its readers. An `Err` means that
+    /// memory ran out.
+    pub fn new(
+        alloc: Global,
+        fronts: Fronts<N>,
+        slots: u8,
+        left: Share<Entries<N>>,
+    ) -> Result<Seat<N>, AllocError>
+        requires number { (1 ≤ fronts.place) × (fronts.place ≤ N.seats) }
+        requires slots { slots ≡ N.slots }
+        requires none { fronts.fronts ≡ replicate N.slots [] }
+        requires part { left.parts ≡ 1 }
+        requires all { left.amount ≡ slots * MAX_COUNT }
+        ensures { IfOk result (λ seat. seat ≡ fresh_seat N.slots fronts.place) }
+    {
+        let by_slot = Vec::from_elem(alloc, 0u64, slots as usize)?;
+        let Fronts {
+            place: number,
+            readers,
+        } = fronts;
+        Ok(Seat {
+            number,
+            readers,
+            by_slot,
+            left,
+        })
+    }
+
+    /// From 1 to the number of seats; no call changes it.
+    pub fn number(&self) -> u16
+        ensures { result ≡ self.now.number }
+    {
+        self.number
+    }
+
+    /// How many changes this seat made in the slot: its calls of `msgget` that made a queue there,
+    /// and of `msgsnd`, `msgrcv`, `set` and `rmid` that were not refused.
+    pub fn count(&self, slot: usize) -> u64
+        requires slot { slot < N.slots }
+        ensures { result ≡ slice_index self.now.by_slot slot }
+    {
+        self.by_slot[slot]
+    }
+
+    /// What holds of each seat: it has a front for each slot, and each of its counts is at most the
+    /// number of its own changes that it knows there.
+    pub fn holds(&self)
+        ensures number { (1 ≤ self.now.number) × (self.now.number ≤ N.seats) }
+        ensures each { length self.now.by_slot ≡ N.slots }
+        ensures fronts { length self.now.fronts ≡ N.slots }
+        ensures known { AreKnown N.slots self.now.number self.now.fronts self.now.by_slot }
+    {
+        let _ = &self.number;
+    }
+
+    /// Learns what happened in the slot, if it is at least as much as the seat knows.
+    pub fn learn(&mut self, slot: u8, told: Told<N>) -> bool
+        requires slot { slot < N.slots }
+        requires told { told.board ≡ slot }
+        ensures same { IsSame self.old self.new }
+        ensures later { IsLater self.old self.new }
+        ensures told { MatchBool result (front_of self.new slot ≡ told.events)
+            ((self.new ≡ self.old) × (length told.events < length (front_of self.old slot))) }
+    {
+        self.readers[slot as usize].learn(told)
+    }
+
+    /// What the seat knows of the slot: it reads nothing that others write.
+    pub fn known(&self, slot: u8) -> BoardRow
+        requires { slot < N.slots }
+        ensures { result ≡ row (front_of self.now slot) }
+    {
+        self.readers[slot as usize].known()
+    }
+
+    /// What a report shows of the slot: what its board shows, or the row of the front where that
+    /// can't be entered. It waits for nobody, and takes no lock and no memory.
+    pub fn row(&mut self, slot: u8) -> BoardRow
+        requires slot { slot < N.slots }
+        ensures same { IsSame self.old self.new }
+        ensures later { IsLater self.old self.new }
+        ensures others { self.new.fronts
+            ≡ slice_set self.old.fronts slot (front_of self.new slot) }
+        ensures row { result ≡ row (front_of self.new slot) }
+    {
+        self.readers[slot as usize].figures()
+    }
+
+    /// What is shown of the id's queue (msgctl(2), IPC_STAT), or whether none was made with this id
+    /// or it was removed. It waits for nobody, and takes no lock and no memory.
+    pub fn stat(&mut self, id: Id) -> Result<Figures, IdRefusal>
+        requires slot { slot_of id < N.slots }
+        ensures same { IsSame self.old self.new }
+        ensures later { IsLater self.old self.new }
+        ensures answer { result ≡ stat_answer (front_of self.new (slot_of id)) (seq_of id) }
+    {
+        let shown = self.row(id.slot());
+        if shown.made <= id.seq() {
+            Err(IdRefusal::Never)
+        } else if shown.live && id.seq() + 1 == shown.made {
+            Ok(shown.figures)
+        } else {
+            Err(IdRefusal::Removed)
+        }
+    }
+
+    /// Counts a change of its own in the slot, and learns of it. Its entry goes to the slot's part.
+    pub(crate) fn note(&mut self, entries: &mut Share<Entries<N>>, slot: u8, told: Told<N>)
+        requires slot { slot < N.slots }
+        requires told { told.board ≡ slot }
+        requires next { IsNext self.old.number (front_of self.old slot) told.events }
+        requires room { length (front_of self.old slot) < MAX_COUNT }
+        requires part { 0 < entries.old.parts }
+        ensures counted { IsCounted self.old self.new slot }
+        ensures learned { self.new.fronts ≡ slice_set self.old.fronts slot told.events }
+        ensures entries { entries.new.amount ≡ entries.old.amount + 1 }
+        ensures part { entries.new.parts ≡ entries.old.parts }
+    {
+        self.by_slot[slot as usize] += 1;
+        self.left.transfer(entries, 1);
+        if !self.readers[slot as usize].learn(told) {
+            unreachable!()
+        }
+    }
+
+    /// What is left of its part, and its fronts, at the end.
+    pub fn into_parts(self) -> (Share<Entries<N>>, Fronts<N>)
+        ensures part { result.0.parts ≡ 1 }
+        ensures left { result.0.amount + sum self.by_slot ≡ N.slots * MAX_COUNT }
+        ensures place { result.1.place ≡ self.number }
+        ensures fronts { result.1.fronts ≡ self.fronts }
+    {
+        let Seat {
+            number: place,
+            readers,
+            by_slot: _,
+            left,
+        } = self;
+        (left, Fronts { place, readers })
+    }
+}

@@ -1,0 +1,194 @@
+ghost use Rattle.std.specs.Prelude.{◌≡◌, ◌<◌, ◌≤◌, ◌+◌, ◌-◌, ◌^◌, ◌==◌, [], true, length, All, IfSome, IsTrue, MatchResult, OnOk};
+ghost use Rattle.mq_queue.specs.Row.{is_live, made_count};
+ghost use Rattle.mq_table.specs.Cut.{IsCutOf, shown};
+ghost use Rattle.mq_table.specs.Ids.{slot_of};
+ghost use Rattle.mq_table.specs.KeptPart.{whole};
+ghost use Rattle.mq_table.specs.Slot.{empty_slot, Waits};
+ghost use Rattle.mq_table.specs.SlotList.{is_free, IsSlotList};
+ghost use Rattle.mq_table.specs.SlotParts.{empty_kept};
+ghost use Rattle.mq_table.specs.declared.limits.TheConstants.{MAX_SEQ, MAX_SLOTS};
+ghost use Rattle.mq_one_thread.specs.Texts.{bytes_of};
+ghost use Rattle.mq_one_thread.specs.declared.errno.Errno.TheVariants.{ENOMEM};
+ghost use Rattle.mq_system.specs.Answer.{id_with_key, looks, refused_here};
+ghost use Rattle.mq_system.specs.Pledge.{IsPledged};
+ghost use Rattle.mq_system.specs.Outcome.{IsLook};
+ghost use Rattle.mq_system.specs.Seat.{front_of};
+ghost use Rattle.mq_system.specs.Shared.{IsShared};
+
+use crate::{Entries, Names, Pledge, Seat, SlotOf};
+use mq_board::{BoardWriter, Copies};
+use mq_one_thread::{Errno, Refused};
+use mq_table::{Cut, Id, MAX_SLOTS};
+use std::marker::{Model, PhantomData};
+use std::sync::ledger::Share;
+
+/// A slot of a system, under its lock, with the writer of its board, which has published all that
+/// happened in the slot and nothing else, also what was cut off of the slot's list since then. It is
+/// seen as the whole slot; the pledge holds of each message that waits in it. `W` is the type of the
+/// board's copies.
+pub struct SharedSlot<P: Pledge, N: Names, W = Copies<N>> {
+    pub(crate) slot: SlotOf<N>,
+    pub(crate) writer: BoardWriter<N, W>,
+    /// As much as its whole list has entries.
+    pub(crate) entries: Share<Entries<N>>,
+    pledge: PhantomData<P>,
+}
+
+/// What a slot under its lock is made of.
+pub struct SlotParts<N: Names, W = Copies<N>> {
+    pub slot: SlotOf<N>,
+    pub writer: BoardWriter<N, W>,
+    pub entries: Share<Entries<N>>,
+}
+
+impl<P: Pledge, N: Names, W> Model for SharedSlot<P, N, W> {
+    ghost use Rattle.mq_message.specs.Text.{PlainText};
+    ghost use Rattle.mq_table.specs.KeptPart.{whole};
+    ghost use Rattle.mq_table.specs.Slot.{SlotState};
+    ghost use Rattle.mq_system.specs.Shared.{IsShared};
+
+    ghost Value = { SlotState PlainText };
+
+    ghost view = { λ s. whole s.writer.events s.slot };
+
+    ghost invariant = { λ s. IsShared P.kept N.slots N.last_seq s.writer.board s.writer.events
+        s.writer.pending s.slot s.entries.parts s.entries.amount };
+}
+
+impl<P: Pledge, N: Names, W> SharedSlot<P, N, W> {
+    /// A slot in which no queue was made, and its board, of the same number, on which nothing is
+    /// published.
+    pub fn new(
+        slot: SlotOf<N>,
+        writer: BoardWriter<N, W>,
+        entries: Share<Entries<N>>,
+    ) -> SharedSlot<P, N, W>
+        requires within { slot.number < N.slots }
+        requires board { writer.board ≡ slot.number }
+        requires empty { slot ≡ empty_kept slot.number }
+        requires unused { (writer.events ≡ []) × (writer.pending ≡ []) }
+        requires part { entries.parts ≡ 1 }
+        requires none { entries.amount ≡ 0 }
+        ensures { result ≡ empty_slot slot.number }
+    {
+        SharedSlot {
+            slot,
+            writer,
+            entries,
+            pledge: PhantomData,
+        }
+    }
+
+    /// What holds of each slot under its lock.
+    pub fn holds(&self)
+        ensures within { self.now.number < N.slots }
+        ensures lawful { IsSlotList N.last_seq self.now.events }
+        ensures waits { Waits bytes_of self.now }
+        ensures pledged { All (λ m. IsPledged P.kept m.1) self.now.messages }
+        ensures numbered { self.now.number < MAX_SLOTS }
+        ensures few { length self.now.events < 2 ^ 64 - 1 }
+        ensures made { made_count self.now.events ≤ MAX_SEQ + 1 }
+    {
+        let slot = &self.slot;
+        slot.holds();
+        slot.events();
+        slot.made();
+    }
+
+    /// Whether this is its number.
+    pub fn is_number(&self, number: u8) -> bool
+        ensures { result ≡ (self.now.number == number) }
+    {
+        self.slot.number() == number
+    }
+
+    /// The seat learns what happened in this slot. Whether this is its number, and the seat did not
+    /// know more: no run meets a slot of another number, or of which a seat knows more than that
+    /// under its lock.
+    pub fn enter(&self, seat: &mut Seat<N>, number: u8) -> bool
+        requires within { number < N.slots }
+        ensures look { IsLook seat.old seat.new }
+        ensures known { IsTrue result → (self.now.number ≡ number)
+            × (front_of seat.new number ≡ self.now.events) }
+    {
+        self.is_number(number) && seat.learn(number, self.writer.tell())
+    }
+
+    /// Whether this id's queue is in the slot, or why not.
+    pub fn look(&self, id: Id) -> Result<(), Refused>
+        requires id { slot_of id ≡ self.now.number }
+        ensures value { result ≡ looks self.now id }
+        ensures live { OnOk result (is_live self.now.events ≡ true) }
+    {
+        match self.slot.look(id) {
+            Ok(()) => Ok(()),
+            Err(refusal) => Err(self.refused(Errno::from(refusal))),
+        }
+    }
+
+    /// The refusal after all that has happened in the slot.
+    pub(crate) fn refused(&self, errno: Errno) -> Refused
+        ensures { result ≡ refused_here self.now errno }
+    {
+        Refused {
+            errno,
+            entry: Some(self.slot.events()),
+        }
+    }
+
+    /// The id of the queue in the slot, where it is there and has this key.
+    pub fn with_key(&self, key: i32) -> Option<Id>
+        ensures value { result ≡ id_with_key self.now key }
+        ensures within { IfSome result (λ id. slot_of id ≡ self.now.number) }
+    {
+        let slot = &self.slot;
+        slot.holds();
+        if slot.is_live() && slot.key() == key {
+            Some(slot.last_id())
+        } else {
+            None
+        }
+    }
+
+    /// Whether a queue can be made in the slot, where its ids end with this seq.
+    pub fn is_free(&self, last_seq: u32) -> bool
+        ensures { result ≡ is_free last_seq self.now.events }
+    {
+        self.slot.is_free(last_seq)
+    }
+
+    /// Cuts the slot's list off where it ends now, and hands out what was kept of it. This is no
+    /// event: the whole list, the board and the counts stay. ENOMEM alone.
+    pub fn cut(&mut self) -> Result<Cut, Refused>
+        ensures answer { MatchResult result (λ cut. IsCutOf self.old.events (shown cut))
+            (λ r. r ≡ refused_here self.old ENOMEM) }
+        ensures same { self.new ≡ self.old }
+    {
+        match self.slot.cut() {
+            Ok(cut) => Ok(cut),
+            Err(_) => Err(self.refused(Errno::ENOMEM)),
+        }
+    }
+
+    /// What it is made of, at the end.
+    pub fn into_parts(self) -> SlotParts<N, W>
+        ensures slot { whole result.writer.events result.slot ≡ self }
+        ensures shared { IsShared P.kept N.slots N.last_seq result.writer.board
+            result.writer.events result.writer.pending result.slot result.entries.parts
+            result.entries.amount }
+        ensures waits { Waits bytes_of self }
+    {
+        self.holds();
+        let SharedSlot {
+            slot,
+            writer,
+            entries,
+            pledge: _,
+        } = self;
+        SlotParts {
+            slot,
+            writer,
+            entries,
+        }
+    }
+}
