@@ -1,12 +1,14 @@
-use Rattle.std.proofs.Common.{◌≡◌, ◌≢◌, ℕ, ℤ, ◌≤◌, List, ◌++◌, length, map, take, Result, Ok, Err, OnOk, sym, ap, ◌∙◌}
+use Rattle.std.proofs.Common.{◌≡◌, ◌≢◌, ℕ, ℤ, ◌<◌, ◌≤◌, List, ◌++◌, length, map, take, Result, Ok, Err, OnOk, IsErrOf, sym, ap, subst, ◌∙◌}
 use Rattle.std.specs.List.{range_with_len}
 use Rattle.std.proofs.lemmas.List.FromFn.{length-map-range_with_len, take-map-range_with_len}
 use Rattle.std.specs.declared.alloc.AllocError.{AllocError}
 use Rattle.mq_message.specs.Text.{PlainText}
+use Rattle.mq_message.specs.declared.order.TheConstants.{INLINE_LEN}
 use Rattle.mq_queue.specs.declared.limits.TheConstants.{MSGMAX}
 use Rattle.mq_one_thread.proofs.DraftLemmas.{spent_after}
 use Rattle.mq_one_thread.specs.Calls.{msgsnd}
 use Rattle.mq_one_thread.specs.Look.{Answer, refused_or_memory}
+use Rattle.mq_one_thread.specs.Outcome.{Answers}
 use Rattle.mq_one_thread.specs.State.{State}
 use Rattle.mq_one_thread.specs.Texts.{draft_errno, draft_refusal, drafts_of}
 use Rattle.mq_one_thread.specs.declared.draft_error.DraftError.{DraftError}
@@ -14,7 +16,7 @@ use Rattle.mq_one_thread.specs.declared.draft_error.DraftError.TheVariants.{Memo
 use Rattle.mq_one_thread.specs.declared.errno.Errno.TheVariants.{ENOMEM}
 use Rattle.mq_one_thread.specs.declared.results.Refused.{Refused}
 use Rattle.mq_cli.specs.Commands.{Text}
-use Rattle.mq_cli.specs.Drafts.{by_draft_errno, bytes_of_text, draft, letter, spent}
+use Rattle.mq_cli.specs.Drafts.{Drafts, by_draft_errno, bytes_of_text, draft, letter, spent}
 use Rattle.mq_cli.specs.Serial.{Answered}
 use Rattle.mq_cli.specs.Session.{by_errno}
 use Rattle.mq_cli.specs.Transcript.{Reply, at, refused, output, told, send_step}
@@ -83,3 +85,14 @@ refused_leaves n seat q id mtype text made after r body kept last old new (Ok _)
           ∙ drafted_home q text made after e ∙ ap (λ (t : Reply × State). t.1) (sym told);
     }
 refused_leaves n seat q id mtype text made after r body kept last old new (Err _) e is same_text same_state gone line memory = tt
+
+-- a text of these bytes is drafted as the queues draft them
+pub drafts_are : (q p : State) (text : Text) (bytes : List ℕ) (r : Result PlainText DraftError) → bytes ≡ bytes_of_text text
+    → Answers (drafts_of q bytes) Memory q p r → (IsErrOf r Memory → INLINE_LEN < length bytes) → Drafts q p text r
+drafts_are q p text bytes (Ok made) same answer memory =
+    ap by_draft_errno (subst (λ (b : List ℕ). drafts_of q b ≡ Ok (made, p)) same answer)
+drafts_are q p text bytes (Err refusal) same answer memory = record {
+  refused = subst (λ (b : List ℕ). refusal ≡ draft_refusal (drafts_of q b)) same answer.refused;
+  memory = λ is. subst (λ (b : List ℕ). INLINE_LEN < length b) same (memory (ap (λ (e : DraftError). Err e) is));
+  unchanged = answer.unchanged;
+}

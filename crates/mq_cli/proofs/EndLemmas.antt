@@ -1,9 +1,9 @@
 -- What a whole run of a threads script has written.
-use Rattle.std.proofs.Common.{◌≡◌, ◌⊎◌, inl, inr, ℕ, ◌-◌, ◌<◌, ◌^◌, zero, suc, List, [], ◌∷◌, ◌++◌, map, Option, Some, None, IfSome, Result, Ok, Err, IfOk, IfErr, IsErrOf, refl, sym, ap, ◌∙◌, subst, append-nil, arith, take}
+use Rattle.std.proofs.Common.{◌≡◌, ◌⊎◌, inl, inr, ℕ, ◌-◌, ◌<◌, ◌^◌, zero, suc, List, [], ◌∷◌, ◌++◌, map, Option, IfSome, Result, Ok, Err, refl, sym, ap, ◌∙◌, subst, append-nil, arith, take}
 use Rattle.std.specs.Global.{Vec}
 use Rattle.std.specs.List.{AllZip}
-use Rattle.std.specs.Io.KnownBytes.{Consumes, IsAtEnd, Keeps}
-use Rattle.std.proofs.KnownBytes.{Appends-kept, Appends-trans, Consumes-all, Keeps-trans}
+use Rattle.std.specs.Io.KnownBytes.{Keeps}
+use Rattle.std.proofs.KnownBytes.{Appends-kept, Appends-trans, Consumes-whole, Keeps-refl, Keeps-trans}
 use Rattle.mq_one_thread.specs.declared.close.ClosedSlot.{ClosedSlot}
 use Rattle.mq_one_thread.specs.declared.config.Config.{Config}
 use Rattle.mq_system.specs.Seat.{SeatState, fresh_seat}
@@ -13,13 +13,16 @@ use Rattle.mq_cli.specs.declared.fault.RunFault.TheVariants.{Script, Size, Read,
 use Rattle.mq_cli.specs.declared.outcome.Outcome.{Outcome}
 use Rattle.mq_cli.specs.declared.step.Step.{Step}
 use Rattle.mq_cli.specs.Closing.{closing}
+use Rattle.mq_cli.specs.Input.{HasRead, IsUnread}
 use Rattle.mq_cli.specs.MainPart.{RanMain, WroteAll, WroteSome, lines_replied}
 use Rattle.mq_cli.specs.Plans.{IsDone}
-use Rattle.mq_cli.specs.Serial.{AppendsPrefix}
-use Rattle.mq_cli.specs.Threads.{AreClosed, AreDone, Flushes, IsMakingFault, IsTold, IsWhole, RanParts, RanThreads, Tells, TellsEnd, WroteEnd, WroteMain, WrotePart, main_seat}
+use Rattle.mq_cli.specs.Serial.{AppendsPrefix, Writes}
+use Rattle.mq_cli.specs.Threads.{AreClosed, AreDone, Flushes, IsMakingFault, IsTold, IsWhole, RanParts, RanWorkers, Tells, TellsEnd, WroteMain, WrotePart, WroteWhole, main_seat}
 use Rattle.mq_cli.specs.declared.threads_script.ThreadsScript.{ThreadsScript}
-use Rattle.mq_cli.specs.ThreadsParsed.{wanted_seen}
+use Rattle.mq_cli.specs.ThreadsParsed.{Parses, wanted_seen}
+use Rattle.mq_cli.specs.ThreadsRun.{RanThreads, RanWanted}
 use Rattle.mq_cli.specs.ThreadsScript.{Wanted, wanted_of}
+use Rattle.mq_cli.proofs.InputLemmas.{reads_few}
 use Rattle.mq_cli.proofs.MainLemmas.{all_kept, all_prefix, prefix_behind, some_kept, wrote_first, wrote_nothing}
 use Rattle.mq_cli.proofs.Runs.{prefix_kept}
 
@@ -59,11 +62,10 @@ main_failed slots last_seq wanted main now old new Read ran = absurd ran
 -- the workers, behind a main part that was
 pub sections_ran : (slots last_seq : ℕ) (script : ThreadsScript) (main now : SeatState) (old mid new : Option (List ℕ)) (r : Result (Vec Outcome) RunFault)
     → WroteAll slots last_seq script.calls.items main now old mid → Keeps mid new
-    → IfOk r (λ (outcomes : Vec Outcome). AllZip (λ (plan : Vec Step) outcome. IsDone plan.items outcome) script.sections.items outcomes.items)
-    → IfErr r IsMakingFault → RanParts slots last_seq (wanted_seen script) main now old new r
-sections_ran slots last_seq script main now old mid new (Ok outcomes) so kept done fault =
+    → RanWorkers script.sections.items r → RanParts slots last_seq (wanted_seen script) main now old new r
+sections_ran slots last_seq script main now old mid new (Ok outcomes) so kept done =
     (all_kept slots last_seq script.calls.items main now old mid new so kept, done_seen script.sections.items outcomes.items done)
-sections_ran slots last_seq script main now old mid new (Err e) so kept done fault =
+sections_ran slots last_seq script main now old mid new (Err e) so kept fault =
     not_run slots last_seq (wanted_seen script) main now old new e (all_kept slots last_seq script.calls.items main now old mid new so kept) fault
 
 -- a flush that failed
@@ -96,7 +98,7 @@ RanFrom config wanted now old new r = RanParts config.slots config.last_seq want
 
 -- a run that ended before its workers had
 part_stays : (config : Config) (wanted : Wanted) (now : SeatState) (old mid new : Option (List ℕ)) (fault : RunFault) → RanFrom config wanted now old mid (Err fault) → Keeps mid new
-    → RanThreads config wanted old new (Err fault)
+    → RanWanted config wanted old new (Err fault)
 part_stays config wanted now old mid new Write ran kept = inl (some_kept config.slots config.last_seq wanted.calls (main_seat config) old mid new ran kept)
 part_stays config wanted now old mid new Memory ran kept = inl (some_kept config.slots config.last_seq wanted.calls (main_seat config) old mid new ran kept)
 part_stays config wanted now old mid new Thread ran kept = (now, all_kept config.slots config.last_seq wanted.calls (main_seat config) now old mid new ran kept)
@@ -125,7 +127,7 @@ whole : (config : Config) (wanted : Wanted) (now : SeatState) (old mid : Option 
     → IsTold config wanted.sections now told → IsWhole config wanted (lines_replied so.replies ++ told)
 whole config wanted now old mid told so ending = record { replies = so.replies; main = now; told = told; replied = so.are; ending = ending; text_is = refl }
 
-end_kept : (mid end new : Option (List ℕ)) (told : List ℕ) (r : Result (Unit {0}) RunFault) → WroteEnd mid end told r → Keeps end new → WroteEnd mid new told r
+end_kept : (mid end new : Option (List ℕ)) (told : List ℕ) (r : Result (Unit {0}) RunFault) → Writes mid end told r → Keeps end new → Writes mid new told r
 end_kept mid end new told (Ok _) wrote kept = Appends-kept mid end new told wrote kept
 end_kept mid end new told (Err Write) wrote kept = prefix_kept mid end new told wrote kept
 end_kept mid end new told (Err Memory) wrote kept = prefix_kept mid end new told wrote kept
@@ -135,7 +137,7 @@ end_kept mid end new told (Err Size) wrote kept = absurd wrote
 end_kept mid end new told (Err Read) wrote kept = absurd wrote
 
 -- whatever is written of it is a prefix
-end_prefix : (mid new : Option (List ℕ)) (told : List ℕ) (r : Result (Unit {0}) RunFault) → WroteEnd mid new told r → AppendsPrefix mid new told
+end_prefix : (mid new : Option (List ℕ)) (told : List ℕ) (r : Result (Unit {0}) RunFault) → Writes mid new told r → AppendsPrefix mid new told
 end_prefix mid new told (Ok _) wrote = all_prefix mid new told wrote
 end_prefix mid new told (Err Write) wrote = wrote
 end_prefix mid new told (Err Memory) wrote = wrote
@@ -152,7 +154,7 @@ whole_cut config wanted now old mid new told so ending part =
     inr (text ++ told, whole config wanted now old mid told so ending, prefix_behind old mid new text told so.wrote part)
 
 whole_stays : (config : Config) (wanted : Wanted) (now : SeatState) (old mid new : Option (List ℕ)) (told : List ℕ) (r : Result (Unit {0}) RunFault)
-    → WroteFrom config wanted now old mid → IsTold config wanted.sections now told → WroteEnd mid new told r → RanThreads config wanted old new r
+    → WroteFrom config wanted now old mid → IsTold config wanted.sections now told → Writes mid new told r → RanWanted config wanted old new r
 whole_stays config wanted now old mid new told (Ok _) so ending wrote =
     let text = lines_replied so.replies in
     (text ++ told, whole config wanted now old mid told so ending, Appends-trans old mid new text told so.wrote wrote)
@@ -171,46 +173,87 @@ told_of config wanted now outcomes slots free done are =
 -- a run, from what its parts wrote, what was told at the end and the last flush
 run_by : (config : Config) (wanted : Wanted) (now : SeatState) (old mid end new : Option (List ℕ)) (ran : Result (Vec Outcome) RunFault) (slots : List ClosedSlot) (pages free : ℕ)
     (told result : Result (Unit {0}) RunFault) → RanFrom config wanted now old mid ran → AreClosed config now slots → pages ≡ 2 ^ config.height
-    → TellsEnd mid end slots pages free ran told → Keeps end new → (result ≡ told) ⊎ (result ≡ Err Write) → RanThreads config wanted old new result
+    → TellsEnd mid end slots pages free ran told → Keeps end new → (result ≡ told) ⊎ (result ≡ Err Write) → RanWanted config wanted old new result
 run_by config wanted now old mid end new (Ok outcomes) slots pages free told result parts are paged tells kept (inl same) =
     let text = closing outcomes.items slots (2 ^ config.height) free in
-    let wrote : WroteEnd mid end text told = subst (λ (p : ℕ). WroteEnd mid end (closing outcomes.items slots p free) told) paged tells in
-    subst (RanThreads config wanted old new) (sym same)
+    let wrote : Writes mid end text told = subst (λ (p : ℕ). Writes mid end (closing outcomes.items slots p free) told) paged tells in
+    subst (RanWanted config wanted old new) (sym same)
     (whole_stays config wanted now old mid new text told parts.0 (told_of config wanted now outcomes.items slots free parts.1 are) (end_kept mid end new text told wrote kept))
 run_by config wanted now old mid end new (Ok outcomes) slots pages free told result parts are paged tells kept (inr failed) =
     let text = closing outcomes.items slots (2 ^ config.height) free in
-    let wrote : WroteEnd mid end text told = subst (λ (p : ℕ). WroteEnd mid end (closing outcomes.items slots p free) told) paged tells in
-    subst (RanThreads config wanted old new) (sym failed)
+    let wrote : Writes mid end text told = subst (λ (p : ℕ). Writes mid end (closing outcomes.items slots p free) told) paged tells in
+    subst (RanWanted config wanted old new) (sym failed)
     (whole_cut config wanted now old mid new text parts.0 (told_of config wanted now outcomes.items slots free parts.1 are) (end_prefix mid new text told (end_kept mid end new text told wrote kept)))
 run_by config wanted now old mid end new (Err fault) slots pages free told result parts are paged tells kept (inl same) =
     let stays : Keeps mid new = Keeps-trans mid end new tells.1 kept in
-    subst (RanThreads config wanted old new) (sym (same ∙ tells.0)) (part_stays config wanted now old mid new fault parts stays)
+    subst (RanWanted config wanted old new) (sym (same ∙ tells.0)) (part_stays config wanted now old mid new fault parts stays)
 run_by config wanted now old mid end new (Err fault) slots pages free told result parts are paged tells kept (inr failed) =
     let stays : Keeps mid new = Keeps-trans mid end new tells.1 kept in
-    subst (RanThreads config wanted old new) (sym failed) (part_cut config wanted now old mid new fault parts stays)
+    subst (RanWanted config wanted old new) (sym failed) (part_cut config wanted now old mid new fault parts stays)
 
 pub run_is : (config : Config) (wanted : Wanted) (now : SeatState) (old mid end new : Option (List ℕ)) (ran : Result (Vec Outcome) RunFault) (slots : List ClosedSlot) (pages free : ℕ)
     (told result : Result (Unit {0}) RunFault) → RanFrom config wanted now old mid ran → AreClosed config now slots → pages ≡ 2 ^ config.height
-    → TellsEnd mid end slots pages free ran told → Flushes end new told result → RanThreads config wanted old new result
+    → TellsEnd mid end slots pages free ran told → Flushes end new told result → RanWanted config wanted old new result
 run_is config wanted now old mid end new ran slots pages free told result parts are paged tells flushed =
     run_by config wanted now old mid end new ran slots pages free told result parts are paged tells flushed.0 flushed.1
 
--- where a thread could not be made the main part was written
-thread_main : (config : Config) (wanted : Wanted) (old new : Option (List ℕ)) (r : Result (Unit {0}) RunFault) → RanThreads config wanted old new r → IsErrOf r Thread
-    → WroteMain config wanted old new
-thread_main config wanted old new (Ok _) ran is = absurd (cc is)
-thread_main config wanted old new (Err Thread) ran is = ran
-thread_main config wanted old new (Err Write) ran is = absurd (cc is)
-thread_main config wanted old new (Err Memory) ran is = absurd (cc is)
-thread_main config wanted old new (Err (Script line cause)) ran is = absurd ran
-thread_main config wanted old new (Err Size) ran is = absurd ran
-thread_main config wanted old new (Err Read) ran is = absurd ran
+-- a run whose script was not read
+pub unread_tells : (config : Config) (script left now : Option (List ℕ)) (fault : RunFault) → IsUnread script left fault → RanThreads config script left now now (Err fault)
+unread_tells config script left now Size unread = record { reads = unread; writes = Keeps-refl now }
+unread_tells config script left now Read unread = record { reads = unread; writes = Keeps-refl now }
+unread_tells config script left now Memory unread = record { reads = unread; writes = inl (Keeps-refl now) }
+unread_tells config script left now (Script line cause) unread = absurd unread
+unread_tells config script left now Write unread = absurd unread
+unread_tells config script left now Thread unread = absurd unread
 
--- the same of what the reader gave
-pub thread_tells : (config : Config) (wanted : Wanted) (known left : Option (List ℕ)) (read : List ℕ) (old new : Option (List ℕ)) (r : Result (Unit {0}) RunFault) → Consumes known left read
-    → IsAtEnd left → wanted_of read ≡ Ok wanted → RanThreads config wanted old new r → IsErrOf r Thread → IfSome known (Tells (λ w. WroteMain config w old new))
-thread_tells config wanted None left read old new r consumed ended is ran thread = tt
-thread_tells config wanted (Some script) left read old new r consumed ended is ran thread =
-    let all : read ≡ script = Consumes-all (Some script) left read [] read consumed ended refl in
-    let Wants : List ℕ → Type 0 = λ s. wanted_of s ≡ Ok wanted in
-    (wanted, subst Wants all is, thread_main config wanted old new r ran thread)
+-- or is not well formed
+pub unparsed_tells : (config : Config) (script left : Option (List ℕ)) (all : Vec ℕ) (text : List ℕ) (now : Option (List ℕ)) (fault : RunFault) → HasRead script left all
+    → text ≡ all.items → Parses (wanted_of text) (Err fault) → RanThreads config script left now now (Err fault)
+unparsed_tells config script left all text now (Script line cause) read same parsed = record {
+  reads = reads_few script left all read;
+  writes = (
+    Consumes-whole script left all.items (λ s. wanted_of s ≡ Err (line, cause)) read.whole read.end
+        (subst (λ (t : List ℕ). wanted_of t ≡ Err (line, cause)) same parsed),
+    Keeps-refl now,
+  );
+}
+unparsed_tells config script left all text now Memory read same parsed = record { reads = reads_few script left all read; writes = inl (Keeps-refl now) }
+unparsed_tells config script left all text now Size read same parsed = absurd parsed
+unparsed_tells config script left all text now Read read same parsed = absurd parsed
+unparsed_tells config script left all text now Write read same parsed = absurd parsed
+unparsed_tells config script left all text now Thread read same parsed = absurd parsed
+
+-- or for whose system memory ran out
+pub unmade_tells : (config : Config) (script left : Option (List ℕ)) (all : Vec ℕ) (now : Option (List ℕ)) → HasRead script left all
+    → RanThreads config script left now now (Err Memory)
+unmade_tells config script left all now read = record { reads = reads_few script left all read; writes = inl (Keeps-refl now) }
+
+-- what is so of what the bytes that were read want is told of the script, where that is known
+tells : (So : Wanted → Type 0) (wanted : Wanted) (script left : Option (List ℕ)) (all : Vec ℕ) (text : List ℕ) → HasRead script left all → text ≡ all.items
+    → wanted_of text ≡ Ok wanted → So wanted → IfSome script (Tells So)
+tells So wanted script left all text read same is so =
+    Consumes-whole script left all.items (Tells So) read.whole read.end (wanted, subst (λ (t : List ℕ). wanted_of t ≡ Ok wanted) same is, so)
+
+-- a run whose script was read and is well formed
+pub wanted_tells : (config : Config) (script left : Option (List ℕ)) (all : Vec ℕ) (text : List ℕ) (wanted : Wanted) (old new : Option (List ℕ))
+    (r : Result (Unit {0}) RunFault) → HasRead script left all → text ≡ all.items → wanted_of text ≡ Ok wanted → RanWanted config wanted old new r
+    → RanThreads config script left old new r
+wanted_tells config script left all text wanted old new (Ok done) read same is ran = record {
+  reads = (reads_few script left all read, read.end);
+  writes = tells (λ w. WroteWhole config w old new) wanted script left all text read same is ran;
+}
+wanted_tells config script left all text wanted old new (Err Thread) read same is ran = record {
+  reads = reads_few script left all read;
+  writes = tells (λ w. WroteMain config w old new) wanted script left all text read same is ran;
+}
+wanted_tells config script left all text wanted old new (Err Write) read same is ran = record {
+  reads = reads_few script left all read;
+  writes = tells (λ w. WrotePart config w old new) wanted script left all text read same is ran;
+}
+wanted_tells config script left all text wanted old new (Err Memory) read same is ran = record {
+  reads = reads_few script left all read;
+  writes = inr (tells (λ w. WrotePart config w old new) wanted script left all text read same is ran);
+}
+wanted_tells config script left all text wanted old new (Err (Script line cause)) read same is ran = absurd ran
+wanted_tells config script left all text wanted old new (Err Size) read same is ran = absurd ran
+wanted_tells config script left all text wanted old new (Err Read) read same is ran = absurd ran

@@ -12,17 +12,23 @@ use Rattle.mq_cli.specs.declared.step.Step.{Step}
 use Rattle.mq_cli.specs.declared.taken.Taken.{Taken}
 use Rattle.mq_cli.specs.Calls.{Call, Receipt, calls_in, calls_of, receive, same_stream, stream_of}
 use Rattle.mq_cli.specs.Plans.{puts_in, puts_of, rises}
-use Rattle.mq_cli.specs.Progress.{AreNotes, GoesOn}
+use Rattle.mq_cli.specs.Progress.{AreNotes, GoesOn, outcome_of}
 use Rattle.mq_cli.specs.Works.{AreCalled, HasWorked, Puts, Removals, Takes}
 use Rattle.mq_cli.proofs.WorkLemmas.{called_then, called_within, calls_in_two, received_more}
 
--- a stream is that of a receipt
-pub stream_is : (s : Stream) (one : Receipt) → s.id ≡ one.id → s.sender ≡ one.taken.sender → s.mtype ≡ one.taken.mtype → s ≡ stream_of one
-stream_is s one id sender mtype =
-    let a : s ≡ record { id = one.id; sender = s.sender; mtype = s.mtype } = ap (λ (i : ℕ). record { id = i; sender = s.sender; mtype = s.mtype }) id in
-    let b : record { id = one.id; sender = s.sender; mtype = s.mtype } ≡ record { id = one.id; sender = one.taken.sender; mtype = s.mtype } =
-    ap (λ (n : ℕ). record { id = one.id; sender = n; mtype = s.mtype }) sender in
-    a ∙ b ∙ ap (λ (m : ℤ). record { id = one.id; sender = one.taken.sender; mtype = m }) mtype
+-- what is told of a worker is how far it is
+module _ (outcome : Outcome) (progress : Progress) (stop : Option Errno) (told : outcome ≡ outcome_of progress stop) where
+  pub told_sent : outcome.sent ≡ progress.sent
+  told_sent = ap (λ (o : Outcome). o.sent) told
+
+  pub told_received : outcome.received ≡ progress.received
+  told_received = ap (λ (o : Outcome). o.received) told
+
+  pub told_ordered : outcome.ordered ≡ progress.notes.ordered
+  told_ordered = ap (λ (o : Outcome). o.ordered) told
+
+  pub told_end : outcome.end ≡ stop
+  told_end = ap (λ (o : Outcome). o.end) told
 
 -- one message more is noted
 pub noted_more : (eq : Stream → Stream → Bool) → ((a b : Stream) → eq a b ≡ same_stream a b) → (so_far : List Receipt) (one : Receipt) (old new : Notes)
@@ -147,9 +153,12 @@ module _ {Q : Type 0} (eq : Stream → Stream → Bool) (puts : Puts Q) (takes :
   pub far_until : (plan rest all : List Step) (step : Step) (errno : Errno) (old mid new : Q) (before after : Progress) (outcome : Outcome)
       → all ≡ plan ++ step ∷ rest → IsFar eq puts takes removes plan old before mid → before.sent ≡ puts_in plan
       → GoesOn eq puts takes removes (calls_of before.sent step) mid new before after (Some errno)
-      → outcome.sent ≡ after.sent → outcome.received ≡ after.received → outcome.ordered ≡ after.notes.ordered → outcome.end ≡ Some errno
-      → HasWorked puts takes removes all outcome old new
-  far_until plan rest all step errno old mid new before after outcome cut far is on sent received ordered end =
+      → outcome ≡ outcome_of after (Some errno) → HasWorked puts takes removes all outcome old new
+  far_until plan rest all step errno old mid new before after outcome cut far is on told =
+      let sent = told_sent outcome after (Some errno) told in
+      let received = told_received outcome after (Some errno) told in
+      let ordered = told_ordered outcome after (Some errno) told in
+      let end = told_end outcome after (Some errno) told in
       let some = called_then puts takes removes (calls_in 0 plan) (calls_of before.sent step) old mid new before.sent on.sent far.received on.received (Some errno) far.called on.called in
       let within = called_within puts takes removes (calls_in 0 plan ++ calls_of before.sent step) (calls_in (before.sent + puts_of step) rest) old new (before.sent + on.sent)
       (far.received ++ on.received) errno some in
@@ -167,11 +176,15 @@ module _ {Q : Type 0} (eq : Stream → Stream → Bool) (puts : Puts Q) (takes :
 
   -- a plan that was done
   pub far_end : (plan : List Step) (old new : Q) (progress : Progress) (outcome : Outcome) → IsFar eq puts takes removes plan old progress new
-      → outcome.sent ≡ progress.sent → outcome.received ≡ progress.received → outcome.ordered ≡ progress.notes.ordered → outcome.end ≡ None
-      → HasWorked puts takes removes plan outcome old new
-  far_end plan old new progress outcome far sent received ordered end = record {
-    received = far.received;
-    called = rw (end, sent) far.called;
-    count = received ∙ far.count;
-    ordered = ordered ∙ far.notes.ordered;
-  }
+      → outcome ≡ outcome_of progress None → HasWorked puts takes removes plan outcome old new
+  far_end plan old new progress outcome far told =
+      let sent = told_sent outcome progress None told in
+      let received = told_received outcome progress None told in
+      let ordered = told_ordered outcome progress None told in
+      let end = told_end outcome progress None told in
+      record {
+        received = far.received;
+        called = rw (end, sent) far.called;
+        count = received ∙ far.count;
+        ordered = ordered ∙ far.notes.ordered;
+      }

@@ -7,6 +7,7 @@ pub mod DraftLemmas
 pub mod EndLemmas
 pub mod FarLemmas
 pub mod FilledLemmas
+pub mod InputLemmas
 pub mod LettersLemmas
 pub mod LinesLemmas
 pub mod MainLemmas

@@ -7,8 +7,8 @@ use Rattle.std.proofs.lemmas.List.Splits.{slice_split-cons_no, slice_split-cons_
 use Rattle.mq_cli.specs.declared.fault.RunFault.{RunFault}
 use Rattle.mq_cli.specs.declared.fault.RunFault.TheVariants.{Script, Size, Read, Write, Memory, Thread}
 use Rattle.mq_cli.specs.Lines.{lines_of, parts_of, without_return}
-use Rattle.mq_cli.specs.Prompt.{Answers, AnswersNext, Writes, answer_of, answers_from, first_line_of}
-use Rattle.mq_cli.specs.Serial.{AppendsPrefix, RunsLine}
+use Rattle.mq_cli.specs.Prompt.{Answers, AnswersAll, AnswersNext, IsPromptFault, answer_of, answers_from, first_line_of}
+use Rattle.mq_cli.specs.Serial.{AppendsPrefix, RunsLine, Writes}
 use Rattle.mq_cli.specs.Session.{State}
 use Rattle.mq_cli.proofs.Runs.{prefix_kept}
 
@@ -94,7 +94,7 @@ one_answered read left old now new all n s t so next =
 pub front_answered : (read left old now new : Option (List ℕ)) (all : List ℕ) (n : ℕ) (s t : State) (e : RunFault) → SoFarAnswered read old now all n s
     → AnswersNext read left now new n s t (Err e) → AppendsPrefix old new all
 front_answered read left old now new all n s t e so next =
-    let front = subst (λ (r : Option (List ℕ)). AnswersNext r left now new n s t (Err e)) so.left_is next in
+    let front = (subst (λ (r : Option (List ℕ)). AnswersNext r left now new n s t (Err e)) so.left_is next).1 in
     let turn = answer_of n s (first_line_of so.rest) in
     let others = answers_from (n + 1) turn.1 (lines_of (drop_through 10 so.rest)) in
     let rest = front.1.0 in (
@@ -163,6 +163,21 @@ next_failed None old new n s t line outcome same answered = tt
 next_failed (Some xs) old new n s t line outcome same answered =
     subst (λ (l : List ℕ). AppendsPrefix old new (answer_of n s l).0) same (writes_prefix old new (answer_of n s line).0 outcome answered.1)
 
+writes_fault : (old new : Option (List ℕ)) (text : List ℕ) (fault : RunFault) → Writes old new text (Err fault) → IsPromptFault fault
+writes_fault old new text Write wrote = tt
+writes_fault old new text Memory wrote = tt
+writes_fault old new text (Script line cause) wrote = absurd wrote
+writes_fault old new text Size wrote = absurd wrote
+writes_fault old new text Read wrote = absurd wrote
+writes_fault old new text Thread wrote = absurd wrote
+
+-- and is a fault of such a run
+pub next_refused : (read old new : Option (List ℕ)) (n : ℕ) (s t : State) (line : List ℕ) (fault : RunFault)
+    → IfSome read (λ xs. line ≡ first_line_of xs) → Answers old new (answer_of n s line) t (Err fault)
+    → IsPromptFault fault × IfSome read (λ xs. AppendsPrefix old new (answer_of n s (first_line_of xs)).0)
+next_refused read old new n s t line fault same answered =
+    (writes_fault old new (answer_of n s line).0 fault answered.1, next_failed read old new n s t line (Err fault) same answered)
+
 -- and a flush that fails keeps it so
 pub next_unflushed : (read old now new : Option (List ℕ)) (n : ℕ) (s t : State) (line : List ℕ)
     → IfSome read (λ xs. line ≡ first_line_of xs) → Answers old now (answer_of n s line) t (Ok tt) → Keeps now new
@@ -197,19 +212,24 @@ one_more None read left old now new first n s t b is so next = tt
 one_more (Some text) read left old now new first n s t b is so next =
     one_answered read left old now new (answers_from 1 first (lines_of text)) n s t so (subst (λ (a : Bool). AnswersNext read left now new n s t (Ok a)) is next)
 
+-- what the lines are answered from the first on
+abbrev pub all_answers : State → List ℕ → List ℕ
+all_answers first text = answers_from 1 first (lines_of text)
+
 pub none_more : (typed read left old now new : Option (List ℕ)) (first : State) (n : ℕ) (s t : State) (b : Bool) → b ≡ false
     → IsAnsweredUpTo typed read old now first n s → AnswersNext read left now new n s t (Ok b)
-    → IfSome typed (λ text. Appends old new (answers_from 1 first (lines_of text)))
+    → AnswersAll (all_answers first) typed left old new (Ok tt)
 none_more None read left old now new first n s t b is so next = tt
 none_more (Some text) read left old now new first n s t b is so next =
-    (all_answered read left old now new (answers_from 1 first (lines_of text)) n s t so (subst (λ (a : Bool). AnswersNext read left now new n s t (Ok a)) is next)).1
+    all_answered read left old now new (answers_from 1 first (lines_of text)) n s t so (subst (λ (a : Bool). AnswersNext read left now new n s t (Ok a)) is next)
 
 pub one_failed : (typed read left old now new : Option (List ℕ)) (first : State) (n : ℕ) (s t : State) (e : RunFault) → IsAnsweredUpTo typed read old now first n s
-    → AnswersNext read left now new n s t (Err e) → IfSome typed (λ text. AppendsPrefix old new (answers_from 1 first (lines_of text)))
-one_failed None read left old now new first n s t e so next = tt
-one_failed (Some text) read left old now new first n s t e so next = front_answered read left old now new (answers_from 1 first (lines_of text)) n s t e so next
+    → AnswersNext read left now new n s t (Err e) → AnswersAll (all_answers first) typed left old new (Err e)
+one_failed None read left old now new first n s t e so next = (next.0, tt)
+one_failed (Some text) read left old now new first n s t e so next =
+    (next.0, front_answered read left old now new (answers_from 1 first (lines_of text)) n s t e so next)
 
 pub some_left : (typed left old now : Option (List ℕ)) (first : State) (n : ℕ) (s : State) → IsAnsweredUpTo typed left old now first n s
-    → IfSome typed (λ text. AppendsPrefix old now (answers_from 1 first (lines_of text)))
-some_left None left old now first n s so = tt
-some_left (Some text) left old now first n s so = (so.text, (answers_from n s (lines_of so.rest), so.all_is), so.taken)
+    → AnswersAll (all_answers first) typed left old now (Err Size)
+some_left None left old now first n s so = (tt, tt)
+some_left (Some text) left old now first n s so = (tt, (so.text, (answers_from n s (lines_of so.rest), so.all_is), so.taken))

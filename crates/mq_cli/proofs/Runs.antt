@@ -1,13 +1,17 @@
-use Rattle.std.proofs.Common.{◌≡◌, ℕ, ◌+◌, List, [], ◌∷◌, ◌++◌, Option, Some, Result, Ok, Err, refl, sym, ap, ◌∙◌, subst, append_assoc, append-nil}
+use Rattle.std.proofs.Common.{◌≡◌, ℕ, ◌+◌, List, [], ◌∷◌, ◌++◌, Option, None, Some, IfSome, Result, Ok, Err, refl, sym, ap, ◌∙◌, subst, append_assoc, append-nil}
+use Rattle.std.specs.Global.{Vec}
 use Rattle.std.specs.Io.KnownBytes.{Appends, Keeps}
-use Rattle.std.proofs.KnownBytes.{Appends-kept, Appends-nil, Appends-trans}
+use Rattle.std.proofs.KnownBytes.{Appends-kept, Appends-nil, Appends-trans, Consumes-whole, Keeps-refl}
+use Rattle.mq_one_thread.specs.declared.config.Config.{Config}
 use Rattle.mq_cli.specs.declared.fault.Cause.{Cause}
 use Rattle.mq_cli.specs.declared.fault.RunFault.{RunFault}
 use Rattle.mq_cli.specs.declared.fault.RunFault.TheVariants.{Script, Size, Read, Write, Memory, Thread}
 use Rattle.mq_cli.specs.Commands.{reading}
+use Rattle.mq_cli.specs.Input.{HasRead, IsUnread}
 use Rattle.mq_cli.specs.Session.{State}
-use Rattle.mq_cli.specs.Serial.{AppendsPrefix, Runs, RunsLine}
-use Rattle.mq_cli.specs.Transcript.{Run, before, goes_on, run_from, said}
+use Rattle.mq_cli.specs.Serial.{AppendsPrefix, RanSerial, Runs, RunsLine}
+use Rattle.mq_cli.specs.Transcript.{Run, before, goes_on, run_from, run_of, said}
+use Rattle.mq_cli.proofs.InputLemmas.{reads_few}
 
 -- before anything is written a prefix is
 pub nothing_yet : (now : Option (List ℕ)) (text : List ℕ) → AppendsPrefix now now text
@@ -106,3 +110,47 @@ runs_prefix old now run (Err Thread) ran = absurd ran
 -- and a flush keeps it so
 pub prefix_kept : (old now new : Option (List ℕ)) (text : List ℕ) → AppendsPrefix old now text → Keeps now new → AppendsPrefix old new text
 prefix_kept old now new text front kept = (front.0, front.1, Appends-kept old now new front.0 front.2 kept)
+
+-- of a script that was not read nothing is written, which is a front
+nothing_of : (config : Config) (script now : Option (List ℕ)) → IfSome script (λ s. AppendsPrefix now now (run_of config s).written)
+nothing_of config None now = tt
+nothing_of config (Some s) now = nothing_yet now (run_of config s).written
+
+-- a run whose script was not read
+pub unread_ran : (config : Config) (script left now : Option (List ℕ)) (fault : RunFault) → IsUnread script left fault → RanSerial config script left now now (Err fault)
+unread_ran config script left now Size unread = record { reads = unread; writes = Keeps-refl now }
+unread_ran config script left now Read unread = record { reads = unread; writes = Keeps-refl now }
+unread_ran config script left now Memory unread = record { reads = unread; writes = nothing_of config script now }
+unread_ran config script left now (Script line cause) unread = absurd unread
+unread_ran config script left now Write unread = absurd unread
+unread_ran config script left now Thread unread = absurd unread
+
+-- what a run of the bytes that were read did is so of the script, where that is known
+of_script : (config : Config) (script left : Option (List ℕ)) (all : Vec ℕ) (text : List ℕ) (old new : Option (List ℕ)) (r : Result (Unit {0}) RunFault)
+    → HasRead script left all → text ≡ all.items → Runs old new (run_of config text) r → IfSome script (λ s. Runs old new (run_of config s) r)
+of_script config script left all text old new r read same ran =
+    Consumes-whole script left all.items (λ s. Runs old new (run_of config s) r) read.whole read.end
+    (subst (λ (t : List ℕ). Runs old new (run_of config t) r) same ran)
+
+-- a run whose script was read
+pub read_ran : (config : Config) (script left : Option (List ℕ)) (all : Vec ℕ) (text : List ℕ) (old new : Option (List ℕ)) (r : Result (Unit {0}) RunFault)
+    → HasRead script left all → text ≡ all.items → Runs old new (run_of config text) r → RanSerial config script left old new r
+read_ran config script left all text old new (Ok done) read same ran = record {
+  reads = (reads_few script left all read, read.end);
+  writes = of_script config script left all text old new (Ok done) read same ran;
+}
+read_ran config script left all text old new (Err (Script line cause)) read same ran = record {
+  reads = reads_few script left all read;
+  writes = of_script config script left all text old new (Err (Script line cause)) read same ran;
+}
+read_ran config script left all text old new (Err Write) read same ran = record {
+  reads = reads_few script left all read;
+  writes = of_script config script left all text old new (Err Write) read same ran;
+}
+read_ran config script left all text old new (Err Memory) read same ran = record {
+  reads = reads_few script left all read;
+  writes = of_script config script left all text old new (Err Memory) read same ran;
+}
+read_ran config script left all text old new (Err Size) read same ran = absurd ran
+read_ran config script left all text old new (Err Read) read same ran = absurd ran
+read_ran config script left all text old new (Err Thread) read same ran = absurd ran

@@ -1,10 +1,14 @@
 -- Texts that are made of what a line says.
-use Rattle.std.specs.Prelude.{ℕ, ◌+◌, ◌%◌, List, map, Result, Ok, Err}
+use Rattle.std.specs.Prelude.{◌≡◌, ℕ, ◌+◌, ◌%◌, ◌<◌, ◌↔◌, nat_lt, true, List, length, map, Result}
+use Rattle.std.specs.Prelude.{Ok, Err, IfOk, IsErrOf}
 use Rattle.std.specs.List.{range_with_len}
 use Rattle.mq_message.specs.Text.{PlainText}
+use Rattle.mq_message.specs.declared.order.TheConstants.{INLINE_LEN}
+use Rattle.mq_queue.specs.declared.limits.TheConstants.{MSGMAX}
 use Rattle.mq_one_thread.specs.State.{State, with_arena}
-use Rattle.mq_one_thread.specs.Texts.{drafts_of, draft_errno, spends}
+use Rattle.mq_one_thread.specs.Texts.{drafts_of, draft_errno, draft_refusal, spends}
 use Rattle.mq_one_thread.specs.declared.draft_error.DraftError.{DraftError}
+use Rattle.mq_one_thread.specs.declared.draft_error.DraftError.TheVariants.{TooLong, NoRun, Memory}
 use Rattle.mq_one_thread.specs.declared.errno.Errno.{Errno}
 use Rattle.mq_cli.specs.Commands.{Text, plain, letters}
 
@@ -25,6 +29,26 @@ by_draft_errno (Err e) = Err (draft_errno e)
 -- a text of what the line says
 abbrev pub draft : State → Text → Result (PlainText × State) Errno
 draft queues text = by_draft_errno (drafts_of queues (bytes_of_text text))
+
+-- no text was made: the queues, which stay as they were, tell why; memory is wanted by none but a
+-- text of many pages
+pub record IsNotDrafted (before after : State) (text : Text) (refusal : DraftError) : Type 0 where
+  pub refused : refusal ≡ draft_refusal (drafts_of before (bytes_of_text text))
+  pub memory : refusal ≡ Memory → INLINE_LEN < length (bytes_of_text text)
+  pub unchanged : after ≡ before
+
+-- a text was made of what the line says, or not
+abbrev pub Drafts : State → State → Text → Result PlainText DraftError → Type 0
+Drafts before after text (Ok made) = draft before text ≡ Ok (made, after)
+Drafts before after text (Err refusal) = IsNotDrafted before after text refusal
+
+-- a text of these bytes was made; or they are too many, or no pages or no memory were found for
+-- those that want some
+pub record DraftsBytes (bytes : List ℕ) (result : Result PlainText DraftError) : Type 0 where
+  pub ok : IfOk result (λ text. text.bytes ≡ bytes)
+  pub too_long : IsErrOf result TooLong ↔ (nat_lt MSGMAX (length bytes) ≡ true)
+  pub no_run : IsErrOf result NoRun → 0 < length bytes
+  pub memory : IsErrOf result Memory → 0 < length bytes
 
 -- a text gives its pages back
 abbrev pub spent : PlainText → State → State

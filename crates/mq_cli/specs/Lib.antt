@@ -3,6 +3,7 @@ pub mod Closing
 pub mod Commands
 pub mod Cuts
 pub mod Drafts
+pub mod Input
 pub mod Laws
 pub mod Letters
 pub mod Lines
@@ -20,6 +21,7 @@ pub mod Session
 pub mod Threads
 pub mod ThreadsLaws
 pub mod ThreadsParsed
+pub mod ThreadsRun
 pub mod ThreadsScript
 pub mod Transcript
 pub mod Works

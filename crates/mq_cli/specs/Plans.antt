@@ -1,6 +1,7 @@
 -- What a plan of a worker asks for, and what it has done of it at its end.
-use Rattle.std.specs.Prelude.{◌≡◌, ◌≤◌, ◌<◌, ℕ, ◌+◌, ◌^◌, Bool, true, nat_lt, List}
+use Rattle.std.specs.Prelude.{◌≡◌, ◌≤◌, ◌<◌, ℕ, ◌+◌, ◌^◌, Bool, true, nat_lt, List, All}
 use Rattle.std.specs.Prelude.{Option, Some, None, IfNone}
+use Rattle.std.specs.Global.{Vec}
 use Rattle.std.specs.List.{sum_by}
 use Rattle.mq_cli.specs.declared.step.Step.{Step}
 use Rattle.mq_cli.specs.declared.step.Step.TheVariants.{Put, Take, Remove}
@@ -36,6 +37,10 @@ removes_in plan = sum_by removes_of plan
 -- the messages of a plan can be counted
 abbrev pub IsCountable : List Step → Type 0
 IsCountable plan = puts_in plan + takes_in plan < 2 ^ 64
+
+-- the messages of each of some plans
+abbrev pub AreCountable : List (Vec Step) → Type 0
+AreCountable plans = All (λ (plan : Vec Step). IsCountable plan.items) plans
 
 -- at the end of a plan all of it is done; before, no more than it asks for
 pub record IsDone (plan : List Step) (outcome : Outcome) : Type 0 where

@@ -1,12 +1,14 @@
 -- How far a worker is, and what its notes say of what it received.
-use Rattle.std.specs.Prelude.{◌≡◌, ℕ, ◌+◌, Bool, List, ◌++◌, length, reverse, Option, None, Some}
-use Rattle.std.specs.Prelude.{Result, Ok, Err}
-use Rattle.std.specs.HashMap.{get}
+use Rattle.std.specs.Prelude.{◌≡◌, ℕ, ◌+◌, ◌^◌, ◌<◌, ◌≤◌, Bool, ◌&&◌, List, ◌++◌, length, reverse}
+use Rattle.std.specs.Prelude.{Option, None, Some, Result, Ok, Err, OnOk, OnErr}
+use Rattle.std.specs.HashMap.{Updates, get}
 use Rattle.mq_one_thread.specs.declared.errno.Errno.{Errno}
 use Rattle.mq_cli.specs.declared.notes.Notes.{Notes}
 use Rattle.mq_cli.specs.declared.notes.Stream.{Stream}
+use Rattle.mq_cli.specs.declared.outcome.Outcome.{Outcome}
 use Rattle.mq_cli.specs.declared.plan.Progress.{Progress}
 use Rattle.mq_cli.specs.Calls.{Call, Receipt, last_tag, tags_rise}
+use Rattle.mq_cli.specs.Plans.{rises}
 use Rattle.mq_cli.specs.Works.{AreCalled, Puts, Removals, Takes}
 
 -- the notes tell the last tag of each stream, and whether all tags rose
@@ -14,6 +16,43 @@ pub record AreNotes (eq : Stream → Stream → Bool) (received : List Receipt) 
     : Type 0 where
   pub last : (stream : Stream) → get eq notes.last stream ≡ last_tag stream (reverse received)
   pub ordered : notes.ordered ≡ tags_rise (reverse received)
+
+-- two notes tell the same
+pub record HoldSame (eq : Stream → Stream → Bool) (old new : Notes) : Type 0 where
+  pub last : (stream : Stream) → get eq new.last stream ≡ get eq old.last stream
+  pub ordered : new.ordered ≡ old.ordered
+
+-- a tag is noted as the last of its stream, in order where it is above the one before
+pub record HasNoted (eq : Stream → Stream → Bool) (old new : Notes) (stream : Stream) (tag : ℕ)
+    : Type 0 where
+  pub ordered : new.ordered ≡ (old.ordered && rises (get eq old.last stream) tag)
+  pub last : Updates eq old.last new.last stream (Some tag)
+
+-- what is told of a worker that ended so
+abbrev pub outcome_of : Progress → Option Errno → Outcome
+outcome_of p stop =
+    record { sent = p.sent; received = p.received; ordered = p.notes.ordered; end = stop }
+
+-- so many messages more can be counted
+pub record CanCount (before : Progress) (puts takes : ℕ) : Type 0 where
+  pub sent : before.sent + puts < 2 ^ 64
+  pub received : before.received + takes < 2 ^ 64
+
+-- of so many messages to be sent, so many to be received and so many removals all are counted where
+-- they were done, and else no more; each call that succeeded, of which there were `old` before and
+-- are `new` after, sent or received one of those that are counted, or was a removal
+pub record HasCounted (puts takes removes old new : ℕ) (before after : Progress)
+    (result : Result (Unit {0}) Errno) : Type 0 where
+  pub least_sent : before.sent ≤ after.sent
+  pub least_received : before.received ≤ after.received
+  pub sent : after.sent ≤ before.sent + puts
+  pub received : after.received ≤ before.received + takes
+  pub all : OnOk result
+      ((after.sent ≡ before.sent + puts) × (after.received ≡ before.received + takes))
+  pub done : OnOk result
+      (new + (before.sent + before.received) ≡ old + (after.sent + after.received) + removes)
+  pub refused : OnErr result
+      (new + (before.sent + before.received) ≡ old + (after.sent + after.received))
 
 -- how a step ended
 abbrev pub end_of : Result (Unit {0}) Errno → Option Errno

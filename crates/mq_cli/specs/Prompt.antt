@@ -8,10 +8,10 @@ use Rattle.mq_one_thread.specs.declared.config.Config.{Config}
 use Rattle.mq_cli.specs.declared.fault.Cause.{Cause}
 use Rattle.mq_cli.specs.declared.fault.Cause.TheVariants.{Long, Byte, Words, Number}
 use Rattle.mq_cli.specs.declared.fault.RunFault.{RunFault}
-use Rattle.mq_cli.specs.declared.fault.RunFault.TheVariants.{Write, Memory}
+use Rattle.mq_cli.specs.declared.fault.RunFault.TheVariants.{Script, Thread}
 use Rattle.mq_cli.specs.Commands.{reading}
 use Rattle.mq_cli.specs.Lines.{lines_of}
-use Rattle.mq_cli.specs.Serial.{AppendsPrefix}
+use Rattle.mq_cli.specs.Serial.{AppendsPrefix, Writes}
 use Rattle.mq_cli.specs.Session.{State, start}
 use Rattle.mq_cli.specs.Transcript.{said}
 
@@ -45,14 +45,7 @@ answers_from n s (line ∷ lines) =
 abbrev pub answers_to : Config → List ℕ → List ℕ
 answers_to config text = answers_from 1 (start config) (lines_of text)
 
--- the writer took a text, or a prefix of it
-abbrev pub Writes : Option (List ℕ) → Option (List ℕ) → List ℕ → Result (Unit {0}) RunFault → Type 0
-Writes old new text (Ok _) = Appends old new text
-Writes old new text (Err Write) = AppendsPrefix old new text
-Writes old new text (Err Memory) = AppendsPrefix old new text
-Writes old new text (Err _) = ⊥
-
--- the same of an answer, which leaves the state s
+-- the writer took an answer, which leaves the state s, or a prefix of it
 abbrev pub Answers : Option (List ℕ) → Option (List ℕ) → List ℕ × State → State
     → Result (Unit {0}) RunFault → Type 0
 Answers old new turn s outcome = OnOk outcome (s ≡ turn.1) × Writes old new turn.0 outcome
@@ -60,6 +53,12 @@ Answers old new turn s outcome = OnOk outcome (s ≡ turn.1) × Writes old new t
 -- the first line of a text
 abbrev pub first_line_of : List ℕ → List ℕ
 first_line_of text = slice_index_or (lines_of text) 0 []
+
+-- the faults of a run whose lines are typed
+abbrev pub IsPromptFault : RunFault → Type 0
+IsPromptFault (Script line cause) = ⊥
+IsPromptFault Thread = ⊥
+IsPromptFault _ = Unit {0}
 
 -- the first line of what was to be read is read and answered as line n, or nothing was left
 abbrev pub AnswersNext : Option (List ℕ) → Option (List ℕ) → Option (List ℕ) → Option (List ℕ)
@@ -69,5 +68,13 @@ AnswersNext read left old new n s t (Ok true) = IfSome read (λ text.
     × Appends old new (answer_of n s (first_line_of text)).0)
 AnswersNext read left old new n s t (Ok false) = IfSome read (λ text.
     (text ≡ []) × (left ≡ Some []) × Appends old new [])
-AnswersNext read left old new n s t (Err _) = IfSome read (λ text.
+AnswersNext read left old new n s t (Err fault) = IsPromptFault fault × IfSome read (λ text.
     AppendsPrefix old new (answer_of n s (first_line_of text)).0)
+
+-- all that was typed is read and answered so, or a front of the answers was written
+abbrev pub AnswersAll : (List ℕ → List ℕ) → Option (List ℕ) → Option (List ℕ) → Option (List ℕ)
+    → Option (List ℕ) → Result (Unit {0}) RunFault → Type 0
+AnswersAll answers typed left old new (Ok _) = IfSome typed (λ text.
+    (left ≡ Some []) × Appends old new (answers text))
+AnswersAll answers typed left old new (Err fault) = IsPromptFault fault × IfSome typed (λ text.
+    AppendsPrefix old new (answers text))

@@ -1,10 +1,11 @@
 -- The table of the live queues.
-use Rattle.std.specs.Prelude.{ℕ, ◌-◌, if◌then◌else◌, List, [], ◌∷◌, ◌++◌, length, replicate, codes}
+use Rattle.std.specs.Prelude.{ℕ, ◌+◌, ◌-◌, ◌<◌, ◌≤◌, if◌then◌else◌, List, [], ◌∷◌, ◌++◌, length, replicate, codes}
 use Rattle.std.specs.Fmt.{decimal, signed_decimal}
 use Rattle.std.specs.List.{flat_map, range_with_len}
 use Rattle.mq_queue.specs.declared.figures.BoardRow.{BoardRow}
 use Rattle.mq_table.specs.Ids.{id_of}
 use Rattle.mq_table.specs.KeptShown.{row_now}
+use Rattle.mq_table.specs.declared.limits.TheConstants.{MAX_SEQ, MAX_SLOTS}
 use Rattle.mq_one_thread.specs.State.{State, slot_at}
 
 -- a text at the right end of its column
@@ -18,6 +19,11 @@ header =
     ++ right_aligned 7 (codes "qnum") ++ right_aligned 8 (codes "cbytes")
     ++ right_aligned 8 (codes "qbytes") ++ right_aligned 6 (codes "lspid")
     ++ right_aligned 6 (codes "lrpid")
+
+-- a row of a slot, of which an id can be told
+pub record IsRow (number : ℕ) (row : BoardRow) : Type 0 where
+  pub slot : number < MAX_SLOTS
+  pub made : row.made ≤ MAX_SEQ + 1
 
 -- where a live queue is, and what it holds
 unfoldable pub named_of : ℕ → BoardRow → List ℕ

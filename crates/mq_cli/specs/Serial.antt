@@ -1,20 +1,16 @@
--- What a run reads, writes and answers.
-use Rattle.std.specs.Prelude.{◌≡◌, ℕ, ◌<◌, ◌≤◌, List, [], ◌++◌, length, Option, None, Some, Result}
-use Rattle.std.specs.Prelude.{Ok, Err}
-use Rattle.std.specs.Io.KnownBytes.{Consumes, Appends}
+-- What a run writes and answers.
+use Rattle.std.specs.Prelude.{◌≡◌, ℕ, List, [], ◌++◌, Option, None, Some, IfSome, Result, Ok, Err}
+use Rattle.std.specs.Io.KnownBytes.{Appends, Keeps}
+use Rattle.mq_one_thread.specs.declared.config.Config.{Config}
 use Rattle.mq_cli.specs.declared.fault.Cause.{Cause}
 use Rattle.mq_cli.specs.declared.fault.RunFault.{RunFault}
 use Rattle.mq_cli.specs.declared.fault.RunFault.TheVariants.{Script, Size, Read, Write, Memory}
+use Rattle.mq_cli.specs.declared.fault.RunFault.TheVariants.{Thread}
+use Rattle.mq_cli.specs.Input.{ReadsBy}
 use Rattle.mq_cli.specs.Session.{State}
-use Rattle.mq_cli.specs.Transcript.{Run, output, Reply}
+use Rattle.mq_cli.specs.Transcript.{Run, output, Reply, run_of}
 
--- the reader gave more bytes than the limit, or no more
-abbrev pub ReadsMoreThan : ℕ → Option (List ℕ) → Option (List ℕ) → Type 0
-ReadsMoreThan limit old new = (bytes : List ℕ) × Consumes old new bytes × (limit < length bytes)
-
-abbrev pub ReadsUpTo : ℕ → Option (List ℕ) → Option (List ℕ) → Type 0
-ReadsUpTo limit old new = (bytes : List ℕ) × Consumes old new bytes × (length bytes ≤ limit)
-
+-- a text begins with this one
 abbrev pub IsPrefixOf : List ℕ → List ℕ → Type 0
 IsPrefixOf prefix text = (rest : List ℕ) × (text ≡ prefix ++ rest)
 
@@ -22,12 +18,12 @@ IsPrefixOf prefix text = (rest : List ℕ) × (text ≡ prefix ++ rest)
 abbrev pub AppendsPrefix : Option (List ℕ) → Option (List ℕ) → List ℕ → Type 0
 AppendsPrefix old new text = (prefix : List ℕ) × IsPrefixOf prefix text × Appends old new prefix
 
--- the faults of reading a script
-abbrev pub IsInputFault : RunFault → Type 0
-IsInputFault Size = Unit {0}
-IsInputFault Read = Unit {0}
-IsInputFault Memory = Unit {0}
-IsInputFault _ = ⊥
+-- the same where a write failed or memory ran out, and else all of it
+abbrev pub Writes : Option (List ℕ) → Option (List ℕ) → List ℕ → Result (Unit {0}) RunFault → Type 0
+Writes old new text (Ok _) = Appends old new text
+Writes old new text (Err Write) = AppendsPrefix old new text
+Writes old new text (Err Memory) = AppendsPrefix old new text
+Writes old new text (Err _) = ⊥
 
 -- the writer took what the run writes, and the fault is the run's; where a write failed or memory
 -- ran out it took only a prefix
@@ -39,7 +35,23 @@ Runs old new run (Err Write) = AppendsPrefix old new run.written
 Runs old new run (Err Memory) = AppendsPrefix old new run.written
 Runs old new run (Err _) = ⊥
 
--- the same for the line with this number, which leaves the state s
+-- the same of the bytes of a script, where they are known; where it was not read nothing was
+-- written
+abbrev pub WritesSerial : Config → Option (List ℕ) → Option (List ℕ) → Option (List ℕ)
+    → Result (Unit {0}) RunFault → Type 0
+WritesSerial config script old new (Err Size) = Keeps old new
+WritesSerial config script old new (Err Read) = Keeps old new
+WritesSerial config script old new (Err Thread) = ⊥
+WritesSerial config script old new result =
+    IfSome script (λ s. Runs old new (run_of config s) result)
+
+-- what a run in one thread read, and what it wrote
+pub record RanSerial (config : Config) (script left old new : Option (List ℕ))
+    (result : Result (Unit {0}) RunFault) : Type 0 where
+  pub reads : ReadsBy script left result
+  pub writes : WritesSerial config script old new result
+
+-- what the line with this number wrote and answered, which leaves the state s
 abbrev pub RunsLine : Option (List ℕ) → Option (List ℕ) → ℕ → Result (List ℕ × State) Cause
     → State → Result (Unit {0}) RunFault → Type 0
 RunsLine old new number (Ok turn) s (Ok _) = (s ≡ turn.1) × Appends old new turn.0

@@ -1,5 +1,6 @@
 -- What a run keeps.
-use Rattle.std.specs.Prelude.{ℕ, Result, Ok, Err}
+use Rattle.std.specs.Prelude.{◌≡◌, ℕ, ◌≤◌, Result, Ok, Err}
+use Rattle.mq_arena.specs.declared.limits.TheConstants.{LEDGER_PARTS}
 use Rattle.mq_one_thread.specs.Limits.{start as empty_system}
 use Rattle.mq_one_thread.specs.State.{State as System}
 use Rattle.mq_one_thread.specs.declared.config.Config.{Config}
@@ -10,6 +11,12 @@ use Rattle.mq_one_thread.specs.declared.results.Refused.{Refused}
 pub record State : Type 0 where
   pub queues : System
   pub seat : ℕ
+
+-- a new ledger can be opened under this name and with so many parts, which are enough for an arena
+pub record CanOpen (new_name new_parts named all : ℕ) : Type 0 where
+  pub name : new_name ≡ named
+  pub parts : new_parts ≡ all
+  pub enough : LEDGER_PARTS ≤ new_parts
 
 -- seat 1 begins, with no queue
 abbrev pub start : Config → State

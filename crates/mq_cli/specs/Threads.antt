@@ -16,7 +16,7 @@ use Rattle.mq_cli.specs.declared.step.Step.{Step}
 use Rattle.mq_cli.specs.Closing.{closing}
 use Rattle.mq_cli.specs.MainPart.{AreReplies, WroteAll, WroteSome, lines_replied}
 use Rattle.mq_cli.specs.Plans.{IsDone}
-use Rattle.mq_cli.specs.Serial.{AppendsPrefix}
+use Rattle.mq_cli.specs.Serial.{AppendsPrefix, Writes}
 use Rattle.mq_cli.specs.ThreadsScript.{Wanted, wanted_of}
 use Rattle.mq_cli.specs.Transcript.{Reply}
 
@@ -93,31 +93,20 @@ IsMakingFault Memory = Unit {0}
 IsMakingFault Thread = Unit {0}
 IsMakingFault _ = ⊥
 
--- a text was written, or a prefix of it where a write failed or memory ran out
-abbrev pub WroteEnd : Option (List ℕ) → Option (List ℕ) → List ℕ
-    → Result (Unit {0}) RunFault → Type 0
-WroteEnd old new text (Ok _) = Appends old new text
-WroteEnd old new text (Err Write) = AppendsPrefix old new text
-WroteEnd old new text (Err Memory) = AppendsPrefix old new text
-WroteEnd old new text (Err _) = ⊥
+-- each plan has been run as far as its outcome says, or none was run
+abbrev pub RanWorkers : List (Vec Step) → Result (Vec Outcome) RunFault → Type 0
+RanWorkers plans (Ok outcomes) =
+    AllZip (λ (plan : Vec Step) outcome. IsDone plan.items outcome) plans outcomes.items
+RanWorkers plans (Err fault) = IsMakingFault fault
 
 -- what is told of workers that have ended; where they were not run, their fault stays
 abbrev pub TellsEnd : Option (List ℕ) → Option (List ℕ) → List ClosedSlot → ℕ → ℕ
     → Result (Vec Outcome) RunFault → Result (Unit {0}) RunFault → Type 0
 TellsEnd old new slots pages free (Ok outcomes) result =
-    WroteEnd old new (closing outcomes.items slots pages free) result
+    Writes old new (closing outcomes.items slots pages free) result
 TellsEnd old new slots pages free (Err fault) result = (result ≡ Err fault) × Keeps old new
 
 -- a flush writes nothing, and may fail
 abbrev pub Flushes : Option (List ℕ) → Option (List ℕ) → Result (Unit {0}) RunFault
     → Result (Unit {0}) RunFault → Type 0
 Flushes old new told result = Keeps old new × ((result ≡ told) ⊎ (result ≡ Err Write))
-
--- what a whole run wrote and answered
-abbrev pub RanThreads : Config → Wanted → Option (List ℕ) → Option (List ℕ)
-    → Result (Unit {0}) RunFault → Type 0
-RanThreads config wanted old new (Ok _) = WroteWhole config wanted old new
-RanThreads config wanted old new (Err Thread) = WroteMain config wanted old new
-RanThreads config wanted old new (Err Write) = WrotePart config wanted old new
-RanThreads config wanted old new (Err Memory) = WrotePart config wanted old new
-RanThreads config wanted old new (Err _) = ⊥

@@ -25,7 +25,7 @@ use std::sync::ledger::Ledger;
 
 /// Makes the call of the line with this number, and appends its answer line to the buffer. Out of
 /// memory has no line: it is the one `Err`.
-pub fn answer<L: Ledger>(
+pub(crate) fn answer<L: Ledger>(
     session: &mut Session<L>,
     line: u64,
     command: Command<'_>,

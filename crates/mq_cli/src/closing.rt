@@ -14,7 +14,7 @@ use mq_queue::Event;
 use std::alloc::{AllocError, Global};
 
 /// The lines of the workers, of the slots in which a queue was ever made, and of the pages.
-pub fn closing_text(
+pub(crate) fn closing_text(
     alloc: Global,
     outcomes: &[Outcome],
     slots: &[ClosedSlot],

@@ -83,7 +83,7 @@ pub enum Command<'a> {
 impl TextForm<'_> {
     /// The number of its bytes.
     #[tactic(auto, using(crate::proofs::DraftLemmas::letters_length))]
-    pub fn len(&self) -> u64
+    pub(crate) fn len(&self) -> u64
         ensures { result ≡ length (bytes_of_text (text_seen self.now)) }
     {
         match self {
@@ -94,7 +94,7 @@ impl TextForm<'_> {
 }
 
 /// What a line without its end says: `None` where it is empty or a comment.
-pub fn read_line(line: &[u8]) -> Result<Option<Command<'_>>, Cause>
+pub(crate) fn read_line(line: &[u8]) -> Result<Option<Command<'_>>, Cause>
     ensures { seen_line result ≡ reading line.now }
 {
     if !says_something(line)? {
@@ -155,7 +155,7 @@ fn read_named<'a>(name: &[u8], words: Words<'a>) -> Result<Command<'a>, Cause>
     Err(Cause::Words)
 }
 
-pub fn read_get(mut words: Words<'_>) -> Result<Command<'_>, Cause>
+pub(crate) fn read_get(mut words: Words<'_>) -> Result<Command<'_>, Cause>
     ensures { seen result ≡ get_of (parts_left 32 words.entry.rest) }
 {
     let Some(word) = words.next() else {
@@ -287,7 +287,7 @@ fn read_flags(mut words: Words<'_>) -> Option<ReceiveFlags>
     Some(ReceiveFlags { except, noerror })
 }
 
-pub fn read_set(mut words: Words<'_>) -> Result<Command<'_>, Cause>
+pub(crate) fn read_set(mut words: Words<'_>) -> Result<Command<'_>, Cause>
     ensures { seen result ≡ set_of (parts_left 32 words.entry.rest) }
 {
     match (words.next(), words.next(), words.next()) {
@@ -335,7 +335,7 @@ fn read_cut(mut words: Words<'_>) -> Result<Command<'_>, Cause>
     }
 }
 
-pub fn id_of(word: &[u8]) -> Option<u32>
+pub(crate) fn id_of(word: &[u8]) -> Option<u32>
     ensures { result ≡ under (2 ^ 32) (number_of word.now) }
 {
     u32::try_from(number(word)?).ok()

@@ -1,13 +1,12 @@
-ghost use Rattle.std.specs.Prelude.{◌≡◌, ◌<◌, ◌≤◌, Ok, IfOk, IfErr, OnErr, IsErrOf, map, length};
+ghost use Rattle.std.specs.Prelude.{◌≡◌, ◌≤◌, IfOk, map, length};
 ghost use Rattle.std.specs.List.{range_with_len};
 ghost use Rattle.mq_queue.specs.declared.limits.TheConstants.{MSGMAX};
-ghost use Rattle.mq_one_thread.specs.Texts.{draft_refusal, drafts_of};
-ghost use Rattle.mq_cli.specs.Drafts.{bytes_of_text};
-ghost use Rattle.mq_cli.specs.Drafts.{draft as draft_answer, letter as letter_at};
+ghost use Rattle.mq_cli.specs.Drafts.{Drafts, bytes_of_text};
+ghost use Rattle.mq_cli.specs.Drafts.{letter as letter_at};
 ghost use Rattle.mq_cli.specs.Seen.{text_seen};
 
 use crate::command::TextForm;
-use mq_message::{INLINE_LEN, Text};
+use mq_message::Text;
 use mq_one_thread::{DraftError, OneThread};
 use mq_queue::MSGMAX;
 use std::alloc::{AllocError, Global};
@@ -17,7 +16,7 @@ use std::sync::ledger::Ledger;
 const ALPHABET: [u8; 26] = *b"abcdefghijklmnopqrstuvwxyz";
 
 /// So many letters: `a` to `z`, over and over.
-pub fn letters(alloc: Global, count: u64) -> Result<Vec<u8>, AllocError>
+pub(crate) fn letters(alloc: Global, count: u64) -> Result<Vec<u8>, AllocError>
     ensures { IfOk result (λ bytes. bytes.items ≡ map letter_at (range_with_len 0 count)) }
 {
     let mut letters = Vec::with_capacity(alloc, count as usize)?;
@@ -30,19 +29,13 @@ pub fn letters(alloc: Global, count: u64) -> Result<Vec<u8>, AllocError>
 
 /// Makes the text of a message, each byte written once, in place. The refusals are those of
 /// `OneThread::draft_of`.
-pub fn draft<L: Ledger>(
+pub(crate) fn draft<L: Ledger>(
     queues: &mut OneThread<L>,
     letters: &[u8],
     text: TextForm<'_>,
 ) -> Result<Text<L>, DraftError>
     requires letters { letters.now ≡ map letter_at (range_with_len 0 MSGMAX) }
-    ensures ok { IfOk result (λ made.
-        draft_answer queues.old (text_seen text.entry) ≡ Ok (made, queues.new)) }
-    ensures refused { IfErr result (λ e.
-        e ≡ draft_refusal (drafts_of queues.old (bytes_of_text (text_seen text.entry)))) }
-    ensures memory { IsErrOf result DraftError.Memory
-        → INLINE_LEN < length (bytes_of_text (text_seen text.entry)) }
-    ensures unchanged { OnErr result (queues.new ≡ queues.old) }
+    ensures answer { Drafts queues.old queues.new (text_seen text.entry) result }
 {
     if text.len() > MSGMAX {
         return Err(DraftError::TooLong);

@@ -10,7 +10,7 @@ use crate::words::Words;
 use crate::{Cause, LINE_LIMIT};
 
 /// Whether a line without its end says something: an empty line and a comment do not.
-pub fn says_something(line: &[u8]) -> Result<bool, Cause>
+pub(crate) fn says_something(line: &[u8]) -> Result<bool, Cause>
     ensures { result ≡ speaks line.now }
 {
     if line.len() > LINE_LIMIT {
@@ -41,7 +41,7 @@ fn is_skipped(line: &[u8]) -> bool
 }
 
 /// Whether no word is empty.
-pub fn are_filled(line: &[u8]) -> bool
+pub(crate) fn are_filled(line: &[u8]) -> bool
     ensures { result ≡ list_all is_filled (words_of line.now) }
 {
     for word in Words::new(line) {

@@ -13,7 +13,7 @@ pub struct Lines<'a> {
 }
 
 impl<'a> Lines<'a> {
-    pub fn new(script: &'a [u8]) -> Lines<'a>
+    pub(crate) fn new(script: &'a [u8]) -> Lines<'a>
         ensures { lines_left result.rest ≡ lines_of script.now }
     {
         Lines { rest: Some(script) }
@@ -35,7 +35,7 @@ impl<'a> Iterator for Lines<'a> {
 }
 
 /// A line without the CR that may end it.
-pub fn trimmed(line: &[u8]) -> &[u8]
+pub(crate) fn trimmed(line: &[u8]) -> &[u8]
     ensures { result.now ≡ without_return line.now }
 {
     match line {

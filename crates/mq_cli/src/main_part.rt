@@ -11,7 +11,7 @@ use std::io::Write;
 use std::sync::Wait;
 
 /// Makes the calls of the main part one after the other, and writes the answer of each.
-pub fn run_main<P: Pledge, N: Names, R: Wait, W: Write>(
+pub(crate) fn run_main<P: Pledge, N: Names, R: Wait, W: Write>(
     rt: &R,
     alloc: Global,
     system: &System<P, N>,

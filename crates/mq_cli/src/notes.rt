@@ -1,8 +1,8 @@
-ghost use Rattle.std.specs.Prelude.{◌≡◌, ◌<◌, ◌&&◌, true, IfErr, OnOk, None, Some};
-ghost use Rattle.std.specs.HashMap.{Updates, get, spare};
+ghost use Rattle.std.specs.Prelude.{◌≡◌, ◌<◌, [], MatchResult};
+ghost use Rattle.std.specs.HashMap.{spare};
 ghost use Rattle.mq_one_thread.specs.declared.errno.Errno.TheVariants.{ENOMEM};
-ghost use Rattle.mq_cli.specs.Plans.{rises};
-ghost use Rattle.mq_cli.specs.declared.notes.Stream.{Stream};
+ghost use Rattle.mq_cli.specs.Calls.{stream_of};
+ghost use Rattle.mq_cli.specs.Progress.{AreNotes, HasNoted, HoldSame};
 
 use crate::Taken;
 use mq_one_thread::Errno;
@@ -20,9 +20,7 @@ pub(crate) struct Stream {
 
 impl Stream {
     pub(crate) fn of(id: Id, taken: Taken) -> Stream
-        ensures id { result.id ≡ id }
-        ensures sender { result.sender ≡ taken.sender }
-        ensures mtype { result.mtype ≡ taken.mtype }
+        ensures { result ≡ stream_of (record { id = id; taken = taken }) }
     {
         Stream {
             id: id.number(),
@@ -42,9 +40,7 @@ pub(crate) struct Notes {
 
 impl Notes {
     pub(crate) fn new(alloc: Global) -> Notes
-        ensures last { (stream : Stream) → get ⟦<Stream as PartialEq>⟧.eq result.last stream
-            ≡ None }
-        ensures ordered { result.ordered ≡ true }
+        ensures { AreNotes ⟦<Stream as PartialEq>⟧.eq [] result }
     {
         Notes {
             last: HashMap::new(alloc),
@@ -61,11 +57,8 @@ impl Notes {
 
     /// Makes room for one more note. ENOMEM alone.
     pub(crate) fn reserve(&mut self) -> Result<(), Errno>
-        ensures room { OnOk result (0 < spare self.new.last) }
-        ensures last { (stream : Stream) → get ⟦<Stream as PartialEq>⟧.eq self.new.last stream
-            ≡ get ⟦<Stream as PartialEq>⟧.eq self.old.last stream }
-        ensures ordered { self.new.ordered ≡ self.old.ordered }
-        ensures refused { IfErr result (λ errno. errno ≡ ENOMEM) }
+        ensures same { HoldSame ⟦<Stream as PartialEq>⟧.eq self.old self.new }
+        ensures room { MatchResult result (λ _. 0 < spare self.new.last) (λ errno. errno ≡ ENOMEM) }
     {
         match self.last.reserve(1) {
             Ok(()) => Ok(()),
@@ -77,10 +70,7 @@ impl Notes {
     /// is above that of the message before in its stream.
     pub(crate) fn note(&mut self, stream: Stream, tag: u64)
         requires { 0 < spare self.old.last }
-        ensures ordered { self.new.ordered ≡ (self.old.ordered
-            && rises (get ⟦<Stream as PartialEq>⟧.eq self.old.last stream) tag) }
-        ensures last { Updates ⟦<Stream as PartialEq>⟧.eq self.old.last self.new.last stream
-            (Some tag) }
+        ensures noted { HasNoted ⟦<Stream as PartialEq>⟧.eq self.old self.new stream tag }
     {
         let Ok(before) = self.last.insert(stream, tag) else {
             unreachable!()

@@ -1,10 +1,10 @@
 ghost use Rattle.std.specs.Prelude.{◌≡◌, ◌≤◌, ◌+◌, ◌-◌, ◌*◌, ◌^◌, ◌==◌, ◌&&◌};
-ghost use Rattle.std.specs.Prelude.{IfSome, IfNone, nat_lt, not, length, slice_index};
+ghost use Rattle.std.specs.Prelude.{MatchOption, nat_lt, not, length, slice_index};
 ghost use Rattle.std.specs.Int.{IsInRange};
 ghost use Rattle.mq_cli.specs.Numbers.{number_of, integer_of, key_of};
 
 /// The number that a word spells in decimal digits, with no sign and no needless zero before it.
-pub fn number(word: &[u8]) -> Option<u64>
+pub(crate) fn number(word: &[u8]) -> Option<u64>
     ensures { result ≡ number_of word.now }
 {
     if !has_first_digit(word) {
@@ -33,9 +33,8 @@ fn has_first_digit(word: &[u8]) -> bool
 
 /// The number with one more digit, where the byte is one and the number fits.
 fn with_digit(value: u64, byte: u8) -> Option<u64>
-    ensures value { IfSome result (λ longer.
-        IsInRange 48 57 byte × (longer ≡ value * 10 + (byte - 48))) }
-    ensures none { IfNone result (IsInRange 48 57 byte → 2 ^ 64 ≤ value * 10 + (byte - 48)) }
+    ensures { MatchOption result (IsInRange 48 57 byte → 2 ^ 64 ≤ value * 10 + (byte - 48))
+        (λ longer. IsInRange 48 57 byte × (longer ≡ value * 10 + (byte - 48))) }
 {
     match byte {
         b'0'..=b'9' => value.checked_mul(10)?.checked_add(u64::from(byte - b'0')),
@@ -45,7 +44,7 @@ fn with_digit(value: u64, byte: u8) -> Option<u64>
 
 /// The number that a word spells, with `-` before it where it is below zero.
 #[tactic(auto, unfolding(crate::specs::Numbers::integer_of))]
-pub fn integer(word: &[u8]) -> Option<i64>
+pub(crate) fn integer(word: &[u8]) -> Option<i64>
     ensures { result ≡ integer_of word.now }
 {
     match word {
@@ -61,7 +60,7 @@ pub fn integer(word: &[u8]) -> Option<i64>
 }
 
 /// The key that a word spells.
-pub fn key(word: &[u8]) -> Option<i32>
+pub(crate) fn key(word: &[u8]) -> Option<i32>
     ensures { result ≡ key_of word.now }
 {
     i32::try_from(integer(word)?).ok()

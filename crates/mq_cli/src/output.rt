@@ -1,4 +1,4 @@
-ghost use Rattle.std.specs.Prelude.{OnOk, OnErr};
+ghost use Rattle.std.specs.Prelude.{MatchResult};
 ghost use Rattle.std.specs.Io.KnownBytes.{Appends};
 ghost use Rattle.mq_cli.specs.Serial.{AppendsPrefix};
 
@@ -10,10 +10,10 @@ pub struct WriteFailed;
 
 /// Writes all of these bytes, or a prefix of them where a write fails or takes nothing. Unlike
 /// `write_all` of std it does not try again.
-pub fn write_bytes<W: Write>(writer: &mut W, bytes: &[u8]) -> Result<(), WriteFailed>
-    ensures ok { OnOk result (Appends (W.contents writer.old) (W.contents writer.new) bytes.now) }
-    ensures err { OnErr result
-        (AppendsPrefix (W.contents writer.old) (W.contents writer.new) bytes.now) }
+pub(crate) fn write_bytes<W: Write>(writer: &mut W, bytes: &[u8]) -> Result<(), WriteFailed>
+    ensures { MatchResult result
+        (λ _. Appends (W.contents writer.old) (W.contents writer.new) bytes.now)
+        (λ _. AppendsPrefix (W.contents writer.old) (W.contents writer.new) bytes.now) }
 {
     let mut rest = bytes;
     while !rest.is_empty() {

@@ -6,14 +6,14 @@ ghost use Rattle.mq_cli.specs.Parts.{parts_left};
 use memchr::memchr;
 
 /// The part before the first separator, and the rest after that separator, if there is one.
-pub fn first_part(separator: u8, text: &[u8]) -> (&[u8], Option<&[u8]>)
+pub(crate) fn first_part(separator: u8, text: &[u8]) -> (&[u8], Option<&[u8]>)
     ensures { parts_of separator text.now ≡ result.0.now ∷ parts_left separator result.1 }
 {
     cut_at(text, position_of(separator, text))
 }
 
 /// The same by a search of many bytes at a time, which pays for itself where the part is long.
-pub fn first_long_part(separator: u8, text: &[u8]) -> (&[u8], Option<&[u8]>)
+pub(crate) fn first_long_part(separator: u8, text: &[u8]) -> (&[u8], Option<&[u8]>)
     ensures { parts_of separator text.now ≡ result.0.now ∷ parts_left separator result.1 }
 {
     cut_at(text, place_of(separator, text))

@@ -1,7 +1,7 @@
-ghost use Rattle.std.specs.Prelude.{◌≡◌, ◌+◌, ◌<◌, ◌≤◌, ◌^◌, true, replicate, OnOk, OnErr};
+ghost use Rattle.std.specs.Prelude.{◌≡◌, ◌+◌, ◌<◌, ◌^◌, replicate};
 ghost use Rattle.mq_cli.specs.Calls.{calls_of, receive, sends_after};
 ghost use Rattle.mq_cli.specs.Plans.{IsCountable, IsDone, HasGrown, puts_of, takes_of, removes_of};
-ghost use Rattle.mq_cli.specs.Progress.{GoesOn, end_of};
+ghost use Rattle.mq_cli.specs.Progress.{CanCount, GoesOn, HasCounted, end_of, outcome_of};
 ghost use Rattle.mq_cli.specs.Works.{HasWorked};
 
 use crate::notes::{Notes, Stream};
@@ -57,10 +57,7 @@ struct Progress {
 
 impl Progress {
     fn outcome(&self, end: Option<Errno>) -> Outcome
-        ensures sent { result.sent ≡ self.now.sent }
-        ensures received { result.received ≡ self.now.received }
-        ensures ordered { result.ordered ≡ self.now.notes.ordered }
-        ensures end { result.end ≡ end }
+        ensures { result ≡ outcome_of self.now end }
     {
         Outcome {
             sent: self.sent,
@@ -79,16 +76,9 @@ impl Progress {
         port: &mut Q,
         step: Step,
     ) -> Result<(), Errno>
-        requires sent { self.old.sent + puts_of step < 2 ^ 64 }
-        requires received { self.old.received + takes_of step < 2 ^ 64 }
-        ensures sent { self.new.sent ≤ self.old.sent + puts_of step }
-        ensures received { self.new.received ≤ self.old.received + takes_of step }
-        ensures all { OnOk result ((self.new.sent ≡ self.old.sent + puts_of step)
-            × (self.new.received ≡ self.old.received + takes_of step)) }
-        ensures done { OnOk result (Q.calls port.new + (self.old.sent + self.old.received)
-            ≡ Q.calls port.old + (self.new.sent + self.new.received) + removes_of step) }
-        ensures refused { OnErr result (Q.calls port.new + (self.old.sent + self.old.received)
-            ≡ Q.calls port.old + (self.new.sent + self.new.received)) }
+        requires { CanCount self.old (puts_of step) (takes_of step) }
+        ensures counted { HasCounted (puts_of step) (takes_of step) (removes_of step)
+            (Q.calls port.old) (Q.calls port.new) self.old self.new result }
         ensures called { GoesOn ⟦<Stream as PartialEq>⟧.eq Q.puts Q.takes Q.removes
             (calls_of self.old.sent step) port.old port.new self.old self.new (end_of result) }
     {
@@ -152,10 +142,8 @@ impl Progress {
         moment: u64,
     ) -> Result<(), Errno>
         requires { self.old.sent + count < 2 ^ 64 }
-        ensures sent { self.new.sent ≤ self.old.sent + count }
-        ensures all { OnOk result (self.new.sent ≡ self.old.sent + count) }
-        ensures received { self.new.received ≡ self.old.received }
-        ensures calls { Q.calls port.new + self.old.sent ≡ Q.calls port.old + self.new.sent }
+        ensures counted { HasCounted count 0 0 (Q.calls port.old) (Q.calls port.new)
+            self.old self.new result }
         ensures called { GoesOn ⟦<Stream as PartialEq>⟧.eq Q.puts Q.takes Q.removes
             (sends_after self.old.sent id mtype count length T.ends moment)
             port.old port.new self.old self.new (end_of result) }
@@ -193,11 +181,8 @@ impl Progress {
         moment: u64,
     ) -> Result<(), Errno>
         requires { self.old.received + count < 2 ^ 64 }
-        ensures received { self.new.received ≤ self.old.received + count }
-        ensures all { OnOk result (self.new.received ≡ self.old.received + count) }
-        ensures sent { self.new.sent ≡ self.old.sent }
-        ensures calls { Q.calls port.new + self.old.received
-            ≡ Q.calls port.old + self.new.received }
+        ensures counted { HasCounted 0 count 0 (Q.calls port.old) (Q.calls port.new)
+            self.old self.new result }
         ensures called { GoesOn ⟦<Stream as PartialEq>⟧.eq Q.puts Q.takes Q.removes
             (replicate count (receive id msgtyp T.ends moment))
             port.old port.new self.old self.new (end_of result) }

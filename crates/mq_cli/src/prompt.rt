@@ -1,10 +1,10 @@
-ghost use Rattle.std.specs.Prelude.{◌≡◌, ◌++◌, ◌≤◌, [], true, Some, OnOk, OnErr, IfSome};
-ghost use Rattle.std.specs.Io.KnownBytes.{Appends};
+ghost use Rattle.std.specs.Prelude.{◌≡◌, ◌++◌, OnOk};
+ghost use Rattle.mq_cli.specs.Input.{IsRunSize};
 ghost use Rattle.mq_cli.specs.Lines.{lines_of};
-ghost use Rattle.mq_cli.specs.Prompt.{Answers, AnswersNext, answer_of, answers_from, answers_to};
-ghost use Rattle.mq_cli.specs.Prompt.{Writes, cause_name, fault_line};
-ghost use Rattle.mq_cli.specs.Serial.{AppendsPrefix};
-ghost use Rattle.mq_one_thread.specs.Limits.{keeps_limits};
+ghost use Rattle.mq_cli.specs.Prompt.{Answers, AnswersAll, AnswersNext, answer_of, answers_from};
+ghost use Rattle.mq_cli.specs.Prompt.{answers_to, cause_name, fault_line};
+ghost use Rattle.mq_cli.specs.Serial.{Writes};
+ghost use Rattle.mq_cli.specs.Session.{CanOpen};
 
 use crate::command::read_line;
 use crate::lines::trimmed;
@@ -34,18 +34,9 @@ pub fn run_prompt<R: BufRead, W: Write, P: Write>(
     prompts: &mut P,
     config: Config,
 ) -> Result<(), RunFault>
-    requires limits { keeps_limits config ≡ true }
-    requires seats { config.seats ≡ 16 }
-
-    // A run that ends well has read all, and has answered each line.
-    ensures end { OnOk result (IfSome (R.remaining reader.old) (λ _.
-        R.remaining reader.new ≡ Some [])) }
-    ensures ok { OnOk result (IfSome (R.remaining reader.old) (λ text.
-        Appends (W.contents writer.old) (W.contents writer.new) (answers_to config text))) }
-
-    // Any other has written the front of these answers.
-    ensures err { OnErr result (IfSome (R.remaining reader.old) (λ text.
-        AppendsPrefix (W.contents writer.old) (W.contents writer.new) (answers_to config text))) }
+    requires { IsRunSize config }
+    ensures ran { AnswersAll (answers_to config) (R.remaining reader.old) (R.remaining reader.new)
+        (W.contents writer.old) (W.contents writer.new) result }
 {
     prompt::<Brand, R, W, P>(
         alloc,
@@ -66,15 +57,9 @@ fn prompt<L: Ledger, R: BufRead, W: Write, P: Write>(
     writer: &mut W,
     prompts: &mut P,
 ) -> Result<(), RunFault>
-    requires name { ledger.name ≡ L.name }
-    requires parts { ledger.parts ≡ L.parts }
-    requires enough { LEDGER_PARTS ≤ ledger.parts }
-    ensures end { OnOk result (IfSome (R.remaining reader.old) (λ _.
-        R.remaining reader.new ≡ Some [])) }
-    ensures ok { OnOk result (IfSome (R.remaining reader.old) (λ text.
-        Appends (W.contents writer.old) (W.contents writer.new) (answers_to config text))) }
-    ensures err { OnErr result (IfSome (R.remaining reader.old) (λ text.
-        AppendsPrefix (W.contents writer.old) (W.contents writer.new) (answers_to config text))) }
+    requires { CanOpen ledger.name ledger.parts L.name L.parts }
+    ensures { AnswersAll (answers_to config) (R.remaining reader.old) (R.remaining reader.new)
+        (W.contents writer.old) (W.contents writer.new) result }
 {
     let Ok(mut session) = Session::<L>::new(alloc, config, ledger) else {
         return Err(RunFault::Memory);
@@ -92,14 +77,9 @@ fn answer_lines<L: Ledger, R: BufRead, W: Write, P: Write>(
     writer: &mut W,
     prompts: &mut P,
 ) -> Result<(), RunFault>
-    ensures end { OnOk result (IfSome (R.remaining reader.old) (λ _.
-        R.remaining reader.new ≡ Some [])) }
-    ensures ok { OnOk result (IfSome (R.remaining reader.old) (λ text.
-        Appends (W.contents writer.old) (W.contents writer.new)
-        (answers_from 1 session.old (lines_of text)))) }
-    ensures err { OnErr result (IfSome (R.remaining reader.old) (λ text.
-        AppendsPrefix (W.contents writer.old) (W.contents writer.new)
-        (answers_from 1 session.old (lines_of text)))) }
+    ensures { AnswersAll (λ text. answers_from 1 session.old (lines_of text))
+        (R.remaining reader.old) (R.remaining reader.new)
+        (W.contents writer.old) (W.contents writer.new) result }
 {
     let mut line = Vec::new(alloc);
     let mut out = Vec::new(alloc);

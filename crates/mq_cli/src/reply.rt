@@ -15,7 +15,11 @@ use std::sync::ledger::Ledger;
 /// Appends a word and the number that it names.
 // Where it is inlined, the word's length is known, and the word is written without a call.
 #[inline(always)]
-pub fn write_field<I: Integer>(out: &mut Vec<u8>, word: &[u8], number: I) -> Result<(), AllocError>
+pub(crate) fn write_field<I: Integer>(
+    out: &mut Vec<u8>,
+    word: &[u8],
+    number: I,
+) -> Result<(), AllocError>
     ensures { OnOk result (out.new.items ≡ out.old.items ++ word.now ++ I.text number) }
 {
     let mut digits = Buffer::new();
@@ -25,7 +29,11 @@ pub fn write_field<I: Integer>(out: &mut Vec<u8>, word: &[u8], number: I) -> Res
 
 /// The same, and the end of the line.
 #[inline(always)]
-pub fn write_last<I: Integer>(out: &mut Vec<u8>, word: &[u8], number: I) -> Result<(), AllocError>
+pub(crate) fn write_last<I: Integer>(
+    out: &mut Vec<u8>,
+    word: &[u8],
+    number: I,
+) -> Result<(), AllocError>
     ensures { OnOk result
         (out.new.items ≡ out.old.items ++ word.now ++ I.text number ++ 10 ∷ []) }
 {
@@ -43,7 +51,7 @@ pub struct ArenaFigures {
 }
 
 /// `pages P free F largest K`
-pub fn write_arena(out: &mut Vec<u8>, f: ArenaFigures) -> Result<(), AllocError>
+pub(crate) fn write_arena(out: &mut Vec<u8>, f: ArenaFigures) -> Result<(), AllocError>
     ensures { OnOk result
         (out.new.items ≡ out.old.items ++ output (arena_shown f)) }
 {
@@ -72,21 +80,21 @@ fn write_order(out: &mut Vec<u8>, order: Option<u8>) -> Result<(), AllocError>
 }
 
 /// `id ID`
-pub fn write_id(out: &mut Vec<u8>, id: u32) -> Result<(), AllocError>
+pub(crate) fn write_id(out: &mut Vec<u8>, id: u32) -> Result<(), AllocError>
     ensures { OnOk result (out.new.items ≡ out.old.items ++ output (given id)) }
 {
     write_last(out, b"id ", id)
 }
 
 /// `at E`
-pub fn write_entry(out: &mut Vec<u8>, entry: u64) -> Result<(), AllocError>
+pub(crate) fn write_entry(out: &mut Vec<u8>, entry: u64) -> Result<(), AllocError>
     ensures { OnOk result (out.new.items ≡ out.old.items ++ output (at entry)) }
 {
     write_last(out, b"at ", entry)
 }
 
 /// `at E events K`
-pub fn write_removal(out: &mut Vec<u8>, entry: u64, events: u64) -> Result<(), AllocError>
+pub(crate) fn write_removal(out: &mut Vec<u8>, entry: u64, events: u64) -> Result<(), AllocError>
     ensures { OnOk result (out.new.items ≡ out.old.items ++ output (gone entry events)) }
 {
     write_field(out, b"at ", entry)?;
@@ -94,7 +102,7 @@ pub fn write_removal(out: &mut Vec<u8>, entry: u64, events: u64) -> Result<(), A
 }
 
 /// `cut from A to B`
-pub fn write_cut(out: &mut Vec<u8>, first: u64, end: u128) -> Result<(), AllocError>
+pub(crate) fn write_cut(out: &mut Vec<u8>, first: u64, end: u128) -> Result<(), AllocError>
     ensures { OnOk result (out.new.items ≡ out.old.items ++ output (cut_off first end)) }
 {
     write_field(out, b"cut from ", first)?;
@@ -102,7 +110,7 @@ pub fn write_cut(out: &mut Vec<u8>, first: u64, end: u128) -> Result<(), AllocEr
 }
 
 /// `qnum A cbytes B qbytes C lspid D lrpid E stime F rtime G ctime H`
-pub fn write_figures(out: &mut Vec<u8>, f: Figures) -> Result<(), AllocError>
+pub(crate) fn write_figures(out: &mut Vec<u8>, f: Figures) -> Result<(), AllocError>
     ensures { OnOk result (out.new.items ≡ out.old.items ++ output (figures f)) }
 {
     write_counts(out, f)?;
@@ -139,7 +147,10 @@ fn write_moments(out: &mut Vec<u8>, f: Figures) -> Result<(), AllocError>
 }
 
 /// `msg TYPE seat S tag T len L =BYTES`
-pub fn write_message<L: Ledger>(out: &mut Vec<u8>, m: &Delivered<Text<L>>) -> Result<(), AllocError>
+pub(crate) fn write_message<L: Ledger>(
+    out: &mut Vec<u8>,
+    m: &Delivered<Text<L>>,
+) -> Result<(), AllocError>
     ensures { OnOk result (out.new.items ≡ out.old.items ++ output (message m.now)) }
 {
     write_head(out, m.mtype, m.sender, m.tag, m.length)?;
@@ -177,7 +188,7 @@ fn write_head(
 }
 
 /// The manual's name of a refusal.
-pub fn write_errno(out: &mut Vec<u8>, errno: Errno) -> Result<(), AllocError>
+pub(crate) fn write_errno(out: &mut Vec<u8>, errno: Errno) -> Result<(), AllocError>
     ensures { OnOk result (out.new.items ≡ out.old.items ++ output (refused errno)) }
 {
     out.extend_from_slice(errno.name().as_bytes())?;
@@ -186,7 +197,7 @@ pub fn write_errno(out: &mut Vec<u8>, errno: Errno) -> Result<(), AllocError>
 }
 
 /// The manual's name of the refusal of a call; `ENOMEM` has no line there.
-pub fn write_refused(out: &mut Vec<u8>, errno: Errno) -> Result<(), AllocError>
+pub(crate) fn write_refused(out: &mut Vec<u8>, errno: Errno) -> Result<(), AllocError>
     ensures ok { OnOk result (out.new.items ≡ out.old.items ++ output (refused errno)) }
     ensures memory { OnOk result (errno ≢ Errno.ENOMEM) }
 {

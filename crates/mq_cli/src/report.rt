@@ -1,17 +1,20 @@
-ghost use Rattle.std.specs.Prelude.{◌≡◌, ◌<◌, ◌≤◌, ◌+◌, ◌++◌, ◌∷◌, [], OnOk, length, replicate};
-ghost use Rattle.mq_cli.specs.Reports.{filled_of, header, line_of_row, lines_to, named_of};
+ghost use Rattle.std.specs.Prelude.{◌≡◌, ◌++◌, OnOk, length, replicate};
+ghost use Rattle.mq_cli.specs.Reports.{IsRow, filled_of, header, line_of_row, lines_to, named_of};
 ghost use Rattle.mq_cli.specs.Reports.{right_aligned};
 ghost use Rattle.mq_cli.specs.Transcript.{output, table};
 
 use itoa::{Buffer, Integer};
-use mq_one_thread::{MAX_SEQ, MAX_SLOTS, OneThread};
+use mq_one_thread::OneThread;
 use mq_queue::BoardRow;
 use mq_table::Id;
 use std::alloc::AllocError;
 use std::sync::ledger::Ledger;
 
 /// Writes the table of the live queues.
-pub fn write_report<L: Ledger>(out: &mut Vec<u8>, queues: &OneThread<L>) -> Result<(), AllocError>
+pub(crate) fn write_report<L: Ledger>(
+    out: &mut Vec<u8>,
+    queues: &OneThread<L>,
+) -> Result<(), AllocError>
     ensures { OnOk result (out.new.items ≡ out.old.items ++ output (table queues.now)) }
 {
     write_header(out)?;
@@ -41,8 +44,7 @@ fn write_rows<L: Ledger>(out: &mut Vec<u8>, queues: &OneThread<L>) -> Result<(),
 
 /// The line of a slot with a live queue, after the end of the line before it.
 fn write_row(out: &mut Vec<u8>, slot: u8, row: BoardRow) -> Result<(), AllocError>
-    requires slot { slot < MAX_SLOTS }
-    requires made { row.made ≤ MAX_SEQ + 1 }
+    requires { IsRow slot row }
     ensures { OnOk result (out.new.items ≡ out.old.items ++ line_of_row slot row) }
 {
     if !row.live {
@@ -55,8 +57,7 @@ fn write_row(out: &mut Vec<u8>, slot: u8, row: BoardRow) -> Result<(), AllocErro
 
 #[tactic(auto, unfolding(crate::specs::Reports::named_of))]
 fn write_named(out: &mut Vec<u8>, slot: u8, row: BoardRow) -> Result<(), AllocError>
-    requires slot { slot < MAX_SLOTS }
-    requires made { row.made ≤ MAX_SEQ + 1 }
+    requires { IsRow slot row }
     ensures { OnOk result (out.new.items ≡ out.old.items ++ named_of slot row) }
 {
     let id = Id::of(slot, row.made.saturating_sub(1));

@@ -1,6 +1,4 @@
-ghost use Rattle.std.specs.Prelude.{◌≤◌, OnOk, IfOk, IfErr, IsErrOf, vec_len};
-ghost use Rattle.std.specs.Io.KnownBytes.{Consumes, IsAtEnd};
-ghost use Rattle.mq_cli.specs.Serial.{ReadsMoreThan, ReadsUpTo, IsInputFault};
+ghost use Rattle.mq_cli.specs.Input.{ReadsScript};
 
 use crate::limits::READ_CALLS;
 use crate::{RunFault, SCRIPT_LIMIT};
@@ -9,16 +7,8 @@ use std::io::Read;
 
 /// All that the reader gives, which is a script where it is no longer than one may be. Each
 /// error of a read call is a fault.
-pub fn read_script<R: Read>(alloc: Global, reader: &mut R) -> Result<Vec<u8>, RunFault>
-    ensures whole { IfOk result (λ script.
-        Consumes (R.remaining reader.old) (R.remaining reader.new) script.items) }
-    ensures end { OnOk result (IsAtEnd (R.remaining reader.new)) }
-    ensures fits { IfOk result (λ script. vec_len script ≤ SCRIPT_LIMIT) }
-    ensures faults { IfErr result IsInputFault }
-    ensures size { IsErrOf result RunFault.Size →
-        ReadsMoreThan SCRIPT_LIMIT (R.remaining reader.old) (R.remaining reader.new) }
-    ensures within { ¬ IsErrOf result RunFault.Size →
-        ReadsUpTo SCRIPT_LIMIT (R.remaining reader.old) (R.remaining reader.new) }
+pub(crate) fn read_script<R: Read>(alloc: Global, reader: &mut R) -> Result<Vec<u8>, RunFault>
+    ensures { ReadsScript (R.remaining reader.old) (R.remaining reader.new) result }
 {
     let mut script = Vec::new(alloc);
     let mut chunk = [0u8; 4096];

@@ -1,13 +1,11 @@
-ghost use Rattle.std.specs.Prelude.{◌≡◌, ◌<◌, ◌≤◌, ℕ, true, None, Some, Ok, OnOk, IfSome};
-ghost use Rattle.std.specs.Prelude.{IsErrOf, length};
-ghost use Rattle.std.specs.Io.KnownBytes.{Appends, IsAtEnd, Keeps};
-ghost use Rattle.mq_cli.specs.Serial.{AppendsPrefix, ReadsMoreThan, ReadsUpTo, Runs, RunsLine};
-ghost use Rattle.mq_one_thread.specs.Limits.{keeps_limits};
+ghost use Rattle.std.specs.Prelude.{◌≤◌, Some, Ok, length};
 ghost use Rattle.mq_cli.specs.Commands.{reading};
+ghost use Rattle.mq_cli.specs.Input.{IsRunSize};
 ghost use Rattle.mq_cli.specs.Lines.{lines_of};
 ghost use Rattle.mq_cli.specs.Seen.{call_of};
-ghost use Rattle.mq_cli.specs.Transcript.{fault_of, run_from, run_of, said, transcript};
-ghost use Rattle.mq_cli.specs.declared.fault.Cause.{Cause};
+ghost use Rattle.mq_cli.specs.Serial.{RanSerial, Runs, RunsLine};
+ghost use Rattle.mq_cli.specs.Session.{CanOpen};
+ghost use Rattle.mq_cli.specs.Transcript.{run_from, run_of, said};
 
 use crate::answer::answer;
 use crate::command::{Command, read_line};
@@ -23,43 +21,17 @@ use std::io::{Read, Write};
 use std::marker::Brand;
 use std::sync::ledger::{Blank, Ledger};
 
-/// Reads a script whole, then runs it line by line and writes the answer of each call.
+/// Reads a script whole, then runs it line by line and writes the answer of each call. The first
+/// line that is not well formed ends it, after the answers of the lines before.
 pub fn run_serial<R: Read, W: Write>(
     alloc: Global,
     reader: &mut R,
     writer: &mut W,
     config: Config,
 ) -> Result<(), RunFault>
-    requires limits { keeps_limits config ≡ true }
-    requires seats { config.seats ≡ 16 }
-
-    // A run that ends well has read all, and has written the transcript.
-    ensures end { OnOk result (IsAtEnd (R.remaining reader.new)) }
-    ensures ok { OnOk result (IfSome (R.remaining reader.old) (λ script.
-        (fault_of config script ≡ None)
-        × Appends (W.contents writer.old) (W.contents writer.new) (transcript config script))) }
-
-    // The first line that is not well formed ends it, after the transcript of the lines before.
-    ensures script { (line : ℕ) (cause : Cause) → IsErrOf result (RunFault.Script line cause) →
-        IfSome (R.remaining reader.old) (λ script.
-        (fault_of config script ≡ Some (line, cause))
-        × Appends (W.contents writer.old) (W.contents writer.new) (transcript config script)) }
-
-    // `Size` is answered exactly where the reader gave more bytes than a script may have.
-    ensures size { IsErrOf result RunFault.Size →
-        ReadsMoreThan SCRIPT_LIMIT (R.remaining reader.old) (R.remaining reader.new) }
-    ensures within { ¬ IsErrOf result RunFault.Size →
-        ReadsUpTo SCRIPT_LIMIT (R.remaining reader.old) (R.remaining reader.new) }
-
-    // Nothing is written before the script is read, and never more than a prefix of the transcript.
-    ensures unwritten_size { IsErrOf result RunFault.Size →
-        Keeps (W.contents writer.old) (W.contents writer.new) }
-    ensures unwritten_read { IsErrOf result RunFault.Read →
-        Keeps (W.contents writer.old) (W.contents writer.new) }
-    ensures write { IsErrOf result RunFault.Write → IfSome (R.remaining reader.old) (λ script.
-        AppendsPrefix (W.contents writer.old) (W.contents writer.new) (transcript config script)) }
-    ensures memory { IsErrOf result RunFault.Memory → IfSome (R.remaining reader.old) (λ script.
-        AppendsPrefix (W.contents writer.old) (W.contents writer.new) (transcript config script)) }
+    requires { IsRunSize config }
+    ensures ran { RanSerial config (R.remaining reader.old) (R.remaining reader.new)
+        (W.contents writer.old) (W.contents writer.new) result }
 {
     let script = read_script(alloc, reader)?;
     run_script::<Brand, W>(alloc, config, Blank::new(LEDGER_PARTS), &script, writer)
@@ -75,9 +47,7 @@ fn run_script<L: Ledger, W: Write>(
     writer: &mut W,
 ) -> Result<(), RunFault>
     requires fits { length script.now ≤ SCRIPT_LIMIT }
-    requires name { ledger.name ≡ L.name }
-    requires parts { ledger.parts ≡ L.parts }
-    requires enough { LEDGER_PARTS ≤ ledger.parts }
+    requires ledger { CanOpen ledger.name ledger.parts L.name L.parts }
     ensures { Runs (W.contents writer.old) (W.contents writer.new)
         (run_of config script.now) result }
 {
@@ -136,7 +106,7 @@ fn run_line<L: Ledger, W: Write>(
 }
 
 /// Makes the call of a line, and writes its answer, which is made in the buffer first.
-pub fn run_command<L: Ledger, W: Write>(
+pub(crate) fn run_command<L: Ledger, W: Write>(
     session: &mut Session<L>,
     number: u64,
     command: Command<'_>,

@@ -1,8 +1,7 @@
-ghost use Rattle.std.specs.Prelude.{◌≡◌, ◌≤◌, IfOk};
-ghost use Rattle.mq_cli.specs.Session.{start};
+ghost use Rattle.std.specs.Prelude.{◌≡◌, IfOk};
+ghost use Rattle.mq_cli.specs.Session.{CanOpen, start};
 
 use crate::draft::letters;
-use mq_arena::LEDGER_PARTS;
 use mq_one_thread::{Config, OneThread};
 use mq_queue::MSGMAX;
 use std::alloc::{AllocError, Global};
@@ -33,10 +32,12 @@ impl<L: Ledger> Model for Session<L> {
 
 impl<L: Ledger> Session<L> {
     /// A run with no queue yet.
-    pub fn new(alloc: Global, config: Config, ledger: Blank) -> Result<Session<L>, AllocError>
-        requires name { ledger.name ≡ L.name }
-        requires parts { ledger.parts ≡ L.parts }
-        requires enough { LEDGER_PARTS ≤ ledger.parts }
+    pub(crate) fn new(
+        alloc: Global,
+        config: Config,
+        ledger: Blank,
+    ) -> Result<Session<L>, AllocError>
+        requires { CanOpen ledger.name ledger.parts L.name L.parts }
         ensures { IfOk result (λ session. session ≡ start config) }
     {
         let letters = letters(alloc, MSGMAX)?;
@@ -51,7 +52,7 @@ impl<L: Ledger> Session<L> {
     }
 
     /// Ends the run: each waiting text gives its pages back.
-    pub fn close(self) {
+    pub(crate) fn close(self) {
         let Session {
             queues,
             letters: _,

@@ -1,8 +1,7 @@
-ghost use Rattle.std.specs.Prelude.{◌≡◌, ◌+◌, ◌<◌, ◌≤◌, ◌↔◌, true, nat_lt, length, map};
-ghost use Rattle.std.specs.Prelude.{IfOk, IsErrOf};
+ghost use Rattle.std.specs.Prelude.{◌≡◌, ◌+◌, ◌≤◌, length, map, IfOk};
 ghost use Rattle.std.specs.List.{range_with_len, sum};
 ghost use Rattle.mq_queue.specs.declared.limits.TheConstants.{MSGMAX};
-ghost use Rattle.mq_cli.specs.Drafts.{letter};
+ghost use Rattle.mq_cli.specs.Drafts.{DraftsBytes, letter};
 ghost use Rattle.mq_cli.specs.Letters.{AreLetters, letters_from};
 ghost use Rattle.mq_cli.specs.Ports.{Receives, Removes, Sends};
 ghost use Rattle.mq_cli.specs.declared.system_port.TheConstants.{LETTERS};
@@ -52,7 +51,7 @@ pub fn letters_of_ports(alloc: Global) -> Result<Vec<u8>, AllocError>
 }
 
 /// A port for each of the seats, in their order.
-pub fn ports_of<'a, N: Names>(
+pub(crate) fn ports_of<'a, N: Names>(
     alloc: Global,
     seats: &'a mut [Seat<N>],
     letters: &'a [u8],
@@ -87,11 +86,7 @@ fn draft<N: Names, R: Wait, T: Patience>(
     pages: bool,
     patience: &mut T,
 ) -> Result<TextOf<N>, DraftError>
-    ensures ok { IfOk result (λ text. text.bytes ≡ bytes.now) }
-    ensures too_long { IsErrOf result DraftError.TooLong
-        ↔ (nat_lt MSGMAX (length bytes.now) ≡ true) }
-    ensures no_run { IsErrOf result DraftError.NoRun → 0 < length bytes.now }
-    ensures memory { IsErrOf result DraftError.Memory → 0 < length bytes.now }
+    ensures answer { DraftsBytes bytes.now result }
 {
     if pages {
         system.draft_by_within(rt, seat, bytes, patience)

@@ -1,26 +1,17 @@
-ghost use Rattle.std.specs.Prelude.{◌≡◌, ◌+◌, ◌≤◌, ◌⊎◌, ℕ, true, Err, All, IfErr, IfOk, IfSome};
-ghost use Rattle.std.specs.Prelude.{OnOk, IsErrOf, length, vec_len};
-ghost use Rattle.std.specs.List.{AllZip};
-ghost use Rattle.std.specs.Io.KnownBytes.{IsAtEnd, Keeps};
-ghost use Rattle.mq_one_thread.specs.Limits.{keeps_limits};
+ghost use Rattle.std.specs.Prelude.{◌≡◌, length, vec_len};
 ghost use Rattle.mq_system.specs.Sizes.{AreNames};
-ghost use Rattle.mq_cli.specs.Plans.{IsCountable, IsDone};
-ghost use Rattle.mq_cli.specs.Serial.{ReadsMoreThan, ReadsUpTo};
-ghost use Rattle.mq_cli.specs.Threads.{Flushes, IsMakingFault, RanParts, RanThreads, Tells};
-ghost use Rattle.mq_cli.specs.Threads.{TellsEnd, WroteMain, WrotePart, WroteWhole};
+ghost use Rattle.mq_cli.specs.Input.{IsRunSize};
+ghost use Rattle.mq_cli.specs.Threads.{Flushes, RanParts, RanWorkers, TellsEnd};
 ghost use Rattle.mq_cli.specs.ThreadsParsed.{wanted_seen};
-ghost use Rattle.mq_cli.specs.ThreadsScript.{wanted_of};
-ghost use Rattle.mq_cli.specs.declared.fault.Cause.{Cause};
+ghost use Rattle.mq_cli.specs.ThreadsRun.{CanRun, HaveSeats, RanThreads, RanWanted};
 
 use crate::closing::closing_text;
-use crate::limits::MAX_WORKERS;
 use crate::main_part::run_main;
 use crate::output::{WriteFailed, write_bytes};
 use crate::script::read_script;
 use crate::system_port::{Letters, letters_of_ports, ports_of};
 use crate::threads_script::{ThreadsScript, read_threads_script};
-use crate::{Outcome, RunFault, SCRIPT_LIMIT, Step, run_workers};
-use mq_arena::LEDGER_PARTS;
+use crate::{Outcome, RunFault, Step, run_workers};
 use mq_board::Copies;
 use mq_one_thread::{Closed, ClosedSlot, Config};
 use mq_system::{Blanks, Names, Seat, System};
@@ -42,42 +33,9 @@ pub fn run_threads<T: Threads + Wait + Clock + Sync, R: Read, W: Write>(
     writer: &mut W,
     config: Config,
 ) -> Result<(), RunFault>
-    requires limits { keeps_limits config ≡ true }
-    requires seats { config.seats ≡ 16 }
-
-    // A run that ends well has read all; it has written the answers of the main part, and what is
-    // told of workers that have ended and of slots that are closed.
-    ensures end { OnOk result (IsAtEnd (R.remaining reader.new)) }
-    ensures ok { OnOk result (IfSome (R.remaining reader.old) (Tells
-        (λ wanted. WroteWhole config wanted (W.contents writer.old) (W.contents writer.new)))) }
-
-    // The first line that is not well formed ends it, before anything is written.
-    ensures script { (line : ℕ) (cause : Cause) → IsErrOf result (RunFault.Script line cause) →
-        IfSome (R.remaining reader.old) (λ script. wanted_of script ≡ Err (line, cause)) }
-    ensures unwritten_script { (line : ℕ) (cause : Cause) →
-        IsErrOf result (RunFault.Script line cause) →
-        Keeps (W.contents writer.old) (W.contents writer.new) }
-
-    // `Size` is answered exactly where the reader gave more bytes than a script may have.
-    ensures size { IsErrOf result RunFault.Size →
-        ReadsMoreThan SCRIPT_LIMIT (R.remaining reader.old) (R.remaining reader.new) }
-    ensures within { ¬ IsErrOf result RunFault.Size →
-        ReadsUpTo SCRIPT_LIMIT (R.remaining reader.old) (R.remaining reader.new) }
-
-    // Nothing is written before the script is read, and where a thread could not be made no more
-    // than the answers of the main part; else never more than a prefix of what a run tells.
-    ensures unwritten_size { IsErrOf result RunFault.Size →
-        Keeps (W.contents writer.old) (W.contents writer.new) }
-    ensures unwritten_read { IsErrOf result RunFault.Read →
-        Keeps (W.contents writer.old) (W.contents writer.new) }
-    ensures thread { IsErrOf result RunFault.Thread → IfSome (R.remaining reader.old) (Tells
-        (λ wanted. WroteMain config wanted (W.contents writer.old) (W.contents writer.new))) }
-    ensures write { IsErrOf result RunFault.Write → IfSome (R.remaining reader.old) (Tells
-        (λ wanted. WrotePart config wanted (W.contents writer.old) (W.contents writer.new))) }
-    ensures memory { IsErrOf result RunFault.Memory →
-        Keeps (W.contents writer.old) (W.contents writer.new)
-        ⊎ IfSome (R.remaining reader.old) (Tells
-        (λ wanted. WrotePart config wanted (W.contents writer.old) (W.contents writer.new))) }
+    requires { IsRunSize config }
+    ensures ran { RanThreads config (R.remaining reader.old) (R.remaining reader.new)
+        (W.contents writer.old) (W.contents writer.new) result }
 {
     let script = read_script(alloc, reader)?;
     let wanted = read_threads_script(alloc, &script)?;
@@ -102,12 +60,8 @@ fn run_wanted<N: Names + Send + Sync, T: Threads + Wait + Clock + Sync, W: Write
     writer: &mut W,
 ) -> Result<(), RunFault>
     requires names { AreNames N.Names.own N.Naming blanks (record config { seats = seats }) }
-    requires enough { LEDGER_PARTS ≤ blanks.pages.parts }
-    requires limits { keeps_limits config ≡ true }
-    requires seats { seats ≡ vec_len wanted.now.sections + 1 }
-    requires few { vec_len wanted.now.sections ≤ MAX_WORKERS }
-    requires countable { All (λ plan. IsCountable plan.items) wanted.now.sections.items }
-    ensures { RanThreads config (wanted_seen wanted.now)
+    requires run { CanRun config blanks.pages.parts seats wanted.now.sections }
+    ensures { RanWanted config (wanted_seen wanted.now)
         (W.contents writer.old) (W.contents writer.new) result }
 {
     let sized = Config { seats, ..config };
@@ -136,8 +90,8 @@ fn run_parts<N: Names + Send + Sync, T: Threads + Wait + Clock + Sync, W: Write>
     wanted: &ThreadsScript,
     writer: &mut W,
 ) -> Result<Vec<Outcome>, RunFault>
-    requires seats { vec_len wanted.now.sections ≤ length others.old }
-    requires countable { All (λ plan. IsCountable plan.items) wanted.now.sections.items }
+    requires { HaveSeats (vec_len wanted.now.sections) (length others.old)
+        wanted.now.sections.items }
     ensures count { length others.new ≡ length others.old }
     ensures ran { RanParts N.slots N.last_seq (wanted_seen wanted.now) main.old main.new
         (W.contents writer.old) (W.contents writer.new) result }
@@ -157,11 +111,8 @@ fn run_sections<N: Names + Send + Sync, T: Threads + Wait + Clock + Sync>(
     seats: &mut [Seat<N>],
     sections: &[Vec<Step>],
 ) -> Result<Vec<Outcome>, RunFault>
-    requires seats { length sections.now ≤ length seats.old }
-    requires countable { All (λ plan. IsCountable plan.items) sections.now }
-    ensures done { IfOk result (λ outcomes.
-        AllZip (λ plan outcome. IsDone plan.items outcome) sections.now outcomes.items) }
-    ensures fault { IfErr result IsMakingFault }
+    requires { HaveSeats (length sections.now) (length seats.old) sections.now }
+    ensures { RanWorkers sections.now result }
 {
     let (seats, _) = seats.split_at_mut(sections.len());
     let Ok(letters) = letters_of_ports(alloc) else {

@@ -18,7 +18,7 @@ use mq_table::Id;
 
 /// What the line with this number says, where so many sections were begun before: `None` where it
 /// is empty or a comment.
-pub fn read_threads_line(
+pub(crate) fn read_threads_line(
     sections: usize,
     line_number: u64,
     line: &[u8],

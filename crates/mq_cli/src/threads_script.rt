@@ -1,9 +1,7 @@
-ghost use Rattle.std.specs.Prelude.{◌≡◌, ◌≤◌, All, IfOk, OnOk, length, vec_len};
-ghost use Rattle.mq_cli.specs.Plans.{IsCountable};
+ghost use Rattle.std.specs.Prelude.{◌≡◌, ◌≤◌, OnOk, length};
 ghost use Rattle.mq_cli.specs.ThreadsParsed.{Parses, wanted_seen};
 ghost use Rattle.mq_cli.specs.ThreadsScript.{nothing, wanted_of, with_line};
 
-use crate::limits::MAX_WORKERS;
 use crate::lines::Lines;
 use crate::threads_line::read_threads_line;
 use crate::{RunFault, SCRIPT_LIMIT, Step};
@@ -77,12 +75,9 @@ impl ThreadsScript {
 }
 
 /// Reads the lines of a threads script, up to the first that is not well formed.
-pub fn read_threads_script(alloc: Global, script: &[u8]) -> Result<ThreadsScript, RunFault>
+pub(crate) fn read_threads_script(alloc: Global, script: &[u8]) -> Result<ThreadsScript, RunFault>
     requires fits { length script.now ≤ SCRIPT_LIMIT }
-    ensures wanted { Parses (wanted_of script.now) result }
-    ensures few { IfOk result (λ wanted. vec_len wanted.sections ≤ MAX_WORKERS) }
-    ensures countable { IfOk result (λ wanted.
-        All (λ plan. IsCountable plan.items) wanted.sections.items) }
+    ensures { Parses (wanted_of script.now) result }
 {
     let mut wanted = ThreadsScript::new(alloc);
     let mut number = 0;

@@ -13,14 +13,14 @@ pub struct Words<'a> {
 }
 
 impl<'a> Words<'a> {
-    pub fn new(line: &'a [u8]) -> Words<'a>
+    pub(crate) fn new(line: &'a [u8]) -> Words<'a>
         ensures { parts_left 32 result.rest ≡ words_of line.now }
     {
         Words { rest: Some(line) }
     }
 
     /// The rest of the line, spaces and all.
-    pub fn into_rest(self) -> &'a [u8]
+    pub(crate) fn into_rest(self) -> &'a [u8]
         ensures { result.now ≡ join_with_byte 32 (parts_left 32 self.entry.rest) }
     {
         match self.rest {

@@ -1,7 +1,6 @@
-ghost use Rattle.std.specs.Prelude.{◌≡◌, length, map, All, IfErr, IfOk};
-ghost use Rattle.std.specs.List.{AllZip};
-ghost use Rattle.mq_cli.specs.Plans.{IsCountable, IsDone};
-ghost use Rattle.mq_cli.specs.Threads.{IsMakingFault};
+ghost use Rattle.std.specs.Prelude.{◌≡◌, length, map, IfOk};
+ghost use Rattle.mq_cli.specs.Plans.{AreCountable, IsCountable, IsDone};
+ghost use Rattle.mq_cli.specs.Threads.{RanWorkers};
 
 use crate::{Outcome, Port, RunFault, Step, work};
 use mq_jobs::{Job, JobsError, run_jobs};
@@ -23,10 +22,8 @@ pub fn run_workers<Q: Port + Send, R: Threads + Wait + Clock + Sync>(
 where
     Q::Shared: Sync,
     requires ports { length plans.now ≡ length ports.old }
-    requires plans { All (λ plan. IsCountable plan.items) plans.now }
-    ensures done { IfOk result (λ all.
-        AllZip (λ plan outcome. IsDone plan.items outcome) plans.now all.items) }
-    ensures fault { IfErr result IsMakingFault }
+    requires plans { AreCountable plans.now }
+    ensures ran { RanWorkers plans.now result }
 {
     let Ok(jobs) = at_ports(rt, alloc, plans, ports) else {
         return Err(RunFault::Memory);

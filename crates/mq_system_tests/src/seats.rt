@@ -4,7 +4,7 @@ ghost use Rattle.std.specs.Prelude.{◌≡◌, ◌≤◌};
 
 use crate::parts::{Anything, drafted, holds, spent};
 use crate::shared::{Day, apart_once};
-use crate::slot_calls::{entered, made, received, removed, sent};
+use crate::slot_calls::{cut, entered, made, received, removed, sent};
 use mq_arena::ArenaState;
 use mq_one_thread::Config;
 use mq_queue::Figures;
@@ -62,6 +62,12 @@ pub(crate) fn followed<N: Names, R: Abort + Wait>(
     let text = drafted(rt, arena);
     sent(rt, &mut slot, first, text);
     holds(rt, shows(&first.stat(id), 1, 131_072), "a message waits");
+    cut(rt, &mut slot);
+    holds(
+        rt,
+        shows(&first.stat(id), 1, 131_072),
+        "it waits after a cut",
+    );
     let text = received(rt, &mut slot, second);
     spent(rt, arena, text);
     holds(rt, shows(&first.stat(id), 0, 131_072), "it is received");

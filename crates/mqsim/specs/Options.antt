@@ -29,6 +29,12 @@ abbrev pub Means : ℕ → ℕ → ℕ → Option (List ℕ) → ℕ → Type 0
 Means least most standard None value = value ≡ standard
 Means least most standard (Some text) value = IsIn least most text → value ≡ number_in text
 
+-- the size that the texts of the options give
+pub record AreOptions (given : List ℕ → Option (List ℕ)) (config : Config) : Type 0 where
+  pub height : Means 0 10 6 (given (codes "height")) config.height
+  pub slots : Means 1 64 16 (given (codes "slots")) config.slots
+  pub last_seq : Means 0 32767 32767 (given (codes "last-seq")) config.last_seq
+
 -- the file that a word names: - alone is standard input, and so is no word
 abbrev pub file_named : Option (List ℕ) → Option (List ℕ)
 file_named None = None

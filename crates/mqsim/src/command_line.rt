@@ -3,8 +3,8 @@
 ghost use Rattle.std.specs.Prelude.{◌≡◌, ◌≤◌, true, false, length, codes, option_map, IfOk, Ok};
 ghost use Rattle.std.specs.Prelude.{None, Some};
 ghost use Rattle.clap.specs.Matches.{first_value, found_of, one_text};
-ghost use Rattle.mq_one_thread.specs.Limits.{keeps_limits};
-ghost use Rattle.mqsim.specs.Options.{Means, bare_request, file_named};
+ghost use Rattle.mq_cli.specs.Input.{IsRunSize};
+ghost use Rattle.mqsim.specs.Options.{AreOptions, Means, bare_request, file_named};
 
 use crate::help::{NOTES, SERIAL_NOTES, THREADS_NOTES};
 use clap::{Arg, ArgAction, ArgMatches, Command, Error, value_parser};
@@ -36,8 +36,7 @@ pub struct Request<'a> {
 /// for the help, or no memory.
 pub fn request_of<'a>(alloc: Global, words: &'a [String]) -> Result<Request<'a>, Error>
     ensures bare { length words.now ≤ 1 → result ≡ Ok bare_request }
-    ensures limits { IfOk result (λ request. keeps_limits request.config ≡ true) }
-    ensures seats { IfOk result (λ request. request.config.seats ≡ 16) }
+    ensures size { IfOk result (λ request. IsRunSize request.config) }
 {
     if words.len() <= 1 {
         return Ok(Request {
@@ -95,12 +94,8 @@ fn asks_for_a_prompt(given: &ArgMatches<'_>) -> bool
 
 /// What the words after a subcommand give, and the defaults for the rest.
 fn options_of(given: &ArgMatches<'_>) -> Config
-    ensures height { Means 0 10 6 (one_text (found_of given.now) (codes "height")) result.height }
-    ensures slots { Means 1 64 16 (one_text (found_of given.now) (codes "slots")) result.slots }
-    ensures last_seq { Means 0 32767 32767 (one_text (found_of given.now) (codes "last-seq"))
-        result.last_seq }
-    ensures limits { keeps_limits result ≡ true }
-    ensures seats { result.seats ≡ 16 }
+    ensures options { AreOptions (one_text (found_of given.now)) result }
+    ensures size { IsRunSize result }
 {
     Config {
         height: height_of(given),
@@ -122,8 +117,7 @@ fn height_of(given: &ArgMatches<'_>) -> u8
 
 fn slots_of(given: &ArgMatches<'_>) -> u8
     ensures value { Means 1 64 16 (one_text (found_of given.now) (codes "slots")) result }
-    ensures least { 1 ≤ result }
-    ensures limit { result ≤ MAX_SLOTS }
+    ensures limit { (1 ≤ result) × (result ≤ MAX_SLOTS) }
 {
     let slots: u8 = given.get_one("slots").unwrap_or(SCRIPT_DEFAULTS.slots);
     slots.clamp(1, MAX_SLOTS)

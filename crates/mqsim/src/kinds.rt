@@ -1,17 +1,12 @@
 //! A run of either kind.
 
-ghost use Rattle.std.specs.Prelude.{◌≡◌, ℕ, true, None, Err, OnOk, IfSome, IsErrOf};
-ghost use Rattle.std.specs.Io.KnownBytes.{IsAtEnd};
-ghost use Rattle.mq_cli.specs.Serial.{ReadsMoreThan, ReadsUpTo};
-ghost use Rattle.mq_cli.specs.ThreadsScript.{wanted_of};
-ghost use Rattle.mq_cli.specs.Transcript.{fault_of};
-ghost use Rattle.mq_cli.specs.declared.fault.Cause.{Cause};
-ghost use Rattle.mq_one_thread.specs.Limits.{keeps_limits};
+ghost use Rattle.mq_cli.specs.Input.{IsRunSize};
+ghost use Rattle.mqsim.specs.Runs.{RanKind};
 
 use crate::command_line::Kind;
 use crate::serial::run;
 use crate::threads::run_in_threads;
-use mq_cli::{RunFault, SCRIPT_LIMIT};
+use mq_cli::RunFault;
 use mq_one_thread::Config;
 use std::io;
 use std::io::Read;
@@ -26,18 +21,8 @@ pub fn run_kind<R: Read>(
     reader: &mut R,
     config: Config,
 ) -> Result<(), RunFault>
-    requires limits { keeps_limits config ≡ true }
-    requires seats { config.seats ≡ 16 }
-    ensures end { OnOk result (IsAtEnd (R.remaining reader.new)) }
-    ensures serial { kind ≡ Kind.Serial → OnOk result (IfSome (R.remaining reader.old) (λ script.
-        fault_of config script ≡ None)) }
-    ensures threads { kind ≡ Kind.Threads → (line : ℕ) (cause : Cause) →
-        IsErrOf result (RunFault.Script line cause) →
-        IfSome (R.remaining reader.old) (λ script. wanted_of script ≡ Err (line, cause)) }
-    ensures size { IsErrOf result RunFault.Size →
-        ReadsMoreThan SCRIPT_LIMIT (R.remaining reader.old) (R.remaining reader.new) }
-    ensures within { ¬ IsErrOf result RunFault.Size →
-        ReadsUpTo SCRIPT_LIMIT (R.remaining reader.old) (R.remaining reader.new) }
+    requires { IsRunSize config }
+    ensures ran { RanKind kind config (R.remaining reader.old) (R.remaining reader.new) result }
 {
     let writer = io::writer(rt);
     match kind {

@@ -1,9 +1,8 @@
-use Rattle.std.proofs.Common.{◌≤◌, ◌∙◌, arith, ap, inl, length}
+use Rattle.std.proofs.Common.{◌≤◌, arith, inl, length}
 use Rattle.std.proofs.lemmas.Int.{to_z-of_z}
 use Rattle.mq_one_thread.specs.Calls.{msgrcv}
 use Rattle.mq_one_thread.specs.Look.{refused_at}
 use Rattle.mq_one_thread.specs.declared.errno.Errno.TheVariants.{ENOMEM}
-use Rattle.mq_one_thread.specs.declared.results.Refused.{Refused}
 use Rattle.mq.proofs.ReceiveLemmas.{copied_memory, received_fits}
 use Rattle.mq.proofs.bytes.receive_bytes.Goals as goal
 
@@ -14,8 +13,7 @@ returns-in-Err g c =
     let copied = copied_memory (refused_at q c.args.id ENOMEM) (msgrcv q c.args.seat c.args.id c.args.size c.args.msgtyp c.args.except c.args.noerror c.args.moment) in
     record {
       answer = record {
-        refused =
-            inl (ap (λ (r : Refused). r.errno) told.refused ∙ ap (λ (r : Refused). r.errno) copied);
+        refused = inl (cc (told.refused, copied));
         unchanged = told.unchanged;
       };
     }

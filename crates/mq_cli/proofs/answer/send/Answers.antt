@@ -12,7 +12,7 @@ returns-in-Err-msgsnd g c =
     let named = rw c.from_number.ensures at whole in
     refused_leaves c.args.line c.args.seat c.args.queues.now c.args.call.id c.args.call.mtype (text_seen c.args.call.text) c.in-Ok.text c.draft.new.queues
     c.in-Err-msgsnd.refusal.refused c.in-Err-msgsnd.refusal.text c.msgsnd.new.self c.spend.new.self c.args.out.now.items c.write_refused.new.out.items c.write_refused.result
-    c.in-Ok.ensures.ok
+    c.in-Ok.ensures.answer
     named
     c.in-Err-msgsnd.ensures.answer.handed_back
     c.in-Err-msgsnd.ensures.answer.unchanged

@@ -7,12 +7,13 @@ loop-number-init g c = none_yet _ _ _
 pub loop-number-preserved : goal.loop-number-preserved
 loop-number-preserved g c = one_more _ _ _ _ _ _ _ _ _ _ _ c.in-Ok-true.field-0-test c.loop-number.invariant c.in-Ok-true.ensures
 
-pub returns-in-Ok-false-clause-ok : goal.returns-in-Ok-false-clause-ok
-returns-in-Ok-false-clause-ok g c = none_more _ _ _ _ _ _ _ _ _ _ _ c.in-Ok-false.field-0-test c.loop-number.invariant c.in-Ok-false.ensures
+pub returns-in-Ok-false : goal.returns-in-Ok-false
+returns-in-Ok-false g c = none_more _ _ _ _ _ _ _ _ _ _ _ c.in-Ok-false.field-0-test c.loop-number.invariant c.in-Ok-false.ensures
 
-pub returns-in-Err-clause-err : goal.returns-in-Err-clause-err
-returns-in-Err-clause-err g c = one_failed _ _ (g.R.Read.remaining c.answer_next.new.reader) _ _ _ _ _ _ c.answer_next.new.session c.in-Err.fault
-    c.loop-number.invariant c.in-Err.ensures
+pub returns-in-Err : goal.returns-in-Err
+returns-in-Err g c =
+    one_failed (g.R.Read.remaining c.args.reader.now) _ (g.R.Read.remaining c.answer_next.new.reader) (g.W.Write.contents c.args.writer.now) _ (g.W.Write.contents c.answer_next.new.writer)
+    c.args.session.now _ _ c.answer_next.new.session c.in-Err.fault c.loop-number.invariant c.in-Err.ensures
 
-pub returns-clause-err : goal.returns-clause-err
-returns-clause-err g c = some_left _ _ _ _ _ _ _ c.loop-number.invariant
+pub returns : goal.returns
+returns g c = some_left _ _ _ _ _ _ _ c.loop-number.invariant

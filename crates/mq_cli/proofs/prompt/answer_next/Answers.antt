@@ -1,11 +1,10 @@
-use Rattle.std.proofs.Common.{Err}
-use Rattle.mq_cli.proofs.PromptLemmas.{line_read, next_answered, next_failed, next_unflushed}
+use Rattle.mq_cli.proofs.PromptLemmas.{line_read, next_answered, next_refused, next_unflushed}
 use Rattle.mq_cli.proofs.prompt.answer_next.Goals as goal
 
 pub returns-in-Err-answer_line : goal.returns-in-Err-answer_line
 returns-in-Err-answer_line g c =
     let line = line_read _ _ _ _ _ _ _ c.clear.ensures.items c.in-Ok.ensures.bytes c.deref.ensures.value c.first_long_part.ensures c.trimmed.ensures in
-    next_failed _ _ _ _ _ c.answer_line.new.session _ (Err c.in-Err-answer_line.fault) line c.in-Err-answer_line.ensures
+    next_refused _ _ _ _ _ c.answer_line.new.session _ c.in-Err-answer_line.fault line c.in-Err-answer_line.ensures
 
 pub returns-in-Ok-flush : goal.returns-in-Ok-flush
 returns-in-Ok-flush g c =
@@ -15,4 +14,4 @@ returns-in-Ok-flush g c =
 pub returns-in-Err-flush : goal.returns-in-Err-flush
 returns-in-Err-flush g c =
     let line = line_read _ _ _ _ _ _ _ c.clear.ensures.items c.in-Ok.ensures.bytes c.deref.ensures.value c.first_long_part.ensures c.trimmed.ensures in
-    next_unflushed _ _ _ _ _ _ c.answer_line.new.session _ line c.in_default.ensures c.in-Err-flush.ensures.bytes
+    (tt, next_unflushed _ _ _ _ _ _ c.answer_line.new.session _ line c.in_default.ensures c.in-Err-flush.ensures.bytes)

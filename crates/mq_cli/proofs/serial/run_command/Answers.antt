@@ -11,4 +11,4 @@ pub returns-in-Err-write_bytes : goal.returns-in-Err-write_bytes
 returns-in-Err-write_bytes g c =
     let written : c.deref.result.now ≡ output (step c.args.number c.args.session.now (call_of c.args.command)).0 =
     rw (c.deref.ensures.value, c.in_default.ensures.line, c.clear.ensures.items) refl in
-    rw (← written) c.in-Err-write_bytes.ensures.err
+    rw (← written) c.in-Err-write_bytes.ensures

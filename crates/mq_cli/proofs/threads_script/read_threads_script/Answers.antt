@@ -1,4 +1,5 @@
-use Rattle.std.proofs.Common.{◌≡◌, length, arith, ap, rules, [], ◌∙◌, sym, subst, lit≤, ◌+◌}
+use Rattle.std.proofs.Common.{◌≡◌, length, arith, ap, rules, [], ◌∙◌, sym, subst, lit≤, ◌+◌, ◌≤◌, vec_len}
+use Rattle.mq_cli.specs.declared.limits.TheConstants.{MAX_WORKERS}
 use Rattle.mq_cli.specs.Lines.{lines_of}
 use Rattle.mq_cli.specs.Parts.{lines_left}
 use Rattle.mq_cli.specs.ThreadsParsed.{wanted_seen}
@@ -28,8 +29,8 @@ loop-line-preserved-in-Ok-None c =
       passed_small c.loop-line.number (wanted_seen c.loop-line.wanted) inv.4,
     )
 
-pub returns-in-Err-clause-wanted : goal.returns-in-Err-clause-wanted
-returns-in-Err-clause-wanted c =
+pub returns-in-Err : goal.returns-in-Err
+returns-in-Err c =
     let inv = c.loop-line.invariant in
     (rw c.in-Some.ensures.steps at inv.2) ∙ line_refused _ _ _ _ _ _ (sections_seen c.loop-line.wanted ∙ sym c.len.ensures) c.in-Err.ensures
 
@@ -48,18 +49,13 @@ loop-line-preserved c =
       subst (IsSmall (c.loop-line.number + 1)) (sym added) (said_small c.loop-line.number (c.loop-line.number + 1) c.len.result (wanted_seen c.loop-line.wanted) c.in-Some.line.now c.in-Ok-Some.said count said inv.4),
     )
 
-pub returns-clause-wanted : goal.returns-clause-wanted
-returns-clause-wanted c =
+pub returns : goal.returns
+returns c =
     let inv = c.loop-line.invariant in
     let none : lines_left c.loop-line.line-iterator.rest ≡ [] = search (rules, c.in-None.ensures.steps) in
-    (rw none at inv.2) ∙ lines_done _ _
-
-pub returns-clause-few : goal.returns-clause-few
-returns-clause-few c =
-    let inv = c.loop-line.invariant in
-    omega (arith, sections_seen c.loop-line.wanted, inv.4.0)
-
-pub returns-clause-countable : goal.returns-clause-countable
-returns-clause-countable c =
-    let inv = c.loop-line.invariant in
-    small_countable c.loop-line.number c.loop-line.wanted.sections.items (omega (arith, inv.3)) inv.4.1
+    let few : vec_len c.loop-line.wanted.sections ≤ MAX_WORKERS = omega (arith, sections_seen c.loop-line.wanted, inv.4.0) in
+    record {
+      is = (rw none at inv.2) ∙ lines_done _ _;
+      few = few;
+      countable = small_countable c.loop-line.number c.loop-line.wanted.sections.items (omega (arith, inv.3)) inv.4.1;
+    }

@@ -27,10 +27,11 @@ returns-in-Err g c =
     let named = sym c.in_ok-id.was ∙ simp (to_z-of_z, number_fits) at c.id_of.ensures in
     let none = sym c.in_default.is ∙ c.receive_fault.ensures in
     let told = simp (to_z-of_z, type_fits) at c.in-Err.ensures.answer.refused in
+    let seen = rw (c.has-except.ensures, c.has-noerror.ensures) at told in
     record {
       answer = record {
         refused = rw c.blocked.ensures
-            (receive_refused c.args.queues.now call c.in_ok-id.id c.in-Err.refused named none (rw (c.has-except.ensures, c.has-noerror.ensures) at told));
+            (receive_refused c.args.queues.now call c.in_ok-id.id c.in-Err.refused named none (search (rules, seen)));
         unchanged = c.in-Err.ensures.answer.unchanged;
       };
     }

@@ -34,6 +34,30 @@ loop-preserved g c =
       simp (to_z-of_z, c.ranges.mtype) (search (rules, told, done)),
     )
 
+pub returns-in-Err-clause-counted : goal.returns-in-Err-clause-counted
+returns-in-Err-clause-counted g c = record {
+  least_sent = omega arith;
+  least_received = omega arith;
+  sent = omega arith;
+  received = omega arith;
+  all = tt;
+  done = tt;
+  refused = omega (arith, c.in-Err.ensures.calls, c.loop.invariant.3);
+}
+
+pub returns-clause-counted : goal.returns-clause-counted
+returns-clause-counted g c =
+    let all : c.loop.counter ≡ c.args.count = omega arith in
+    record {
+      least_sent = omega arith;
+      least_received = omega arith;
+      sent = omega arith;
+      received = omega arith;
+      all = (omega arith, omega arith);
+      done = omega (arith, c.loop.invariant.3);
+      refused = tt;
+    }
+
 pub returns-in-Err-clause-called : goal.returns-in-Err-clause-called
 returns-in-Err-clause-called g c =
     let p = g.Q.Port in

@@ -9,7 +9,7 @@ use Rattle.mq_cli.proofs.system_port.SystemPortPort.put.Goals as goal
 pub returns-in-Err-msgsnd_within-clause-done : goal.returns-in-Err-msgsnd_within-clause-done
 returns-in-Err-msgsnd_within-clause-done g c =
     let told = rw (or_none g.T.Patience.ends) at (simp (to_z-of_z, c.ranges.mtype) at c.in-Err-msgsnd_within.ensures.answer) in
-    let drafted = rw c.in-Ok.ensures.ok at told in
+    let drafted = rw c.in-Ok.ensures.answer.ok at told in
     let turned = rw c.bytes_of-bytes.ensures.count at drafted in
     inr (refused_call (never_sent g.N.Names.slots c.args.id c.args.mtype) (MaySend g.T.Patience.ends) (slot_of c.args.id)
     (send_verdict (seq_of c.args.id) c.args.mtype c.args.length) c.args.self.now.seat.now c.msgsnd_within.new.seat c.in-Err-msgsnd_within.refusal.refused turned)

@@ -1,4 +1,4 @@
-use Rattle.std.proofs.Common.{slice_set, subst}
+use Rattle.std.proofs.Common.{rules, slice_set, subst}
 use Rattle.mq_system.specs.Seat.{IsLater, SeatState}
 use Rattle.mq_system.proofs.SeatLemmas.{front_is, others_are, seat_later, seat_learned, state}
 use Rattle.mq_system.proofs.seat.Seat.row.Goals as goal
@@ -37,4 +37,4 @@ returns-clause-row g c =
     rw (front_is g.N.Names.seats g.N.Names.slots had.number had.readers.items had.by_slot.items
     had.left.parts had.left.amount c.args.slot c.index_mut.result.now c.figures.new.self
     c.requires.slot c.self.invariant c.index_mut.ensures.value c.figures.ensures.later)
-    c.figures.ensures.row
+    (search (rules, c.figures.ensures.row))

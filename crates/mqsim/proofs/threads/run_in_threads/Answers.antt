@@ -1,0 +1,9 @@
+use Rattle.std.proofs.Common.{rules}
+use Rattle.mqsim.proofs.RunLemmas.{no_memory, ran_threads}
+use Rattle.mqsim.proofs.threads.run_in_threads.Goals as goal
+
+pub returns-in-Ok : goal.returns-in-Ok
+returns-in-Ok g c = record { ran = search (rules, ran_threads) }
+
+pub returns-in-Err : goal.returns-in-Err
+returns-in-Err g c = record { ran = no_memory _ _ _ }
