@@ -2,7 +2,7 @@
 //! queue that is made and removed again, one after another.
 
 ghost use Rattle.std.specs.Prelude.{◌≡◌, ◌+◌, ◌*◌, ◌<◌, ◌≤◌, ◌^◌, ◌++◌, ◌∷◌, [], length, IfOk};
-ghost use Rattle.mq_board.specs.Writers.{IsReady, posting};
+ghost use Rattle.mq_board.specs.Writers.{HasOnePending, posting};
 
 use crate::words::Words;
 use anyhow::Result;
@@ -37,7 +37,7 @@ fn publish<J: Naming, R: Wait>(
     event: Event,
     after: Figures,
 ) -> Result<(), AllocError>
-    requires ready { IsReady writer.old.events (posting event after ∷ []) }
+    requires ready { HasOnePending writer.old.events (posting event after ∷ []) }
     requires idle { writer.old.pending ≡ [] }
     ensures { IfOk result (λ _. (writer.new.events ≡ writer.old.events ++ event ∷ [])
         × (writer.new.pending ≡ [])) }

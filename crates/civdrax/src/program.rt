@@ -1,5 +1,5 @@
 use mq_face::{
-    ANSWER_NUMBERS, Call, Done, EIGHT_BYTES, Kind, Received, Refusal, Shown, control,
+    ANSWER_NUMBERS, Call, CallKind, Done, EIGHT_BYTES, ReceivedMessage, Refusal, Shown, control,
     cut_where_due, draft, from_bytes, get, receive, send, to_bytes, unknown,
 };
 use mq_message::Text;
@@ -22,23 +22,23 @@ pub(crate) fn answer_all<L: Ledger>(queues: &mut OneThread<L>, calls: i32) {
 /// Whether the call was answered: else nobody takes answers any more.
 fn answer<L: Ledger>(queues: &mut OneThread<L>, calls: i32, call: Call) -> bool {
     match call.kind {
-        Kind::Get => {
+        CallKind::Get => {
             let outcome = get(queues, call);
             tell(queues, calls, outcome)
         }
-        Kind::Send => {
+        CallKind::Send => {
             let outcome = send_read(queues, calls, call);
             tell(queues, calls, outcome)
         }
-        Kind::Receive => match receive(queues, call) {
+        CallKind::Receive => match receive(queues, call) {
             Ok(message) => hand_out(queues, calls, message),
             Err(refusal) => write_numbers(calls, refusal.numbers()),
         },
-        Kind::Control => {
+        CallKind::Control => {
             let outcome = control(queues, call);
             tell(queues, calls, outcome)
         }
-        Kind::Unknown => write_numbers(calls, unknown().numbers()),
+        CallKind::Unknown => write_numbers(calls, unknown().numbers()),
     }
 }
 
@@ -79,9 +79,13 @@ fn read_text<L: Ledger>(calls: i32, text: &mut Text<L>) {
 }
 
 /// Writes the message from its pages, which are then free.
-fn hand_out<L: Ledger>(queues: &mut OneThread<L>, calls: i32, message: Received<Text<L>>) -> bool {
+fn hand_out<L: Ledger>(
+    queues: &mut OneThread<L>,
+    calls: i32,
+    message: ReceivedMessage<Text<L>>,
+) -> bool {
     let mut whole = write_numbers(calls, message.numbers());
-    let Received {
+    let ReceivedMessage {
         slot,
         entry,
         mtype: _,

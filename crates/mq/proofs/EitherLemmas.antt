@@ -2,7 +2,7 @@
 use Rattle.std.proofs.Common.{◌≡◌, List, [], ◌∷◌, ◌++◌, ap, refl}
 use Rattle.mq_system.specs.Seat.{SeatState}
 use Rattle.mq.specs.Either.{after_either}
-use Rattle.mq.specs.Workers.{AreAfter}
+use Rattle.mq.specs.Workers.{AreAfterWork}
 use Rattle.mq.specs.declared.either.Either.{Either}
 use Rattle.mq.specs.declared.either.Either.TheVariants.{One, Other}
 
@@ -32,7 +32,7 @@ module _ {A B X Y : Type 0} (one : A → SeatState → X → Type 0) (other : B 
     pub one_is : one a seat x
     pub other_is : other b next y
 
-  lone : (b : B) (seats : List SeatState) (answers : List (Either X Y)) → AreAfter (after_either one other) (Other b ∷ []) seats answers
+  lone : (b : B) (seats : List SeatState) (answers : List (Either X Y)) → AreAfterWork (after_either one other) (Other b ∷ []) seats answers
       → (next : SeatState) × (y : Y) × (seats ≡ next ∷ []) × (answers ≡ Other y ∷ []) × other b next y
   lone b [] [] all = absurd all
   lone b [] (a ∷ answers) all = absurd all
@@ -45,10 +45,10 @@ module _ {A B X Y : Type 0} (one : A → SeatState → X → Type 0) (other : B 
 
   -- what two workers leave is of the one and of the other
   pub two_after : (a : A) (b : B) (workers : List (Either A B)) (seats : List SeatState) (answers : List (Either X Y))
-      → workers ≡ One a ∷ Other b ∷ [] → AreAfter (after_either one other) workers seats answers → AreTheirs a b seats answers
+      → workers ≡ One a ∷ Other b ∷ [] → AreAfterWork (after_either one other) workers seats answers → AreTheirs a b seats answers
   two_after a b workers seats answers is all = pair seats answers (rw is at all)
     where
-      pair : (seats : List SeatState) (answers : List (Either X Y)) → AreAfter (after_either one other) (One a ∷ Other b ∷ []) seats answers
+      pair : (seats : List SeatState) (answers : List (Either X Y)) → AreAfterWork (after_either one other) (One a ∷ Other b ∷ []) seats answers
           → AreTheirs a b seats answers
       pair [] [] all = absurd all
       pair [] (a ∷ answers) all = absurd all

@@ -21,14 +21,14 @@ use Rattle.mq_table.proofs.Logs.{counted}
 use Rattle.mq_table.proofs.Pasts.{list_counted, list_of_live, list_of_past, past_grows}
 use Rattle.mq_table.proofs.Removed.{stays}
 use Rattle.mq_table.specs.Ids.{seq_of}
-use Rattle.mq_table.specs.Slot.{ArePast, IsEnded}
+use Rattle.mq_table.specs.Slot.{ArePast, IsEndedLog}
 use Rattle.mq_table.specs.SlotList.{IsSlotList, Removed, joined, standing}
 use Rattle.mq_one_thread.specs.declared.errno.Errno.TheVariants.{EIDRM, EINVAL, ENOMEM}
 use Rattle.mq_system.specs.Refusals.{out_of_slots}
 use Rattle.mq_system.specs.Seat.{SeatState, front_of}
-use Rattle.mq_system.specs.Seen.{Verdict, in_queue, receive_verdict, remove_verdict, send_verdict, set_verdict}
+use Rattle.mq_system.specs.Seen.{Verdict, unless_refused, receive_verdict, remove_verdict, send_verdict, set_verdict}
 use Rattle.mq_system.specs.Shown.{figures_by, stat_answer}
-use Rattle.mq_system.specs.Shown.{named, stat_of}
+use Rattle.mq_system.specs.Shown.{figures_or_errno, stat_of}
 use Rattle.mq.specs.Laws.{FindsRemoved, KnowsRemoved, StaysRefused, StaysWritten}
 
 -- a list that begins another ends within its first part, or goes on after it
@@ -82,7 +82,7 @@ goes_on last_seq past log (l ∷ ls) (x ∷ left) more again h lawful ended same
     let first : All IsRemoved (log ∷ take (length ls) (l ∷ ls)) =
     subst (λ n. All IsRemoved (take n (log ∷ l ∷ ls))) all ended in
     let others : length ls ≡ length (l ∷ ls) - 1 = omega arith in
-    let one : IsEnded log = record {
+    let one : IsEndedLog log = record {
       lawful = lawful 0 log (omega arith);
       removed = first 0 log (omega arith);
     } in
@@ -182,8 +182,8 @@ found_removed last_seq old new slot seq verdict tells k = record {
 }
 
 tells_removed : (seq : ℕ) (refusal : List Event → Option QueueError)
-    → TellsRemoved seq (λ events. in_queue (standing events seq) (refusal events))
-tells_removed seq refusal events removed = ap (λ s. in_queue s (refusal events)) removed
+    → TellsRemoved seq (λ events. unless_refused (standing events seq) (refusal events))
+tells_removed seq refusal events removed = ap (λ s. unless_refused s (refusal events)) removed
 
 -- what is shown of a removed id
 shown_removed : (last_seq : ℕ) (old new : SeatState) (slot seq slots id : ℕ)
@@ -196,9 +196,9 @@ shown_removed last_seq old new slot seq slots id k is within =
     let whole : standing front seq ≡ Removed =
     subst (λ es. standing es seq ≡ Removed) (take-length front)
     (removed_then last_seq old new slot seq (length front) k late) in
-    ap (λ b. if b then Err EINVAL else named (stat_answer front (seq_of id))) within
-    ∙ ap (λ s. named (stat_answer front s)) is
-    ∙ ap (λ s. named (figures_by s (figures (last_log front)))) whole
+    ap (λ b. if b then Err EINVAL else figures_or_errno (stat_answer front (seq_of id))) within
+    ∙ ap (λ s. figures_or_errno (stat_answer front s)) is
+    ∙ ap (λ s. figures_or_errno (figures_by s (figures (last_log front)))) whole
 
 -- and it is refused from then on
 pub refused_from_then_on : StaysRefused

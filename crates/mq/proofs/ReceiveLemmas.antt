@@ -10,14 +10,14 @@ use Rattle.mq_one_thread.specs.Answer.{delivered, delivers, once}
 use Rattle.mq_one_thread.specs.Calls.{msgrcv}
 use Rattle.mq_one_thread.specs.Look.{Answer, in_slot, look}
 use Rattle.mq_one_thread.specs.Memory.{or_memory}
-use Rattle.mq_one_thread.specs.State.{State, slot_at}
+use Rattle.mq_one_thread.specs.State.{QueuesState, slot_at}
 use Rattle.mq_one_thread.specs.Texts.{text_at}
 use Rattle.mq_one_thread.specs.declared.results.Delivered.{Delivered}
 use Rattle.mq_one_thread.specs.declared.results.Refused.{Refused}
 use Rattle.mq.specs.Bytes.{copied_out}
 
 -- what is handed out is no longer than there is room
-pub received_fits : (s after : State) (seat id size : ℕ) (msgtyp : ℤ) (except noerror : Bool)
+pub received_fits : (s after : QueuesState) (seat id size : ℕ) (msgtyp : ℤ) (except noerror : Bool)
     (moment : ℕ) (d : Delivered PlainText)
     → msgrcv s seat id size msgtyp except noerror moment ≡ Ok (d, after)
     → length d.text.bytes ≤ size

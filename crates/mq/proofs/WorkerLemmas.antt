@@ -7,7 +7,7 @@ use Rattle.mq_system.specs.Seat.{SeatState, counted_by, fresh_seat}
 use Rattle.mq_system.specs.Closed.{IsEnd, entries_in}
 use Rattle.mq_system.specs.Started.{AreFresh}
 use Rattle.mq.specs.Ended.{AreChanges}
-use Rattle.mq.specs.Workers.{AreAfter, AreOf, IsOf}
+use Rattle.mq.specs.Workers.{AreAfterWork, AreOf, IsOf}
 
 module _ {W : Type 0} where
   at_end : (left rest : List W) (worker : W) → slice_get ((left ++ worker ∷ []) ++ rest) (length left) ≡ Some worker
@@ -27,8 +27,8 @@ module _ {W : Type 0} where
 module _ {W A : Type 0} (after : W → SeatState → A → Type 0) where
   -- one more worker has left its seat
   pub one_more : (workers : List W) (seats : List SeatState) (answers : List A) (seat : SeatState) (answer : A)
-      → AreAfter after (take (length answers) workers) seats answers → IsOf after workers (length answers) seat answer
-      → AreAfter after (take (length (answers ++ answer ∷ [])) workers) (seats ++ seat ∷ []) (answers ++ answer ∷ [])
+      → AreAfterWork after (take (length answers) workers) seats answers → IsOf after workers (length answers) seat answer
+      → AreAfterWork after (take (length (answers ++ answer ∷ [])) workers) (seats ++ seat ∷ []) (answers ++ answer ∷ [])
   one_more [] seats [] seat answer all of = absurd (cc of.1)
   one_more [] seats (a ∷ answers) seat answer all of = absurd (cc of.1)
   one_more (w ∷ workers) [] [] seat answer all of =
@@ -41,14 +41,14 @@ module _ {W A : Type 0} (after : W → SeatState → A → Type 0) where
   -- the same of vectors to which these were pushed
   pub one_pushed : (workers : List W) (seats more : List SeatState) (answers others : List A) (seat : SeatState) (answer : A) (n : ℕ)
       → more ≡ seats ++ seat ∷ [] → others ≡ answers ++ answer ∷ [] → n ≡ length answers
-      → AreAfter after (take (length answers) workers) seats answers → IsOf after workers n seat answer
-      → AreAfter after (take (length others) workers) more others
+      → AreAfterWork after (take (length answers) workers) seats answers → IsOf after workers n seat answer
+      → AreAfterWork after (take (length others) workers) more others
   one_pushed workers seats more answers others seat answer n seats_are answers_are place all of =
       rw (seats_are, answers_are) (one_more workers seats answers seat answer all (rw place at of))
 
   -- all have left
   pub all_left : (workers : List W) (seats : List SeatState) (answers : List A) → length answers ≡ length workers
-      → AreAfter after (take (length answers) workers) seats answers → AreAfter after workers seats answers
+      → AreAfterWork after (take (length answers) workers) seats answers → AreAfterWork after workers seats answers
   all_left workers seats answers as_many all = rw (as_many, take-length workers) at all
 
 zeros : (n i : ℕ) → slice_index (replicate n 0) i ≡ 0

@@ -5,7 +5,7 @@ use Rattle.mq_message.specs.declared.order.TheConstants.{INLINE_LEN}
 use Rattle.mq_one_thread.specs.Calls.{msgrcv, msgsnd}
 use Rattle.mq_one_thread.specs.Look.{Answer, refused_early}
 use Rattle.mq_one_thread.specs.Memory.{or_memory}
-use Rattle.mq_one_thread.specs.State.{State, with_arena}
+use Rattle.mq_one_thread.specs.State.{QueuesState, with_arena}
 use Rattle.mq_one_thread.specs.Texts.{draft_errno, drafts, spends}
 use Rattle.mq_one_thread.specs.declared.draft_error.DraftError.{DraftError}
 use Rattle.mq_one_thread.specs.declared.errno.Errno.{Errno}
@@ -14,19 +14,19 @@ use Rattle.mq_one_thread.specs.declared.results.Delivered.{Delivered}
 use Rattle.mq_one_thread.specs.declared.results.Refused.{Refused}
 
 -- a text that was drafted is sent with these bytes
-abbrev pub sends_draft : ℕ → ℕ → ℤ → ℕ → List ℕ → ℕ → Result (PlainText × State) DraftError
+abbrev pub sends_draft : ℕ → ℕ → ℤ → ℕ → List ℕ → ℕ → Result (PlainText × QueuesState) DraftError
     → Answer ℕ
 sends_draft seat id mtype tag bytes moment (Ok d) =
     msgsnd d.1 seat id mtype tag (record { bytes = bytes; block = d.0.block }) moment
 sends_draft seat id mtype tag bytes moment (Err e) = Err (refused_early (draft_errno e))
 
 -- these bytes are drafted, and sent
-abbrev pub sends_bytes : State → ℕ → ℕ → ℤ → ℕ → List ℕ → ℕ → Answer ℕ
+abbrev pub sends_bytes : QueuesState → ℕ → ℕ → ℤ → ℕ → List ℕ → ℕ → Answer ℕ
 sends_bytes s seat id mtype tag bytes moment =
     sends_draft seat id mtype tag bytes moment (drafts s (length bytes))
 
 -- a text of these bytes may find no memory: it takes some, and a run of pages is free for it
-abbrev pub MayLackMemory : State → List ℕ → Type 0
+abbrev pub MayLackMemory : QueuesState → List ℕ → Type 0
 MayLackMemory s bytes = (INLINE_LEN < length bytes) × IsOk (drafts s (length bytes))
 
 -- what was received, with another form of its text
@@ -48,20 +48,21 @@ copied_out (Ok turn) =
 copied_out (Err refused) = Err refused
 
 -- the bytes of a message are received
-abbrev pub receives_bytes : State → ℕ → ℕ → ℕ → ℤ → Bool → Bool → ℕ → Answer (Delivered (List ℕ))
+abbrev pub receives_bytes : QueuesState → ℕ → ℕ → ℕ → ℤ → Bool → Bool → ℕ
+    → Answer (Delivered (List ℕ))
 receives_bytes s seat id size msgtyp except noerror moment =
     copied_out (msgrcv s seat id size msgtyp except noerror moment)
 
 -- a call of bytes was refused, by what its definition says or where memory is lacking, and left all
 -- as it was
 pub record IsErrnoOf {T : Type 0} (answer : Answer T) (memory : Refused) (lacking : Type 0)
-    (before after : State) (errno : Errno) : Type 0 where
+    (before after : QueuesState) (errno : Errno) : Type 0 where
   pub refused : (errno ≡ (or_memory memory answer).errno) ⊎ ((errno ≡ ENOMEM) × lacking)
   pub unchanged : after ≡ before
 
 -- a call of bytes answers and leaves so, or is refused
 abbrev pub AnswersBytes : {T U : Type 0} → Result U Errno → (U → T) → Answer T → Refused → Type 0
-    → State → State → Type 0
+    → QueuesState → QueuesState → Type 0
 AnswersBytes (Ok told) tell answer memory lacking before after = answer ≡ Ok (tell told, after)
 AnswersBytes (Err errno) tell answer memory lacking before after =
     IsErrnoOf answer memory lacking before after errno

@@ -2,7 +2,7 @@
 use Rattle.std.specs.Prelude.{◌≡◌, ℕ, ◌^◌, ◌≤◌, All, List, length, map}
 use Rattle.mq_tree.specs.LentSet.{Lending, free_pages}
 use Rattle.mq_one_thread.specs.Closed.{IsClosed, all_home, ending_of, ends}
-use Rattle.mq_one_thread.specs.State.{State}
+use Rattle.mq_one_thread.specs.State.{QueuesState}
 use Rattle.mq_one_thread.specs.declared.close.ClosedSlot.{ClosedSlot}
 use Rattle.mq_one_thread.specs.declared.config.Config.{Config}
 use Rattle.mq_system.specs.Seat.{SeatState, counted_by}
@@ -16,13 +16,13 @@ pub record IsEnded {A : Type 0} (slots last_seq height : ℕ) (ended : Ended A) 
   pub free : ended.free_pages ≤ 2 ^ height
 
 -- how many pages are free once all that waits is home
-abbrev pub free_at_end : State → ℕ
+abbrev pub free_at_end : QueuesState → ℕ
 free_at_end s =
     let home : Lending = all_home s.slots s.arena in
     free_pages home.height home.lent
 
 -- the slots are those of the state in which the program ended, and so are the pages
-pub record Leaves {A : Type 0} (left : State) (ended : Ended A) : Type 0 where
+pub record Leaves {A : Type 0} (left : QueuesState) (ended : Ended A) : Type 0 where
   pub slots : map ending_of ended.slots.items ≡ map ends left.slots
   pub pages : ended.free_pages ≡ free_at_end left
 

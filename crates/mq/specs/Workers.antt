@@ -6,18 +6,18 @@ use Rattle.mq.specs.Ended.{AreChanges}
 
 -- what is known after a worker's work holds of its seat and its answer, and these stand in the
 -- order of the workers
-abbrev pub AreAfter : {W A : Type 0} → (W → SeatState → A → Type 0)
+abbrev pub AreAfterWork : {W A : Type 0} → (W → SeatState → A → Type 0)
     → List W → List SeatState → List A → Type 0
-AreAfter after [] [] [] = Unit {0}
-AreAfter after (worker ∷ workers) (seat ∷ seats) (answer ∷ answers) =
-    after worker seat answer × AreAfter after workers seats answers
-AreAfter after _ _ _ = ⊥
+AreAfterWork after [] [] [] = Unit {0}
+AreAfterWork after (worker ∷ workers) (seat ∷ seats) (answer ∷ answers) =
+    after worker seat answer × AreAfterWork after workers seats answers
+AreAfterWork after _ _ _ = ⊥
 
 -- the answers are those of workers at seats whose changes, and no others, are in these slots
 pub record AreOf {W A : Type 0} (after : W → SeatState → A → Type 0) (last_seq : ℕ)
     (workers : List W) (answers : List A) (slots : List ClosedSlot) : Type 0 where
   pub seats : List SeatState
-  pub each : AreAfter after workers seats answers
+  pub each : AreAfterWork after workers seats answers
   pub changes : AreChanges last_seq seats slots
 
 -- the same of two workers of different types
@@ -37,7 +37,7 @@ IsOf {W} after workers place seat answer =
     (worker : W) × (slice_get workers place ≡ Some worker) × after worker seat answer
 
 -- at a seat is the worker of its place, and what was answered there is that worker's answer
-pub record IsTaken {W A : Type 0} (after : W → SeatState → A → Type 0) (workers : List W)
+pub record IsSeatOfWorker {W A : Type 0} (after : W → SeatState → A → Type 0) (workers : List W)
     (place : ℕ) (seat : SeatState) (worker : Option W) (answer : Option A) : Type 0 where
   pub worker_is : IfSome worker (λ w. slice_get workers place ≡ Some w)
   pub answer_is : IfSome answer (IsOf after workers place seat)

@@ -1,5 +1,5 @@
 ghost use Rattle.std.specs.Prelude.{◌≡◌, ◌≤◌, List, [], length, vec_len, vec_capacity};
-ghost use Rattle.mq.specs.Workers.{AreAfter, IsOf};
+ghost use Rattle.mq.specs.Workers.{AreAfterWork, IsOf};
 
 use crate::Worker;
 use mq_board::Copies;
@@ -31,13 +31,13 @@ pub(crate) struct AtSeat<P: Pledge, N: Names, C: Crew<W>, W: Worker<P>> {
 
 impl<P: Pledge, N: Names, C: Crew<W>, W: Worker<P>> Model for AtSeat<P, N, C, W> {
     ghost use Rattle.std.specs.Prelude.{ℕ};
-    ghost use Rattle.mq.specs.Workers.{IsTaken};
+    ghost use Rattle.mq.specs.Workers.{IsSeatOfWorker};
 
     ghost Value = { ℕ };
 
     ghost view = { λ s. s.place };
 
-    ghost invariant = { λ s. IsTaken W.after C.workers s.place s.seat s.worker s.answer };
+    ghost invariant = { λ s. IsSeatOfWorker W.after C.workers s.place s.seat s.worker s.answer };
 }
 
 impl<P: Pledge, N: Names, C: Crew<W>, W: Worker<P>> AtSeat<P, N, C, W> {
@@ -78,7 +78,7 @@ impl<P: Pledge, N: Names, C: Crew<W>, W: Worker<P>> AtSeat<P, N, C, W> {
 
 /// What one thread does: the worker works, if it has not yet.
 #[derive(Drop)]
-pub(crate) struct Turn<'a, P: Pledge, N: Names, C: Crew<W>, W: Worker<P>> {
+pub(crate) struct SeatJob<'a, P: Pledge, N: Names, C: Crew<W>, W: Worker<P>> {
     alloc: Global,
     at: &'a mut AtSeat<P, N, C, W>,
 }
@@ -89,13 +89,13 @@ impl<
     N: Names + Send + Sync,
     C: Crew<W> + Send + Sync,
     W: Worker<P> + Send,
-> Job for Turn<'a, P, N, C, W> {
+> Job for SeatJob<'a, P, N, C, W> {
     type Shared = System<P, N, Copies<N>>;
 
     type Answer = ();
 
     fn run<R: Wait>(self, rt: &R, system: &System<P, N, Copies<N>>) {
-        let Turn { alloc, at } = self;
+        let SeatJob { alloc, at } = self;
         let Some(worker) = at.worker.take() else {
             return;
         };
@@ -136,10 +136,10 @@ pub(crate) fn take_seats<P: Pledge, N: Names, C: Crew<W>, W: Worker<P>>(
 pub(crate) fn turns<'a, P: Pledge, N: Names, C: Crew<W>, W: Worker<P>>(
     alloc: Global,
     taken: &'a mut [AtSeat<P, N, C, W>],
-) -> Result<Vec<Turn<'a, P, N, C, W>>, AllocError> {
+) -> Result<Vec<SeatJob<'a, P, N, C, W>>, AllocError> {
     let mut turns = Vec::with_capacity(alloc, taken.len())?;
     for at in taken {
-        turns.push_reserved(Turn { alloc, at });
+        turns.push_reserved(SeatJob { alloc, at });
     }
     Ok(turns)
 }
@@ -157,7 +157,7 @@ pub(crate) fn leave_seats<P: Pledge, N: Names, C: Crew<W>, W: Worker<P>, R: Wait
     requires room_of_seats { vec_len taken ≤ vec_capacity seats.old }
     requires room { vec_len taken ≤ vec_capacity answers.old }
     ensures count { vec_len seats.new ≡ vec_len taken }
-    ensures after { AreAfter W.after C.workers seats.new.items answers.new.items }
+    ensures after { AreAfterWork W.after C.workers seats.new.items answers.new.items }
 {
     let mut taken = taken;
     while let Some(at) = taken.pop() {

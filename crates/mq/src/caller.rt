@@ -1,6 +1,6 @@
 ghost use Rattle.std.specs.Prelude.{◌≡◌, ◌||◌, ◌<◌, false, length, slice_index, MatchResult};
 ghost use Rattle.mq_select.specs.Selection.{selection_of};
-ghost use Rattle.mq_table.specs.Cut.{IsCutOf, shown};
+ghost use Rattle.mq_table.specs.Cut.{IsCutOf, cut_shown};
 ghost use Rattle.mq_table.specs.Ids.{seq_of, slot_of};
 ghost use Rattle.mq_one_thread.specs.declared.errno.Errno.TheVariants.{ENOMEM};
 ghost use Rattle.mq_system.specs.Outcome.{IsLook, IsRefusal, IsRemoved, IsSent};
@@ -96,7 +96,7 @@ impl<'a, N: Names, R: Wait> Caller<'a, N, R> {
     pub fn cut_log<P: Pledge>(&mut self, system: &System<P, N>, slot: u8) -> Result<Cut, Errno>
         requires within { slot < N.slots }
         ensures answer { MatchResult result
-            (λ cut. IsCutOf (front_of self.new.seat.now slot) (shown cut))
+            (λ cut. IsCutOf (front_of self.new.seat.now slot) (cut_shown cut))
             (λ errno. errno ≡ ENOMEM) }
         ensures look { IsLook self.old.seat.now self.new.seat.now }
         ensures moment { self.new.moment ≡ self.old.moment }

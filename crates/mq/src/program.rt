@@ -1,6 +1,6 @@
 ghost use Rattle.std.specs.Prelude.{◌≡◌, ◌↔◌, ◌≤◌, true, false, IfOk, IsErrOf};
-ghost use Rattle.mq_one_thread.specs.Limits.{keeps_limits, start};
-ghost use Rattle.mq_one_thread.specs.State.{State};
+ghost use Rattle.mq_one_thread.specs.Limits.{keeps_limits, empty_queues};
+ghost use Rattle.mq_one_thread.specs.State.{QueuesState};
 ghost use Rattle.mq_one_thread.specs.declared.config.Config.{Config as Sizes};
 ghost use Rattle.mq.specs.Ended.{Leaves};
 
@@ -19,7 +19,7 @@ pub trait QueueProgram: Drop {
 
     ghost before: { Self → Sizes → Type 0 } = { λ _ _. Unit {0} };
 
-    ghost after: { Self → Sizes → State → Self.Answer → Type 0 } = { λ _ _ _ _. Unit {0} };
+    ghost after: { Self → Sizes → QueuesState → Self.Answer → Type 0 } = { λ _ _ _ _. Unit {0} };
 
     /// Runs once. No queue is made yet, and no page is lent.
     fn run<L: Ledger>(
@@ -30,7 +30,7 @@ pub trait QueueProgram: Drop {
     ) -> Self::Answer
         requires before { before self config }
         requires limits { keeps_limits config ≡ true }
-        requires start { queues.old ≡ start config }
+        requires start { queues.old ≡ empty_queues config }
         ensures after { after self config queues.new result };
 }
 
@@ -42,7 +42,7 @@ pub fn with_queues<Q: QueueProgram>(
     program: Q,
 ) -> Result<Ended<Q::Answer>, SysError>
     requires before { Q.before program config }
-    ensures ok { IfOk result (λ ended. (left : State)
+    ensures ok { IfOk result (λ ended. (left : QueuesState)
         × Q.after program config left ended.answer × Leaves left ended) }
     ensures err { IsErrOf result SysError.Config ↔ (keeps_limits config ≡ false) }
 {
@@ -59,7 +59,7 @@ fn run_program<L: Ledger, Q: QueueProgram>(
     requires parts { ledger.parts ≡ L.parts }
     requires enough { LEDGER_PARTS ≤ ledger.parts }
     requires before { Q.before program config }
-    ensures ok { IfOk result (λ ended. (left : State)
+    ensures ok { IfOk result (λ ended. (left : QueuesState)
         × Q.after program config left ended.answer × Leaves left ended) }
     ensures err { IsErrOf result SysError.Config ↔ (keeps_limits config ≡ false) }
 {

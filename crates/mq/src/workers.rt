@@ -3,7 +3,7 @@ ghost use Rattle.std.specs.Prelude.{IsErrOf, vec_len};
 ghost use Rattle.mq_one_thread.specs.Limits.{keeps_limits};
 ghost use Rattle.mq_system.specs.Sizes.{AreNames};
 ghost use Rattle.mq.specs.Ended.{IsEnded};
-ghost use Rattle.mq.specs.Workers.{AreAfter, AreOf};
+ghost use Rattle.mq.specs.Workers.{AreAfterWork, AreOf};
 ghost use Rattle.mq.specs.declared.workers_error.WorkersError.TheVariants.{Memory, Thread};
 
 use crate::at_seat::{AtSeat, Crew, clear_seats, leave_seats, take_seats, turns};
@@ -106,7 +106,7 @@ fn run_at<
     requires seats { vec_len seats.old ≡ vec_len workers }
     ensures count { vec_len seats.new ≡ vec_len seats.old }
     ensures after { IfOk result (λ all.
-        AreAfter W.after workers.items seats.new.items all.items) }
+        AreAfterWork W.after workers.items seats.new.items all.items) }
     ensures err { IfErr result (λ e. (e ≡ Memory) ⊎ (e ≡ Thread)) }
 {
     let Ok(mut answers) = Vec::with_capacity(alloc, workers.len()) else {

@@ -7,11 +7,11 @@ use Rattle.std.specs.List.{refill}
 use Rattle.mq_arena.specs.declared.page.TheConstants.{PAGE_LEN}
 use Rattle.mq_arena.proofs.Filling.{refill_all}
 use Rattle.mq_arena.specs.Bytes.{AreWhole}
-use Rattle.mq_arena.specs.Halves.{Writes, KeepsPages}
+use Rattle.mq_arena.specs.Halves.{MayLeave, KeepsPages}
 
 -- a call at whole pages leaves as many whole pages
 pub kept : {F : Type 0} (step : MutBor (List (List ℕ)) → Unit {0} → MutBor (List (List ℕ)) → F → Type 0) (n : ℕ)
-    (x y : List (List ℕ)) → KeepsPages step n → AreWhole x → length x ≡ n → Writes step x y
+    (x y : List (List ℕ)) → KeepsPages step n → AreWhole x → length x ≡ n → MayLeave step x y
     → AreWhole y × (length y ≡ n)
 kept step n x y keeps whole long w =
     let there : AreWhole w.shown.now = subst AreWhole (sym w.shows) whole in
@@ -21,7 +21,7 @@ kept step n x y keeps whole long w =
 -- the same call at the same value
 pub at_same : {F X : Type 0} (step : MutBor X → Unit {0} → MutBor X → F → Type 0)
     (other : MutBor X → Unit {0} → MutBor X → F → Type 0) (x z y : X) → x ≡ z
-    → ((p q : MutBor X) (next : F) → step p tt q next → other p tt q next) → Writes step x y → Writes other z y
+    → ((p q : MutBor X) (next : F) → step p tt q next → other p tt q next) → MayLeave step x y → MayLeave other z y
 at_same step other x z y same also w = record {
   shown = w.shown;
   shows = w.shows ∙ same;
@@ -35,7 +35,7 @@ at_same step other x z y same also w = record {
 pub halves_left : {F G : Type 0} (f : MutBor (List (List ℕ)) → Unit {0} → MutBor (List (List ℕ)) → F → Type 0)
     (g : MutBor (List (List ℕ)) → Unit {0} → MutBor (List (List ℕ)) → G → Type 0)
     (old now front back : List (List ℕ)) (i n : ℕ) → AreWhole old → length old ≡ n → i ≤ n
-    → KeepsPages f i → KeepsPages g (n - i) → Writes f (take i old) front → Writes g (drop i old) back
+    → KeepsPages f i → KeepsPages g (n - i) → MayLeave f (take i old) front → MayLeave g (drop i old) back
     → now ≡ refill (length old) old (front ++ back) → refill (length old) old now ≡ front ++ back
 halves_left f g old now front back i n whole long within keeps_front keeps_back first second written =
     let short : i ≤ length old = omega arith in

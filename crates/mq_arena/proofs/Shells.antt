@@ -6,20 +6,21 @@ use Rattle.std.specs.List.{AllPairs, sum_by}
 use Rattle.mq_tree.proofs.FreePages.{free_sum}
 use Rattle.mq_tree.proofs.Kept.{IsLentSet-joined}
 use Rattle.mq_tree.proofs.LentSets.{AllPairs-head, AllPairs-tail, left_absent, is_block-true, is_block_start}
-use Rattle.mq_tree.specs.Blocks.{Block, block, is_block, page_count}
-use Rattle.mq_tree.specs.LentSet.{Lending, IsLentSet, StartsBefore, joined, left, is_lent}
+use Rattle.mq_tree.specs.Blocks.{PlainBlock, block, is_block, page_count}
+use Rattle.mq_tree.specs.LentSet.{Lending, IsLentSet, StartsBefore, inserted, left, is_lent}
 use Rattle.mq_tree.specs.Fit.{fit}
 use Rattle.mq_arena.specs.Stocked.{IsShelled}
 use Rattle.mq_arena.proofs.Magazines.{few_blocks}
 
 -- one block more is lent
-pub length-joined : (b : Block) (lent : List Block) → length (joined b lent) ≡ suc (length lent)
+pub length-joined : (b : PlainBlock) (lent : List PlainBlock)
+    → length (inserted b lent) ≡ suc (length lent)
 length-joined b [] = refl
 length-joined b (c ∷ cs) =
-    cond_both (nat_lt b.start c.start) (b ∷ c ∷ cs) (c ∷ joined b cs) (λ l. length l ≡ suc (suc (length cs))) (λ _. refl) (λ _. ap suc (length-joined b cs))
+    cond_both (nat_lt b.start c.start) (b ∷ c ∷ cs) (c ∷ inserted b cs) (λ l. length l ≡ suc (suc (length cs))) (λ _. refl) (λ _. ap suc (length-joined b cs))
 
 -- one block fewer is lent, where it was
-pub length-left : (b : Block) (lent : List Block) → AllPairs StartsBefore lent → is_lent b lent ≡ true
+pub length-left : (b : PlainBlock) (lent : List PlainBlock) → AllPairs StartsBefore lent → is_lent b lent ≡ true
     → suc (length (left b lent)) ≡ length lent
 length-left b [] order lent = cc
 length-left b (c ∷ cs) order lent = elim (cases_Bool (is_block b c)) [
@@ -36,13 +37,13 @@ length-left b (c ∷ cs) order lent = elim (cases_Bool (is_block b c)) [
 pub shell_there : (arena : Lending) (order start shells room : ℕ) → IsShelled arena shells room → IsLentSet arena.height arena.lent
     → fit arena.height arena.lent order ≡ Some start → 0 < shells
 shell_there arena order start shells room shelled set found =
-    let more = joined (block start order) arena.lent in
+    let more = inserted (block start order) arena.lent in
     let few : length more ≤ sum_by page_count more = few_blocks (λ b. b.order) more in
     let whole = free_sum arena.height more (IsLentSet-joined arena.height arena.lent order start found set) in
     omega (arith, few, whole, length-joined (block start order) arena.lent, shelled.count)
 
 -- while a block is out, there is room for its shell
-pub shell_out : (arena : Lending) (b : Block) (shells room : ℕ) → IsShelled arena shells room
+pub shell_out : (arena : Lending) (b : PlainBlock) (shells room : ℕ) → IsShelled arena shells room
     → IsLentSet arena.height arena.lent → is_lent b arena.lent ≡ true → shells < room
 shell_out arena b shells room shelled set lent =
     omega (arith, length-left b arena.lent set.in_order lent, shelled.count, shelled.room)

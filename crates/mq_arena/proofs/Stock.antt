@@ -8,11 +8,11 @@ use Rattle.mq_tree.proofs.Fits.{fit_passes}
 use Rattle.mq_tree.proofs.FreePages.{new_free, free_joined, free_left, page_of, page_beside, free_when_apart, is_free_page-joined, is_free_page-left}
 use Rattle.mq_tree.proofs.Kept.{left_fit, fit_apart, lent_member, IsLentSet-nil, IsLentSet-joined, IsLentSet-left}
 use Rattle.mq_tree.specs.Blocks.{block, IsInArena, has_page}
-use Rattle.mq_tree.specs.LentSet.{Lending, IsLentSet, free_pages, joined, left, is_lent, is_free_page}
+use Rattle.mq_tree.specs.LentSet.{Lending, IsLentSet, free_pages, inserted, left, is_lent, is_free_page}
 use Rattle.mq_tree.specs.Fit.{fit}
 use Rattle.mq_arena.specs.Homes.{AreHome, SameOutside}
 use Rattle.mq_arena.specs.Lent.{with_lent}
-use Rattle.mq_arena.specs.Stocked.{IsStocked, IsArena, IsMade}
+use Rattle.mq_arena.specs.Stocked.{IsStocked, IsArena, IsFreshArena}
 use Rattle.mq_arena.specs.declared.limits.TheConstants.{INLINE_ORDER, INLINE_PAGES}
 use Rattle.mq_arena.specs.declared.page.TheConstants.{PAGE_LEN}
 use Rattle.mq_arena.proofs.Shells.{length-joined, length-left}
@@ -39,7 +39,7 @@ pub arena_taken : (arena : Lending) (homes left_homes : List (List ℕ)) (order 
     → IsArena arena homes shells places out parts → fit arena.height arena.lent order ≡ Some start
     → length left_homes ≡ length homes → SameOutside homes left_homes start (2 ^ order)
     → fewer_shells + 1 ≡ shells → same_places ≡ places → more ≡ out + 2 ^ order → fewer + 2 ^ order ≡ parts
-    → IsArena (with_lent arena (joined (block start order) arena.lent)) left_homes fewer_shells same_places more fewer
+    → IsArena (with_lent arena (inserted (block start order) arena.lent)) left_homes fewer_shells same_places more fewer
 arena_taken arena homes left_homes order start shells places out parts fewer_shells same_places more fewer was found same_length same one_less kept count rest =
     let b = block start order in
     let free = free_joined arena.height arena.lent order start found in
@@ -57,7 +57,7 @@ arena_taken arena homes left_homes order start shells places out parts fewer_she
 
 -- a block that is given back at once leaves the arena as it was
 pub lent_back : (arena out after : Lending) (order start : ℕ) → fit arena.height arena.lent order ≡ Some start
-    → out ≡ with_lent arena (joined (block start order) arena.lent) → after ≡ with_lent out (left (block start order) out.lent)
+    → out ≡ with_lent arena (inserted (block start order) arena.lent) → after ≡ with_lent out (left (block start order) out.lent)
     → after ≡ arena
 lent_back arena out after order start found lent back =
     back ∙ ap (λ (o : Lending). with_lent o (left (block start order) o.lent)) lent
@@ -97,7 +97,7 @@ arena_given arena homes full_homes order start shells places out parts more_shel
 
 -- the arena when it is opened: nothing is lent
 pub arena_made : (arena : Lending) (homes : List (List ℕ)) (shells places out parts : ℕ)
-    → IsMade arena homes shells places → out ≡ 0 → 2 ^ arena.height < parts → IsArena arena homes shells places out parts
+    → IsFreshArena arena homes shells places → out ≡ 0 → 2 ^ arena.height < parts → IsArena arena homes shells places out parts
 arena_made arena homes shells places out parts made none_out enough =
     let free : free_pages arena.height arena.lent ≡ 2 ^ arena.height =
     ap (free_pages arena.height) made.none ∙ new_free arena.height in

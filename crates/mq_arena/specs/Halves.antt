@@ -4,7 +4,7 @@ use Rattle.std.specs.Borrow.{MutBor}
 use Rattle.mq_arena.specs.Bytes.{AreWhole}
 
 -- a call at x may leave y there
-pub record Writes {F X : Type 0} (step : MutBor X → Unit {0} → MutBor X → F → Type 0)
+pub record MayLeave {F X : Type 0} (step : MutBor X → Unit {0} → MutBor X → F → Type 0)
     (x y : X) : Type 0 where
   pub shown : MutBor X
   pub shows : shown.now ≡ x
@@ -30,8 +30,8 @@ pub record AreWritten {F G : Type 0}
   pub back : List (List ℕ)
   pub new_is : new ≡ front ++ back
   pub count : length front ≡ i
-  pub front_by : Writes first (take i old) front
-  pub back_by : Writes second (drop i old) back
+  pub front_by : MayLeave first (take i old) front
+  pub back_by : MayLeave second (drop i old) back
 
 -- a call at n whole pages leaves n whole pages
 abbrev pub KeepsPages : {F : Type 0}

@@ -12,13 +12,13 @@ abbrev pub LendsPage : MutBor (List ℕ) → MutBor (List ℕ) → Fml
 LendsPage p r = Lends page.the_row (Array u8 0) p r (refill (length p.now) p.now)
 
 -- pages with these bytes in page i
-abbrev pub with_part : List (List ℕ) → ℕ → List ℕ → List (List ℕ)
-with_part pages i bytes =
+abbrev pub with_page_left : List (List ℕ) → ℕ → List ℕ → List (List ℕ)
+with_page_left pages i bytes =
     let old = slice_index_or pages i [] in slice_set pages i (refill (length old) old bytes)
 
 module _ (L : RattleType) (ledger : Ghosts L.Denot) (b : MutBor OwnedBlock) where
   -- the block ends with the bytes that were left in page i
-  abbrev pub LendsPart : ℕ → MutBor (List ℕ) → Fml
-  LendsPart i r =
+  abbrev pub LendsBlockPage : ℕ → MutBor (List ℕ) → Fml
+  LendsBlockPage i r =
       Lends (block.the_row L ledger) (Array u8 0) b r
-      (λ bytes. record b.now { pages = with_part b.now.pages i bytes })
+      (λ bytes. record b.now { pages = with_page_left b.now.pages i bytes })

@@ -1,27 +1,27 @@
 -- What an arena has lent, before and after a block is taken or put back.
 use Rattle.std.specs.Prelude.{ℕ, List, Option, sum_by}
 use Rattle.std.specs.Option.{option_map}
-use Rattle.mq_tree.specs.Blocks.{Block, block, page_count}
+use Rattle.mq_tree.specs.Blocks.{PlainBlock, block, page_count}
 pub use Rattle.mq_tree.specs.LentSet.{with_lent}
-use Rattle.mq_tree.specs.LentSet.{Lending, joined, left}
+use Rattle.mq_tree.specs.LentSet.{Lending, inserted, left}
 use Rattle.mq_tree.specs.Fit.{fit}
 use Rattle.mq_arena.specs.OwnedBlock.{OwnedBlock}
 
 -- where a block lies
-abbrev pub place : OwnedBlock → Block
+abbrev pub place : OwnedBlock → PlainBlock
 place b = block b.start b.order
 
 -- the block of that order that is taken next, and the arena without it; `None` where none fits
-abbrev pub lend : Lending → ℕ → Option (Block × Lending)
+abbrev pub lend : Lending → ℕ → Option (PlainBlock × Lending)
 lend arena order =
     option_map
-    (λ start. (block start order, with_lent arena (joined (block start order) arena.lent)))
+    (λ start. (block start order, with_lent arena (inserted (block start order) arena.lent)))
     (fit arena.height arena.lent order)
 
 -- the arena once the block is back; one that is not lent changes nothing
-abbrev pub gives_back : Block → Lending → Lending
+abbrev pub gives_back : PlainBlock → Lending → Lending
 gives_back b arena = with_lent arena (left b arena.lent)
 
 -- how many pages the lent blocks have
-abbrev pub lent_pages : List Block → ℕ
+abbrev pub lent_pages : List PlainBlock → ℕ
 lent_pages lent = sum_by page_count lent

@@ -20,7 +20,7 @@ pub record IsBlock (b : OwnedBlock) : Type 0 where
   pub whole : AreWhole b.pages
 
 -- the same, and the block carries its pages in its share of the arena's count
-pub record IsCounted (b : OwnedBlock) (amount parts : ℕ) : Type 0 where
+pub record HasItsShare (b : OwnedBlock) (amount parts : ℕ) : Type 0 where
   pub block : IsBlock b
   pub counted : amount ≡ 2 ^ b.order
   pub parted : parts ≡ 2 ^ b.order

@@ -32,7 +32,7 @@ pub record IsArena (arena : Lending) (homes : List (List ℕ)) (shells places ou
   pub adds_up : AddsUp arena out parts
 
 -- an arena that has lent nothing yet: all its pages are at home, and zero
-pub record IsMade (arena : Lending) (homes : List (List ℕ)) (shells places : ℕ) : Type 0 where
+pub record IsFreshArena (arena : Lending) (homes : List (List ℕ)) (shells places : ℕ) : Type 0 where
   pub low : arena.height ≤ MAX_HEIGHT
   pub none : arena.lent ≡ []
   pub all : homes ≡ replicate (2 ^ arena.height) (replicate PAGE_LEN 0)

@@ -24,18 +24,18 @@ pub struct Block<L: Ledger> {
 }
 
 impl<L: Ledger> Model for Block<L> {
-    ghost use Rattle.mq_arena.specs.OwnedBlock.{OwnedBlock, owned, IsCounted};
+    ghost use Rattle.mq_arena.specs.OwnedBlock.{OwnedBlock, owned, HasItsShare};
 
     ghost Value = { OwnedBlock };
 
     ghost view = { λ b. owned b.start b.order b.pages.value.items };
 
-    ghost invariant = { λ b. IsCounted (owned b.start b.order b.pages.value.items)
+    ghost invariant = { λ b. HasItsShare (owned b.start b.order b.pages.value.items)
         b.share.amount b.share.parts };
 }
 
 impl<L: Ledger> Block<L> {
-    ghost use Rattle.mq_arena.specs.Lends.{LendsPart};
+    ghost use Rattle.mq_arena.specs.Lends.{LendsBlockPage};
     ghost use Rattle.mq_arena.specs.OwnedBlock.{IsBlock};
 
     pub fn start(&self) -> u32
@@ -61,7 +61,7 @@ impl<L: Ledger> Block<L> {
 
     pub fn part_mut(&mut self, i: usize) -> &mut [u8]
         requires { i < 2 ^ self.old.order }
-        ensures* writes_back { sem 𝓛 (LendsPart L.row L.Ledger self.entry i result) }
+        ensures* writes_back { sem 𝓛 (LendsBlockPage L.row L.Ledger self.entry i result) }
         ensures value { result.now ≡ slice_index_or self.old.pages i [] }
         ensures len { length result.now ≡ PAGE_LEN }
     {
@@ -75,7 +75,7 @@ impl<L: Ledger> Block<L> {
     pub fn front_mut(&mut self, page: usize, len: usize) -> &mut [u8]
         requires page { page < 2 ^ self.old.order }
         requires within { len ≤ PAGE_LEN }
-        ensures* writes_back { sem 𝓛 (LendsPart L.row L.Ledger self.entry page result) }
+        ensures* writes_back { sem 𝓛 (LendsBlockPage L.row L.Ledger self.entry page result) }
         ensures value { result.now ≡ take len (slice_index_or self.old.pages page []) }
     {
         match self.pages.get_mut(page) {

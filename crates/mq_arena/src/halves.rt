@@ -1,7 +1,7 @@
 //! The two halves of a slice, each lent to a closure on a thread of its own.
 ghost use Rattle.std.specs.Prelude.{◌≡◌, ◌≤◌, List, ◌++◌, length, take, drop};
 ghost use Rattle.std.specs.List.{refill};
-ghost use Rattle.mq_arena.specs.Halves.{Writes, TakesAtMut};
+ghost use Rattle.mq_arena.specs.Halves.{MayLeave, TakesAtMut};
 
 use std::marker::Send;
 use std::thread::{Threads, join_mut};
@@ -18,7 +18,7 @@ pub(crate) fn write_both<R: Threads, T: Send, F: FnMut(&mut [T]) + Send, G: FnMu
     requires back_taken { TakesAtMut (G.pre g) (drop i all.old) }
     ensures halves { (front back : List T)
         × (all.new ≡ refill (length all.old) all.old (front ++ back))
-        × Writes (F.step f) (take i all.old) front × Writes (G.step g) (drop i all.old) back }
+        × MayLeave (F.step f) (take i all.old) front × MayLeave (G.step g) (drop i all.old) back }
 {
     let (first, rest) = all.split_at_mut(i);
     join_mut(
@@ -30,7 +30,7 @@ pub(crate) fn write_both<R: Threads, T: Send, F: FnMut(&mut [T]) + Send, G: FnMu
 
 fn call_at<T, F: FnMut(&mut [T])>(f: &mut F, part: &mut [T])
     requires { TakesAtMut (F.pre f.old) part.old }
-    ensures { Writes (F.step f.old) part.old part.new }
+    ensures { MayLeave (F.step f.old) part.old part.new }
 {
     f(part);
 }

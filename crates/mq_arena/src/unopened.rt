@@ -21,13 +21,13 @@ pub struct Unopened {
 
 impl Model for Unopened {
     ghost use Rattle.std.specs.Prelude.{ℕ, vec_len, vec_capacity};
-    ghost use Rattle.mq_arena.specs.Stocked.{IsMade};
+    ghost use Rattle.mq_arena.specs.Stocked.{IsFreshArena};
 
     ghost Value = { ℕ };
 
     ghost view = { λ u. u.tree.height };
 
-    ghost invariant = { λ u. IsMade u.tree u.homes.items (vec_len u.shells)
+    ghost invariant = { λ u. IsFreshArena u.tree u.homes.items (vec_len u.shells)
         (vec_capacity u.shells) };
 }
 

@@ -7,7 +7,7 @@ use mathlib.Core.List.{IsPrefix}
 use prog.Atomic.{either}
 use Rattle.logbook.specs.Pages.{Cell, Moves, Nib, adds, Goes, cell, gives, keeps, no_nib, step}
 use Rattle.mq_board.specs.declared.history.Entry.{Entry}
-use Rattle.mq_board.specs.Entries.{entry, turn_of, IsHome, IsKept, IsTurn, Begins, Grows, Adds, Stands}
+use Rattle.mq_board.specs.Entries.{entry, turn_of, IsUsedUp, IsHistory, IsTurn, Begins, Grows, Adds, Stands}
 use Rattle.mq_board.proofs.Cells.{first_same, home_set, home_add, set_home, away_later, first_kept, first_kept_home, first_add}
 use Rattle.mq_board.proofs.Fronts.{prefix_trans}
 
@@ -20,7 +20,7 @@ moved xs ys n = Unit {0}
 -- each turn before a beginning is over is used up
 abbrev Had : List Cell → List Entry → Type 0
 Had cells log = (begun rest : List Entry) (e : Entry) → begun ++ e ∷ rest ≡ log → 0 < length begun
-    → IsHome cells (turn_of begun)
+    → IsUsedUp cells (turn_of begun)
 
 not_nil : (begun rest : List Entry) (e : Entry) → ¬ (begun ++ e ∷ rest ≡ [])
 not_nil [] rest e is = absurd (cc)
@@ -39,21 +39,21 @@ split (b ∷ begun) rest x (y ∷ log) e is =
     let heads : b ≡ y = cc in
     elim (split begun rest x log e later) [ inl same ↦ inl (cc) | inr (more, begins) ↦ inr (more, cc) ]
 
-had_more : (cs : List Cell) (log : List Entry) (e : Entry) → Had cs log → (0 < length log → IsHome cs (turn_of log))
+had_more : (cs : List Cell) (log : List Entry) (e : Entry) → Had cs log → (0 < length log → IsUsedUp cs (turn_of log))
     → Had cs (log ++ e ∷ [])
 had_more cs log e had turn begun rest x is some =
     elim (split begun rest x log e is) [
-      | inl same ↦ let P : List Entry → Type 0 = λ l. 0 < length l → IsHome cs (turn_of l) in
+      | inl same ↦ let P : List Entry → Type 0 = λ l. 0 < length l → IsUsedUp cs (turn_of l) in
           subst P (sym same) turn some
       | inr (more, begins) ↦ had begun more x begins some
     ]
 
-had_cells : (cs ds : List Cell) (log : List Entry) → ((k : ℕ) → IsHome cs k → IsHome ds k) → Had cs log
+had_cells : (cs ds : List Cell) (log : List Entry) → ((k : ℕ) → IsUsedUp cs k → IsUsedUp ds k) → Had cs log
     → Had ds log
 had_cells cs ds log goes had begun rest e is some = goes (turn_of begun) (had begun rest e is some)
 
 -- a new history
-pub kept_first : IsKept ((0, true) ∷ (0, true) ∷ []) []
+pub kept_first : IsHistory ((0, true) ∷ (0, true) ∷ []) []
 kept_first = record {
   inside = omega arith;
   head = refl;
@@ -62,16 +62,16 @@ kept_first = record {
 }
 
 -- whoever has the turn has seen all: were the history longer, the pen would be used up
-pub whole : (cs : List Cell) (v log : List Entry) (p : Nib) → IsKept cs log → IsTurn v p
+pub whole : (cs : List Cell) (v log : List Entry) (p : Nib) → IsHistory cs log → IsTurn v p
     → (cell cs p.key).1 ≡ false → IsPrefix v log → v ≡ log
 whole cs v log p kept turn off ([], is) = sym (append-nil v) ∙ is
 whole cs v log p kept turn off (x ∷ rest, is) =
-    let home : IsHome cs p.key =
-    subst (IsHome cs) (sym turn.key) (kept.had v rest x is turn.begun) in
+    let home : IsUsedUp cs p.key =
+    subst (IsUsedUp cs) (sym turn.key) (kept.had v rest x is turn.begun) in
     absurd (cc (home, off))
 
 -- one cell more
-kept_grown : (cs : List Cell) (log : List Entry) → IsKept cs log → IsKept (cs ++ (0, false) ∷ []) log
+kept_grown : (cs : List Cell) (log : List Entry) → IsHistory cs log → IsHistory (cs ++ (0, false) ∷ []) log
 kept_grown cs log kept = record {
   inside = omega (arith, length-append cs ((0, false) ∷ []), kept.inside);
   head = home_add cs (0, false) 0 kept.head;
@@ -80,25 +80,25 @@ kept_grown cs log kept = record {
 }
 
 pub grows_moves : (v : List Entry) (ask : Entry)
-    → Moves IsKept shown moved 0 (v, (no_nib, None)) (λ n. either (n == 0) 0 n)
+    → Moves IsHistory shown moved 0 (v, (no_nib, None)) (λ n. either (n == 0) 0 n)
     (Grows (step 0 0 0 ask) (v, (no_nib, None)))
 grows_moves v ask cs log kept pre away =
     let same = first_same cs kept.inside kept.head in
-    let P : List Cell → Type 0 = λ c. IsKept (c ++ (0, false) ∷ []) (log ++ []) in
-    let grown : IsKept (cs ++ (0, false) ∷ []) (log ++ []) =
-    subst (IsKept (cs ++ (0, false) ∷ [])) (sym (append-nil log)) (kept_grown cs log kept) in
+    let P : List Cell → Type 0 = λ c. IsHistory (c ++ (0, false) ∷ []) (log ++ []) in
+    let grown : IsHistory (cs ++ (0, false) ∷ []) (log ++ []) =
+    subst (IsHistory (cs ++ (0, false) ∷ [])) (sym (append-nil log)) (kept_grown cs log kept) in
     (kept.inside, kept.head, (adds, [], None, tt, subst P (sym same) grown, inl (refl, refl), refl))
 
 -- one entry more, with the pen whose turn it was
-kept_more : (cs : List Cell) (log : List Entry) (ask : Entry) (p : Nib) → IsKept cs log → 0 < length log
+kept_more : (cs : List Cell) (log : List Entry) (ask : Entry) (p : Nib) → IsHistory cs log → 0 < length log
     → p.key < length cs → (cell cs p.key).1 ≡ false → p.key ≡ turn_of log
-    → IsKept (slice_set cs p.key (p.value, true)) (log ++ ask ∷ [])
+    → IsHistory (slice_set cs p.key (p.value, true)) (log ++ ask ∷ [])
 kept_more cs log ask p kept some inside off key =
     let after : List Cell = slice_set cs p.key (p.value, true) in
     let apart = away_later cs p.key kept.head off in
     let first = first_kept cs p.key (p.value, true) apart in
-    let turn : IsHome after (turn_of log) =
-    subst (IsHome after) key (set_home cs p.key p.value inside) in
+    let turn : IsUsedUp after (turn_of log) =
+    subst (IsUsedUp after) key (set_home cs p.key p.value inside) in
     record {
       inside = omega (arith, length-set cs p.key (p.value, true), kept.inside);
       head = home_set cs p.key 0 p.value kept.head;
@@ -109,7 +109,7 @@ kept_more cs log ask p kept some inside off key =
     }
 
 pub adds_moves : (v : List Entry) (ask : Entry) (p : Nib) → IsTurn v p
-    → Moves IsKept shown moved 0 (v, (p, None)) (λ n. either (n == 0) 0 n)
+    → Moves IsHistory shown moved 0 (v, (p, None)) (λ n. either (n == 0) 0 n)
     (Adds (step 0 0 0 ask) (v, (p, None)))
 adds_moves v ask p turn cs log kept pre away =
     let off = away turn.right in
@@ -117,9 +117,9 @@ adds_moves v ask p turn cs log kept pre away =
     let same = first_same cs kept.inside kept.head in
     let some : 0 < length log = omega (arith, ap length all, turn.begun) in
     let key : p.key ≡ turn_of log = turn.key ∙ ap turn_of all in
-    let more : IsKept (slice_set cs p.key (p.value, true)) (log ++ ask ∷ []) =
+    let more : IsHistory (slice_set cs p.key (p.value, true)) (log ++ ask ∷ []) =
     kept_more cs log ask p kept some off.0 off.1 key in
-    let P : List Cell → Type 0 = λ c. IsKept (slice_set c p.key (p.value, true)) (log ++ ask ∷ []) in (
+    let P : List Cell → Type 0 = λ c. IsHistory (slice_set c p.key (p.value, true)) (log ++ ask ∷ []) in (
       kept.inside,
       kept.head,
       (
@@ -135,14 +135,14 @@ adds_moves v ask p turn cs log kept pre away =
 
 pub stands_moves : (had v : List Entry) (ask : Entry) (p : Nib) → IsTurn had p → IsPrefix had v
     → length had ≡ ask.next
-    → Moves IsKept shown moved 0 (v, (p, None)) (λ n. either (n == 0) 0 n)
+    → Moves IsHistory shown moved 0 (v, (p, None)) (λ n. either (n == 0) 0 n)
     (Stands (step 0 0 0 ask) (v, (p, None)))
 stands_moves had v ask p turn begins count cs log kept pre away =
     let off = away turn.right in
     let all : had ≡ log = whole cs had log p kept turn off.1 (prefix_trans had v log begins pre) in
     let same = first_same cs kept.inside kept.head in
-    let still : IsKept cs (log ++ []) = subst (IsKept cs) (sym (append-nil log)) kept in
-    let P : List Cell → Type 0 = λ c. IsKept c (log ++ []) in (
+    let still : IsHistory cs (log ++ []) = subst (IsHistory cs) (sym (append-nil log)) kept in
+    let P : List Cell → Type 0 = λ c. IsHistory c (log ++ []) in (
       kept.inside,
       kept.head,
       (
@@ -161,13 +161,13 @@ first_one [] inside = absurd (omega arith)
 first_one (c ∷ cs) inside = refl
 
 -- the first entry, of a history that has none
-kept_begun : (cs : List Cell) (log : List Entry) (e : Entry) → IsKept cs log → log ≡ []
-    → IsKept (slice_set cs 0 (1, true) ++ (0, false) ∷ []) (log ++ e ∷ [])
+kept_begun : (cs : List Cell) (log : List Entry) (e : Entry) → IsHistory cs log → log ≡ []
+    → IsHistory (slice_set cs 0 (1, true) ++ (0, false) ∷ []) (log ++ e ∷ [])
 kept_begun cs log e kept nil =
     let set : List Cell = slice_set cs 0 (1, true) in
     let inside : 0 < length set = omega (arith, length-set cs 0 (1, true), kept.inside) in
     let first : cell (set ++ (0, false) ∷ []) 0 ≡ (1, true) = first_add set (0, false) inside ∙ first_one cs kept.inside in
-    let goes : (k : ℕ) → IsHome cs k → IsHome (set ++ (0, false) ∷ []) k =
+    let goes : (k : ℕ) → IsUsedUp cs k → IsUsedUp (set ++ (0, false) ∷ []) k =
     λ k home. home_add set (0, false) k (home_set cs 0 k 1 home) in
     record {
       inside = omega (arith, length-append set ((0, false) ∷ []), inside);
@@ -177,14 +177,14 @@ kept_begun cs log e kept nil =
           (λ some. absurd (omega (arith, ap length nil, some)));
     }
 
-begins_goes : (cs : List Cell) (log v : List Entry) (ask : Entry) → IsKept cs log
+begins_goes : (cs : List Cell) (log v : List Entry) (ask : Entry) → IsHistory cs log
     → (n : ℕ) → (cell cs 0).0 ≡ n
-    → Goes IsKept shown moved 0 (v, (no_nib, None)) (λ n. either (n == 0) 1 n)
+    → Goes IsHistory shown moved 0 (v, (no_nib, None)) (λ n. either (n == 0) 1 n)
     (Begins (step 0 0 1 ask) (v, (no_nib, None))) cs log
 begins_goes cs log v ask kept zero is =
     let nil = kept.fresh is in
     let one : either ((cell cs 0).0 == 0) 1 (cell cs 0).0 ≡ 1 = rw is refl in
-    let P : ℕ → Type 0 = λ n. IsKept (slice_set cs 0 (n, true) ++ (0, false) ∷ [])
+    let P : ℕ → Type 0 = λ n. IsHistory (slice_set cs 0 (n, true) ++ (0, false) ∷ [])
     (log ++ entry [] (length cs) ∷ []) in
     let begun : P 1 = kept_begun cs log (entry [] (length cs)) kept nil in (
       adds,
@@ -196,12 +196,12 @@ begins_goes cs log v ask kept zero is =
       λ _. (refl, ap (λ l. l ++ entry [] (length cs) ∷ []) nil),
     )
 begins_goes cs log v ask kept (suc m) is =
-    let still : IsKept cs (log ++ []) = subst (IsKept cs) (sym (append-nil log)) kept in
+    let still : IsHistory cs (log ++ []) = subst (IsHistory cs) (sym (append-nil log)) kept in
     let no : ((cell cs 0).0 == 0) ≡ false = grind (arith, nat_tests, is) in
     let one : either ((cell cs 0).0 == 0) 1 (cell cs 0).0 ≡ (cell cs 0).0 = rw no refl in
     let same : slice_set cs 0 ((cell cs 0).0, true) ≡ cs = first_kept_home cs kept.inside kept.head in
-    let P : List Cell → Type 0 = λ c. IsKept c (log ++ []) in
-    let Q : ℕ → Type 0 = λ n. IsKept (slice_set cs 0 (n, true)) (log ++ []) in (
+    let P : List Cell → Type 0 = λ c. IsHistory c (log ++ []) in
+    let Q : ℕ → Type 0 = λ n. IsHistory (slice_set cs 0 (n, true)) (log ++ []) in (
       keeps,
       [],
       None,
@@ -213,7 +213,7 @@ begins_goes cs log v ask kept (suc m) is =
 
 -- whatever the history is, the first step begins it, or finds that it was begun
 pub begins_moves : (v : List Entry) (ask : Entry)
-    → Moves IsKept shown moved 0 (v, (no_nib, None)) (λ n. either (n == 0) 1 n)
+    → Moves IsHistory shown moved 0 (v, (no_nib, None)) (λ n. either (n == 0) 1 n)
     (Begins (step 0 0 1 ask) (v, (no_nib, None)))
 begins_moves v ask cs log kept pre away =
     (kept.inside, kept.head, begins_goes cs log v ask kept (cell cs 0).0 refl)

@@ -7,7 +7,7 @@ use Rattle.std.proofs.lemmas.List.Elements.{Contains-append_left, Contains-appen
 use mathlib.Core.List.{IsPrefix}
 use prog.Atomic.{either}
 use Rattle.logbook.specs.Pages.{Cell, Goes, Moves, Nib, adds, cell, gives, keeps, may_make, may_write, nib, no_nib, step}
-use Rattle.mq_board.specs.Entries.{IsHome}
+use Rattle.mq_board.specs.Entries.{IsUsedUp}
 use Rattle.mq_board.specs.Rolls.{IsRolled, GivesOut, TakesHome}
 use Rattle.mq_board.proofs.Cells.{first_same, first_kept_home, first_kept, first_add, home_set, home_add, set_home, away_later}
 
@@ -111,13 +111,13 @@ rolled_home : (cs : List Cell) (log : List ℕ) (ask : ℕ) (p : Nib) → IsRoll
 rolled_home cs log ask p kept inside off key =
     let after : List Cell = slice_set cs p.key (p.value, true) in
     let first = first_kept cs p.key (p.value, true) (away_later cs p.key kept.head off) in
-    let mine : IsHome after (ask + 1) = subst (IsHome after) key (set_home cs p.key p.value inside) in
+    let mine : IsUsedUp after (ask + 1) = subst (IsUsedUp after) key (set_home cs p.key p.value inside) in
     record {
       head = home_set cs p.key 0 p.value kept.head;
       given = omega (arith, length-set cs p.key (p.value, true), kept.given, ap (λ (c : Cell). c.0) first);
       home = λ place h. elim (Contains-append_cases log (ask ∷ []) place h) [
         | inl before ↦ home_set cs p.key (place + 1) p.value (kept.home place before)
-        | inr now ↦ subst (λ (n : ℕ). IsHome after (n + 1)) (only ask place now) mine
+        | inr now ↦ subst (λ (n : ℕ). IsUsedUp after (n + 1)) (only ask place now) mine
       ];
     }
 
@@ -141,7 +141,7 @@ takes_home_moves v ask p right key cs log kept pre away =
         subst P (sym same) more,
         inl (refl, refl),
         (
-          λ h. let there : IsHome cs p.key = subst (IsHome cs) (sym key) (kept.home ask (at_home v log ask pre h)) in
+          λ h. let there : IsUsedUp cs p.key = subst (IsUsedUp cs) (sym key) (kept.home ask (at_home v log ask pre h)) in
               absurd (cc (there, off.1)),
           Contains-push log ask,
         ),

@@ -18,17 +18,17 @@ abbrev pub turn_of : List Entry → ℕ
 turn_of log = fold (λ (_ : ℕ) (e : Entry). e.next) 0 log
 
 -- the pen of this cell is used up
-abbrev pub IsHome : List Cell → ℕ → Type 0
-IsHome cells k = (cell cells k).1 ≡ true
+abbrev pub IsUsedUp : List Cell → ℕ → Type 0
+IsUsedUp cells k = (cell cells k).1 ≡ true
 
 -- what holds between two steps: the first word is 0 only where nothing was added yet, and each turn
 -- that was had is used up
-pub record IsKept (cells : List Cell) (log : List Entry) : Type 0 where
+pub record IsHistory (cells : List Cell) (log : List Entry) : Type 0 where
   pub inside : 0 < length cells
-  pub head : IsHome cells 0
+  pub head : IsUsedUp cells 0
   pub fresh : (cell cells 0).0 ≡ 0 → log ≡ []
   pub had : (begun rest : List Entry) (e : Entry) → begun ++ e ∷ rest ≡ log → 0 < length begun
-      → IsHome cells (turn_of begun)
+      → IsUsedUp cells (turn_of begun)
 
 -- the pen may add the next entry
 pub record IsTurn (log : List Entry) (pen : Nib) : Type 0 where

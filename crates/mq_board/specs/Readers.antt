@@ -19,7 +19,7 @@ abbrev pub seats : ℕ → ℕ → List ReaderState
 seats board count = map (seat board) (range_with_len 1 count)
 
 -- the same reader, whose front begins with the front before
-pub record IsLater (old new : ReaderState) : Type 0 where
+pub record HasSeenMore (old new : ReaderState) : Type 0 where
   pub board : new.board ≡ old.board
   pub place : new.place ≡ old.place
   pub front : IsPrefix old.events new.events

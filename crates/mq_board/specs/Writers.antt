@@ -10,16 +10,16 @@ posting event after = record { event = event; after = after }
 
 -- a writer: its board, the published list, what is pending, the two copies that readers take one
 -- of, and the places that came home
-pub record Desk (W : Type 0) : Type 0 where
+pub record Desk (C : Type 0) : Type 0 where
   pub board : ℕ
   pub events : List Event
   pub pending : List Posting
-  pub copies : W
+  pub copies : C
   pub home : List ℕ
 
 -- one event is pending, with the figures of the published list with it, and that list is not too
 -- long
-pub record IsReady (events : List Event) (pending : List Posting) : Type 0 where
+pub record HasOnePending (events : List Event) (pending : List Posting) : Type 0 where
   pub next : Posting
   pub one : pending ≡ next ∷ []
   pub figures : next.after ≡ slot_figures (events ++ next.event ∷ [])

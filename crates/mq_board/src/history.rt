@@ -24,9 +24,9 @@ pub struct Law;
 impl Rule<Entry, u64> for Law {
     ghost use Rattle.std.specs.Prelude.{[]};
     ghost use base.Fml.{ftrue};
-    ghost use Rattle.mq_board.specs.Entries.{IsKept};
+    ghost use Rattle.mq_board.specs.Entries.{IsHistory};
 
-    ghost holds = { λ cells log. IsKept cells log };
+    ghost holds = { λ cells log. IsHistory cells log };
 
     ghost first = { [] };
 

@@ -15,7 +15,7 @@ mod writer;
 
 pub use history::{Naming, Opened};
 pub use making::{OpenedBoard, board, next_board, open_boards};
-pub use posted::{Posted, Told};
+pub use posted::{Posted, PublishedList};
 pub use posting::Posting;
 pub use reader::BoardReader;
 pub use roll::OpenedRoll;

@@ -19,7 +19,7 @@ pub struct Posted<J: Naming> {
 }
 
 /// A published list that the writer named.
-pub type Told<J> = Posted<J>;
+pub type PublishedList<J> = Posted<J>;
 
 impl<J: Naming> Model for Posted<J> {
     ghost use Rattle.std.specs.Prelude.{◌≡◌};

@@ -1,11 +1,11 @@
 ghost use Rattle.std.specs.Prelude.{◌≡◌, ◌<◌, ◌≤◌, [], length, IfSome, MatchBool};
 ghost use Rattle.mq_queue.specs.Row.{row};
-ghost use Rattle.mq_board.specs.Readers.{IsLater};
+ghost use Rattle.mq_board.specs.Readers.{HasSeenMore};
 
 use crate::bell::Bell;
 use crate::history::Naming;
-use crate::posted::{Posted, Told};
-use crate::roll::Place;
+use crate::posted::{Posted, PublishedList};
+use crate::roll::BoardPlace;
 use crossbeam_utils::rule::Unruled;
 use left_right::reader::Reader;
 use mq_queue::BoardRow;
@@ -16,7 +16,7 @@ use std::marker::Model;
 pub struct BoardReader<J: Naming> {
     /// It is away while the reader enters.
     reader: Option<Reader<Posted<J>, (), Unruled>>,
-    place: Place<J>,
+    place: BoardPlace<J>,
     /// Its front, with the row.
     kept: Posted<J>,
     bell: Bell,
@@ -40,7 +40,7 @@ impl<J: Naming> Model for BoardReader<J> {
 impl<J: Naming> BoardReader<J> {
     pub(crate) fn new(
         reader: Reader<Posted<J>, (), Unruled>,
-        place: Place<J>,
+        place: BoardPlace<J>,
         kept: Posted<J>,
         bell: Bell,
     ) -> BoardReader<J>
@@ -77,7 +77,7 @@ impl<J: Naming> BoardReader<J> {
     /// for nobody, takes no lock and no memory. Where the board can't be entered, as once it was
     /// given up, the row of the front is answered.
     pub fn figures(&mut self) -> BoardRow
-        ensures later { IsLater self.old self.new }
+        ensures later { HasSeenMore self.old self.new }
         ensures row { result ≡ row self.new.events }
     {
         if self.kept.front().count() < self.bell.heard() {
@@ -95,7 +95,7 @@ impl<J: Naming> BoardReader<J> {
 
     /// Enters the board, and learns what it shows.
     fn enter(&mut self)
-        ensures { IsLater self.old self.new }
+        ensures { HasSeenMore self.old self.new }
     {
         if let Some(seen) = self.look() {
             self.take_in(seen);
@@ -103,9 +103,9 @@ impl<J: Naming> BoardReader<J> {
     }
 
     /// Learns what the board's writer told, if the list is at least as long as the front.
-    pub fn learn(&mut self, told: Told<J>) -> bool
+    pub fn learn(&mut self, told: PublishedList<J>) -> bool
         requires { told.board ≡ self.old.board }
-        ensures later { IsLater self.old self.new }
+        ensures later { HasSeenMore self.old self.new }
         ensures told { MatchBool result
             ((self.new.events ≡ told.events) × (length self.old.events ≤ length told.events))
             ((self.new ≡ self.old) × (length told.events < length self.old.events)) }
@@ -137,7 +137,7 @@ impl<J: Naming> BoardReader<J> {
 
     /// Learns what the board showed. Each copy of a board is of that board: no run meets another.
     fn take_in(&mut self, seen: Posted<J>)
-        ensures { IsLater self.old self.new }
+        ensures { HasSeenMore self.old self.new }
     {
         if self.board() == seen.board() {
             self.learn(seen);
@@ -145,7 +145,7 @@ impl<J: Naming> BoardReader<J> {
     }
 
     /// Its place and its front.
-    pub(crate) fn into_parts(self) -> (Place<J>, Posted<J>)
+    pub(crate) fn into_parts(self) -> (BoardPlace<J>, Posted<J>)
         ensures place { result.0 ≡ record { board = self.board; number = self.place } }
         ensures front { result.1 ≡ record { board = self.board; events = self.events } }
     {

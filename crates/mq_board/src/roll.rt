@@ -59,24 +59,24 @@ impl Plain<u16, u16, u64> for TakeHome {
 
 /// A place on a board, of which there is one. No call changes it.
 #[derive(Drop)]
-pub struct Place<J: Naming> {
+pub struct BoardPlace<J: Naming> {
     board: u8,
     number: u16,
     pen: Pen,
     of: PhantomData<J>,
 }
 
-impl<J: Naming> Model for Place<J> {
-    ghost use Rattle.mq_board.specs.Rolls.{PlaceState, IsPlace};
+impl<J: Naming> Model for BoardPlace<J> {
+    ghost use Rattle.mq_board.specs.Rolls.{PlaceState, IsBoardPlace};
 
     ghost Value = { PlaceState };
 
     ghost view = { λ p. record { board = p.board; number = p.number } };
 
-    ghost invariant = { λ p. IsPlace (J.roll p.board) p.number p.pen.book p.pen.nib };
+    ghost invariant = { λ p. IsBoardPlace (J.roll p.board) p.number p.pen.book p.pen.nib };
 }
 
-impl<J: Naming> Place<J> {
+impl<J: Naming> BoardPlace<J> {
     pub(crate) fn number(&self) -> u16
         ensures { result ≡ self.now.number }
     {
@@ -141,7 +141,7 @@ impl<J: Naming> Model for Roll<J> {
 
 impl<J: Naming> Roll<J> {
     /// The next place, where so many were given out. `None` where it is another number.
-    pub(crate) fn give_out(&self, given: u16) -> Option<Place<J>>
+    pub(crate) fn give_out(&self, given: u16) -> Option<BoardPlace<J>>
         requires { given + 1 < 2 ^ 16 }
         ensures { IfSome result (λ place.
             place ≡ record { board = self.now.board; number = given + 1 }) }
@@ -166,7 +166,7 @@ impl<J: Naming> Roll<J> {
             return None;
         }
         let _word: Word<u16, u64, RollLaw> = Word::tracked(0, &mut pen);
-        Some(Place {
+        Some(BoardPlace {
             board: self.board,
             number,
             pen,
@@ -175,14 +175,14 @@ impl<J: Naming> Roll<J> {
     }
 
     /// Takes a place home, which was not there.
-    pub(crate) fn take_home(&mut self, place: Place<J>)
+    pub(crate) fn take_home(&mut self, place: BoardPlace<J>)
         requires { place.board ≡ self.old.board }
         ensures board { self.new.board ≡ self.old.board }
         ensures away { ¬ Contains self.old.home place.number }
         ensures home { Contains self.new.home place.number }
         ensures kept { (other : ℕ) → Contains self.old.home other → Contains self.new.home other }
     {
-        let Place {
+        let BoardPlace {
             board: _,
             number,
             mut pen,

@@ -3,11 +3,11 @@ ghost use Rattle.std.specs.List.{All, AllPairs, Contains};
 ghost use mathlib.Core.List.{IsPrefix};
 ghost use Rattle.mq_queue.specs.declared.event.Event.{Event};
 ghost use Rattle.mq_board.specs.Histories.{history};
-ghost use Rattle.mq_board.specs.Writers.{IsReady, posting};
+ghost use Rattle.mq_board.specs.Writers.{HasOnePending, posting};
 
 use crate::bell::Bell;
 use crate::history::{Baton, Naming};
-use crate::posted::{Posted, Told};
+use crate::posted::{Posted, PublishedList};
 use crate::posting::Posting;
 use crate::reader::BoardReader;
 use crate::roll::Roll;
@@ -24,10 +24,10 @@ use std::sync::Wait;
 pub type Copies<J> = Writer<Posted<J>, Posted<J>, (), Unruled>;
 
 /// The writer of a board, seen as its published list, what is pending, the two copies (of which
-/// `W` is the type, `Copies<J>`) and the readers that came home. It can't be dropped: `end` or
+/// `C` is the type, `Copies<J>`) and the readers that came home. It can't be dropped: `end` or
 /// `close` gives the board up.
-pub struct BoardWriter<J: Naming, W> {
-    copies: W,
+pub struct BoardWriter<J: Naming, C> {
+    copies: C,
     baton: Baton<J>,
     roll: Roll<J>,
     /// The row of the published list.
@@ -38,13 +38,13 @@ pub struct BoardWriter<J: Naming, W> {
     bell: Bell,
 }
 
-impl<J: Naming, W> Model for BoardWriter<J, W> {
+impl<J: Naming, C> Model for BoardWriter<J, C> {
     ghost use Rattle.std.specs.Prelude.{◌≡◌};
     ghost use Rattle.mq_queue.specs.Log.{made_key};
     ghost use Rattle.mq_queue.specs.Row.{last_log, row};
     ghost use Rattle.mq_board.specs.Writers.{Desk};
 
-    ghost Value = { Desk W };
+    ghost Value = { Desk C };
 
     ghost view = { λ w. record {
       board = w.baton.board;
@@ -58,7 +58,7 @@ impl<J: Naming, W> Model for BoardWriter<J, W> {
         × (w.key ≡ made_key (last_log w.baton.events)) × (w.roll.board ≡ w.baton.board) };
 }
 
-impl<J: Naming, W> Notice for BoardWriter<J, W> {
+impl<J: Naming, C> Notice for BoardWriter<J, C> {
     ghost use Rattle.std.specs.Prelude.{◌≡◌, ◌++◌, ◌∷◌, []};
     ghost use Rattle.mq_board.specs.Writers.{posting};
 
@@ -71,14 +71,14 @@ impl<J: Naming, W> Notice for BoardWriter<J, W> {
     }
 }
 
-impl<J: Naming, W> BoardWriter<J, W> {
+impl<J: Naming, C> BoardWriter<J, C> {
     pub(crate) fn new(
-        copies: W,
+        copies: C,
         baton: Baton<J>,
         roll: Roll<J>,
         pending: Vec<Posting>,
         bell: Bell,
-    ) -> BoardWriter<J, W>
+    ) -> BoardWriter<J, C>
         requires empty { (baton.events ≡ []) × (pending.items ≡ []) }
         requires board { roll.board ≡ baton.board }
         ensures { result ≡ record {
@@ -108,7 +108,7 @@ impl<J: Naming, W> BoardWriter<J, W> {
     }
 
     /// Names the published list.
-    pub fn tell(&self) -> Told<J>
+    pub fn tell(&self) -> PublishedList<J>
         ensures { result ≡ history self.now.board self.now.events }
     {
         Posted::new(self.shown, self.baton.front())
@@ -116,7 +116,7 @@ impl<J: Naming, W> BoardWriter<J, W> {
 
     /// Adds an event to the published list, before it is shown.
     fn post(&mut self, next: Posting)
-        requires { IsReady self.old.events (next ∷ []) }
+        requires { HasOnePending self.old.events (next ∷ []) }
         ensures { self.new
             ≡ record self.old { events = self.old.events ++ next.event ∷ [] } }
     {
@@ -144,7 +144,7 @@ impl<J: Naming> BoardWriter<J, Copies<J>> {
     /// Publishes the event that is pending: from now on readers that enter find it. It waits for
     /// those that still look at what was shown before, and takes no memory.
     pub fn publish<R: Wait>(&mut self, rt: &R)
-        requires { IsReady self.old.events self.old.pending }
+        requires { HasOnePending self.old.events self.old.pending }
         ensures published { self.new ≡ record self.old {
           events = self.old.events ++ map (λ p. p.event) self.old.pending;
           pending = [];

@@ -4,7 +4,7 @@ use Rattle.std.proofs.Common.{List, [], ◌∷◌, ◌++◌, get_or, set as set_
 use Rattle.std.proofs.Common.{length-append, Option, None, Some, Result, Ok, Err, Bool, true, false}
 use Rattle.std.proofs.Common.{refl, ap, subst, ◌∙◌, arith}
 use Rattle.std.specs.List.{AllZip, flat_map, range_with_len}
-use Rattle.mq_tree.specs.Blocks.{Block}
+use Rattle.mq_tree.specs.Blocks.{PlainBlock}
 use Rattle.mq_tree.specs.LentSet.{Lending}
 use Rattle.mq_arena.specs.Lent.{lend}
 use Rattle.mq_message.specs.Text.{PlainText, no_text, order_for}
@@ -31,20 +31,21 @@ use Rattle.mq_one_thread.specs.declared.errno.Errno.TheVariants.{EINVAL}
 use Rattle.mq_one_thread.specs.declared.results.Refused.{Refused}
 use Rattle.mq_one_thread.specs.declared.results.GetFlags.{GetFlags}
 use Rattle.mq_one_thread.specs.Calls.{cut_log, delivers, msgrcv, msgsnd, removed}
-use Rattle.mq_one_thread.specs.Calls.{set as set_answer, shown, stat as stat_answer}
-use Rattle.mq_cli.specs.Commands.{Call, sit, show, get, snd, rcv, set, rm, stat, cut, ipcs, Text}
+use Rattle.mq_one_thread.specs.Calls.{set as set_answer, figures_shown, stat as stat_answer}
+use Rattle.mq_cli.specs.Commands.{AskedCall, sit, show, get, snd, rcv, set, rm, stat, cut, ipcs}
+use Rattle.mq_cli.specs.Commands.{AskedText}
 use Rattle.mq_cli.specs.Drafts.{by_draft_errno, bytes_of_text, draft}
 use Rattle.mq_cli.specs.Cuts.{is_cut}
 use Rattle.mq_one_thread.specs.Look.{in_queue, look, once, refused_early}
 use Rattle.mq_cli.specs.Reports.{line_of_row, table_of}
-use Rattle.mq_cli.specs.Session.{State, by_errno}
-use Rattle.mq_one_thread.specs.State.{State as System, slot_at}
+use Rattle.mq_cli.specs.Session.{SessionState, by_errno}
+use Rattle.mq_one_thread.specs.State.{QueuesState as System, slot_at}
 use Rattle.mq_one_thread.specs.Texts.{bytes_of, drafts, in_block, spends, spends_all}
-use Rattle.mq_one_thread.specs.Texts.{with_bytes}
+use Rattle.mq_one_thread.specs.Texts.{filled_with}
 use Rattle.mq_cli.specs.Transcript.{Reply, refused, at, gone, cut_off}
-use Rattle.mq_cli.specs.Transcript.{cut_step, arena as arena_told, stat_reply, by_seat, get_step}
+use Rattle.mq_cli.specs.Transcript.{cut_step, arena as arena_told, figures_reply, by_seat, get_step}
 use Rattle.mq_cli.specs.Transcript.{output, receive_step, remove_step, send_step, set_step, step}
-use Rattle.mq_cli.specs.Transcript.{told}
+use Rattle.mq_cli.specs.Transcript.{replied}
 use Rattle.mq_cli.proofs.AlikeSlots.{AreAlike, TurnAlike, cut_alike, entries_alike, figures_alike}
 use Rattle.mq_cli.proofs.AlikeSlots.{last_id_alike, places_alike, receives_alike, removes_alike}
 use Rattle.mq_cli.proofs.AlikeSlots.{row_alike, sends_alike, sets_alike}
@@ -63,7 +64,7 @@ module _ (last_seq : ℕ) (s t : System) (k : AreLike last_seq s t) where
       (x y : Result (T × System) Errno) → AnswerAlike last_seq x y
       → ((r : T) (u v : System) → AreLike last_seq u v → SaysAlike last_seq (one (r, u))
       (other (r, v)))
-      → SaysAlike last_seq (told s one x) (told t other y)
+      → SaysAlike last_seq (replied s one x) (replied t other y)
   told_like one other (Ok x) (Ok y) same by =
       subst (λ r. SaysAlike last_seq (one x) (other (r, y.1))) same.0 (by x.0 x.1 y.1 same.1)
   told_like one other (Ok x) (Err e) same by = absurd same
@@ -82,7 +83,8 @@ module _ (last_seq : ℕ) (s t : System) (k : AreLike last_seq s t) where
   drafts_like : (n : ℕ) → AnswerAlike last_seq (drafts s n) (drafts t n)
   drafts_like n = long (nat_lt MSGMAX n)
     where
-      lent : (a : Option (Block × Lending)) → AnswerAlike last_seq (in_block s n a) (in_block t n a)
+      lent : (a : Option (PlainBlock × Lending))
+          → AnswerAlike last_seq (in_block s n a) (in_block t n a)
       lent None = refl
       lent (Some block) = (refl, with_arena_like last_seq s t k block.1 block.1 refl)
 
@@ -103,7 +105,7 @@ module _ (last_seq : ℕ) (s t : System) (k : AreLike last_seq s t) where
       long true = refl
       long false = empty (n == 0)
 
-  draft_like : (text : Text) → AnswerAlike last_seq (draft s text) (draft t text)
+  draft_like : (text : AskedText) → AnswerAlike last_seq (draft s text) (draft t text)
   draft_like text = named (drafts s (length bytes)) (drafts t (length bytes))
       (drafts_like (length bytes))
     where
@@ -111,8 +113,8 @@ module _ (last_seq : ℕ) (s t : System) (k : AreLike last_seq s t) where
       bytes = bytes_of_text text
 
       named : (x y : Result (PlainText × System) DraftError) → AnswerAlike last_seq x y
-          → AnswerAlike last_seq (by_draft_errno (with_bytes bytes x))
-          (by_draft_errno (with_bytes bytes y))
+          → AnswerAlike last_seq (by_draft_errno (filled_with bytes x))
+          (by_draft_errno (filled_with bytes y))
       named (Ok x) (Ok y) same =
           (ap (λ (text : PlainText). record { bytes = bytes; block = text.block }) same.0, same.1)
       named (Ok x) (Err e) same = absurd same
@@ -208,9 +210,9 @@ module _ (last_seq : ℕ) (s t : System) (k : AreLike last_seq s t) where
     where
       Goes : Result (Unit {0}) Refused → Type 0
       Goes r = SaysAlike last_seq
-          (told s (λ t. (gone t.0.entry (t.0.log.base.places + length t.0.log.tail), t.1))
+          (replied s (λ t. (gone t.0.entry (t.0.log.base.places + length t.0.log.tail), t.1))
           (by_errno (once r (Ok (removed s (slot_of id) seat n)))))
-          (told t (λ t. (gone t.0.entry (t.0.log.base.places + length t.0.log.tail), t.1))
+          (replied t (λ t. (gone t.0.entry (t.0.log.base.places + length t.0.log.tail), t.1))
           (by_errno (once r (Ok (removed t (slot_of id) seat n)))))
 
       done : look s id ≡ Ok tt → Goes (Ok tt)
@@ -237,9 +239,11 @@ module _ (last_seq : ℕ) (s t : System) (k : AreLike last_seq s t) where
 
   -- IPC_STAT
   stat_like : (id : ℕ) → stat_answer s id ≡ stat_answer t id
-  stat_like id = ap (shown (slot_at s (slot_of id))) (look_like last_seq s t k id) ∙ by (look t id)
+  stat_like id =
+      ap (figures_shown (slot_at s (slot_of id))) (look_like last_seq s t k id) ∙ by (look t id)
     where
-      by : (r : Result (Unit {0}) Refused) → shown (slot_at s (slot_of id)) r ≡ shown
+      by : (r : Result (Unit {0}) Refused)
+          → figures_shown (slot_at s (slot_of id)) r ≡ figures_shown
           (slot_at t (slot_of id)) r
       by (Ok u) = ap Ok (figures_alike last_seq _ _ (slot_like last_seq s t k (slot_of id)))
       by (Err refusal) = refl
@@ -285,14 +289,14 @@ module _ (last_seq : ℕ) (s t : System) (k : AreLike last_seq s t) where
 
   sent_like : (n seat id : ℕ) (mtype : ℤ) (d e : System) (text : PlainText) → AreLike last_seq d e
       → SaysAlike last_seq
-      (told s (λ t. (at t.0, t.1)) (by_errno (msgsnd d seat id mtype n text n)))
-      (told t (λ t. (at t.0, t.1)) (by_errno (msgsnd e seat id mtype n text n)))
+      (replied s (λ t. (at t.0, t.1)) (by_errno (msgsnd d seat id mtype n text n)))
+      (replied t (λ t. (at t.0, t.1)) (by_errno (msgsnd e seat id mtype n text n)))
   sent_like n seat id mtype d e text like =
       told_like last_seq s t k _ _ _ _
       (errno_like last_seq s t k _ _ (msgsnd_like last_seq d e like seat id mtype n text n))
       (λ r u v left. record { line = refl; left = left })
 
-  send_like : (n seat id : ℕ) (mtype : ℤ) (text : Text) → SaysAlike last_seq
+  send_like : (n seat id : ℕ) (mtype : ℤ) (text : AskedText) → SaysAlike last_seq
       (send_step n seat s id mtype text) (send_step n seat t id mtype text)
   send_like n seat id mtype text =
       told_like last_seq s t k _ _ _ _ (draft_like last_seq s t k text)
@@ -318,7 +322,7 @@ module _ (last_seq : ℕ) (s t : System) (k : AreLike last_seq s t) where
       (λ r u v left. record { line = refl; left = left })
 
 -- the same of whole runs, whose seat is the same
-pub record RunsAlike (last_seq : ℕ) (s t : State) : Type 0 where
+pub record RunsAlike (last_seq : ℕ) (s t : SessionState) : Type 0 where
   pub queues : AreLike last_seq s.queues t.queues
   pub seat : s.seat ≡ t.seat
 
@@ -327,11 +331,11 @@ abbrev arena_of : Lending → Reply
 arena_of a = arena_told (2 ^ a.height) (free_pages a.height a.lent) (largest a.height a.lent)
 
 -- two steps that are written alike, and the runs after them
-pub record StepsAlike (last_seq : ℕ) (x y : Reply × State) : Type 0 where
+pub record StepsAlike (last_seq : ℕ) (x y : Reply × SessionState) : Type 0 where
   pub line : output x.0 ≡ output y.0
   pub left : RunsAlike last_seq x.1 y.1
 
-module _ (last_seq n : ℕ) (s t : State) (k : RunsAlike last_seq s t) where
+module _ (last_seq n : ℕ) (s t : SessionState) (k : RunsAlike last_seq s t) where
   -- what a seat's call says
   by_seat_like : (f : ℕ → System → Reply × System)
       → ((seat : ℕ) → SaysAlike last_seq (f seat s.queues) (f seat t.queues))
@@ -342,7 +346,7 @@ module _ (last_seq n : ℕ) (s t : State) (k : RunsAlike last_seq s t) where
       record { line = its.line; left = record { queues = its.left; seat = k.seat } }
 
   -- a line that is no cut is answered alike
-  pub step_like : (call : Call) → is_cut call ≡ false → StepsAlike last_seq (step n s call)
+  pub step_like : (call : AskedCall) → is_cut call ≡ false → StepsAlike last_seq (step n s call)
       (step n t call)
   step_like (sit number) e =
       record { line = refl; left = record { queues = k.queues; seat = refl } }
@@ -365,7 +369,7 @@ module _ (last_seq n : ℕ) (s t : State) (k : RunsAlike last_seq s t) where
       (λ seat. remove_like last_seq s.queues t.queues k.queues n seat id)
   step_like (stat id) e =
       record {
-        line = ap (λ r. output (stat_reply r))
+        line = ap (λ r. output (figures_reply r))
             (stat_like last_seq s.queues t.queues k.queues id);
         left = k;
       }
@@ -377,7 +381,7 @@ module _ (last_seq n : ℕ) (s t : State) (k : RunsAlike last_seq s t) where
       }
 
   -- a cut on the one side alone
-  pub cut_alone : (call : Call) → is_cut call ≡ true → RunsAlike last_seq (step n s call).1 t
+  pub cut_alone : (call : AskedCall) → is_cut call ≡ true → RunsAlike last_seq (step n s call).1 t
   cut_alone (cut slot) e = record {
     queues = cut_like last_seq s.queues t.queues k.queues slot;
     seat

@@ -29,7 +29,7 @@ use Rattle.mq_one_thread.specs.declared.results.Got.{Got}
 use Rattle.mq_one_thread.specs.declared.results.Refused.{Refused}
 use Rattle.mq_one_thread.specs.Get.{by_key, free_slot, made_in, makes_one, msgget}
 use Rattle.mq_one_thread.specs.Look.{by_slot, in_queue, in_slot, look, once, refused_early}
-use Rattle.mq_one_thread.specs.State.{State, slot_at, with_arena, with_slot}
+use Rattle.mq_one_thread.specs.State.{QueuesState, slot_at, with_arena, with_slot}
 use Rattle.mq_cli.proofs.AlikeSlots.{AreAlike, TurnAlike, entries_alike, free_alike, made_alike}
 use Rattle.mq_cli.proofs.AlikeSlots.{next_id_alike, standing_alike}
 
@@ -63,7 +63,7 @@ first_place R p (a ∷ xs) (b ∷ ys) all same = rw (same a b all.0, first_place
     refl
 
 -- both have lent the same, know the same keys, and have slots that are alike
-pub record AreLike (last_seq : ℕ) (s t : State) : Type 0 where
+pub record AreLike (last_seq : ℕ) (s t : QueuesState) : Type 0 where
   pub arena : s.arena ≡ t.arena
   pub keys : s.keys ≡ t.keys
   pub one : s.last_seq ≡ last_seq
@@ -71,7 +71,8 @@ pub record AreLike (last_seq : ℕ) (s t : State) : Type 0 where
   pub slots : AllZip (AreAlike last_seq) s.slots t.slots
 
 -- two answers that say the same, and leave systems that are alike
-abbrev pub AnswerAlike : {T E : Type 0} → ℕ → Result (T × State) E → Result (T × State) E → Type 0
+abbrev pub AnswerAlike : {T E : Type 0} → ℕ → Result (T × QueuesState) E
+    → Result (T × QueuesState) E → Type 0
 AnswerAlike last_seq (Ok t) (Ok u) = (t.0 ≡ u.0) × AreLike last_seq t.1 u.1
 AnswerAlike last_seq (Ok t) (Err e) = ⊥
 AnswerAlike last_seq (Err e) (Ok u) = ⊥
@@ -110,7 +111,7 @@ live_there list seq e = by (nat_le (made_count list) seq) (is_live list) refl re
     by false true is its = its
     by false false is its = absurd (cc (e, is, its))
 
-module _ (last_seq : ℕ) (s t : State) (k : AreLike last_seq s t) where
+module _ (last_seq : ℕ) (s t : QueuesState) (k : AreLike last_seq s t) where
   pub slots_like : length s.slots ≡ length t.slots
   slots_like = length_all_zip (AreAlike last_seq) s.slots t.slots k.slots
 

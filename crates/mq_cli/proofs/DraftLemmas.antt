@@ -9,17 +9,17 @@ use Rattle.mq_one_thread.proofs.DraftLemmas.{spent_after}
 use Rattle.mq_one_thread.specs.Calls.{msgsnd}
 use Rattle.mq_one_thread.specs.Look.{Answer, refused_or_memory}
 use Rattle.mq_one_thread.specs.Outcome.{Answers}
-use Rattle.mq_one_thread.specs.State.{State}
+use Rattle.mq_one_thread.specs.State.{QueuesState}
 use Rattle.mq_one_thread.specs.Texts.{draft_errno, draft_refusal, drafts_of}
 use Rattle.mq_one_thread.specs.declared.draft_error.DraftError.{DraftError}
 use Rattle.mq_one_thread.specs.declared.draft_error.DraftError.TheVariants.{Memory}
 use Rattle.mq_one_thread.specs.declared.errno.Errno.TheVariants.{ENOMEM}
 use Rattle.mq_one_thread.specs.declared.results.Refused.{Refused}
-use Rattle.mq_cli.specs.Commands.{Text}
+use Rattle.mq_cli.specs.Commands.{AskedText}
 use Rattle.mq_cli.specs.Drafts.{Drafts, by_draft_errno, bytes_of_text, draft, letter, spent}
 use Rattle.mq_cli.specs.Serial.{Answered}
 use Rattle.mq_cli.specs.Session.{by_errno}
-use Rattle.mq_cli.specs.Transcript.{Reply, at, refused, output, told, send_step}
+use Rattle.mq_cli.specs.Transcript.{Reply, at, refused, output, replied, send_step}
 
 pub letters_length : (count : ℕ) → length (map letter (range_with_len 0 count)) ≡ count
 letters_length count = length-map-range_with_len letter 0 count
@@ -29,65 +29,66 @@ pub letters_cut : (all : List ℕ) (count : ℕ) → all ≡ map letter (range_w
 letters_cut all count is fits = rw is (take-map-range_with_len letter 0 MSGMAX count (rw (letters_length count) at fits))
 
 -- a draft that is not refused is named as it is
-drafted_as : (d : Result (PlainText × State) DraftError) (p : PlainText × State) → by_draft_errno d ≡ Ok p → d ≡ Ok p
+drafted_as : (d : Result (PlainText × QueuesState) DraftError) (p : PlainText × QueuesState) → by_draft_errno d ≡ Ok p → d ≡ Ok p
 drafted_as (Ok made) p e = let same : made ≡ p = cc in ap Ok same
 drafted_as (Err error) p e = absurd (cc e)
 
 -- what refuses a draft, but for want of memory, is told by the queues
-pub refused_as : (q : State) (text : Text) (e : DraftError) → e ≡ draft_refusal (drafts_of q (bytes_of_text text)) → e ≢ Memory
+pub refused_as : (q : QueuesState) (text : AskedText) (e : DraftError) → e ≡ draft_refusal (drafts_of q (bytes_of_text text)) → e ≢ Memory
     → draft q text ≡ Err (draft_errno e)
 refused_as q text e is known = by_draft (drafts_of q (bytes_of_text text)) is
   where
-    by_draft : (d : Result (PlainText × State) DraftError) → e ≡ draft_refusal d → by_draft_errno d ≡ Err (draft_errno e)
+    by_draft : (d : Result (PlainText × QueuesState) DraftError) → e ≡ draft_refusal d → by_draft_errno d ≡ Err (draft_errno e)
     by_draft (Ok made) is = absurd (known is)
     by_draft (Err refusal) is = ap (λ r. Err (draft_errno r)) (sym is)
 
 -- so a send without a text writes that refusal, and leaves all
-pub undrafted : (n seat : ℕ) (q : State) (id : ℕ) (mtype : ℤ) (text : Text) (e : DraftError) (last : State) (old new : List ℕ)
+pub undrafted : (n seat : ℕ) (q : QueuesState) (id : ℕ) (mtype : ℤ) (text : AskedText) (e : DraftError) (last : QueuesState) (old new : List ℕ)
     (done : Result (Unit {0}) AllocError) → e ≡ draft_refusal (drafts_of q (bytes_of_text text)) → e ≢ Memory → last ≡ q
     → OnOk done (new ≡ old ++ output (refused (draft_errno e))) → OnOk done (Answered (send_step n seat q id mtype text) old new last)
 undrafted n seat q id mtype text e last old new (Ok _) is known same line =
-    let answer = ap (told q (λ d. told q (λ t. (at t.0, t.1)) (by_errno (msgsnd d.1 seat id mtype n d.0 n)))) (refused_as q text e is known) in
+    let answer = ap (replied q (λ d. replied q (λ t. (at t.0, t.1)) (by_errno (msgsnd d.1 seat id mtype n d.0 n)))) (refused_as q text e is known) in
     record {
-      line = line ∙ ap (λ (t : Reply × State). old ++ output t.0) (sym answer);
-      state = same ∙ ap (λ (t : Reply × State). t.1) (sym answer);
+      line = line ∙ ap (λ (t : Reply × QueuesState). old ++ output t.0) (sym answer);
+      state = same ∙ ap (λ (t : Reply × QueuesState). t.1) (sym answer);
     }
 undrafted n seat q id mtype text e last old new (Err _) is known same line = tt
 
 -- a text that was drafted and given up leaves the queues as they were
-drafted_home : (q : State) (text : Text) (made : PlainText) (after : State) → draft q text ≡ Ok (made, after) → spent made after ≡ q
+drafted_home : (q : QueuesState) (text : AskedText) (made : PlainText) (after : QueuesState) → draft q text ≡ Ok (made, after) → spent made after ≡ q
 drafted_home q text made after e =
     let bytes : List ℕ = bytes_of_text text in
     spent_after q after bytes made (drafted_as (drafts_of q bytes) (made, after) e)
 
-refused_at : (q p : State) (id : ℕ) (reply : ℕ × State → Reply × State) (a : Answer ℕ) (r : Refused) → r ≡ refused_or_memory p id a → r.errno ≢ ENOMEM
-    → told q reply (by_errno a) ≡ (refused r.errno, q)
+refused_at : (q p : QueuesState) (id : ℕ) (reply : ℕ × QueuesState → Reply × QueuesState) (a : Answer ℕ) (r : Refused) → r ≡ refused_or_memory p id a → r.errno ≢ ENOMEM
+    → replied q reply (by_errno a) ≡ (refused r.errno, q)
 refused_at q p id reply (Ok turn) r e memory = absurd (memory (ap (λ (x : Refused). x.errno) e))
 refused_at q p id reply (Err other) r e memory = ap (λ (x : Refused). (refused x.errno, q)) (sym e)
 
 -- a send that is refused after its text was made leaves all
-pub send_refused : (n seat : ℕ) (q : State) (id : ℕ) (mtype : ℤ) (text : Text) (made : PlainText) (after : State) (r : Refused) → draft q text ≡ Ok (made, after)
+pub send_refused : (n seat : ℕ) (q : QueuesState) (id : ℕ) (mtype : ℤ) (text : AskedText) (made : PlainText) (after : QueuesState) (r : Refused) → draft q text ≡ Ok (made, after)
     → r ≡ refused_or_memory after id (msgsnd after seat id mtype n made n) → r.errno ≢ ENOMEM → send_step n seat q id mtype text ≡ (refused r.errno, q)
 send_refused n seat q id mtype text made after r e is memory =
-    ap (told q (λ d. told q (λ t. (at t.0, t.1)) (by_errno (msgsnd d.1 seat id mtype n d.0 n)))) e
+    ap (replied q
+    (λ d. replied q (λ t. (at t.0, t.1)) (by_errno (msgsnd d.1 seat id mtype n d.0 n)))) e
     ∙ refused_at q after id (λ t. (at t.0, t.1)) (msgsnd after seat id mtype n made n) r is memory
 
 -- the same of what a refused send writes and leaves
-pub refused_leaves : (n seat : ℕ) (q : State) (id : ℕ) (mtype : ℤ) (text : Text) (made : PlainText) (after : State) (r : Refused) (body : PlainText) (kept last : State)
+pub refused_leaves : (n seat : ℕ) (q : QueuesState) (id : ℕ) (mtype : ℤ) (text : AskedText) (made : PlainText) (after : QueuesState) (r : Refused) (body : PlainText) (kept last : QueuesState)
     (old new : List ℕ) (done : Result (Unit {0}) AllocError) → draft q text ≡ Ok (made, after)
     → r ≡ refused_or_memory after id (msgsnd after seat id mtype n made n) → body ≡ made → kept ≡ after → last ≡ spent body kept
     → OnOk done (new ≡ old ++ output (refused r.errno)) → OnOk done (r.errno ≢ ENOMEM) → OnOk done (Answered (send_step n seat q id mtype text) old new last)
 refused_leaves n seat q id mtype text made after r body kept last old new (Ok _) e is same_text same_state gone line memory =
     let told = send_refused n seat q id mtype text made after r e is memory in
     record {
-      line = line ∙ ap (λ (t : Reply × State). old ++ output t.0) (sym told);
-      state = gone ∙ ap (λ (t : PlainText). spent t kept) same_text ∙ ap (λ (k : State). spent made k) same_state
-          ∙ drafted_home q text made after e ∙ ap (λ (t : Reply × State). t.1) (sym told);
+      line = line ∙ ap (λ (t : Reply × QueuesState). old ++ output t.0) (sym told);
+      state = gone ∙ ap (λ (t : PlainText). spent t kept) same_text ∙ ap (λ (k : QueuesState). spent made k) same_state
+          ∙ drafted_home q text made after e ∙ ap (λ (t : Reply × QueuesState). t.1) (sym told);
     }
 refused_leaves n seat q id mtype text made after r body kept last old new (Err _) e is same_text same_state gone line memory = tt
 
 -- a text of these bytes is drafted as the queues draft them
-pub drafts_are : (q p : State) (text : Text) (bytes : List ℕ) (r : Result PlainText DraftError) → bytes ≡ bytes_of_text text
+pub drafts_are : (q p : QueuesState) (text : AskedText) (bytes : List ℕ) (r : Result PlainText DraftError) → bytes ≡ bytes_of_text text
     → Answers (drafts_of q bytes) Memory q p r → (IsErrOf r Memory → INLINE_LEN < length bytes) → Drafts q p text r
 drafts_are q p text bytes (Ok made) same answer memory =
     ap by_draft_errno (subst (λ (b : List ℕ). drafts_of q b ≡ Ok (made, p)) same answer)

@@ -15,9 +15,9 @@ use Rattle.mq_cli.specs.declared.step.Step.{Step}
 use Rattle.mq_cli.specs.Closing.{closing}
 use Rattle.mq_cli.specs.Input.{HasRead, IsUnread}
 use Rattle.mq_cli.specs.MainPart.{RanMain, WroteAll, WroteSome, lines_replied}
-use Rattle.mq_cli.specs.Plans.{IsDone}
+use Rattle.mq_cli.specs.Plans.{IsCarriedOut}
 use Rattle.mq_cli.specs.Serial.{AppendsPrefix, Writes}
-use Rattle.mq_cli.specs.Threads.{AreClosed, AreDone, Flushes, IsMakingFault, IsTold, IsWhole, RanParts, RanWorkers, Tells, TellsEnd, WroteMain, WrotePart, WroteWhole, main_seat}
+use Rattle.mq_cli.specs.Threads.{AreClosed, AreDone, Flushes, IsMakingFault, IsTold, IsWholeRun, RanParts, RanWorkers, TellsWanted, TellsEnd, WroteMain, WrotePart, WroteWhole, main_seat}
 use Rattle.mq_cli.specs.declared.threads_script.ThreadsScript.{ThreadsScript}
 use Rattle.mq_cli.specs.ThreadsParsed.{Parses, wanted_seen}
 use Rattle.mq_cli.specs.ThreadsRun.{RanThreads, RanWanted}
@@ -27,7 +27,7 @@ use Rattle.mq_cli.proofs.MainLemmas.{all_kept, all_prefix, prefix_behind, some_k
 use Rattle.mq_cli.proofs.Runs.{prefix_kept}
 
 -- the same of sections and of the vectors that hold them
-pub done_seen : (sections : List (Vec Step)) (outcomes : List Outcome) → AllZip (λ (plan : Vec Step) outcome. IsDone plan.items outcome) sections outcomes
+pub done_seen : (sections : List (Vec Step)) (outcomes : List Outcome) → AllZip (λ (plan : Vec Step) outcome. IsCarriedOut plan.items outcome) sections outcomes
     → AreDone (map (λ (v : Vec Step). v.items) sections) outcomes
 done_seen [] [] done = tt
 done_seen [] (o ∷ outcomes) done = absurd done
@@ -124,7 +124,7 @@ WroteFrom config wanted now old new = WroteAll config.slots config.last_seq want
 
 -- the text of a whole run
 whole : (config : Config) (wanted : Wanted) (now : SeatState) (old mid : Option (List ℕ)) (told : List ℕ) (so : WroteFrom config wanted now old mid)
-    → IsTold config wanted.sections now told → IsWhole config wanted (lines_replied so.replies ++ told)
+    → IsTold config wanted.sections now told → IsWholeRun config wanted (lines_replied so.replies ++ told)
 whole config wanted now old mid told so ending = record { replies = so.replies; main = now; told = told; replied = so.are; ending = ending; text_is = refl }
 
 end_kept : (mid end new : Option (List ℕ)) (told : List ℕ) (r : Result (Unit {0}) RunFault) → Writes mid end told r → Keeps end new → Writes mid new told r
@@ -230,9 +230,9 @@ unmade_tells config script left all now read = record { reads = reads_few script
 
 -- what is so of what the bytes that were read want is told of the script, where that is known
 tells : (So : Wanted → Type 0) (wanted : Wanted) (script left : Option (List ℕ)) (all : Vec ℕ) (text : List ℕ) → HasRead script left all → text ≡ all.items
-    → wanted_of text ≡ Ok wanted → So wanted → IfSome script (Tells So)
+    → wanted_of text ≡ Ok wanted → So wanted → IfSome script (TellsWanted So)
 tells So wanted script left all text read same is so =
-    Consumes-whole script left all.items (Tells So) read.whole read.end (wanted, subst (λ (t : List ℕ). wanted_of t ≡ Ok wanted) same is, so)
+    Consumes-whole script left all.items (TellsWanted So) read.whole read.end (wanted, subst (λ (t : List ℕ). wanted_of t ≡ Ok wanted) same is, so)
 
 -- a run whose script was read and is well formed
 pub wanted_tells : (config : Config) (script left : Option (List ℕ)) (all : Vec ℕ) (text : List ℕ) (wanted : Wanted) (old new : Option (List ℕ))

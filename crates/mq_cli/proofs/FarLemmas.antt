@@ -10,9 +10,10 @@ use Rattle.mq_cli.specs.declared.outcome.Outcome.{Outcome}
 use Rattle.mq_cli.specs.declared.plan.Progress.{Progress}
 use Rattle.mq_cli.specs.declared.step.Step.{Step}
 use Rattle.mq_cli.specs.declared.taken.Taken.{Taken}
-use Rattle.mq_cli.specs.Calls.{Call, Receipt, calls_in, calls_of, receive, same_stream, stream_of}
+use Rattle.mq_cli.specs.Calls.{PortCall, TakenMessage, calls_in, calls_of, receive, same_stream}
+use Rattle.mq_cli.specs.Calls.{stream_of}
 use Rattle.mq_cli.specs.Plans.{puts_in, puts_of, rises}
-use Rattle.mq_cli.specs.Progress.{AreNotes, GoesOn, outcome_of}
+use Rattle.mq_cli.specs.Progress.{AreNotes, ComesFurther, outcome_of}
 use Rattle.mq_cli.specs.Works.{AreCalled, HasWorked, Puts, Removals, Takes}
 use Rattle.mq_cli.proofs.WorkLemmas.{called_then, called_within, calls_in_two, received_more}
 
@@ -31,7 +32,7 @@ module _ (outcome : Outcome) (progress : Progress) (stop : Option Errno) (told :
   told_end = ap (λ (o : Outcome). o.end) told
 
 -- one message more is noted
-pub noted_more : (eq : Stream → Stream → Bool) → ((a b : Stream) → eq a b ≡ same_stream a b) → (so_far : List Receipt) (one : Receipt) (old new : Notes)
+pub noted_more : (eq : Stream → Stream → Bool) → ((a b : Stream) → eq a b ≡ same_stream a b) → (so_far : List TakenMessage) (one : TakenMessage) (old new : Notes)
     → AreNotes eq so_far old → new.ordered ≡ (old.ordered && rises (get eq old.last (stream_of one)) one.taken.tag)
     → Updates eq old.last new.last (stream_of one) (Some one.taken.tag) → AreNotes eq (so_far ++ one ∷ []) new
 noted_more eq same so_far one old new notes ordered updates =
@@ -49,31 +50,31 @@ noted_more eq same so_far one old new notes ordered updates =
     }
 
 -- notes that hold the same
-pub noted_same : (eq : Stream → Stream → Bool) (so_far : List Receipt) (old new : Notes) → ((stream : Stream) → get eq new.last stream ≡ get eq old.last stream)
+pub noted_same : (eq : Stream → Stream → Bool) (so_far : List TakenMessage) (old new : Notes) → ((stream : Stream) → get eq new.last stream ≡ get eq old.last stream)
     → new.ordered ≡ old.ordered → AreNotes eq so_far old → AreNotes eq so_far new
 noted_same eq so_far old new last ordered notes = record { last = λ q. last q ∙ notes.last q; ordered = ordered ∙ notes.ordered }
 
 -- so many messages were received by these calls, and each is noted
-pub record HaveCome {Q : Type 0} (eq : Stream → Stream → Bool) (puts : Puts Q) (takes : Takes Q) (removes : Removals Q) (calls : List Call) (old : Q) (count : ℕ)
+pub record HaveCome {Q : Type 0} (eq : Stream → Stream → Bool) (puts : Puts Q) (takes : Takes Q) (removes : Removals Q) (calls : List PortCall) (old : Q) (count : ℕ)
     (before after : Notes) (new : Q) : Type 0 where
-  pub received : List Receipt
+  pub received : List TakenMessage
   pub called : AreCalled puts takes removes calls old 0 received None new
   pub count_is : count ≡ length received
-  pub noted : (so_far : List Receipt) → AreNotes eq so_far before → AreNotes eq (so_far ++ received) after
+  pub noted : (so_far : List TakenMessage) → AreNotes eq so_far before → AreNotes eq (so_far ++ received) after
 
 -- what a worker has done, where it has done these steps
 pub record IsFar {Q : Type 0} (eq : Stream → Stream → Bool) (puts : Puts Q) (takes : Takes Q) (removes : Removals Q) (plan : List Step) (old : Q) (progress : Progress)
     (new : Q) : Type 0 where
-  pub received : List Receipt
+  pub received : List TakenMessage
   pub called : AreCalled puts takes removes (calls_in 0 plan) old progress.sent received None new
   pub count : progress.received ≡ length received
   pub notes : AreNotes eq received progress.notes
 
 module _ {Q : Type 0} (eq : Stream → Stream → Bool) (puts : Puts Q) (takes : Takes Q) (removes : Removals Q) where
   -- messages were sent, and nothing else was done
-  pub goes_sending : (calls : List Call) (old new : Q) (before after : Progress) (k : ℕ) (end : Option Errno) → after.sent ≡ before.sent + k
+  pub goes_sending : (calls : List PortCall) (old new : Q) (before after : Progress) (k : ℕ) (end : Option Errno) → after.sent ≡ before.sent + k
       → after.received ≡ before.received → after.notes ≡ before.notes → AreCalled puts takes removes calls old k [] end new
-      → GoesOn eq puts takes removes calls old new before after end
+      → ComesFurther eq puts takes removes calls old new before after end
   goes_sending calls old new before after k end sent received notes it = record {
     sent = k;
     received = [];
@@ -82,21 +83,21 @@ module _ {Q : Type 0} (eq : Stream → Stream → Bool) (puts : Puts Q) (takes :
     received_is = omega (arith, received);
     noted = λ so_far had.
         let same : AreNotes eq so_far after.notes = subst (AreNotes eq so_far) (sym notes) had in
-        subst (λ (l : List Receipt). AreNotes eq l after.notes) (sym (append-nil so_far)) same;
+        subst (λ (l : List TakenMessage). AreNotes eq l after.notes) (sym (append-nil so_far)) same;
   }
 
   -- nothing was done by a call that sends and receives nothing
-  pub goes_nowhere : (calls : List Call) (old new : Q) (before : Progress) (end : Option Errno) → AreCalled puts takes removes calls old 0 [] end new
-      → GoesOn eq puts takes removes calls old new before before end
+  pub goes_nowhere : (calls : List PortCall) (old new : Q) (before : Progress) (end : Option Errno) → AreCalled puts takes removes calls old 0 [] end new
+      → ComesFurther eq puts takes removes calls old new before before end
   goes_nowhere calls old new before end it =
       let none : before.sent ≡ before.sent + 0 = omega arith in
       goes_sending calls old new before before 0 end none refl refl it
 
   -- messages were received, and nothing else was done
-  pub goes_receiving : (calls : List Call) (old new : Q) (before after : Progress) (received : List Receipt) (end : Option Errno) → after.sent ≡ before.sent
+  pub goes_receiving : (calls : List PortCall) (old new : Q) (before after : Progress) (received : List TakenMessage) (end : Option Errno) → after.sent ≡ before.sent
       → after.received ≡ before.received + length received → AreCalled puts takes removes calls old 0 received end new
-      → ((so_far : List Receipt) → AreNotes eq so_far before.notes → AreNotes eq (so_far ++ received) after.notes)
-      → GoesOn eq puts takes removes calls old new before after end
+      → ((so_far : List TakenMessage) → AreNotes eq so_far before.notes → AreNotes eq (so_far ++ received) after.notes)
+      → ComesFurther eq puts takes removes calls old new before after end
   goes_receiving calls old new before after received end sent count it noted = record {
     sent = 0;
     received = received;
@@ -114,7 +115,7 @@ module _ {Q : Type 0} (eq : Stream → Stream → Bool) (puts : Puts Q) (takes :
       → after.ordered ≡ (roomy.ordered && rises (get eq roomy.last stream) taken.tag) → Updates eq roomy.last after.last stream (Some taken.tag)
       → HaveCome eq puts takes removes (replicate (k + 1) (receive id msgtyp ends moment)) old (k + 1) start after new
   come_more same id msgtyp k ends moment taken old mid new start before roomy after stream has last ordered done is rose noted =
-      let one : Receipt = record { id = id; taken = taken } in
+      let one : TakenMessage = record { id = id; taken = taken } in
       let rose_one = rw is at rose in
       let noted_one = rw is at noted in
       record {
@@ -123,7 +124,7 @@ module _ {Q : Type 0} (eq : Stream → Stream → Bool) (puts : Puts Q) (takes :
         count_is = omega (arith, has.count_is, length-append has.received (one ∷ []));
         noted = λ so_far had.
             let far = noted_same eq (so_far ++ has.received) before roomy last ordered (has.noted so_far had) in
-            subst (λ (l : List Receipt). AreNotes eq l after) (append_assoc so_far has.received (one ∷ []))
+            subst (λ (l : List TakenMessage). AreNotes eq l after) (append_assoc so_far has.received (one ∷ []))
             (noted_more eq same (so_far ++ has.received) one roomy after far rose_one noted_one);
       }
 
@@ -136,14 +137,14 @@ module _ {Q : Type 0} (eq : Stream → Stream → Bool) (puts : Puts Q) (takes :
 
   -- one step more
   pub far_more : (plan : List Step) (step : Step) (old mid new : Q) (before after : Progress) → IsFar eq puts takes removes plan old before mid → before.sent ≡ puts_in plan
-      → GoesOn eq puts takes removes (calls_of before.sent step) mid new before after None → IsFar eq puts takes removes (plan ++ step ∷ []) old after new
+      → ComesFurther eq puts takes removes (calls_of before.sent step) mid new before after None → IsFar eq puts takes removes (plan ++ step ∷ []) old after new
   far_more plan step old mid new before after far is on =
       let all = called_then puts takes removes (calls_in 0 plan) (calls_of before.sent step) old mid new before.sent on.sent far.received on.received None far.called on.called in
       let calls : calls_in 0 plan ++ calls_of before.sent step ≡ calls_in 0 (plan ++ step ∷ []) =
-      ap (λ (l : List Call). calls_in 0 plan ++ l) (sym (append-nil (calls_of before.sent step))) ∙ sym (more_calls plan [] step before.sent is) in
+      ap (λ (l : List PortCall). calls_in 0 plan ++ l) (sym (append-nil (calls_of before.sent step))) ∙ sym (more_calls plan [] step before.sent is) in
       record {
         received = far.received ++ on.received;
-        called = subst (λ (l : List Call). AreCalled puts takes removes l old after.sent (far.received ++ on.received) None new) calls
+        called = subst (λ (l : List PortCall). AreCalled puts takes removes l old after.sent (far.received ++ on.received) None new) calls
             (subst (λ (s : ℕ). AreCalled puts takes removes (calls_in 0 plan ++ calls_of before.sent step) old s (far.received ++ on.received) None new) (sym on.sent_is) all);
         count = omega (arith, far.count, on.received_is, length-append far.received on.received);
         notes = on.noted far.received far.notes;
@@ -152,7 +153,8 @@ module _ {Q : Type 0} (eq : Stream → Stream → Bool) (puts : Puts Q) (takes :
   -- a step at which the plan ended
   pub far_until : (plan rest all : List Step) (step : Step) (errno : Errno) (old mid new : Q) (before after : Progress) (outcome : Outcome)
       → all ≡ plan ++ step ∷ rest → IsFar eq puts takes removes plan old before mid → before.sent ≡ puts_in plan
-      → GoesOn eq puts takes removes (calls_of before.sent step) mid new before after (Some errno)
+      → ComesFurther eq puts takes removes (calls_of before.sent step) mid new before after
+      (Some errno)
       → outcome ≡ outcome_of after (Some errno) → HasWorked puts takes removes all outcome old new
   far_until plan rest all step errno old mid new before after outcome cut far is on told =
       let sent = told_sent outcome after (Some errno) told in
@@ -169,7 +171,7 @@ module _ {Q : Type 0} (eq : Stream → Stream → Bool) (puts : Puts Q) (takes :
       record {
         received = far.received ++ on.received;
         called = rw (end, sent, on.sent_is)
-            (subst (λ (l : List Call). AreCalled puts takes removes l old (before.sent + on.sent) (far.received ++ on.received) (Some errno) new) calls within);
+            (subst (λ (l : List PortCall). AreCalled puts takes removes l old (before.sent + on.sent) (far.received ++ on.received) (Some errno) new) calls within);
         count = omega (arith, received, far.count, on.received_is, length-append far.received on.received);
         ordered = ordered ∙ notes.ordered;
       }

@@ -5,7 +5,7 @@ use Rattle.mq_table.specs.declared.limits.TheConstants.{MAX_SLOTS}
 use Rattle.mq_one_thread.specs.declared.limits.TheConstants.{MAX_SEATS}
 use Rattle.mq_cli.specs.declared.fault.Cause.{Cause}
 use Rattle.mq_cli.specs.declared.fault.Cause.TheVariants.{Words}
-use Rattle.mq_cli.specs.Commands.{Call, sit, get, rcv, set, rm, stat, cut, is_filled, flags_of, seat_of, arena_of, get_flags_of, get_of, set_of, remove_of, stat_of, cutting_of, ipcs_of, receive_of, command_of, named}
+use Rattle.mq_cli.specs.Commands.{AskedCall, sit, get, rcv, set, rm, stat, cut, is_filled, flags_asked, seat_asked, arena_asked, get_flags_asked, get_asked, set_asked, remove_asked, stat_asked, cutting_asked, ipcs_asked, receive_asked, command_asked, command_named}
 use Rattle.mq_cli.specs.Laws.{flag_words, get_flag_words}
 use Rattle.mq_cli.specs.Numbers.{number_of, integer_of, key_of, under, above_zero}
 use Rattle.mq_cli.proofs.NumberLemmas.{number_of-Some}
@@ -44,9 +44,9 @@ get_flags_filled false true = refl
 get_flags_filled true true = refl
 
 -- so the words of a command that is read are filled
-receive_filled : (words : List (List ℕ)) (call : Call) → receive_of words ≡ Ok call → list_all is_filled words ≡ true
+receive_filled : (words : List (List ℕ)) (call : AskedCall) → receive_asked words ≡ Ok call → list_all is_filled words ≡ true
 receive_filled (id ∷ size ∷ mtype ∷ words) call e =
-    worded_ok (flags_of words) _ call e (λ flags read_flags numbers.
+    worded_ok (flags_asked words) _ call e (λ flags read_flags numbers.
     bind_ok _ _ call numbers (λ i read_id sized.
     bind_ok _ _ call sized (λ s read_size typed.
     bind_ok (integer_of mtype) (λ z. Ok (rcv i s z flags.except flags.noerror)) call typed (λ z read_type done.
@@ -56,23 +56,23 @@ receive_filled [] call e = refl
 receive_filled (id ∷ []) call e = absurd (cc e)
 receive_filled (id ∷ size ∷ []) call e = absurd (cc e)
 
-get_filled : (words : List (List ℕ)) (call : Call) → get_of words ≡ Ok call → list_all is_filled words ≡ true
+get_filled : (words : List (List ℕ)) (call : AskedCall) → get_asked words ≡ Ok call → list_all is_filled words ≡ true
 get_filled [] call e = refl
 get_filled (key ∷ words) call e =
-    worded_ok (get_flags_of words) _ call e (λ flags read_flags keyed.
+    worded_ok (get_flags_asked words) _ call e (λ flags read_flags keyed.
     bind_ok (key_of key) (λ k. Ok (get k flags)) call keyed (λ k read done.
     rw (key_filled key k read, get_flags_of-Some words flags read_flags) (get_flags_filled flags.create flags.exclusive)))
 
-seat_of_filled : (words : List (List ℕ)) (call : Call) → seat_of words ≡ Ok call → list_all is_filled words ≡ true
+seat_of_filled : (words : List (List ℕ)) (call : AskedCall) → seat_asked words ≡ Ok call → list_all is_filled words ≡ true
 seat_of_filled [] call e = refl
 seat_of_filled (word ∷ []) call e = bind_ok (above_zero (under (MAX_SEATS + 1) (number_of word))) (λ n. Ok (sit n)) call e (λ n read done. rw (seat_filled word n read) refl)
 seat_of_filled (word ∷ more ∷ words) call e = absurd (cc e)
 
-arena_filled : (words : List (List ℕ)) (call : Call) → arena_of words ≡ Ok call → list_all is_filled words ≡ true
+arena_filled : (words : List (List ℕ)) (call : AskedCall) → arena_asked words ≡ Ok call → list_all is_filled words ≡ true
 arena_filled [] call e = refl
 arena_filled (word ∷ words) call e = absurd (cc e)
 
-set_filled : (words : List (List ℕ)) (call : Call) → set_of words ≡ Ok call → list_all is_filled words ≡ true
+set_filled : (words : List (List ℕ)) (call : AskedCall) → set_asked words ≡ Ok call → list_all is_filled words ≡ true
 set_filled [] call e = refl
 set_filled (id ∷ []) call e = absurd (cc e)
 set_filled (id ∷ qbytes ∷ []) call e =
@@ -80,30 +80,30 @@ set_filled (id ∷ qbytes ∷ []) call e =
     bind_ok (number_of qbytes) (λ q. Ok (set i q)) call told (λ q read_qbytes done. rw (id_filled id i read_id, number_filled qbytes q read_qbytes) refl))
 set_filled (id ∷ qbytes ∷ more ∷ words) call e = absurd (cc e)
 
-remove_filled : (words : List (List ℕ)) (call : Call) → remove_of words ≡ Ok call → list_all is_filled words ≡ true
+remove_filled : (words : List (List ℕ)) (call : AskedCall) → remove_asked words ≡ Ok call → list_all is_filled words ≡ true
 remove_filled [] call e = refl
 remove_filled (id ∷ []) call e = bind_ok (under (2 ^ 32) (number_of id)) (λ i. Ok (rm i)) call e (λ i read done. rw (id_filled id i read) refl)
 remove_filled (id ∷ more ∷ words) call e = absurd (cc e)
 
-stat_filled : (words : List (List ℕ)) (call : Call) → stat_of words ≡ Ok call → list_all is_filled words ≡ true
+stat_filled : (words : List (List ℕ)) (call : AskedCall) → stat_asked words ≡ Ok call → list_all is_filled words ≡ true
 stat_filled [] call e = refl
 stat_filled (id ∷ []) call e = bind_ok (under (2 ^ 32) (number_of id)) (λ i. Ok (stat i)) call e (λ i read done. rw (id_filled id i read) refl)
 stat_filled (id ∷ more ∷ words) call e = absurd (cc e)
 
-cut_filled : (words : List (List ℕ)) (call : Call) → cutting_of words ≡ Ok call → list_all is_filled words ≡ true
+cut_filled : (words : List (List ℕ)) (call : AskedCall) → cutting_asked words ≡ Ok call → list_all is_filled words ≡ true
 cut_filled [] call e = refl
 cut_filled (slot ∷ []) call e = bind_ok (under MAX_SLOTS (number_of slot)) (λ k. Ok (cut k)) call e (λ k read done. rw (slot_filled slot k read) refl)
 cut_filled (slot ∷ more ∷ words) call e = absurd (cc e)
 
-ipcs_filled : (words : List (List ℕ)) (call : Call) → ipcs_of words ≡ Ok call → list_all is_filled words ≡ true
+ipcs_filled : (words : List (List ℕ)) (call : AskedCall) → ipcs_asked words ≡ Ok call → list_all is_filled words ≡ true
 ipcs_filled [] call e = refl
 ipcs_filled (word ∷ words) call e = absurd (cc e)
 
-either : {P : Type 0} (b : Bool) {x y z : Result Call Cause} → (x ≡ z → P) → (y ≡ z → P) → cond b x y ≡ z → P
+either : {P : Type 0} (b : Bool) {x y z : Result AskedCall Cause} → (x ≡ z → P) → (y ≡ z → P) → cond b x y ≡ z → P
 either true one other e = one e
 either false one other e = other e
 
-named_filled : (name : List ℕ) (words : List (List ℕ)) (call : Call) → named name words ≡ Ok call → list_all is_filled words ≡ true
+named_filled : (name : List ℕ) (words : List (List ℕ)) (call : AskedCall) → command_named name words ≡ Ok call → list_all is_filled words ≡ true
 named_filled name words call e =
     either (bytes_eq name (codes "rcv")) (receive_filled words call)
     (either (bytes_eq name (codes "seat")) (seat_of_filled words call)
@@ -118,6 +118,6 @@ named_filled name words call e =
     e
 
 -- a command without a text that is read is the line's
-pub named_read : (name : List ℕ) (words : List (List ℕ)) (call : Call) → bytes_eq name (codes "snd") ≡ false → named name words ≡ Ok call
-    → command_of (name ∷ words) ≡ Ok call
+pub named_read : (name : List ℕ) (words : List (List ℕ)) (call : AskedCall) → bytes_eq name (codes "snd") ≡ false → command_named name words ≡ Ok call
+    → command_asked (name ∷ words) ≡ Ok call
 named_read name words call other e = rw (other, named_filled name words call e) e

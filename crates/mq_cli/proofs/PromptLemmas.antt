@@ -7,9 +7,9 @@ use Rattle.std.proofs.lemmas.List.Splits.{slice_split-cons_no, slice_split-cons_
 use Rattle.mq_cli.specs.declared.fault.RunFault.{RunFault}
 use Rattle.mq_cli.specs.declared.fault.RunFault.TheVariants.{Script, Size, Read, Write, Memory, Thread}
 use Rattle.mq_cli.specs.Lines.{lines_of, parts_of, without_return}
-use Rattle.mq_cli.specs.Prompt.{Answers, AnswersAll, AnswersNext, IsPromptFault, answer_of, answers_from, first_line_of}
+use Rattle.mq_cli.specs.Prompt.{WritesAnswer, AnswersAll, AnswersNext, IsPromptFault, answer_of, answers_from, first_line_of}
 use Rattle.mq_cli.specs.Serial.{AppendsPrefix, RunsLine, Writes}
-use Rattle.mq_cli.specs.Session.{State}
+use Rattle.mq_cli.specs.Session.{SessionState}
 use Rattle.mq_cli.proofs.Runs.{prefix_kept}
 
 -- the bytes through the first LF are the first line of a text, and what follows them the others
@@ -50,7 +50,7 @@ pub first_line_is : (xs : List ℕ) → first_line_of xs ≡ without_return (thr
 first_line_is xs = ap (λ (ps : List (List ℕ)). slice_index_or (map without_return ps) 0 []) (through xs).whole
 
 -- the answers to a text are that to its first line, and those to what follows
-pub answers_line : (n : ℕ) (s : State) (xs : List ℕ) → answers_from n s (lines_of xs)
+pub answers_line : (n : ℕ) (s : SessionState) (xs : List ℕ) → answers_from n s (lines_of xs)
     ≡ (answer_of n s (first_line_of xs)).0 ++ answers_from (n + 1) (answer_of n s (first_line_of xs)).1 (lines_of (drop_through 10 xs))
 unfolding answers_from
 answers_line n s xs =
@@ -65,18 +65,18 @@ answers_line n s xs =
     at first others whole (inr end) = rw (whole, end.0, end.1) refl
 
 -- what was answered stands before what is answered to the text that is left
-pub record SoFarAnswered (left old now : Option (List ℕ)) (all : List ℕ) (n : ℕ) (s : State) : Type 0 where
+pub record SoFarAnswered (left old now : Option (List ℕ)) (all : List ℕ) (n : ℕ) (s : SessionState) : Type 0 where
   pub rest : List ℕ
   pub left_is : left ≡ Some rest
   pub text : List ℕ
   pub all_is : all ≡ text ++ answers_from n s (lines_of rest)
   pub taken : Appends old now text
 
-pub nothing_answered : (now : Option (List ℕ)) (rest : List ℕ) (n : ℕ) (s : State) → SoFarAnswered (Some rest) now now (answers_from n s (lines_of rest)) n s
+pub nothing_answered : (now : Option (List ℕ)) (rest : List ℕ) (n : ℕ) (s : SessionState) → SoFarAnswered (Some rest) now now (answers_from n s (lines_of rest)) n s
 nothing_answered now rest n s = record { rest = rest; left_is = refl; text = []; all_is = refl; taken = Appends-nil now }
 
 -- a line that was answered is one line less
-pub one_answered : (read left old now new : Option (List ℕ)) (all : List ℕ) (n : ℕ) (s t : State) → SoFarAnswered read old now all n s
+pub one_answered : (read left old now new : Option (List ℕ)) (all : List ℕ) (n : ℕ) (s t : SessionState) → SoFarAnswered read old now all n s
     → AnswersNext read left now new n s t (Ok true) → SoFarAnswered left old new all (n + 1) t
 one_answered read left old now new all n s t so next =
     let step = subst (λ (r : Option (List ℕ)). AnswersNext r left now new n s t (Ok true)) so.left_is next in
@@ -86,12 +86,12 @@ one_answered read left old now new all n s t so next =
       text = so.text ++ turn.0;
       all_is = so.all_is ∙ ap (λ (l : List ℕ). so.text ++ l) (answers_line n s so.rest)
           ∙ sym (append_assoc so.text turn.0 (answers_from (n + 1) turn.1 (lines_of (drop_through 10 so.rest))))
-          ∙ ap (λ (u : State). (so.text ++ turn.0) ++ answers_from (n + 1) u (lines_of (drop_through 10 so.rest))) (sym step.1);
+          ∙ ap (λ (u : SessionState). (so.text ++ turn.0) ++ answers_from (n + 1) u (lines_of (drop_through 10 so.rest))) (sym step.1);
       taken = Appends-trans old now new so.text turn.0 so.taken step.2;
     }
 
 -- a front of an answer is a front of all answers
-pub front_answered : (read left old now new : Option (List ℕ)) (all : List ℕ) (n : ℕ) (s t : State) (e : RunFault) → SoFarAnswered read old now all n s
+pub front_answered : (read left old now new : Option (List ℕ)) (all : List ℕ) (n : ℕ) (s t : SessionState) (e : RunFault) → SoFarAnswered read old now all n s
     → AnswersNext read left now new n s t (Err e) → AppendsPrefix old new all
 front_answered read left old now new all n s t e so next =
     let front = (subst (λ (r : Option (List ℕ)). AnswersNext r left now new n s t (Err e)) so.left_is next).1 in
@@ -110,7 +110,7 @@ front_answered read left old now new all n s t e so next =
     )
 
 -- where nothing is left all is answered
-pub all_answered : (read left old now new : Option (List ℕ)) (all : List ℕ) (n : ℕ) (s t : State) → SoFarAnswered read old now all n s
+pub all_answered : (read left old now new : Option (List ℕ)) (all : List ℕ) (n : ℕ) (s t : SessionState) → SoFarAnswered read old now all n s
     → AnswersNext read left now new n s t (Ok false) → (left ≡ Some []) × Appends old new all
 unfolding answers_from
 all_answered read left old now new all n s t so next =
@@ -119,8 +119,8 @@ all_answered read left old now new all n s t so next =
     (end.1, subst (λ (l : List ℕ). Appends old new l) (ap (λ (l : List ℕ). l ++ []) (sym whole) ∙ append-nil all) (Appends-trans old now new so.text [] so.taken end.2))
 
 -- a call that was made is answered by its reply
-pub answered_call : (old new : Option (List ℕ)) (n : ℕ) (t : State) (turn : List ℕ × State) (outcome : Result (Unit {0}) RunFault)
-    → RunsLine old new n (Ok turn) t outcome → Answers old new turn t outcome
+pub answered_call : (old new : Option (List ℕ)) (n : ℕ) (t : SessionState) (turn : List ℕ × SessionState) (outcome : Result (Unit {0}) RunFault)
+    → RunsLine old new n (Ok turn) t outcome → WritesAnswer old new turn t outcome
 answered_call old new n t turn (Ok _) ran = ran
 answered_call old new n t turn (Err Write) ran = (tt, ran)
 answered_call old new n t turn (Err Memory) ran = (tt, ran)
@@ -130,8 +130,8 @@ answered_call old new n t turn (Err Read) ran = absurd ran
 answered_call old new n t turn (Err Thread) ran = absurd ran
 
 -- and a line that is not well formed by its name
-pub answered_fault : (old new : Option (List ℕ)) (text : List ℕ) (s : State) (outcome : Result (Unit {0}) RunFault)
-    → Writes old new text outcome → Answers old new (text, s) s outcome
+pub answered_fault : (old new : Option (List ℕ)) (text : List ℕ) (s : SessionState) (outcome : Result (Unit {0}) RunFault)
+    → Writes old new text outcome → WritesAnswer old new (text, s) s outcome
 answered_fault old new text s (Ok _) wrote = (refl, wrote)
 answered_fault old new text s (Err fault) wrote = (tt, wrote)
 
@@ -156,8 +156,9 @@ writes_prefix old new text (Err Read) wrote = absurd wrote
 writes_prefix old new text (Err Thread) wrote = absurd wrote
 
 -- an answer that was not written whole is a front of it
-pub next_failed : (read old new : Option (List ℕ)) (n : ℕ) (s t : State) (line : List ℕ) (outcome : Result (Unit {0}) RunFault)
-    → IfSome read (λ xs. line ≡ first_line_of xs) → Answers old new (answer_of n s line) t outcome
+pub next_failed : (read old new : Option (List ℕ)) (n : ℕ) (s t : SessionState) (line : List ℕ) (outcome : Result (Unit {0}) RunFault)
+    → IfSome read (λ xs. line ≡ first_line_of xs)
+    → WritesAnswer old new (answer_of n s line) t outcome
     → IfSome read (λ xs. AppendsPrefix old new (answer_of n s (first_line_of xs)).0)
 next_failed None old new n s t line outcome same answered = tt
 next_failed (Some xs) old new n s t line outcome same answered =
@@ -172,24 +173,26 @@ writes_fault old new text Read wrote = absurd wrote
 writes_fault old new text Thread wrote = absurd wrote
 
 -- and is a fault of such a run
-pub next_refused : (read old new : Option (List ℕ)) (n : ℕ) (s t : State) (line : List ℕ) (fault : RunFault)
-    → IfSome read (λ xs. line ≡ first_line_of xs) → Answers old new (answer_of n s line) t (Err fault)
+pub next_refused : (read old new : Option (List ℕ)) (n : ℕ) (s t : SessionState) (line : List ℕ) (fault : RunFault)
+    → IfSome read (λ xs. line ≡ first_line_of xs) → WritesAnswer old new (answer_of n s line) t (Err fault)
     → IsPromptFault fault × IfSome read (λ xs. AppendsPrefix old new (answer_of n s (first_line_of xs)).0)
 next_refused read old new n s t line fault same answered =
     (writes_fault old new (answer_of n s line).0 fault answered.1, next_failed read old new n s t line (Err fault) same answered)
 
 -- and a flush that fails keeps it so
-pub next_unflushed : (read old now new : Option (List ℕ)) (n : ℕ) (s t : State) (line : List ℕ)
-    → IfSome read (λ xs. line ≡ first_line_of xs) → Answers old now (answer_of n s line) t (Ok tt) → Keeps now new
+pub next_unflushed : (read old now new : Option (List ℕ)) (n : ℕ) (s t : SessionState)
+    (line : List ℕ)
+    → IfSome read (λ xs. line ≡ first_line_of xs) → WritesAnswer old now (answer_of n s line) t (Ok tt) → Keeps now new
     → IfSome read (λ xs. AppendsPrefix old new (answer_of n s (first_line_of xs)).0)
 next_unflushed None old now new n s t line same answered kept = tt
 next_unflushed (Some xs) old now new n s t line same answered kept =
     prefix_kept old now new (answer_of n s (first_line_of xs)).0 (next_failed (Some xs) old now n s t line (Ok tt) same answered) kept
 
 -- one that was written and flushed is the answer to the line
-pub next_answered : (read left old now new : Option (List ℕ)) (n : ℕ) (s t : State) (line : List ℕ)
+pub next_answered : (read left old now new : Option (List ℕ)) (n : ℕ) (s t : SessionState)
+    (line : List ℕ)
     → IfSome read (λ xs. line ≡ first_line_of xs) → IfSome read (λ xs. left ≡ Some (drop_through 10 xs))
-    → Answers old now (answer_of n s line) t (Ok tt) → Keeps now new → AnswersNext read left old new n s t (Ok true)
+    → WritesAnswer old now (answer_of n s line) t (Ok tt) → Keeps now new → AnswersNext read left old new n s t (Ok true)
 next_answered None left old now new n s t line same rest answered kept = tt
 next_answered (Some xs) left old now new n s t line same rest answered kept = (
   rest,
@@ -199,37 +202,38 @@ next_answered (Some xs) left old now new n s t line same rest answered kept = (
 )
 
 -- the same of a text that may not be known, of which so much was answered
-abbrev pub IsAnsweredUpTo : (typed left old now : Option (List ℕ)) → State → ℕ → State → Type 0
+abbrev pub IsAnsweredUpTo : (typed left old now : Option (List ℕ)) → SessionState → ℕ → SessionState
+    → Type 0
 IsAnsweredUpTo typed left old now first n s = IfSome typed (λ text. SoFarAnswered left old now (answers_from 1 first (lines_of text)) n s)
 
-pub none_yet : (typed now : Option (List ℕ)) (first : State) → IsAnsweredUpTo typed typed now now first 1 first
+pub none_yet : (typed now : Option (List ℕ)) (first : SessionState) → IsAnsweredUpTo typed typed now now first 1 first
 none_yet None now first = tt
 none_yet (Some text) now first = nothing_answered now text 1 first
 
-pub one_more : (typed read left old now new : Option (List ℕ)) (first : State) (n : ℕ) (s t : State) (b : Bool) → b ≡ true
+pub one_more : (typed read left old now new : Option (List ℕ)) (first : SessionState) (n : ℕ) (s t : SessionState) (b : Bool) → b ≡ true
     → IsAnsweredUpTo typed read old now first n s → AnswersNext read left now new n s t (Ok b) → IsAnsweredUpTo typed left old new first (n + 1) t
 one_more None read left old now new first n s t b is so next = tt
 one_more (Some text) read left old now new first n s t b is so next =
     one_answered read left old now new (answers_from 1 first (lines_of text)) n s t so (subst (λ (a : Bool). AnswersNext read left now new n s t (Ok a)) is next)
 
 -- what the lines are answered from the first on
-abbrev pub all_answers : State → List ℕ → List ℕ
+abbrev pub all_answers : SessionState → List ℕ → List ℕ
 all_answers first text = answers_from 1 first (lines_of text)
 
-pub none_more : (typed read left old now new : Option (List ℕ)) (first : State) (n : ℕ) (s t : State) (b : Bool) → b ≡ false
+pub none_more : (typed read left old now new : Option (List ℕ)) (first : SessionState) (n : ℕ) (s t : SessionState) (b : Bool) → b ≡ false
     → IsAnsweredUpTo typed read old now first n s → AnswersNext read left now new n s t (Ok b)
     → AnswersAll (all_answers first) typed left old new (Ok tt)
 none_more None read left old now new first n s t b is so next = tt
 none_more (Some text) read left old now new first n s t b is so next =
     all_answered read left old now new (answers_from 1 first (lines_of text)) n s t so (subst (λ (a : Bool). AnswersNext read left now new n s t (Ok a)) is next)
 
-pub one_failed : (typed read left old now new : Option (List ℕ)) (first : State) (n : ℕ) (s t : State) (e : RunFault) → IsAnsweredUpTo typed read old now first n s
+pub one_failed : (typed read left old now new : Option (List ℕ)) (first : SessionState) (n : ℕ) (s t : SessionState) (e : RunFault) → IsAnsweredUpTo typed read old now first n s
     → AnswersNext read left now new n s t (Err e) → AnswersAll (all_answers first) typed left old new (Err e)
 one_failed None read left old now new first n s t e so next = (next.0, tt)
 one_failed (Some text) read left old now new first n s t e so next =
     (next.0, front_answered read left old now new (answers_from 1 first (lines_of text)) n s t e so next)
 
-pub some_left : (typed left old now : Option (List ℕ)) (first : State) (n : ℕ) (s : State) → IsAnsweredUpTo typed left old now first n s
+pub some_left : (typed left old now : Option (List ℕ)) (first : SessionState) (n : ℕ) (s : SessionState) → IsAnsweredUpTo typed left old now first n s
     → AnswersAll (all_answers first) typed left old now (Err Size)
 some_left None left old now first n s so = (tt, tt)
 some_left (Some text) left old now first n s so = (tt, (so.text, (answers_from n s (lines_of so.rest), so.all_is), so.taken))

@@ -3,7 +3,7 @@ use Rattle.std.specs.List.{flat_map, range_with_len}
 use Rattle.std.proofs.lemmas.Grind.{flat_map-append}
 use Rattle.std.proofs.lemmas.List.FromFn.{map-range_with_len_more}
 use Rattle.mq_table.specs.KeptShown.{row_now}
-use Rattle.mq_one_thread.specs.State.{State, slot_at}
+use Rattle.mq_one_thread.specs.State.{QueuesState, slot_at}
 use Rattle.mq_cli.specs.Reports.{line_of_row, lines_to}
 
 same : (xs : List ℕ) → map (λ k. k) xs ≡ xs
@@ -17,7 +17,7 @@ one_more n =
     ∙ ap (λ ks. ks ++ n ∷ []) (same (range_with_len 0 n))
 
 -- the lines of one more slot
-pub lines_more : (s : State) (n : ℕ) → lines_to s (n + 1) ≡ lines_to s n ++ line_of_row n (row_now (slot_at s n))
+pub lines_more : (s : QueuesState) (n : ℕ) → lines_to s (n + 1) ≡ lines_to s n ++ line_of_row n (row_now (slot_at s n))
 lines_more s n =
     let line : ℕ → List ℕ = λ k. line_of_row k (row_now (slot_at s k)) in
     ap (flat_map line) (one_more n) ∙ flat_map-append line (range_with_len 0 n) (n ∷ [])

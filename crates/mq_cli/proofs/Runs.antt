@@ -8,9 +8,9 @@ use Rattle.mq_cli.specs.declared.fault.RunFault.{RunFault}
 use Rattle.mq_cli.specs.declared.fault.RunFault.TheVariants.{Script, Size, Read, Write, Memory, Thread}
 use Rattle.mq_cli.specs.Commands.{reading}
 use Rattle.mq_cli.specs.Input.{HasRead, IsUnread}
-use Rattle.mq_cli.specs.Session.{State}
+use Rattle.mq_cli.specs.Session.{SessionState}
 use Rattle.mq_cli.specs.Serial.{AppendsPrefix, RanSerial, Runs, RunsLine}
-use Rattle.mq_cli.specs.Transcript.{Run, before, goes_on, run_from, run_of, said}
+use Rattle.mq_cli.specs.Transcript.{Run, before, runs_on, run_from, run_of, said}
 use Rattle.mq_cli.proofs.InputLemmas.{reads_few}
 
 -- before anything is written a prefix is
@@ -29,18 +29,18 @@ so_far_nothing now run = record { text = []; whole_is = refl; taken = Appends-ni
 before-before : (a b : List ℕ) (run : Run) → before a (before b run) ≡ before (a ++ b) run
 before-before a b run = ap (λ (w : List ℕ). record { written = w; fault = run.fault }) (sym (append_assoc a b run.written))
 
-line_done : (old now new : Option (List ℕ)) (n : ℕ) (s : State) (whole : Run) (rest : State → Run) (r : Result (List ℕ × State) Cause)
-    → SoFar old now whole (goes_on n r rest) → RunsLine now new n r s (Ok tt) → SoFar old new whole (rest s)
+line_done : (old now new : Option (List ℕ)) (n : ℕ) (s : SessionState) (whole : Run) (rest : SessionState → Run) (r : Result (List ℕ × SessionState) Cause)
+    → SoFar old now whole (runs_on n r rest) → RunsLine now new n r s (Ok tt) → SoFar old new whole (rest s)
 line_done old now new n s whole rest (Ok turn) so ran = record {
   text = so.text ++ turn.0;
-  whole_is = subst (λ (t : State). whole ≡ before (so.text ++ turn.0) (rest t)) (sym ran.0)
+  whole_is = subst (λ (t : SessionState). whole ≡ before (so.text ++ turn.0) (rest t)) (sym ran.0)
       (so.whole_is ∙ before-before so.text turn.0 (rest turn.1));
   taken = Appends-trans old now new so.text turn.0 so.taken ran.1;
 }
 line_done old now new n s whole rest (Err cause) so ran = absurd ran
 
 -- a line that was run is one line less to run
-pub so_far_step : (old now new : Option (List ℕ)) (n : ℕ) (s t : State) (whole : Run) (line : List ℕ) (lines : List (List ℕ))
+pub so_far_step : (old now new : Option (List ℕ)) (n : ℕ) (s t : SessionState) (whole : Run) (line : List ℕ) (lines : List (List ℕ))
     → SoFar old now whole (run_from n s (line ∷ lines)) → RunsLine now new n (said n s (reading line)) t (Ok tt)
     → SoFar old new whole (run_from (n + 1) t lines)
 unfolding run_from
@@ -63,8 +63,8 @@ prefix_before old now new whole run part so front =
       Appends-trans old now new so.text front.0 so.taken front.2,
     )
 
-line_failed : (old now new : Option (List ℕ)) (n : ℕ) (s : State) (whole : Run) (rest : State → Run) (r : Result (List ℕ × State) Cause)
-    (e : RunFault) → SoFar old now whole (goes_on n r rest) → RunsLine now new n r s (Err e) → Runs old new whole (Err e)
+line_failed : (old now new : Option (List ℕ)) (n : ℕ) (s : SessionState) (whole : Run) (rest : SessionState → Run) (r : Result (List ℕ × SessionState) Cause)
+    (e : RunFault) → SoFar old now whole (runs_on n r rest) → RunsLine now new n r s (Err e) → Runs old new whole (Err e)
 line_failed old now new n s whole rest (Ok turn) Write so ran = prefix_before old now new whole (rest turn.1) turn.0 so ran
 line_failed old now new n s whole rest (Ok turn) Memory so ran = prefix_before old now new whole (rest turn.1) turn.0 so ran
 line_failed old now new n s whole rest (Ok turn) (Script line cause) so ran = absurd ran
@@ -83,14 +83,14 @@ line_failed old now new n s whole rest (Err cause) Read so ran = absurd ran
 line_failed old now new n s whole rest (Err cause) Thread so ran = absurd ran
 
 -- a line that ends the run ends it as the definition says
-pub so_far_failed : (old now new : Option (List ℕ)) (n : ℕ) (s t : State) (whole : Run) (line : List ℕ) (lines : List (List ℕ)) (e : RunFault)
+pub so_far_failed : (old now new : Option (List ℕ)) (n : ℕ) (s t : SessionState) (whole : Run) (line : List ℕ) (lines : List (List ℕ)) (e : RunFault)
     → SoFar old now whole (run_from n s (line ∷ lines)) → RunsLine now new n (said n s (reading line)) t (Err e) → Runs old new whole (Err e)
 unfolding run_from
 so_far_failed old now new n s t whole line lines e so ran =
     line_failed old now new n t whole (λ u. run_from (n + 1) u lines) (said n s (reading line)) e so ran
 
 -- with no line left the whole run is done
-pub so_far_end : (old now : Option (List ℕ)) (n : ℕ) (s : State) (whole : Run) → SoFar old now whole (run_from n s []) → Runs old now whole (Ok tt)
+pub so_far_end : (old now : Option (List ℕ)) (n : ℕ) (s : SessionState) (whole : Run) → SoFar old now whole (run_from n s []) → Runs old now whole (Ok tt)
 unfolding run_from
 so_far_end old now n s whole so = (
   ap (λ (w : Run). w.fault) so.whole_is,

@@ -20,7 +20,7 @@ use Rattle.mq_one_thread.specs.declared.results.GetFlags.{GetFlags}
 use Rattle.mq_cli.specs.declared.limits.TheConstants.{LINE_LIMIT}
 use Rattle.mq_cli.specs.declared.fault.Cause.{Cause}
 use Rattle.mq_cli.specs.declared.fault.Cause.TheVariants.{Words}
-use Rattle.mq_cli.specs.Commands.{Call, sit, show, get, snd, rcv, set, rm, stat, cut, ipcs, Text, plain, letters, Flags, ok_map, ◌>>=◌, worded, is_filled, is_plain, is_text, text_of, flags_of, seat_of, arena_of, get_flags_of, get_of, set_of, remove_of, stat_of, cutting_of, ipcs_of, send_of, receive_of, command_of, is_skipped, speaks, spoken, reading_by, reading}
+use Rattle.mq_cli.specs.Commands.{AskedCall, sit, show, get, snd, rcv, set, rm, stat, cut, ipcs, AskedText, plain, letters, Flags, ok_map, ◌>>=◌, worded, is_filled, is_plain, is_text, text_asked, flags_asked, seat_asked, arena_asked, get_flags_asked, get_asked, set_asked, remove_asked, stat_asked, cutting_asked, ipcs_asked, send_asked, receive_asked, command_asked, is_skipped, speaks, spoken, reading_by, reading}
 use Rattle.mq_cli.specs.Laws.{flag_words, get_flag_words, spelling, text_spelling, CanBeSpelled, Spells, ReadsBack, SpelledOneWay}
 use Rattle.mq_cli.specs.Lines.{is_printable, line_of, words_of}
 use Rattle.mq_cli.specs.Numbers.{number_of, integer_of, is_key, key_of, under, above_zero, below_zero}
@@ -257,7 +257,7 @@ above_zero-Some word n e = option_and_then_some _ _ n e (λ m read above.
     (spelled.0 ∙ ap decimal is.1, omega (arith, least, is.1), omega (arith, spelled.1, is.1)))
 
 -- seat is read from its spelling alone
-seated : (line : List ℕ) (words : List (List ℕ)) (call : Call) → line ≡ line_of (codes "seat" ∷ words) → seat_of words ≡ Ok call → Spells line call
+seated : (line : List ℕ) (words : List (List ℕ)) (call : AskedCall) → line ≡ line_of (codes "seat" ∷ words) → seat_asked words ≡ Ok call → Spells line call
 seated line (word ∷ []) call is e =
     bind_ok (above_zero (under (MAX_SEATS + 1) (number_of word))) (λ n. Ok (sit n)) call e (λ n read done.
     let spelled = above_zero-Some word n read in
@@ -267,14 +267,14 @@ seated line [] call is e = absurd (cc e)
 seated line (word ∷ more ∷ words) call is e = absurd (cc e)
 
 -- arena is read from its spelling alone
-listed : (line : List ℕ) (words : List (List ℕ)) (call : Call) → line ≡ line_of (codes "arena" ∷ words) → arena_of words ≡ Ok call → Spells line call
+listed : (line : List ℕ) (words : List (List ℕ)) (call : AskedCall) → line ≡ line_of (codes "arena" ∷ words) → arena_asked words ≡ Ok call → Spells line call
 listed line [] call is e =
     let same : show ≡ call = cc e in
     subst (Spells line) same (is, tt)
 listed line (word ∷ words) call is e = absurd (cc e)
 
 -- and set
-pub changed : (line : List ℕ) (words : List (List ℕ)) (call : Call) → line ≡ line_of (codes "set" ∷ words) → set_of words ≡ Ok call → Spells line call
+pub changed : (line : List ℕ) (words : List (List ℕ)) (call : AskedCall) → line ≡ line_of (codes "set" ∷ words) → set_asked words ≡ Ok call → Spells line call
 changed line (id ∷ qbytes ∷ []) call is e =
     bind_ok _ _ call e (λ i read_id told.
     bind_ok (number_of qbytes) (λ q. Ok (set i q)) call told (λ q read_qbytes done.
@@ -287,7 +287,7 @@ changed line (id ∷ []) call is e = absurd (cc e)
 changed line (id ∷ qbytes ∷ more ∷ words) call is e = absurd (cc e)
 
 -- and rm
-removed : (line : List ℕ) (words : List (List ℕ)) (call : Call) → line ≡ line_of (codes "rm" ∷ words) → remove_of words ≡ Ok call → Spells line call
+removed : (line : List ℕ) (words : List (List ℕ)) (call : AskedCall) → line ≡ line_of (codes "rm" ∷ words) → remove_asked words ≡ Ok call → Spells line call
 removed line (id ∷ []) call is e =
     bind_ok (under (2 ^ 32) (number_of id)) (λ i. Ok (rm i)) call e (λ i read done.
     let spelled = under-Some (2 ^ 32) id i read in
@@ -297,7 +297,7 @@ removed line [] call is e = absurd (cc e)
 removed line (id ∷ more ∷ words) call is e = absurd (cc e)
 
 -- and stat
-asked : (line : List ℕ) (words : List (List ℕ)) (call : Call) → line ≡ line_of (codes "stat" ∷ words) → stat_of words ≡ Ok call → Spells line call
+asked : (line : List ℕ) (words : List (List ℕ)) (call : AskedCall) → line ≡ line_of (codes "stat" ∷ words) → stat_asked words ≡ Ok call → Spells line call
 asked line (id ∷ []) call is e =
     bind_ok (under (2 ^ 32) (number_of id)) (λ i. Ok (stat i)) call e (λ i read done.
     let spelled = under-Some (2 ^ 32) id i read in
@@ -307,7 +307,7 @@ asked line [] call is e = absurd (cc e)
 asked line (id ∷ more ∷ words) call is e = absurd (cc e)
 
 -- and cut
-severed : (line : List ℕ) (words : List (List ℕ)) (call : Call) → line ≡ line_of (codes "cut" ∷ words) → cutting_of words ≡ Ok call → Spells line call
+severed : (line : List ℕ) (words : List (List ℕ)) (call : AskedCall) → line ≡ line_of (codes "cut" ∷ words) → cutting_asked words ≡ Ok call → Spells line call
 severed line (slot ∷ []) call is e =
     bind_ok (under MAX_SLOTS (number_of slot)) (λ k. Ok (cut k)) call e (λ k read done.
     let spelled = under-Some MAX_SLOTS slot k read in
@@ -331,7 +331,7 @@ flag_word words_for word text wanted flags test same spelled =
     ap (λ w. w ∷ []) ((bytes_eq-Decides word text).0 test) ∙ sym spelled ∙ ap words_for same
 
 -- flags are read from their word alone
-pub flags_of-Some : (words : List (List ℕ)) (flags : Flags) → flags_of words ≡ Some flags → words ≡ flag_words flags.except flags.noerror
+pub flags_of-Some : (words : List (List ℕ)) (flags : Flags) → flags_asked words ≡ Some flags → words ≡ flag_words flags.except flags.noerror
 flags_of-Some [] flags e = subst (λ (f : Flags). [] ≡ flag_words f.except f.noerror) (some_is _ _ e) refl
 flags_of-Some (word ∷ []) flags e =
     chosen _ _ _ _ e
@@ -344,7 +344,7 @@ flags_of-Some (word ∷ []) flags e =
 flags_of-Some (word ∷ more ∷ words) flags e = absurd (cc e)
 
 -- the same of the flags of get
-pub get_flags_of-Some : (words : List (List ℕ)) (flags : GetFlags) → get_flags_of words ≡ Some flags → words ≡ get_flag_words flags.create flags.exclusive
+pub get_flags_of-Some : (words : List (List ℕ)) (flags : GetFlags) → get_flags_asked words ≡ Some flags → words ≡ get_flag_words flags.create flags.exclusive
 get_flags_of-Some [] flags e = subst (λ (f : GetFlags). [] ≡ get_flag_words f.create f.exclusive) (some_is _ _ e) refl
 get_flags_of-Some (word ∷ []) flags e =
     let words_for : GetFlags → List (List ℕ) = λ f. get_flag_words f.create f.exclusive in
@@ -382,9 +382,9 @@ key_of-Some word z e = option_and_then_some _ (integer_of word) z e (λ m read k
     subst P is.1 (spelled.0, key_is m is.0))
 
 -- and get
-pub got : (line : List ℕ) (words : List (List ℕ)) (call : Call) → line ≡ line_of (codes "get" ∷ words) → get_of words ≡ Ok call → Spells line call
+pub got : (line : List ℕ) (words : List (List ℕ)) (call : AskedCall) → line ≡ line_of (codes "get" ∷ words) → get_asked words ≡ Ok call → Spells line call
 got line (key ∷ words) call is e =
-    worded_ok (get_flags_of words) _ call e (λ flags read_flags keyed.
+    worded_ok (get_flags_asked words) _ call e (λ flags read_flags keyed.
     bind_ok (key_of key) (λ k. Ok (get k flags)) call keyed (λ k read done.
     let spelled = key_of-Some key k read in
     let spelled_flags = get_flags_of-Some words flags read_flags in
@@ -393,16 +393,16 @@ got line (key ∷ words) call is e =
 got line [] call is e = absurd (cc e)
 
 -- and ipcs
-reported : (line : List ℕ) (words : List (List ℕ)) (call : Call) → line ≡ line_of (codes "ipcs" ∷ words) → ipcs_of words ≡ Ok call → Spells line call
+reported : (line : List ℕ) (words : List (List ℕ)) (call : AskedCall) → line ≡ line_of (codes "ipcs" ∷ words) → ipcs_asked words ≡ Ok call → Spells line call
 reported line [] call is e =
     let same : ipcs ≡ call = cc e in
     subst (Spells line) same (is, tt)
 reported line (word ∷ words) call is e = absurd (cc e)
 
 -- and rcv
-received : (line : List ℕ) (words : List (List ℕ)) (call : Call) → line ≡ line_of (codes "rcv" ∷ words) → receive_of words ≡ Ok call → Spells line call
+received : (line : List ℕ) (words : List (List ℕ)) (call : AskedCall) → line ≡ line_of (codes "rcv" ∷ words) → receive_asked words ≡ Ok call → Spells line call
 received line (id ∷ size ∷ mtype ∷ words) call is e =
-    worded_ok (flags_of words) _ call e (λ flags read_flags numbers.
+    worded_ok (flags_asked words) _ call e (λ flags read_flags numbers.
     bind_ok _ _ call numbers (λ i read_id sized.
     bind_ok _ _ call sized (λ s read_size typed.
     bind_ok (integer_of mtype) (λ z. Ok (rcv i s z flags.except flags.noerror)) call typed (λ z read_type done.
@@ -422,7 +422,7 @@ joined_behind word [] b text e = absurd (cc e)
 joined_behind word (part ∷ parts) b text e = ap (λ rest. word ++ 32 ∷ rest) e
 
 -- a number of letters is within u64
-abbrev LettersFit : Text → Type 0
+abbrev LettersFit : AskedText → Type 0
 LettersFit (plain bytes) = Unit {0}
 LettersFit (letters count) = count < 2 ^ 64
 
@@ -433,12 +433,12 @@ star_first false true c e other = refl
 star_first false false c e other = absurd (cc e)
 
 -- a text and what it says: it begins as a text, and a number of letters is in its range
-record IsSpelled (text : List ℕ) (t : Text) : Type 0 where
+record IsSpelled (text : List ℕ) (t : AskedText) : Type 0 where
   same : text ≡ text_spelling t
   fits : LettersFit t
 
 -- a text is read from its spelling alone
-text_of-Some : (text : List ℕ) (t : Text) → is_text text ≡ true → text_of text ≡ Some t → IsSpelled text t
+text_of-Some : (text : List ℕ) (t : AskedText) → is_text text ≡ true → text_asked text ≡ Some t → IsSpelled text t
 text_of-Some text t begins e =
     chosen (is_plain text) (Some (plain (drop 1 text))) (option_map letters (number_of (drop 1 text))) (Some t) e
     (λ equals bytes.
@@ -451,26 +451,26 @@ text_of-Some text t begins e =
     subst (IsSpelled text) read.2 (record { same = star ∙ ap (λ ds. 42 ∷ ds) spelled.0; fits = spelled.1 }))
 
 -- the parts of the line of snd behind its type, put together, are its text
-sent_line : (name id mtype : List ℕ) (parts : List (List ℕ)) (t : Text) → line_of parts ≡ text_spelling t
+sent_line : (name id mtype : List ℕ) (parts : List (List ℕ)) (t : AskedText) → line_of parts ≡ text_spelling t
     → line_of (name ∷ id ∷ mtype ∷ parts) ≡ line_of (name ∷ id ∷ mtype ∷ text_spelling t ∷ [])
 sent_line name id mtype parts (plain bytes) text = ap (λ rest. name ++ 32 ∷ (id ++ 32 ∷ rest)) (joined_behind mtype parts 61 bytes text)
 sent_line name id mtype parts (letters count) text = ap (λ rest. name ++ 32 ∷ (id ++ 32 ∷ rest)) (joined_behind mtype parts 42 (decimal count) text)
 
 -- a short and printable line of snd asks for a call that can be spelled
-sent_can : (id : ℕ) (z : ℤ) (t : Text) → id < 2 ^ 32 → FitsSigned w64 z → LettersFit t → length (spelling (snd id z t)) ≤ LINE_LIMIT
+sent_can : (id : ℕ) (z : ℤ) (t : AskedText) → id < 2 ^ 32 → FitsSigned w64 z → LettersFit t → length (spelling (snd id z t)) ≤ LINE_LIMIT
     → list_all is_printable (spelling (snd id z t)) ≡ true → CanBeSpelled (snd id z t)
 sent_can id z (plain bytes) id_fits z_fits fits short printable =
     (id_fits, z_fits, printable_last (codes "snd" ∷ decimal id ∷ signed_decimal z ∷ []) (61 ∷ bytes) printable, short)
 sent_can id z (letters count) id_fits z_fits fits short printable = (id_fits, z_fits, fits)
 
 -- and snd
-sent : (line : List ℕ) (words : List (List ℕ)) (call : Call) → line ≡ line_of (codes "snd" ∷ words) → length line ≤ LINE_LIMIT → list_all is_printable line ≡ true → send_of words ≡ Ok call → Spells line call
+sent : (line : List ℕ) (words : List (List ℕ)) (call : AskedCall) → line ≡ line_of (codes "snd" ∷ words) → length line ≤ LINE_LIMIT → list_all is_printable line ≡ true → send_asked words ≡ Ok call → Spells line call
 sent line (id ∷ mtype ∷ parts) call is short printable e =
-    let tests = needed (is_filled id && is_filled mtype && is_text (line_of parts)) (under (2 ^ 32) (number_of id) >>= λ i. integer_of mtype >>= λ z. text_of (line_of parts) >>= λ t. Ok (snd i z t)) Words call e in
+    let tests = needed (is_filled id && is_filled mtype && is_text (line_of parts)) (under (2 ^ 32) (number_of id) >>= λ i. integer_of mtype >>= λ z. text_asked (line_of parts) >>= λ t. Ok (snd i z t)) Words call e in
     let begins = (and_parts (is_filled id && is_filled mtype) (is_text (line_of parts)) tests.0).1 in
     bind_ok _ _ call tests.1 (λ i read_id typed.
-    bind_ok (integer_of mtype) (λ z. text_of (line_of parts) >>= λ t. Ok (snd i z t)) call typed (λ z read_type told.
-    bind_ok (text_of (line_of parts)) (λ t. Ok (snd i z t)) call told (λ t read_text done.
+    bind_ok (integer_of mtype) (λ z. text_asked (line_of parts) >>= λ t. Ok (snd i z t)) call typed (λ z read_type told.
+    bind_ok (text_asked (line_of parts)) (λ t. Ok (snd i z t)) call told (λ t read_text done.
     let spelled_id = under-Some (2 ^ 32) id i read_id in
     let spelled_type = integer_of-Some mtype z read_type in
     let spelled_text = text_of-Some (line_of parts) t begins read_text in
@@ -483,7 +483,7 @@ sent line [] call is short printable e = absurd (cc e)
 sent line (id ∷ []) call is short printable e = absurd (cc e)
 
 -- the command that a line's words are is spelled by the line
-commanded : (line : List ℕ) (words : List (List ℕ)) (call : Call) → words_of line ≡ words → length line ≤ LINE_LIMIT → list_all is_printable line ≡ true → command_of words ≡ Ok call → Spells line call
+commanded : (line : List ℕ) (words : List (List ℕ)) (call : AskedCall) → words_of line ≡ words → length line ≤ LINE_LIMIT → list_all is_printable line ≡ true → command_asked words ≡ Ok call → Spells line call
 commanded line [] call are short printable e = absurd (cc e)
 commanded line (name ∷ words) call are short printable e =
     chosen _ _ _ _ e
@@ -513,7 +513,7 @@ commanded line (name ∷ words) call are short printable e =
 -- a call is read from its spelling alone
 pub spelled_one_way : SpelledOneWay
 spelled_one_way line call e =
-    let is = reading-Ok command_of line call e in
+    let is = reading-Ok command_asked line call e in
     commanded line (words_of line) call refl is.short is.printable is.said
 
 -- a line that begins with a letter is not skipped
@@ -543,15 +543,15 @@ reads_words say words last x are is few letter said =
     (ap (λ rest. say (words ++ rest)) (words_of_word last is) ∙ said)
 
 -- what the words of get say, whatever more is said of them
-abbrev GetSays : {A : Type 0} → (List (List ℕ) → Result A Cause) → Call → A → Type 0
-GetSays say call x = (words : List (List ℕ)) → list_all is_filled words ≡ true → get_of words ≡ Ok call → say (codes "get" ∷ words) ≡ Ok x
+abbrev GetSays : {A : Type 0} → (List (List ℕ) → Result A Cause) → AskedCall → A → Type 0
+GetSays say call x = (words : List (List ℕ)) → list_all is_filled words ≡ true → get_asked words ≡ Ok call → say (codes "get" ∷ words) ≡ Ok x
 
 -- the words of get are read back
-get_is : (key : ℤ) (words : List (List ℕ)) (flags : GetFlags) → FitsSigned w32 key → get_flags_of words ≡ Some flags → get_of (signed_decimal key ∷ words) ≡ Ok (get key flags)
+get_is : (key : ℤ) (words : List (List ℕ)) (flags : GetFlags) → FitsSigned w32 key → get_flags_asked words ≡ Some flags → get_asked (signed_decimal key ∷ words) ≡ Ok (get key flags)
 get_is key words flags fits read = rw (read, key_of-signed_decimal key fits) refl
 
 -- with a word of flags
-flagged_get_again : {A : Type 0} (say : List (List ℕ) → Result A Cause) (x : A) (key : ℤ) (word : List ℕ) (flags : GetFlags) → IsWord word → get_flags_of (word ∷ []) ≡ Some flags → FitsSigned w32 key
+flagged_get_again : {A : Type 0} (say : List (List ℕ) → Result A Cause) (x : A) (key : ℤ) (word : List ℕ) (flags : GetFlags) → IsWord word → get_flags_asked (word ∷ []) ≡ Some flags → FitsSigned w32 key
     → GetSays say (get key flags) x → reading_by say (line_of (codes "get" ∷ signed_decimal key ∷ word ∷ [])) ≡ Ok (Some x)
 flagged_get_again say x key word flags is read fits says =
     let key_word = signed_word key (key_fits key fits).1 in
@@ -570,35 +570,35 @@ key_again say x key false true fits says = flagged_get_again say x key (codes "x
 key_again say x key true true fits says = flagged_get_again say x key (codes "cx") (record { create = true; exclusive = true }) (name_word (codes "cx") refl) refl fits says
 
 -- a seat is read back
-seat_again : (n : ℕ) → 1 ≤ n → n ≤ MAX_SEATS → command_of (codes "seat" ∷ decimal n ∷ []) ≡ Ok (sit n)
+seat_again : (n : ℕ) → 1 ≤ n → n ≤ MAX_SEATS → command_asked (codes "seat" ∷ decimal n ∷ []) ≡ Ok (sit n)
 seat_again n least most =
     let word = decimal_word n (omega arith) in
     rw (word.filled, above_zero-decimal n least most) refl
 
 -- the words of set, rm and stat are read back
-set_again : (id qbytes : ℕ) → id < 2 ^ 32 → qbytes < 2 ^ 64 → command_of (codes "set" ∷ decimal id ∷ decimal qbytes ∷ []) ≡ Ok (set id qbytes)
+set_again : (id qbytes : ℕ) → id < 2 ^ 32 → qbytes < 2 ^ 64 → command_asked (codes "set" ∷ decimal id ∷ decimal qbytes ∷ []) ≡ Ok (set id qbytes)
 set_again id qbytes id_fits qbytes_fits =
     let id_word = decimal_word id (omega arith) in
     let qbytes_word = decimal_word qbytes qbytes_fits in
     rw (id_word.filled, qbytes_word.filled, under-decimal (2 ^ 32) id (lit≤ tt) id_fits, number_of-decimal qbytes qbytes_fits) refl
 
-remove_again : (id : ℕ) → id < 2 ^ 32 → command_of (codes "rm" ∷ decimal id ∷ []) ≡ Ok (rm id)
+remove_again : (id : ℕ) → id < 2 ^ 32 → command_asked (codes "rm" ∷ decimal id ∷ []) ≡ Ok (rm id)
 remove_again id fits = rw ((decimal_word id (omega arith)).filled, under-decimal (2 ^ 32) id (lit≤ tt) fits) refl
 
-stat_again : (id : ℕ) → id < 2 ^ 32 → command_of (codes "stat" ∷ decimal id ∷ []) ≡ Ok (stat id)
+stat_again : (id : ℕ) → id < 2 ^ 32 → command_asked (codes "stat" ∷ decimal id ∷ []) ≡ Ok (stat id)
 stat_again id fits = rw ((decimal_word id (omega arith)).filled, under-decimal (2 ^ 32) id (lit≤ tt) fits) refl
 
-cut_again : (slot : ℕ) → slot < MAX_SLOTS → command_of (codes "cut" ∷ decimal slot ∷ []) ≡ Ok (cut slot)
+cut_again : (slot : ℕ) → slot < MAX_SLOTS → command_asked (codes "cut" ∷ decimal slot ∷ []) ≡ Ok (cut slot)
 cut_again slot fits = rw ((decimal_word slot (omega (arith, fits))).filled, under-decimal MAX_SLOTS slot (lit≤ tt) fits) refl
 
 -- the words of rcv are read back
-receive_again : (id size : ℕ) (z : ℤ) (words : List (List ℕ)) (flags : Flags) → id < 2 ^ 32 → size < 2 ^ 64 → FitsSigned w64 z → flags_of words ≡ Some flags
-    → receive_of (decimal id ∷ decimal size ∷ signed_decimal z ∷ words) ≡ Ok (rcv id size z flags.except flags.noerror)
+receive_again : (id size : ℕ) (z : ℤ) (words : List (List ℕ)) (flags : Flags) → id < 2 ^ 32 → size < 2 ^ 64 → FitsSigned w64 z → flags_asked words ≡ Some flags
+    → receive_asked (decimal id ∷ decimal size ∷ signed_decimal z ∷ words) ≡ Ok (rcv id size z flags.except flags.noerror)
 receive_again id size z words flags id_fits size_fits z_fits read =
     rw (read, under-decimal (2 ^ 32) id (lit≤ tt) id_fits, number_of-decimal size size_fits, integer_of-signed_decimal z z_fits) refl
 
 -- and with its name, where none is empty
-rcv_again : (words : List (List ℕ)) (call : Call) → list_all is_filled words ≡ true → receive_of words ≡ Ok call → command_of (codes "rcv" ∷ words) ≡ Ok call
+rcv_again : (words : List (List ℕ)) (call : AskedCall) → list_all is_filled words ≡ true → receive_asked words ≡ Ok call → command_asked (codes "rcv" ∷ words) ≡ Ok call
 rcv_again words call filled is = cond-false _ _ _ (not_from_true _ filled) ∙ is
 
 -- rcv without flags is read back
@@ -608,27 +608,27 @@ plain_rcv_again id size z id_fits size_fits z_fits =
     let size_word = decimal_word size size_fits in
     let type_word = signed_word z z_fits in
     let words = decimal id ∷ decimal size ∷ signed_decimal z ∷ [] in
-    reads_words command_of (codes "rcv" ∷ decimal id ∷ decimal size ∷ []) (signed_decimal z) (rcv id size z false false)
+    reads_words command_asked (codes "rcv" ∷ decimal id ∷ decimal size ∷ []) (signed_decimal z) (rcv id size z false false)
     (name_word (codes "rcv") refl, (id_word, (size_word, tt))) type_word (lit≤ tt) refl
     (rcv_again words (rcv id size z false false) (all_filled words (id_word, (size_word, (type_word, tt))))
     (receive_again id size z [] (record { except = false; noerror = false }) id_fits size_fits z_fits refl))
 
 -- and with a word of flags
-flagged_rcv_again : (id size : ℕ) (z : ℤ) (word : List ℕ) (flags : Flags) → IsWord word → flags_of (word ∷ []) ≡ Some flags → id < 2 ^ 32 → size < 2 ^ 64 → FitsSigned w64 z
+flagged_rcv_again : (id size : ℕ) (z : ℤ) (word : List ℕ) (flags : Flags) → IsWord word → flags_asked (word ∷ []) ≡ Some flags → id < 2 ^ 32 → size < 2 ^ 64 → FitsSigned w64 z
     → reading (line_of (codes "rcv" ∷ decimal id ∷ decimal size ∷ signed_decimal z ∷ word ∷ [])) ≡ Ok (Some (rcv id size z flags.except flags.noerror))
 flagged_rcv_again id size z word flags is read id_fits size_fits z_fits =
     let id_word = decimal_word id (omega arith) in
     let size_word = decimal_word size size_fits in
     let type_word = signed_word z z_fits in
     let words = decimal id ∷ decimal size ∷ signed_decimal z ∷ word ∷ [] in
-    reads_words command_of (codes "rcv" ∷ decimal id ∷ decimal size ∷ signed_decimal z ∷ []) word (rcv id size z flags.except flags.noerror)
+    reads_words command_asked (codes "rcv" ∷ decimal id ∷ decimal size ∷ signed_decimal z ∷ []) word (rcv id size z flags.except flags.noerror)
     (name_word (codes "rcv") refl, (id_word, (size_word, (type_word, tt)))) is (lit≤ tt) refl
     (rcv_again words (rcv id size z flags.except flags.noerror) (all_filled words (id_word, (size_word, (type_word, (is, tt)))))
     (receive_again id size z (word ∷ []) flags id_fits size_fits z_fits read))
 
 -- the words of snd are read back
-send_again : (id mtype : List ℕ) (parts : List (List ℕ)) (text : List ℕ) (t : Text) (i : ℕ) (z : ℤ) → is_filled id ≡ true → is_filled mtype ≡ true → line_of parts ≡ text
-    → is_text text ≡ true → text_of text ≡ Some t → under (2 ^ 32) (number_of id) ≡ Some i → integer_of mtype ≡ Some z → send_of (id ∷ mtype ∷ parts) ≡ Ok (snd i z t)
+send_again : (id mtype : List ℕ) (parts : List (List ℕ)) (text : List ℕ) (t : AskedText) (i : ℕ) (z : ℤ) → is_filled id ≡ true → is_filled mtype ≡ true → line_of parts ≡ text
+    → is_text text ≡ true → text_asked text ≡ Some t → under (2 ^ 32) (number_of id) ≡ Some i → integer_of mtype ≡ Some z → send_asked (id ∷ mtype ∷ parts) ≡ Ok (snd i z t)
 send_again id mtype parts text t i z filled typed joined begins read read_id read_type =
     rw (filled, typed, joined, begins, read_id, read_type, read) refl
 
@@ -653,17 +653,17 @@ letters_word count fits =
 -- each call that can be spelled is read back
 pub reads_back : ReadsBack
 reads_back (sit number) can =
-    reads_words command_of (codes "seat" ∷ []) (decimal number) (sit number) (name_word (codes "seat") refl, tt) (decimal_word number (omega (arith, can.1))) (lit≤ tt) refl
+    reads_words command_asked (codes "seat" ∷ []) (decimal number) (sit number) (name_word (codes "seat") refl, tt) (decimal_word number (omega (arith, can.1))) (lit≤ tt) refl
     (seat_again number can.0 can.1)
 reads_back show can = refl
 reads_back (get key flags) can =
-    key_again command_of (get key flags) key flags.create flags.exclusive can (λ words filled is. cond-false _ _ _ (not_from_true _ filled) ∙ is)
+    key_again command_asked (get key flags) key flags.create flags.exclusive can (λ words filled is. cond-false _ _ _ (not_from_true _ filled) ∙ is)
 reads_back (snd id mtype (plain bytes)) can =
     let words = codes "snd" ∷ decimal id ∷ signed_decimal mtype ∷ [] in
     let id_word = decimal_word id (omega (arith, can.0)) in
     let type_word = signed_word mtype can.1 in
     let are : AreWords words = (name_word (codes "snd") refl, (id_word, (type_word, tt))) in
-    reads command_of words (61 ∷ bytes) (snd id mtype (plain bytes)) are can.3 can.2 refl
+    reads command_asked words (61 ∷ bytes) (snd id mtype (plain bytes)) are can.3 can.2 refl
     (send_again (decimal id) (signed_decimal mtype) (words_of (61 ∷ bytes)) (61 ∷ bytes) (plain bytes) id mtype id_word.filled type_word.filled
     (join_with_byte-slice_split 32 (61 ∷ bytes)) refl refl (under-decimal (2 ^ 32) id (lit≤ tt) can.0) (integer_of-signed_decimal mtype can.1))
 reads_back (snd id mtype (letters count)) can =
@@ -672,7 +672,7 @@ reads_back (snd id mtype (letters count)) can =
     let type_word = signed_word mtype can.1 in
     let word = letters_word count can.2 in
     let are : AreWords words = (name_word (codes "snd") refl, (id_word, (type_word, tt))) in
-    reads_words command_of words (42 ∷ decimal count) (snd id mtype (letters count)) are word (lit≤ tt) refl
+    reads_words command_asked words (42 ∷ decimal count) (snd id mtype (letters count)) are word (lit≤ tt) refl
     (send_again (decimal id) (signed_decimal mtype) ((42 ∷ decimal count) ∷ []) (42 ∷ decimal count) (letters count) id mtype id_word.filled type_word.filled
     refl (rw (spaceless (42 ∷ decimal count) word.bytes) refl) (ap (option_map letters) (number_of-decimal count can.2))
     (under-decimal (2 ^ 32) id (lit≤ tt) can.0) (integer_of-signed_decimal mtype can.1))
@@ -685,12 +685,12 @@ reads_back (rcv id size mtype true true) can =
     flagged_rcv_again id size mtype (codes "en") (record { except = true; noerror = true }) (name_word (codes "en") refl) refl can.0 can.1 can.2
 reads_back (set id qbytes) can =
     let id_word = decimal_word id (omega (arith, can.0)) in
-    reads_words command_of (codes "set" ∷ decimal id ∷ []) (decimal qbytes) (set id qbytes) (name_word (codes "set") refl, (id_word, tt)) (decimal_word qbytes can.1) (lit≤ tt) refl
+    reads_words command_asked (codes "set" ∷ decimal id ∷ []) (decimal qbytes) (set id qbytes) (name_word (codes "set") refl, (id_word, tt)) (decimal_word qbytes can.1) (lit≤ tt) refl
     (set_again id qbytes can.0 can.1)
 reads_back (rm id) can =
-    reads_words command_of (codes "rm" ∷ []) (decimal id) (rm id) (name_word (codes "rm") refl, tt) (decimal_word id (omega (arith, can))) (lit≤ tt) refl (remove_again id can)
+    reads_words command_asked (codes "rm" ∷ []) (decimal id) (rm id) (name_word (codes "rm") refl, tt) (decimal_word id (omega (arith, can))) (lit≤ tt) refl (remove_again id can)
 reads_back (stat id) can =
-    reads_words command_of (codes "stat" ∷ []) (decimal id) (stat id) (name_word (codes "stat") refl, tt) (decimal_word id (omega (arith, can))) (lit≤ tt) refl (stat_again id can)
+    reads_words command_asked (codes "stat" ∷ []) (decimal id) (stat id) (name_word (codes "stat") refl, tt) (decimal_word id (omega (arith, can))) (lit≤ tt) refl (stat_again id can)
 reads_back (cut slot) can =
-    reads_words command_of (codes "cut" ∷ []) (decimal slot) (cut slot) (name_word (codes "cut") refl, tt) (decimal_word slot (omega (arith, can))) (lit≤ tt) refl (cut_again slot can)
+    reads_words command_asked (codes "cut" ∷ []) (decimal slot) (cut slot) (name_word (codes "cut") refl, tt) (decimal_word slot (omega (arith, can))) (lit≤ tt) refl (cut_again slot can)
 reads_back ipcs can = refl

@@ -6,14 +6,14 @@ use Rattle.std.specs.List.{list_all}
 use Rattle.std.specs.Str.{bytes_eq}
 use Rattle.std.proofs.lemmas.Bool.{cond-true, cond-false, eqb-true, lt-ltb, ltb-true, ne_eqb, eqb-false}
 use Rattle.std.proofs.lemmas.Slice.Eq.{bytes_eq-Decides}
-use Rattle.mq_cli.specs.declared.limits.TheConstants.{MAX_COUNT, MAX_WITHIN, MAX_WORKERS}
+use Rattle.mq_cli.specs.declared.limits.TheConstants.{MAX_MESSAGES, MAX_WITHIN, MAX_WORKERS}
 use Rattle.mq_cli.specs.declared.fault.Cause.{Cause}
 use Rattle.mq_cli.specs.declared.fault.Cause.TheVariants.{Words}
 use Rattle.mq_cli.specs.declared.step.Step.TheVariants.{Put, Take, Remove}
 use Rattle.mq_cli.specs.declared.threads_script.MainCall.TheVariants.{Get, Set}
 use Rattle.mq_cli.specs.declared.threads_script.ThreadsLine.{ThreadsLine}
 use Rattle.mq_cli.specs.declared.threads_script.ThreadsLine.TheVariants.{Worker, Main, Section}
-use Rattle.mq_cli.specs.Commands.{Call, sit, show, get, snd, rcv, set, rm, stat, cut, ipcs, get_of, set_of, is_filled, ok_map}
+use Rattle.mq_cli.specs.Commands.{AskedCall, sit, show, get, snd, rcv, set, rm, stat, cut, ipcs, get_asked, set_asked, is_filled, ok_map}
 use Rattle.mq_cli.specs.Laws.{Spells}
 use Rattle.mq_cli.specs.Lines.{line_of, words_of}
 use Rattle.mq_cli.specs.Numbers.{number_of, under}
@@ -38,21 +38,21 @@ span_again : (span : ℕ) → span ≤ MAX_WITHIN → within_of (codes "within" 
 span_again span fits = rw (under-decimal (MAX_WITHIN + 1) span (lit≤ tt) (omega arith)) refl
 
 -- the words of put are read back
-put_again : (n id : ℕ) (z : ℤ) (count len : ℕ) (words : List (List ℕ)) (within : Option ℕ) → within_of words ≡ Ok within → id < 2 ^ 32 → FitsSigned w64 z → count ≤ MAX_COUNT → len < 2 ^ 64
+put_again : (n id : ℕ) (z : ℤ) (count len : ℕ) (words : List (List ℕ)) (within : Option ℕ) → within_of words ≡ Ok within → id < 2 ^ 32 → FitsSigned w64 z → count ≤ MAX_MESSAGES → len < 2 ^ 64
     → put_of n (decimal id ∷ signed_decimal z ∷ decimal count ∷ decimal len ∷ words) ≡ Ok (Section (Put id z count len within n))
 put_again n id z count len words within read id_fits z_fits count_fits len_fits =
-    rw (read, under-decimal (2 ^ 32) id (lit≤ tt) id_fits, integer_of-signed_decimal z z_fits, under-decimal (MAX_COUNT + 1) count (lit≤ tt) (omega arith), number_of-decimal len len_fits) refl
+    rw (read, under-decimal (2 ^ 32) id (lit≤ tt) id_fits, integer_of-signed_decimal z z_fits, under-decimal (MAX_MESSAGES + 1) count (lit≤ tt) (omega arith), number_of-decimal len len_fits) refl
 
-take_again : (n id : ℕ) (z : ℤ) (count : ℕ) (words : List (List ℕ)) (within : Option ℕ) → within_of words ≡ Ok within → id < 2 ^ 32 → FitsSigned w64 z → count ≤ MAX_COUNT
+take_again : (n id : ℕ) (z : ℤ) (count : ℕ) (words : List (List ℕ)) (within : Option ℕ) → within_of words ≡ Ok within → id < 2 ^ 32 → FitsSigned w64 z → count ≤ MAX_MESSAGES
     → take_of n (decimal id ∷ signed_decimal z ∷ decimal count ∷ words) ≡ Ok (Section (Take id z count within n))
 take_again n id z count words within read id_fits z_fits count_fits =
-    rw (read, under-decimal (2 ^ 32) id (lit≤ tt) id_fits, integer_of-signed_decimal z z_fits, under-decimal (MAX_COUNT + 1) count (lit≤ tt) (omega arith)) refl
+    rw (read, under-decimal (2 ^ 32) id (lit≤ tt) id_fits, integer_of-signed_decimal z z_fits, under-decimal (MAX_MESSAGES + 1) count (lit≤ tt) (omega arith)) refl
 
 drop_again : (n id : ℕ) → id < 2 ^ 32 → drop_of n (decimal id ∷ []) ≡ Ok (Section (Remove id n))
 drop_again n id fits = rw (under-decimal (2 ^ 32) id (lit≤ tt) fits) refl
 
 -- the words of set are read back
-set_is : (id qbytes : ℕ) → id < 2 ^ 32 → qbytes < 2 ^ 64 → set_of (decimal id ∷ decimal qbytes ∷ []) ≡ Ok (set id qbytes)
+set_is : (id qbytes : ℕ) → id < 2 ^ 32 → qbytes < 2 ^ 64 → set_asked (decimal id ∷ decimal qbytes ∷ []) ≡ Ok (set id qbytes)
 set_is id qbytes id_fits qbytes_fits = rw (under-decimal (2 ^ 32) id (lit≤ tt) id_fits, number_of-decimal qbytes qbytes_fits) refl
 
 -- what can stand in line n, by its own number
@@ -141,7 +141,7 @@ worked sections n text [] line is e =
 worked sections n text (word ∷ words) line is e = absurd (cc e)
 
 -- a call of the main part is spelled as in a serial script
-called : (n : ℕ) (text : List ℕ) (call : Call) (line : ThreadsLine) → Spells text call → main_call n call ≡ Ok line → Says 0 n text line
+called : (n : ℕ) (text : List ℕ) (call : AskedCall) (line : ThreadsLine) → Spells text call → main_call n call ≡ Ok line → Says 0 n text line
 called n text (get key flags) line spelled e =
     let same : Main (Get key flags n) ≡ line = cc e in
     subst (Says 0 n text) same (spelled.0, (refl, refl, spelled.1))
@@ -158,7 +158,7 @@ called n text (cut slot) line spelled e = absurd (cc e)
 called n text ipcs line spelled e = absurd (cc e)
 
 -- what was asked, before it was a call of the main part
-asked_ok : (n : ℕ) (text : List ℕ) (r : Result Call Cause) (line : ThreadsLine) → ((call : Call) → r ≡ Ok call → Spells text call) → asked n r ≡ Ok line → Says 0 n text line
+asked_ok : (n : ℕ) (text : List ℕ) (r : Result AskedCall Cause) (line : ThreadsLine) → ((call : AskedCall) → r ≡ Ok call → Spells text call) → asked n r ≡ Ok line → Says 0 n text line
 asked_ok n text (Ok call) line spells e = called n text call line (spells call refl) e
 asked_ok n text (Err cause) line spells e = absurd (cc e)
 
@@ -166,10 +166,10 @@ asked_ok n text (Err cause) line spells e = absurd (cc e)
 mains : (n : ℕ) (text name : List ℕ) (words : List (List ℕ)) (line : ThreadsLine) → words_of text ≡ name ∷ words → main_of n name words ≡ Ok line → Says 0 n text line
 mains n text name words line are e =
     chosen _ _ _ _ e
-    (λ is_get gets. asked_ok n text (get_of words) line (λ call read. got text words call (rejoined text name (codes "get") words are is_get) read) gets)
+    (λ is_get gets. asked_ok n text (get_asked words) line (λ call read. got text words call (rejoined text name (codes "get") words are is_get) read) gets)
     (λ not_get rest.
     let sets = needed _ _ _ _ rest in
-    asked_ok n text (set_of words) line (λ call read. changed text words call (rejoined text name (codes "set") words are sets.0) read) sets.1)
+    asked_ok n text (set_asked words) line (λ call read. changed text words call (rejoined text name (codes "set") words are sets.0) read) sets.1)
 
 -- the end of a step's waits is read from its words alone
 ended : (words : List (List ℕ)) (within : Option ℕ) → within_of words ≡ Ok within → (words ≡ within_words within) × CanWait within
@@ -202,7 +202,7 @@ puts sections n text (id ∷ mtype ∷ count ∷ len ∷ words) line some is e =
     bind_ok (number_of len) (λ l. Ok (Section (Put i z c l w n))) line sized (λ l read_len done.
     let spelled_id = under-Some (2 ^ 32) id i read_id in
     let spelled_type = integer_of-Some mtype z read_type in
-    let spelled_count = under-Some (MAX_COUNT + 1) count c read_count in
+    let spelled_count = under-Some (MAX_MESSAGES + 1) count c read_count in
     let spelled_len = number_of-Some len l read_len in
     let spelled_end = ended words w read_end in
     let same : Section (Put i z c l w n) ≡ line = cc done in
@@ -221,10 +221,10 @@ takes sections n text (id ∷ mtype ∷ count ∷ words) line some is e =
     end_read (within_of words) _ line e (λ w read_end numbered.
     bind_ok _ _ line numbered (λ i read_id typed.
     bind_ok _ _ line typed (λ z read_type counted.
-    bind_ok (under (MAX_COUNT + 1) (number_of count)) (λ c. Ok (Section (Take i z c w n))) line counted (λ c read_count done.
+    bind_ok (under (MAX_MESSAGES + 1) (number_of count)) (λ c. Ok (Section (Take i z c w n))) line counted (λ c read_count done.
     let spelled_id = under-Some (2 ^ 32) id i read_id in
     let spelled_type = integer_of-Some mtype z read_type in
-    let spelled_count = under-Some (MAX_COUNT + 1) count c read_count in
+    let spelled_count = under-Some (MAX_MESSAGES + 1) count c read_count in
     let spelled_end = ended words w read_end in
     let same : Section (Take i z c w n) ≡ line = cc done in
     subst (Says sections n text) same (

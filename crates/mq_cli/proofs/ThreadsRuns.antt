@@ -8,7 +8,7 @@ use Rattle.mq_cli.specs.declared.step.Step.{Step}
 use Rattle.mq_cli.specs.declared.threads_script.ThreadsLine.{ThreadsLine}
 use Rattle.mq_cli.specs.declared.threads_script.ThreadsScript.{ThreadsScript}
 use Rattle.mq_cli.specs.ThreadsParsed.{wanted_seen}
-use Rattle.mq_cli.specs.ThreadsScript.{Wanted, goes_on, onto_last, threads_reading, wanted_from, with_line}
+use Rattle.mq_cli.specs.ThreadsScript.{Wanted, reads_on, onto_last, threads_reading, wanted_from, with_line}
 
 -- the last section is written
 pub onto_last_set : (sections : List (Vec Step)) (k : ℕ) (old new : Vec Step) (step : Step) → k + 1 ≡ length sections → old ≡ slice_index_or sections k old
@@ -29,21 +29,21 @@ pub line_taken : (n : ℕ) (w : Wanted) (k : ℕ) (line : List ℕ) (lines : Lis
     → wanted_from n w (line ∷ lines) ≡ wanted_from (n + 1) (with_line w said) lines
 unfolding wanted_from
 line_taken n w k line lines said count e =
-    rw count (ap (λ r. goes_on n w r (λ more. wanted_from (n + 1) more lines)) (sym e))
+    rw count (ap (λ r. reads_on n w r (λ more. wanted_from (n + 1) more lines)) (sym e))
 
 -- or says nothing
 pub line_passed : (n : ℕ) (w : Wanted) (k : ℕ) (line : List ℕ) (lines : List (List ℕ)) → length w.sections ≡ k → Ok None ≡ threads_reading k n line
     → wanted_from n w (line ∷ lines) ≡ wanted_from (n + 1) w lines
 unfolding wanted_from
 line_passed n w k line lines count e =
-    rw count (ap (λ r. goes_on n w r (λ more. wanted_from (n + 1) more lines)) (sym e))
+    rw count (ap (λ r. reads_on n w r (λ more. wanted_from (n + 1) more lines)) (sym e))
 
 -- or is not well formed
 pub line_refused : (n : ℕ) (w : Wanted) (k : ℕ) (line : List ℕ) (lines : List (List ℕ)) (cause : Cause) → length w.sections ≡ k → Err cause ≡ threads_reading k n line
     → wanted_from n w (line ∷ lines) ≡ Err (n, cause)
 unfolding wanted_from
 line_refused n w k line lines cause count e =
-    rw count (ap (λ r. goes_on n w r (λ more. wanted_from (n + 1) more lines)) (sym e))
+    rw count (ap (λ r. reads_on n w r (λ more. wanted_from (n + 1) more lines)) (sym e))
 
 -- with no line left all is read
 pub lines_done : (n : ℕ) (w : Wanted) → wanted_from n w [] ≡ Ok w

@@ -3,7 +3,7 @@ use Rattle.std.proofs.Common.{◌≡◌, ℕ, ◌+◌, ◌*◌, ◌≤◌, zero,
 use Rattle.std.specs.Global.{Vec}
 use Rattle.std.specs.List.{All}
 use Rattle.std.proofs.lemmas.List.Sums.{sum_by-append}
-use Rattle.mq_cli.specs.declared.limits.TheConstants.{MAX_COUNT, MAX_WORKERS}
+use Rattle.mq_cli.specs.declared.limits.TheConstants.{MAX_MESSAGES, MAX_WORKERS}
 use Rattle.mq_cli.specs.declared.step.Step.{Step}
 use Rattle.mq_cli.specs.declared.step.Step.TheVariants.{Put, Take, Remove}
 use Rattle.mq_cli.specs.declared.threads_script.ThreadsLine.{ThreadsLine}
@@ -16,7 +16,7 @@ use Rattle.mq_cli.proofs.ThreadsLemmas.{threads_spelled_one_way}
 -- the messages of each section, of which so many lines were read, are no more than so many lines can have
 abbrev pub AreSmall : ℕ → List (List Step) → Type 0
 AreSmall n [] = Unit {0}
-AreSmall n (steps ∷ sections) = (puts_in steps + takes_in steps ≤ MAX_COUNT * n) × AreSmall n sections
+AreSmall n (steps ∷ sections) = (puts_in steps + takes_in steps ≤ MAX_MESSAGES * n) × AreSmall n sections
 
 abbrev pub IsSmall : ℕ → Wanted → Type 0
 IsSmall n w = (length w.sections ≤ MAX_WORKERS) × AreSmall n w.sections
@@ -29,7 +29,7 @@ small_begun : (n : ℕ) (sections : List (List Step)) → AreSmall n sections �
 small_begun n [] small = (omega arith, tt)
 small_begun n (steps ∷ sections) small = (omega (arith, small.0), small_begun n sections small.1)
 
-small_step : (n : ℕ) (step : Step) (sections : List (List Step)) → puts_of step + takes_of step ≤ MAX_COUNT → AreSmall n sections → AreSmall (n + 1) (onto_last step sections)
+small_step : (n : ℕ) (step : Step) (sections : List (List Step)) → puts_of step + takes_of step ≤ MAX_MESSAGES → AreSmall n sections → AreSmall (n + 1) (onto_last step sections)
 small_step n step [] few small = tt
 small_step n step (steps ∷ []) few small =
     let puts : puts_in (steps ++ step ∷ []) ≡ puts_in steps + puts_in (step ∷ []) = sum_by-append puts_of steps (step ∷ []) in
@@ -42,7 +42,7 @@ length-onto_last step [] = refl
 length-onto_last step (steps ∷ []) = refl
 length-onto_last step (steps ∷ next ∷ sections) = ap suc (length-onto_last step (next ∷ sections))
 
-step_small : (k n : ℕ) (step : Step) → CanStand k n (Section step) → puts_of step + takes_of step ≤ MAX_COUNT
+step_small : (k n : ℕ) (step : Step) → CanStand k n (Section step) → puts_of step + takes_of step ≤ MAX_MESSAGES
 step_small k n (Put id mtype count len within moment) can = omega (arith, can.4)
 step_small k n (Take id msgtyp count within moment) can = omega (arith, can.4)
 step_small k n (Remove id moment) can = omega arith

@@ -8,41 +8,41 @@ use Rattle.std.specs.Prelude.{count_by}
 use Rattle.mq_one_thread.specs.declared.errno.Errno.{Errno}
 use Rattle.mq_cli.specs.declared.step.Step.{Step}
 use Rattle.mq_cli.specs.declared.taken.Taken.{Taken}
-use Rattle.mq_cli.specs.Calls.{Call, Receipt, send, receive, calls_in, calls_of, is_send, sends_after}
+use Rattle.mq_cli.specs.Calls.{PortCall, TakenMessage, send, receive, calls_in, calls_of, is_send, sends_after}
 use Rattle.mq_cli.specs.Plans.{puts_in, puts_of}
 use Rattle.mq_cli.specs.Works.{AllSucceed, AreCalled, Ends, Fails, Puts, Removals, Succeeds, Takes}
 use Rattle.mq_cli.proofs.LettersLemmas.{in_two}
 
 -- how many of two runs of calls send
-sends_counted : (a b : List Call) → count_by is_send (a ++ b) ≡ count_by is_send a + count_by is_send b
+sends_counted : (a b : List PortCall) → count_by is_send (a ++ b) ≡ count_by is_send a + count_by is_send b
 sends_counted a b = sum_by-append (λ c. cond (is_send c) 1 0) a b
 
 module _ {Q : Type 0} (puts : Puts Q) (takes : Takes Q) (removes : Removals Q) where
   -- one call
-  one_succeeds : (call : Call) (old new : Q) (received : List Receipt) → Succeeds puts takes removes call old received new
+  one_succeeds : (call : PortCall) (old new : Q) (received : List TakenMessage) → Succeeds puts takes removes call old received new
       → AllSucceed puts takes removes (call ∷ []) old received new
   one_succeeds call old new received done = (received, [], new, sym (append-nil received), done, (refl, refl))
 
   -- calls behind others
-  all_then : (first rest : List Call) (old mid new : Q) (a b : List Receipt) → AllSucceed puts takes removes first old a mid
+  all_then : (first rest : List PortCall) (old mid new : Q) (a b : List TakenMessage) → AllSucceed puts takes removes first old a mid
       → AllSucceed puts takes removes rest mid b new → AllSucceed puts takes removes (first ++ rest) old (a ++ b) new
   all_then [] rest old mid new a b done more =
       let from : AllSucceed puts takes removes rest old b new = subst (λ (q : Q). AllSucceed puts takes removes rest q b new) done.1 more in
-      subst (λ (l : List Receipt). AllSucceed puts takes removes rest old (l ++ b) new) (sym done.0) from
+      subst (λ (l : List TakenMessage). AllSucceed puts takes removes rest old (l ++ b) new) (sym done.0) from
   all_then (call ∷ first) rest old mid new a b done more = (
     done.0,
     done.1 ++ b,
     done.2,
-    ap (λ (l : List Receipt). l ++ b) done.3 ∙ append_assoc done.0 done.1 b,
+    ap (λ (l : List TakenMessage). l ++ b) done.3 ∙ append_assoc done.0 done.1 b,
     done.4,
     all_then first rest done.2 mid new done.1 b done.5 more,
   )
 
-  none_left : (rest : List Call) (mid new : Q) → Ends puts takes removes rest mid None new → (rest ≡ []) × (new ≡ mid)
+  none_left : (rest : List PortCall) (mid new : Q) → Ends puts takes removes rest mid None new → (rest ≡ []) × (new ≡ mid)
   none_left [] mid new ended = (refl, ended)
   none_left (call ∷ rest) mid new ended = absurd ended
 
-  refused_before : (rest more : List Call) (mid new : Q) (errno : Errno) → Ends puts takes removes rest mid (Some errno) new
+  refused_before : (rest more : List PortCall) (mid new : Q) (errno : Errno) → Ends puts takes removes rest mid (Some errno) new
       → Ends puts takes removes (rest ++ more) mid (Some errno) new
   refused_before [] more mid new errno ended = absurd ended
   refused_before (call ∷ rest) more mid new errno ended = ended
@@ -52,39 +52,39 @@ module _ {Q : Type 0} (puts : Puts Q) (takes : Takes Q) (removes : Removals Q) w
   none_called q = record { first = []; rest = []; mid = q; cut = refl; made = (refl, refl); sent_is = refl; ended = refl }
 
   -- calls that were made behind calls that all succeeded
-  pub called_then : (first rest : List Call) (old mid new : Q) (s t : ℕ) (a b : List Receipt) (end : Option Errno)
+  pub called_then : (first rest : List PortCall) (old mid new : Q) (s t : ℕ) (a b : List TakenMessage) (end : Option Errno)
       → AreCalled puts takes removes first old s a None mid → AreCalled puts takes removes rest mid t b end new
       → AreCalled puts takes removes (first ++ rest) old (s + t) (a ++ b) end new
   called_then first rest old mid new s t a b end one two =
       let left = none_left one.rest one.mid mid one.ended in
-      let whole : first ≡ one.first = one.cut ∙ ap (λ (l : List Call). one.first ++ l) left.0 ∙ append-nil one.first in
+      let whole : first ≡ one.first = one.cut ∙ ap (λ (l : List PortCall). one.first ++ l) left.0 ∙ append-nil one.first in
       let more : AllSucceed puts takes removes two.first one.mid b two.mid = subst (λ (q : Q). AllSucceed puts takes removes two.first q b two.mid) left.1 two.made in
       let sent : s + t ≡ count_by is_send (one.first ++ two.first) = omega (arith, one.sent_is, two.sent_is, sends_counted one.first two.first) in
       record {
         first = one.first ++ two.first;
         rest = two.rest;
         mid = two.mid;
-        cut = ap (λ (l : List Call). l ++ rest) whole ∙ ap (λ (l : List Call). one.first ++ l) two.cut ∙ sym (append_assoc one.first two.first two.rest);
+        cut = ap (λ (l : List PortCall). l ++ rest) whole ∙ ap (λ (l : List PortCall). one.first ++ l) two.cut ∙ sym (append_assoc one.first two.first two.rest);
         made = all_then one.first two.first old one.mid two.mid a b one.made more;
         sent_is = sent;
         ended = two.ended;
       }
 
   -- calls of which one was refused, before more calls
-  pub called_within : (calls more : List Call) (old new : Q) (sent : ℕ) (received : List Receipt) (errno : Errno)
+  pub called_within : (calls more : List PortCall) (old new : Q) (sent : ℕ) (received : List TakenMessage) (errno : Errno)
       → AreCalled puts takes removes calls old sent received (Some errno) new → AreCalled puts takes removes (calls ++ more) old sent received (Some errno) new
   called_within calls more old new sent received errno it = record {
     first = it.first;
     rest = it.rest ++ more;
     mid = it.mid;
-    cut = ap (λ (l : List Call). l ++ more) it.cut ∙ append_assoc it.first it.rest more;
+    cut = ap (λ (l : List PortCall). l ++ more) it.cut ∙ append_assoc it.first it.rest more;
     made = it.made;
     sent_is = it.sent_is;
     ended = refused_before it.rest more it.mid new errno it.ended;
   }
 
   -- one call, which succeeded
-  pub called_one : (call : Call) (old new : Q) (sent : ℕ) (received : List Receipt) → sent ≡ count_by is_send (call ∷ [])
+  pub called_one : (call : PortCall) (old new : Q) (sent : ℕ) (received : List TakenMessage) → sent ≡ count_by is_send (call ∷ [])
       → Succeeds puts takes removes call old received new → AreCalled puts takes removes (call ∷ []) old sent received None new
   called_one call old new sent received counted done = record {
     first = call ∷ [];
@@ -97,7 +97,7 @@ module _ {Q : Type 0} (puts : Puts Q) (takes : Takes Q) (removes : Removals Q) w
   }
 
   -- one call, which was refused
-  pub called_refused : (call : Call) (old new : Q) (errno : Errno) → Fails puts takes removes call old errno new
+  pub called_refused : (call : PortCall) (old new : Q) (errno : Errno) → Fails puts takes removes call old errno new
       → AreCalled puts takes removes (call ∷ []) old 0 [] (Some errno) new
   called_refused call old new errno failed = record {
     first = [];
@@ -124,7 +124,7 @@ module _ {Q : Type 0} (puts : Puts Q) (takes : Takes Q) (removes : Removals Q) w
       → AreCalled puts takes removes (sends_after before id mtype k n ends moment) old k [] None mid → puts mid id mtype tag n ends moment (Err errno) new
       → AreCalled puts takes removes (sends_after before id mtype count n ends moment) old k [] (Some errno) new
   sent_until before id mtype k count n ends moment tag errno old mid new next within so failed =
-      let f : ℕ → Call = λ t. send id mtype t n ends moment in
+      let f : ℕ → PortCall = λ t. send id mtype t n ends moment in
       let call = send id mtype tag n ends moment in
       let left = count - (k + 1) in
       let rest = map f (range_with_len (before + 1 + k + 1) left) in
@@ -138,36 +138,36 @@ module _ {Q : Type 0} (puts : Puts Q) (takes : Takes Q) (removes : Removals Q) w
       let same : (sends_after before id mtype k n ends moment ++ call ∷ []) ++ rest ≡ sends_after before id mtype count n ends moment =
       append_assoc (sends_after before id mtype k n ends moment) (call ∷ []) rest
       ∙ ap (λ (t : ℕ). sends_after before id mtype k n ends moment ++ f t ∷ rest) (sym next) ∙ first in
-      subst (λ (calls : List Call). AreCalled puts takes removes calls old k [] (Some errno) new) same
+      subst (λ (calls : List PortCall). AreCalled puts takes removes calls old k [] (Some errno) new) same
       (subst (λ (s : ℕ). AreCalled puts takes removes ((sends_after before id mtype k n ends moment ++ call ∷ []) ++ rest) old s [] (Some errno) new) none all)
 
   -- one message more was received
-  pub received_more : (id : ℕ) (msgtyp : ℤ) (k : ℕ) (ends : Bool) (moment : ℕ) (taken : Taken) (received : List Receipt) (old mid new : Q)
+  pub received_more : (id : ℕ) (msgtyp : ℤ) (k : ℕ) (ends : Bool) (moment : ℕ) (taken : Taken) (received : List TakenMessage) (old mid new : Q)
       → AreCalled puts takes removes (replicate k (receive id msgtyp ends moment)) old 0 received None mid → takes mid id msgtyp ends moment (Ok taken) new
       → AreCalled puts takes removes (replicate (k + 1) (receive id msgtyp ends moment)) old 0 (received ++ record { id = id; taken = taken } ∷ []) None new
   received_more id msgtyp k ends moment taken received old mid new so done =
       let call = receive id msgtyp ends moment in
-      let one : List Receipt = record { id = id; taken = taken } ∷ [] in
+      let one : List TakenMessage = record { id = id; taken = taken } ∷ [] in
       let behind = called_then (replicate k call) (call ∷ []) old mid new 0 0 received one None so
       (called_one call mid new 0 one refl (taken, refl, done)) in
-      subst (λ (calls : List Call). AreCalled puts takes removes calls old 0 (received ++ one) None new) (replicate-append-replicate k 1 call) behind
+      subst (λ (calls : List PortCall). AreCalled puts takes removes calls old 0 (received ++ one) None new) (replicate-append-replicate k 1 call) behind
 
   -- the next message was not
-  pub received_until : (id : ℕ) (msgtyp : ℤ) (k count : ℕ) (ends : Bool) (moment : ℕ) (errno : Errno) (received : List Receipt) (old mid new : Q) → k < count
+  pub received_until : (id : ℕ) (msgtyp : ℤ) (k count : ℕ) (ends : Bool) (moment : ℕ) (errno : Errno) (received : List TakenMessage) (old mid new : Q) → k < count
       → AreCalled puts takes removes (replicate k (receive id msgtyp ends moment)) old 0 received None mid
       → Fails puts takes removes (receive id msgtyp ends moment) mid errno new
       → AreCalled puts takes removes (replicate count (receive id msgtyp ends moment)) old 0 received (Some errno) new
   received_until id msgtyp k count ends moment errno received old mid new within so failed =
       let call = receive id msgtyp ends moment in
       let left = count - (k + 1) in
-      let rest : List Call = replicate left call in
+      let rest : List PortCall = replicate left call in
       let here = called_then (replicate k call) (call ∷ []) old mid new 0 0 received [] (Some errno) so (called_refused call mid new errno failed) in
       let all = called_within (replicate k call ++ call ∷ []) rest old new 0 (received ++ []) errno here in
       let number : k + suc left ≡ count = omega arith in
       let same : (replicate k call ++ call ∷ []) ++ rest ≡ replicate count call =
       append_assoc (replicate k call) (call ∷ []) rest ∙ replicate-append-replicate k (suc left) call ∙ ap (λ (c : ℕ). replicate c call) number in
-      subst (λ (calls : List Call). AreCalled puts takes removes calls old 0 received (Some errno) new) same
-      (subst (λ (l : List Receipt). AreCalled puts takes removes ((replicate k call ++ call ∷ []) ++ rest) old 0 l (Some errno) new) (append-nil received) all)
+      subst (λ (calls : List PortCall). AreCalled puts takes removes calls old 0 received (Some errno) new) same
+      (subst (λ (l : List TakenMessage). AreCalled puts takes removes ((replicate k call ++ call ∷ []) ++ rest) old 0 l (Some errno) new) (append-nil received) all)
 
 -- the calls of a plan in two parts
 pub calls_in_two : (sent : ℕ) (first rest : List Step) → calls_in sent (first ++ rest) ≡ calls_in sent first ++ calls_in (sent + puts_in first) rest
@@ -177,5 +177,5 @@ calls_in_two sent [] rest =
 calls_in_two sent (step ∷ first) rest =
     let front : puts_in (step ∷ first) ≡ puts_in (step ∷ []) + puts_in first = sum_by-append puts_of (step ∷ []) first in
     let sum : sent + puts_of step + puts_in first ≡ sent + puts_in (step ∷ first) = omega (arith, front) in
-    ap (λ (l : List Call). calls_of sent step ++ l) (calls_in_two (sent + puts_of step) first rest ∙ ap (λ (s : ℕ). calls_in (sent + puts_of step) first ++ calls_in s rest) sum)
+    ap (λ (l : List PortCall). calls_of sent step ++ l) (calls_in_two (sent + puts_of step) first rest ∙ ap (λ (s : ℕ). calls_in (sent + puts_of step) first ++ calls_in s rest) sum)
     ∙ sym (append_assoc (calls_of sent step) (calls_in (sent + puts_of step) first) (calls_in (sent + puts_in (step ∷ first)) rest))

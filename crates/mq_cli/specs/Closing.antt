@@ -4,7 +4,7 @@ use Rattle.std.specs.Prelude.{codes, count_by, Option, Some, None}
 use Rattle.std.specs.Fmt.{decimal}
 use Rattle.mq_queue.specs.declared.event.Event.{Event}
 use Rattle.mq_queue.specs.declared.event.Event.TheVariants.{Sent, Received}
-use Rattle.mq_one_thread.specs.Closed.{entries_of}
+use Rattle.mq_one_thread.specs.Closed.{entries_at_end}
 use Rattle.mq_one_thread.specs.Names.{errno_name}
 use Rattle.mq_one_thread.specs.declared.close.ClosedSlot.{ClosedSlot}
 use Rattle.mq_one_thread.specs.declared.errno.Errno.{Errno}
@@ -40,9 +40,9 @@ abbrev pub is_sent : Event → Bool
 is_sent (Sent seat moment tag mtype n) = true
 is_sent _ = false
 
-abbrev pub is_received : Event → Bool
-is_received (Received seat moment place selection size noerror) = true
-is_received _ = false
+abbrev pub is_receipt : Event → Bool
+is_receipt (Received seat moment place selection size noerror) = true
+is_receipt _ = false
 
 -- the entries that a slot leaves
 abbrev pub events_of : ClosedSlot → List Event
@@ -52,7 +52,7 @@ abbrev pub sent_in : List Event → ℕ
 sent_in events = count_by is_sent events
 
 abbrev pub received_in : List Event → ℕ
-received_in events = count_by is_received events
+received_in events = count_by is_receipt events
 
 -- what is told of a slot
 unfoldable pub slot_told : (number events sent received left : ℕ) → List ℕ
@@ -65,8 +65,8 @@ slot_told number events sent received left =
 -- received by those that it leaves
 abbrev pub slot_line : ℕ → ClosedSlot → List ℕ
 slot_line number slot =
-    if entries_of slot == 0 then []
-    else slot_told number (entries_of slot) (sent_in (events_of slot))
+    if entries_at_end slot == 0 then []
+    else slot_told number (entries_at_end slot) (sent_in (events_of slot))
     (received_in (events_of slot)) slot.left
 
 -- the lines of the slots, the first of which has this number

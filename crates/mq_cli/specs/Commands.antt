@@ -15,22 +15,22 @@ use Rattle.mq_cli.specs.Lines.{line_of, words_of, is_printable}
 use Rattle.mq_cli.specs.Numbers.{number_of, integer_of, key_of, under, above_zero}
 
 -- the text of a message: these bytes, or that many letters
-pub data Text : Type 0 where
-  plain : (bytes : List ℕ) → Text
-  letters : (count : ℕ) → Text
+pub data AskedText : Type 0 where
+  plain : (bytes : List ℕ) → AskedText
+  letters : (count : ℕ) → AskedText
 
 -- what a line asks for
-pub data Call : Type 0 where
-  sit : (number : ℕ) → Call
-  show : Call
-  get : (key : ℤ) (flags : GetFlags) → Call
-  snd : (id : ℕ) (mtype : ℤ) (text : Text) → Call
-  rcv : (id size : ℕ) (mtype : ℤ) (except noerror : Bool) → Call
-  set : (id qbytes : ℕ) → Call
-  rm : (id : ℕ) → Call
-  stat : (id : ℕ) → Call
-  cut : (slot : ℕ) → Call
-  ipcs : Call
+pub data AskedCall : Type 0 where
+  sit : (number : ℕ) → AskedCall
+  show : AskedCall
+  get : (key : ℤ) (flags : GetFlags) → AskedCall
+  snd : (id : ℕ) (mtype : ℤ) (text : AskedText) → AskedCall
+  rcv : (id size : ℕ) (mtype : ℤ) (except noerror : Bool) → AskedCall
+  set : (id qbytes : ℕ) → AskedCall
+  rm : (id : ℕ) → AskedCall
+  stat : (id : ℕ) → AskedCall
+  cut : (slot : ℕ) → AskedCall
+  ipcs : AskedCall
 
 -- what was read, seen by f
 abbrev pub ok_map : {A B : Type 0} → (A → B) → Result A Cause → Result B Cause
@@ -52,35 +52,35 @@ worded None f = Err Words
 worded (Some x) f = f x
 
 -- the seat that makes the calls from here on
-abbrev pub seat_of : List (List ℕ) → Result Call Cause
-seat_of (word ∷ []) = above_zero (under (MAX_SEATS + 1) (number_of word)) >>= λ n. Ok (sit n)
-seat_of _ = Err Words
+abbrev pub seat_asked : List (List ℕ) → Result AskedCall Cause
+seat_asked (word ∷ []) = above_zero (under (MAX_SEATS + 1) (number_of word)) >>= λ n. Ok (sit n)
+seat_asked _ = Err Words
 
 -- the arena's figures
-abbrev pub arena_of : List (List ℕ) → Result Call Cause
-arena_of [] = Ok show
-arena_of _ = Err Words
+abbrev pub arena_asked : List (List ℕ) → Result AskedCall Cause
+arena_asked [] = Ok show
+arena_asked _ = Err Words
 
 -- IPC_CREAT and IPC_EXCL
-abbrev pub get_flags_of : List (List ℕ) → Option GetFlags
-get_flags_of [] = Some (record { create = false; exclusive = false })
-get_flags_of (word ∷ []) =
+abbrev pub get_flags_asked : List (List ℕ) → Option GetFlags
+get_flags_asked [] = Some (record { create = false; exclusive = false })
+get_flags_asked (word ∷ []) =
     if bytes_eq word (codes "c") then Some (record { create = true; exclusive = false })
     else (if bytes_eq word (codes "x") then Some (record { create = false; exclusive = true })
     else (if bytes_eq word (codes "cx") then Some (record { create = true; exclusive = true })
     else None))
-get_flags_of _ = None
+get_flags_asked _ = None
 
 -- msgget
-abbrev pub get_of : List (List ℕ) → Result Call Cause
-get_of (key ∷ flags) =
-    worded (get_flags_of flags) (λ f. key_of key >>= λ k. Ok (get k f))
-get_of _ = Err Words
+abbrev pub get_asked : List (List ℕ) → Result AskedCall Cause
+get_asked (key ∷ flags) =
+    worded (get_flags_asked flags) (λ f. key_of key >>= λ k. Ok (get k f))
+get_asked _ = Err Words
 
 -- a row for each live queue
-abbrev pub ipcs_of : List (List ℕ) → Result Call Cause
-ipcs_of [] = Ok ipcs
-ipcs_of _ = Err Words
+abbrev pub ipcs_asked : List (List ℕ) → Result AskedCall Cause
+ipcs_asked [] = Ok ipcs
+ipcs_asked _ = Err Words
 
 -- a text is `=` and the rest of the line, spaces and all, or one word that begins with `*`
 abbrev pub is_plain : List ℕ → Bool
@@ -91,83 +91,83 @@ is_text text =
     is_plain text || ((slice_index_or text 0 0 == 42) && not (list_any (λ b. b == 32) text))
 
 -- the bytes after `=`, or as many letters as the number after `*` says
-abbrev pub text_of : List ℕ → Option Text
-text_of text =
+abbrev pub text_asked : List ℕ → Option AskedText
+text_asked text =
     if is_plain text
     then Some (plain (drop 1 text))
     else option_map letters (number_of (drop 1 text))
 
 -- msgsnd
-abbrev pub send_of : List (List ℕ) → Result Call Cause
-send_of (id ∷ mtype ∷ text) =
+abbrev pub send_asked : List (List ℕ) → Result AskedCall Cause
+send_asked (id ∷ mtype ∷ text) =
     if is_filled id && is_filled mtype && is_text (line_of text)
     then (under (2 ^ 32) (number_of id) >>= λ i. integer_of mtype >>= λ z.
-    text_of (line_of text) >>= λ t. Ok (snd i z t))
+    text_asked (line_of text) >>= λ t. Ok (snd i z t))
     else Err Words
-send_of _ = Err Words
+send_asked _ = Err Words
 
 -- MSG_EXCEPT and MSG_NOERROR
 pub record Flags : Type 0 where
   pub except : Bool
   pub noerror : Bool
 
-abbrev pub flags_of : List (List ℕ) → Option Flags
-flags_of [] = Some (record { except = false; noerror = false })
-flags_of (word ∷ []) =
+abbrev pub flags_asked : List (List ℕ) → Option Flags
+flags_asked [] = Some (record { except = false; noerror = false })
+flags_asked (word ∷ []) =
     if bytes_eq word (codes "e") then Some (record { except = true; noerror = false })
     else (if bytes_eq word (codes "n") then Some (record { except = false; noerror = true })
     else (if bytes_eq word (codes "en") then Some (record { except = true; noerror = true })
     else None))
-flags_of _ = None
+flags_asked _ = None
 
 -- msgrcv
-abbrev pub receive_of : List (List ℕ) → Result Call Cause
-receive_of (id ∷ size ∷ mtype ∷ flags) = worded (flags_of flags) (λ f. do
+abbrev pub receive_asked : List (List ℕ) → Result AskedCall Cause
+receive_asked (id ∷ size ∷ mtype ∷ flags) = worded (flags_asked flags) (λ f. do
   i ← under (2 ^ 32) (number_of id)
   s ← number_of size
   z ← integer_of mtype
   Ok (rcv i s z f.except f.noerror))
-receive_of _ = Err Words
+receive_asked _ = Err Words
 
 -- msgctl: IPC_SET, IPC_RMID and IPC_STAT
-abbrev pub set_of : List (List ℕ) → Result Call Cause
-set_of (id ∷ qbytes ∷ []) =
+abbrev pub set_asked : List (List ℕ) → Result AskedCall Cause
+set_asked (id ∷ qbytes ∷ []) =
     under (2 ^ 32) (number_of id) >>= λ i. number_of qbytes >>= λ q. Ok (set i q)
-set_of _ = Err Words
+set_asked _ = Err Words
 
-abbrev pub remove_of : List (List ℕ) → Result Call Cause
-remove_of (id ∷ []) = under (2 ^ 32) (number_of id) >>= λ i. Ok (rm i)
-remove_of _ = Err Words
+abbrev pub remove_asked : List (List ℕ) → Result AskedCall Cause
+remove_asked (id ∷ []) = under (2 ^ 32) (number_of id) >>= λ i. Ok (rm i)
+remove_asked _ = Err Words
 
-abbrev pub stat_of : List (List ℕ) → Result Call Cause
-stat_of (id ∷ []) = under (2 ^ 32) (number_of id) >>= λ i. Ok (stat i)
-stat_of _ = Err Words
+abbrev pub stat_asked : List (List ℕ) → Result AskedCall Cause
+stat_asked (id ∷ []) = under (2 ^ 32) (number_of id) >>= λ i. Ok (stat i)
+stat_asked _ = Err Words
 
 -- the log of a slot is cut off
-abbrev pub cutting_of : List (List ℕ) → Result Call Cause
-cutting_of (slot ∷ []) = under MAX_SLOTS (number_of slot) >>= λ k. Ok (cut k)
-cutting_of _ = Err Words
+abbrev pub cutting_asked : List (List ℕ) → Result AskedCall Cause
+cutting_asked (slot ∷ []) = under MAX_SLOTS (number_of slot) >>= λ k. Ok (cut k)
+cutting_asked _ = Err Words
 
 -- a command without a text, by its name
-abbrev pub named : List ℕ → List (List ℕ) → Result Call Cause
-named name words =
-    if bytes_eq name (codes "rcv") then receive_of words
-    else (if bytes_eq name (codes "seat") then seat_of words
-    else (if bytes_eq name (codes "arena") then arena_of words
-    else (if bytes_eq name (codes "get") then get_of words
-    else (if bytes_eq name (codes "set") then set_of words
-    else (if bytes_eq name (codes "rm") then remove_of words
-    else (if bytes_eq name (codes "stat") then stat_of words
-    else (if bytes_eq name (codes "cut") then cutting_of words
-    else (if bytes_eq name (codes "ipcs") then ipcs_of words
+abbrev pub command_named : List ℕ → List (List ℕ) → Result AskedCall Cause
+command_named name words =
+    if bytes_eq name (codes "rcv") then receive_asked words
+    else (if bytes_eq name (codes "seat") then seat_asked words
+    else (if bytes_eq name (codes "arena") then arena_asked words
+    else (if bytes_eq name (codes "get") then get_asked words
+    else (if bytes_eq name (codes "set") then set_asked words
+    else (if bytes_eq name (codes "rm") then remove_asked words
+    else (if bytes_eq name (codes "stat") then stat_asked words
+    else (if bytes_eq name (codes "cut") then cutting_asked words
+    else (if bytes_eq name (codes "ipcs") then ipcs_asked words
     else Err Words))))))))
 
 -- a command; the words of all but a text are filled
-abbrev pub command_of : List (List ℕ) → Result Call Cause
-command_of [] = Err Words
-command_of (name ∷ words) =
-    if bytes_eq name (codes "snd") then send_of words
-    else (if not (list_all is_filled words) then Err Words else named name words)
+abbrev pub command_asked : List (List ℕ) → Result AskedCall Cause
+command_asked [] = Err Words
+command_asked (name ∷ words) =
+    if bytes_eq name (codes "snd") then send_asked words
+    else (if not (list_all is_filled words) then Err Words else command_named name words)
 
 -- an empty line or a comment
 abbrev pub is_skipped : List ℕ → Bool
@@ -193,5 +193,5 @@ abbrev pub reading_by : {A : Type 0} → (List (List ℕ) → Result A Cause) �
 reading_by say line = spoken (speaks line) (say (words_of line))
 
 -- what a line of a serial script says
-abbrev pub reading : List ℕ → Result (Option Call) Cause
-reading line = reading_by command_of line
+abbrev pub reading : List ℕ → Result (Option AskedCall) Cause
+reading line = reading_by command_asked line

@@ -2,16 +2,16 @@
 use Rattle.std.specs.Prelude.{ℕ, ◌+◌, Bool, true, false, if◌then◌else◌, List, [], ◌∷◌, map, codes}
 use Rattle.std.specs.Prelude.{Option, Some, Result, Ok, Err}
 use Rattle.mq_cli.specs.declared.fault.Cause.{Cause}
-use Rattle.mq_cli.specs.Commands.{Call, cut, reading}
-use Rattle.mq_cli.specs.Session.{State}
+use Rattle.mq_cli.specs.Commands.{AskedCall, cut, reading}
+use Rattle.mq_cli.specs.Session.{SessionState}
 use Rattle.mq_cli.specs.Transcript.{said}
 
-abbrev pub is_cut : Call → Bool
+abbrev pub is_cut : AskedCall → Bool
 is_cut (cut slot) = true
 is_cut _ = false
 
 -- whether what was read is a cut
-abbrev pub asks_cut : Result (Option Call) Cause → Bool
+abbrev pub asks_cut : Result (Option AskedCall) Cause → Bool
 asks_cut (Ok (Some call)) = is_cut call
 asks_cut _ = false
 
@@ -20,12 +20,13 @@ abbrev pub without_cuts : List (List ℕ) → List (List ℕ)
 without_cuts lines = map (λ line. if asks_cut (reading line) then codes "#" else line) lines
 
 -- what one line writes, and what those after it do, unless it is not well formed
-abbrev pub then_others : Result (List ℕ × State) Cause → (State → List (List ℕ)) → List (List ℕ)
+abbrev pub then_others : Result (List ℕ × SessionState) Cause → (SessionState → List (List ℕ))
+    → List (List ℕ)
 then_others (Ok turn) rest = turn.0 ∷ rest turn.1
 then_others (Err cause) rest = []
 
 -- what each line from line n on writes, up to the first that is not well formed
-unfoldable pub texts_from : ℕ → State → List (List ℕ) → List (List ℕ)
+unfoldable pub texts_from : ℕ → SessionState → List (List ℕ) → List (List ℕ)
 texts_from n s [] = []
 texts_from n s (line ∷ lines) =
     then_others (said n s (reading line)) (λ t. texts_from (n + 1) t lines)

@@ -5,42 +5,43 @@ use Rattle.std.specs.List.{range_with_len}
 use Rattle.mq_message.specs.Text.{PlainText}
 use Rattle.mq_message.specs.declared.order.TheConstants.{INLINE_LEN}
 use Rattle.mq_queue.specs.declared.limits.TheConstants.{MSGMAX}
-use Rattle.mq_one_thread.specs.State.{State, with_arena}
+use Rattle.mq_one_thread.specs.State.{QueuesState, with_arena}
 use Rattle.mq_one_thread.specs.Texts.{drafts_of, draft_errno, draft_refusal, spends}
 use Rattle.mq_one_thread.specs.declared.draft_error.DraftError.{DraftError}
 use Rattle.mq_one_thread.specs.declared.draft_error.DraftError.TheVariants.{TooLong, NoRun, Memory}
 use Rattle.mq_one_thread.specs.declared.errno.Errno.{Errno}
-use Rattle.mq_cli.specs.Commands.{Text, plain, letters}
+use Rattle.mq_cli.specs.Commands.{AskedText, plain, letters}
 
 -- the letters a to z, over and over
 abbrev pub letter : ℕ → ℕ
 letter i = 97 + i % 26
 
-abbrev pub bytes_of_text : Text → List ℕ
+abbrev pub bytes_of_text : AskedText → List ℕ
 bytes_of_text (plain bytes) = bytes
 bytes_of_text (letters count) = map letter (range_with_len 0 count)
 
 -- a draft, by the name of its refusal
-abbrev pub by_draft_errno : Result (PlainText × State) DraftError
-    → Result (PlainText × State) Errno
+abbrev pub by_draft_errno : Result (PlainText × QueuesState) DraftError
+    → Result (PlainText × QueuesState) Errno
 by_draft_errno (Ok made) = Ok made
 by_draft_errno (Err e) = Err (draft_errno e)
 
 -- a text of what the line says
-abbrev pub draft : State → Text → Result (PlainText × State) Errno
+abbrev pub draft : QueuesState → AskedText → Result (PlainText × QueuesState) Errno
 draft queues text = by_draft_errno (drafts_of queues (bytes_of_text text))
 
 -- no text was made: the queues, which stay as they were, tell why; memory is wanted by none but a
 -- text of many pages
-pub record IsNotDrafted (before after : State) (text : Text) (refusal : DraftError) : Type 0 where
+pub record HasNoDraft (before after : QueuesState) (text : AskedText) (refusal : DraftError)
+    : Type 0 where
   pub refused : refusal ≡ draft_refusal (drafts_of before (bytes_of_text text))
   pub memory : refusal ≡ Memory → INLINE_LEN < length (bytes_of_text text)
   pub unchanged : after ≡ before
 
 -- a text was made of what the line says, or not
-abbrev pub Drafts : State → State → Text → Result PlainText DraftError → Type 0
+abbrev pub Drafts : QueuesState → QueuesState → AskedText → Result PlainText DraftError → Type 0
 Drafts before after text (Ok made) = draft before text ≡ Ok (made, after)
-Drafts before after text (Err refusal) = IsNotDrafted before after text refusal
+Drafts before after text (Err refusal) = HasNoDraft before after text refusal
 
 -- a text of these bytes was made; or they are too many, or no pages or no memory were found for
 -- those that want some
@@ -51,5 +52,5 @@ pub record DraftsBytes (bytes : List ℕ) (result : Result PlainText DraftError)
   pub memory : IsErrOf result Memory → 0 < length bytes
 
 -- a text gives its pages back
-abbrev pub spent : PlainText → State → State
+abbrev pub spent : PlainText → QueuesState → QueuesState
 spent text queues = with_arena queues (spends text queues.arena)

@@ -8,15 +8,15 @@ use Rattle.mq_table.specs.declared.limits.TheConstants.{MAX_SLOTS}
 use Rattle.mq_one_thread.specs.declared.config.Config.{Config}
 use Rattle.mq_one_thread.specs.declared.limits.TheConstants.{MAX_SEATS}
 use Rattle.mq_cli.specs.declared.limits.TheConstants.{LINE_LIMIT}
-use Rattle.mq_cli.specs.Commands.{Call, sit, show, get, snd, rcv, set, rm, stat, cut, ipcs, Text}
-use Rattle.mq_cli.specs.Commands.{plain, letters, reading}
+use Rattle.mq_cli.specs.Commands.{AskedCall, sit, show, get, snd, rcv, set, rm, stat, cut, ipcs}
+use Rattle.mq_cli.specs.Commands.{AskedText, plain, letters, reading}
 use Rattle.mq_cli.specs.Cuts.{texts_from, texts_of_others, without_cuts}
 use Rattle.mq_cli.specs.Lines.{line_of, is_printable}
-use Rattle.mq_cli.specs.Session.{start}
+use Rattle.mq_cli.specs.Session.{first_session}
 use Rattle.mq_cli.specs.Transcript.{run_from}
 
 -- a text has `=` before it, a number of letters `*`
-abbrev pub text_spelling : Text → List ℕ
+abbrev pub text_spelling : AskedText → List ℕ
 text_spelling (plain bytes) = 61 ∷ bytes
 text_spelling (letters count) = 42 ∷ decimal count
 
@@ -34,7 +34,7 @@ get_flag_words false true = codes "x" ∷ []
 get_flag_words true true = codes "cx" ∷ []
 
 -- the one line that asks for a call
-abbrev pub spelling : Call → List ℕ
+abbrev pub spelling : AskedCall → List ℕ
 spelling (sit number) = line_of (codes "seat" ∷ decimal number ∷ [])
 spelling show = codes "arena"
 spelling (get key flags) =
@@ -52,7 +52,7 @@ spelling ipcs = codes "ipcs"
 
 -- the calls that a line can ask for: each number is in its range, and a text is printable and
 -- leaves the line short enough
-abbrev pub CanBeSpelled : Call → Type 0
+abbrev pub CanBeSpelled : AskedCall → Type 0
 CanBeSpelled (sit number) = (1 ≤ number) × (number ≤ MAX_SEATS)
 CanBeSpelled show = Unit {0}
 CanBeSpelled (get key flags) = FitsSigned w32 key
@@ -70,26 +70,27 @@ CanBeSpelled (cut slot) = slot < MAX_SLOTS
 CanBeSpelled ipcs = Unit {0}
 
 -- the line asks for the call, in the one way
-abbrev pub Spells : List ℕ → Call → Type 0
+abbrev pub Spells : List ℕ → AskedCall → Type 0
 Spells line call = (line ≡ spelling call) × CanBeSpelled call
 
 -- each call that can be spelled is read back from its line
 abbrev pub ReadsBack : Type 0
-ReadsBack = (call : Call) → CanBeSpelled call → reading (spelling call) ≡ Ok (Some call)
+ReadsBack = (call : AskedCall) → CanBeSpelled call → reading (spelling call) ≡ Ok (Some call)
 
 -- a call is read from no other line
 abbrev pub SpelledOneWay : Type 0
-SpelledOneWay = (line : List ℕ) (call : Call) → reading line ≡ Ok (Some call) → Spells line call
+SpelledOneWay =
+    (line : List ℕ) (call : AskedCall) → reading line ≡ Ok (Some call) → Spells line call
 
 -- a run of these lines writes what each of them writes, one after another; and with a comment in
 -- the place of each cut every other line writes the same, and the fault is the same
 pub record CutsChangeNoOther (config : Config) (lines : List (List ℕ)) : Type 0 where
-  pub whole : (run_from 1 (start config) lines).written
-      ≡ flat_map (λ text. text) (texts_from 1 (start config) lines)
-  pub texts : texts_from 1 (start config) (without_cuts lines)
-      ≡ texts_of_others lines (texts_from 1 (start config) lines)
-  pub fault : (run_from 1 (start config) (without_cuts lines)).fault
-      ≡ (run_from 1 (start config) lines).fault
+  pub whole : (run_from 1 (first_session config) lines).written
+      ≡ flat_map (λ text. text) (texts_from 1 (first_session config) lines)
+  pub texts : texts_from 1 (first_session config) (without_cuts lines)
+      ≡ texts_of_others lines (texts_from 1 (first_session config) lines)
+  pub fault : (run_from 1 (first_session config) (without_cuts lines)).fault
+      ≡ (run_from 1 (first_session config) lines).fault
 
 -- and so it is over each system and for all lines
 abbrev pub CutChangesNoOtherLine : Type 0

@@ -43,7 +43,7 @@ abbrev pub AreCountable : List (Vec Step) → Type 0
 AreCountable plans = All (λ (plan : Vec Step). IsCountable plan.items) plans
 
 -- at the end of a plan all of it is done; before, no more than it asks for
-pub record IsDone (plan : List Step) (outcome : Outcome) : Type 0 where
+pub record IsCarriedOut (plan : List Step) (outcome : Outcome) : Type 0 where
   pub all : IfNone outcome.end ((outcome.sent ≡ puts_in plan) × (outcome.received ≡ takes_in plan))
   pub sent : outcome.sent ≤ puts_in plan
   pub received : outcome.received ≤ takes_in plan

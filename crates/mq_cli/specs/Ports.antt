@@ -16,17 +16,17 @@ use Rattle.mq_cli.specs.declared.taken.Taken.{Taken}
 use Rattle.mq_cli.specs.Letters.{AreLetters}
 
 -- why no text was drafted of n bytes: they are too many, or no pages or no memory were found
-abbrev pub MayNotDraft : ℕ → Errno → Type 0
-MayNotDraft n EINVAL = MSGMAX < n
-MayNotDraft n ENOMEM = (0 < n) × (n ≤ MSGMAX)
-MayNotDraft n _ = ⊥
+abbrev pub PortMayNotDraft : ℕ → Errno → Type 0
+PortMayNotDraft n EINVAL = MSGMAX < n
+PortMayNotDraft n ENOMEM = (0 < n) × (n ≤ MSGMAX)
+PortMayNotDraft n _ = ⊥
 
 -- a text of n bytes was sent; or none was drafted, and no call was made; or the call was refused,
 -- with EAGAIN only where its waits end
 abbrev pub Sends : ℕ → SeatState → SeatState → ℕ → ℤ → ℕ → ℕ → Bool → ℕ → Result ℕ Errno → Type 0
 Sends slots old new id mtype tag n ends moment (Ok entry) =
     IsSent slots id mtype tag n moment old new entry
-Sends slots old new id mtype tag n ends moment (Err errno) = ((new ≡ old) × MayNotDraft n errno)
+Sends slots old new id mtype tag n ends moment (Err errno) = ((new ≡ old) × PortMayNotDraft n errno)
     ⊎ IsRefusal (never_sent slots id mtype) (MaySend ends) (slot_of id)
     (send_verdict (seq_of id) mtype n) old new errno
 

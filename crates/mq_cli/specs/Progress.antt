@@ -7,12 +7,12 @@ use Rattle.mq_cli.specs.declared.notes.Notes.{Notes}
 use Rattle.mq_cli.specs.declared.notes.Stream.{Stream}
 use Rattle.mq_cli.specs.declared.outcome.Outcome.{Outcome}
 use Rattle.mq_cli.specs.declared.plan.Progress.{Progress}
-use Rattle.mq_cli.specs.Calls.{Call, Receipt, last_tag, tags_rise}
+use Rattle.mq_cli.specs.Calls.{PortCall, TakenMessage, last_tag, tags_rise}
 use Rattle.mq_cli.specs.Plans.{rises}
 use Rattle.mq_cli.specs.Works.{AreCalled, Puts, Removals, Takes}
 
 -- the notes tell the last tag of each stream, and whether all tags rose
-pub record AreNotes (eq : Stream → Stream → Bool) (received : List Receipt) (notes : Notes)
+pub record AreNotes (eq : Stream → Stream → Bool) (received : List TakenMessage) (notes : Notes)
     : Type 0 where
   pub last : (stream : Stream) → get eq notes.last stream ≡ last_tag stream (reverse received)
   pub ordered : notes.ordered ≡ tags_rise (reverse received)
@@ -23,7 +23,7 @@ pub record HoldSame (eq : Stream → Stream → Bool) (old new : Notes) : Type 0
   pub ordered : new.ordered ≡ old.ordered
 
 -- a tag is noted as the last of its stream, in order where it is above the one before
-pub record HasNoted (eq : Stream → Stream → Bool) (old new : Notes) (stream : Stream) (tag : ℕ)
+pub record NotesTag (eq : Stream → Stream → Bool) (old new : Notes) (stream : Stream) (tag : ℕ)
     : Type 0 where
   pub ordered : new.ordered ≡ (old.ordered && rises (get eq old.last stream) tag)
   pub last : Updates eq old.last new.last stream (Some tag)
@@ -60,13 +60,13 @@ end_of (Ok _) = None
 end_of (Err errno) = Some errno
 
 -- a worker came further by some of these calls
-pub record GoesOn {Q : Type 0} (eq : Stream → Stream → Bool) (puts : Puts Q) (takes : Takes Q)
-    (removes : Removals Q) (calls : List Call) (old new : Q) (before after : Progress)
+pub record ComesFurther {Q : Type 0} (eq : Stream → Stream → Bool) (puts : Puts Q) (takes : Takes Q)
+    (removes : Removals Q) (calls : List PortCall) (old new : Q) (before after : Progress)
     (end : Option Errno) : Type 0 where
   pub sent : ℕ
-  pub received : List Receipt
+  pub received : List TakenMessage
   pub called : AreCalled puts takes removes calls old sent received end new
   pub sent_is : after.sent ≡ before.sent + sent
   pub received_is : after.received ≡ before.received + length received
-  pub noted : (so_far : List Receipt) → AreNotes eq so_far before.notes
+  pub noted : (so_far : List TakenMessage) → AreNotes eq so_far before.notes
       → AreNotes eq (so_far ++ received) after.notes

@@ -12,7 +12,7 @@ use Rattle.mq_cli.specs.declared.fault.RunFault.TheVariants.{Script, Thread}
 use Rattle.mq_cli.specs.Commands.{reading}
 use Rattle.mq_cli.specs.Lines.{lines_of}
 use Rattle.mq_cli.specs.Serial.{AppendsPrefix, Writes}
-use Rattle.mq_cli.specs.Session.{State, start}
+use Rattle.mq_cli.specs.Session.{SessionState, first_session}
 use Rattle.mq_cli.specs.Transcript.{said}
 
 -- the word of a cause
@@ -27,28 +27,29 @@ abbrev pub fault_line : ℕ → Cause → List ℕ
 fault_line n cause = codes "line " ++ decimal n ++ codes ": " ++ cause_name cause ++ 10 ∷ []
 
 -- a line that is not well formed is named, and changes nothing
-abbrev pub or_named : ℕ → State → Result (List ℕ × State) Cause → List ℕ × State
+abbrev pub or_named : ℕ → SessionState → Result (List ℕ × SessionState) Cause
+    → List ℕ × SessionState
 or_named n s (Ok turn) = turn
 or_named n s (Err cause) = (fault_line n cause, s)
 
 -- what line n is answered, and the state after it
-abbrev pub answer_of : ℕ → State → List ℕ → List ℕ × State
+abbrev pub answer_of : ℕ → SessionState → List ℕ → List ℕ × SessionState
 answer_of n s line = or_named n s (said n s (reading line))
 
 -- what the lines from line n on are answered
-unfoldable pub answers_from : ℕ → State → List (List ℕ) → List ℕ
+unfoldable pub answers_from : ℕ → SessionState → List (List ℕ) → List ℕ
 answers_from n s [] = []
 answers_from n s (line ∷ lines) =
     (answer_of n s line).0 ++ answers_from (n + 1) (answer_of n s line).1 lines
 
 -- what all that is typed is answered, over a system of this size
 abbrev pub answers_to : Config → List ℕ → List ℕ
-answers_to config text = answers_from 1 (start config) (lines_of text)
+answers_to config text = answers_from 1 (first_session config) (lines_of text)
 
 -- the writer took an answer, which leaves the state s, or a prefix of it
-abbrev pub Answers : Option (List ℕ) → Option (List ℕ) → List ℕ × State → State
+abbrev pub WritesAnswer : Option (List ℕ) → Option (List ℕ) → List ℕ × SessionState → SessionState
     → Result (Unit {0}) RunFault → Type 0
-Answers old new turn s outcome = OnOk outcome (s ≡ turn.1) × Writes old new turn.0 outcome
+WritesAnswer old new turn s outcome = OnOk outcome (s ≡ turn.1) × Writes old new turn.0 outcome
 
 -- the first line of a text
 abbrev pub first_line_of : List ℕ → List ℕ
@@ -62,7 +63,7 @@ IsPromptFault _ = Unit {0}
 
 -- the first line of what was to be read is read and answered as line n, or nothing was left
 abbrev pub AnswersNext : Option (List ℕ) → Option (List ℕ) → Option (List ℕ) → Option (List ℕ)
-    → ℕ → State → State → Result Bool RunFault → Type 0
+    → ℕ → SessionState → SessionState → Result Bool RunFault → Type 0
 AnswersNext read left old new n s t (Ok true) = IfSome read (λ text.
     (left ≡ Some (drop_through 10 text)) × (t ≡ (answer_of n s (first_line_of text)).1)
     × Appends old new (answer_of n s (first_line_of text)).0)

@@ -6,7 +6,7 @@ use Rattle.mq_queue.specs.declared.figures.BoardRow.{BoardRow}
 use Rattle.mq_table.specs.Ids.{id_of}
 use Rattle.mq_table.specs.KeptShown.{row_now}
 use Rattle.mq_table.specs.declared.limits.TheConstants.{MAX_SEQ, MAX_SLOTS}
-use Rattle.mq_one_thread.specs.State.{State, slot_at}
+use Rattle.mq_one_thread.specs.State.{QueuesState, slot_at}
 
 -- a text at the right end of its column
 abbrev pub right_aligned : ℕ → List ℕ → List ℕ
@@ -42,9 +42,9 @@ abbrev pub line_of_row : ℕ → BoardRow → List ℕ
 line_of_row slot r = if r.live then 10 ∷ named_of slot r ++ filled_of r else []
 
 -- the lines of the first slots
-abbrev pub lines_to : State → ℕ → List ℕ
+abbrev pub lines_to : QueuesState → ℕ → List ℕ
 lines_to s count = flat_map (λ k. line_of_row k (row_now (slot_at s k))) (range_with_len 0 count)
 
 -- the whole table, but for the end of its last line
-abbrev pub table_of : State → List ℕ
+abbrev pub table_of : QueuesState → List ℕ
 table_of s = header ++ lines_to s (length s.slots)

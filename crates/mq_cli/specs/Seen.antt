@@ -7,13 +7,13 @@ use Rattle.mq_cli.specs.declared.command.Command.TheVariants.{Seat, Arena, Get, 
 use Rattle.mq_cli.specs.declared.command.Command.TheVariants.{Remove, Stat, Cut, Report}
 use Rattle.mq_cli.specs.declared.command.TextForm.{TextForm}
 use Rattle.mq_cli.specs.declared.command.TextForm.TheVariants.{Plain, Letters}
-use Rattle.mq_cli.specs.Commands.{Call, sit, show, get, snd, rcv, set, rm, stat, cut, ipcs, Text}
-use Rattle.mq_cli.specs.Commands.{plain, letters, Flags, ok_map}
+use Rattle.mq_cli.specs.Commands.{AskedCall, sit, show, get, snd, rcv, set, rm, stat, cut, ipcs}
+use Rattle.mq_cli.specs.Commands.{AskedText, plain, letters, Flags, ok_map}
 use Rattle.mq_cli.specs.declared.command.ReceiveFlags.{ReceiveFlags}
 use Rattle.mq_cli.specs.declared.reply.ArenaFigures.{ArenaFigures}
 use Rattle.mq_cli.specs.Transcript.{Reply, arena}
 
-abbrev pub text_seen : TextForm → Text
+abbrev pub text_seen : TextForm → AskedText
 text_seen (Plain bytes) = plain bytes.now
 text_seen (Letters count) = letters count
 
@@ -21,23 +21,23 @@ abbrev pub flags_seen : ReceiveFlags → Flags
 flags_seen flags = record { except = flags.except; noerror = flags.noerror }
 
 -- the call that a command asks for
-abbrev pub call_of : Command → Call
-call_of (Seat number) = sit number
-call_of Arena = show
-call_of (Get call) = get call.key call.flags
-call_of (Send call) = snd call.id call.mtype (text_seen call.text)
-call_of (Receive call) = rcv call.id call.size call.mtype call.flags.except call.flags.noerror
-call_of (Set id qbytes) = set id qbytes
-call_of (Remove id) = rm id
-call_of (Stat id) = stat id
-call_of (Cut slot) = cut slot
-call_of Report = ipcs
+abbrev pub asked_by : Command → AskedCall
+asked_by (Seat number) = sit number
+asked_by Arena = show
+asked_by (Get call) = get call.key call.flags
+asked_by (Send call) = snd call.id call.mtype (text_seen call.text)
+asked_by (Receive call) = rcv call.id call.size call.mtype call.flags.except call.flags.noerror
+asked_by (Set id qbytes) = set id qbytes
+asked_by (Remove id) = rm id
+asked_by (Stat id) = stat id
+asked_by (Cut slot) = cut slot
+asked_by Report = ipcs
 
-abbrev pub seen : Result Command Cause → Result Call Cause
-seen read = ok_map call_of read
+abbrev pub seen : Result Command Cause → Result AskedCall Cause
+seen read = ok_map asked_by read
 
-abbrev pub seen_line : Result (Option Command) Cause → Result (Option Call) Cause
-seen_line read = ok_map (λ line. option_map call_of line) read
+abbrev pub seen_line : Result (Option Command) Cause → Result (Option AskedCall) Cause
+seen_line read = ok_map (λ line. option_map asked_by line) read
 
 -- the reply that shows the arena
 abbrev pub arena_shown : ArenaFigures → Reply

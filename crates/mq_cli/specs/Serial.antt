@@ -7,7 +7,7 @@ use Rattle.mq_cli.specs.declared.fault.RunFault.{RunFault}
 use Rattle.mq_cli.specs.declared.fault.RunFault.TheVariants.{Script, Size, Read, Write, Memory}
 use Rattle.mq_cli.specs.declared.fault.RunFault.TheVariants.{Thread}
 use Rattle.mq_cli.specs.Input.{ReadsBy}
-use Rattle.mq_cli.specs.Session.{State}
+use Rattle.mq_cli.specs.Session.{SessionState}
 use Rattle.mq_cli.specs.Transcript.{Run, output, Reply, run_of}
 
 -- a text begins with this one
@@ -52,8 +52,8 @@ pub record RanSerial (config : Config) (script left old new : Option (List ℕ))
   pub writes : WritesSerial config script old new result
 
 -- what the line with this number wrote and answered, which leaves the state s
-abbrev pub RunsLine : Option (List ℕ) → Option (List ℕ) → ℕ → Result (List ℕ × State) Cause
-    → State → Result (Unit {0}) RunFault → Type 0
+abbrev pub RunsLine : Option (List ℕ) → Option (List ℕ) → ℕ → Result (List ℕ × SessionState) Cause
+    → SessionState → Result (Unit {0}) RunFault → Type 0
 RunsLine old new number (Ok turn) s (Ok _) = (s ≡ turn.1) × Appends old new turn.0
 RunsLine old new number (Ok turn) s (Err Write) = AppendsPrefix old new turn.0
 RunsLine old new number (Ok turn) s (Err Memory) = AppendsPrefix old new turn.0

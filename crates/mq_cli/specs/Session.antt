@@ -1,14 +1,14 @@
 -- What a run keeps.
 use Rattle.std.specs.Prelude.{◌≡◌, ℕ, ◌≤◌, Result, Ok, Err}
 use Rattle.mq_arena.specs.declared.limits.TheConstants.{LEDGER_PARTS}
-use Rattle.mq_one_thread.specs.Limits.{start as empty_system}
-use Rattle.mq_one_thread.specs.State.{State as System}
+use Rattle.mq_one_thread.specs.Limits.{empty_queues as empty_system}
+use Rattle.mq_one_thread.specs.State.{QueuesState as System}
 use Rattle.mq_one_thread.specs.declared.config.Config.{Config}
 use Rattle.mq_one_thread.specs.declared.errno.Errno.{Errno}
 use Rattle.mq_one_thread.specs.declared.results.Refused.{Refused}
 
 -- the queues, and the seat that makes the calls
-pub record State : Type 0 where
+pub record SessionState : Type 0 where
   pub queues : System
   pub seat : ℕ
 
@@ -19,8 +19,8 @@ pub record CanOpen (new_name new_parts named all : ℕ) : Type 0 where
   pub enough : LEDGER_PARTS ≤ new_parts
 
 -- seat 1 begins, with no queue
-abbrev pub start : Config → State
-start config = record { queues = empty_system config; seat = 1 }
+abbrev pub first_session : Config → SessionState
+first_session config = record { queues = empty_system config; seat = 1 }
 
 -- the answer of a call, by the name of its refusal
 abbrev pub by_errno : {T : Type 0} → Result T Refused → Result T Errno

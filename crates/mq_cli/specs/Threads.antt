@@ -15,14 +15,14 @@ use Rattle.mq_cli.specs.declared.outcome.Outcome.{Outcome}
 use Rattle.mq_cli.specs.declared.step.Step.{Step}
 use Rattle.mq_cli.specs.Closing.{closing}
 use Rattle.mq_cli.specs.MainPart.{AreReplies, WroteAll, WroteSome, lines_replied}
-use Rattle.mq_cli.specs.Plans.{IsDone}
+use Rattle.mq_cli.specs.Plans.{IsCarriedOut}
 use Rattle.mq_cli.specs.Serial.{AppendsPrefix, Writes}
 use Rattle.mq_cli.specs.ThreadsScript.{Wanted, wanted_of}
 use Rattle.mq_cli.specs.Transcript.{Reply}
 
 -- each section has been run as far as its outcome says
 abbrev pub AreDone : List (List Step) → List Outcome → Type 0
-AreDone sections outcomes = AllZip IsDone sections outcomes
+AreDone sections outcomes = AllZip IsCarriedOut sections outcomes
 
 -- the slots of a system of this size that was closed: in them are the changes of the main part's
 -- seat, as it ended, and of some others
@@ -47,7 +47,7 @@ abbrev pub main_seat : Config → SeatState
 main_seat config = fresh_seat config.slots 1
 
 -- what a whole run writes: the replies of the main part, and behind them what is told at the end
-pub record IsWhole (config : Config) (wanted : Wanted) (text : List ℕ) : Type 0 where
+pub record IsWholeRun (config : Config) (wanted : Wanted) (text : List ℕ) : Type 0 where
   pub replies : List Reply
   pub main : SeatState
   pub told : List ℕ
@@ -57,7 +57,7 @@ pub record IsWhole (config : Config) (wanted : Wanted) (text : List ℕ) : Type 
 
 abbrev pub WroteWhole : Config → Wanted → Option (List ℕ) → Option (List ℕ) → Type 0
 WroteWhole config wanted old new =
-    (text : List ℕ) × IsWhole config wanted text × Appends old new text
+    (text : List ℕ) × IsWholeRun config wanted text × Appends old new text
 
 -- the main part alone
 abbrev pub WroteMain : Config → Wanted → Option (List ℕ) → Option (List ℕ) → Type 0
@@ -68,11 +68,11 @@ WroteMain config wanted old new = (main : SeatState)
 abbrev pub WrotePart : Config → Wanted → Option (List ℕ) → Option (List ℕ) → Type 0
 WrotePart config wanted old new =
     WroteSome config.slots config.last_seq wanted.calls (main_seat config) old new
-    ⊎ ((text : List ℕ) × IsWhole config wanted text × AppendsPrefix old new text)
+    ⊎ ((text : List ℕ) × IsWholeRun config wanted text × AppendsPrefix old new text)
 
 -- this is so of what the script wants, which is well formed
-abbrev pub Tells : (Wanted → Type 0) → List ℕ → Type 0
-Tells so script = (wanted : Wanted) × (wanted_of script ≡ Ok wanted) × so wanted
+abbrev pub TellsWanted : (Wanted → Type 0) → List ℕ → Type 0
+TellsWanted so script = (wanted : Wanted) × (wanted_of script ≡ Ok wanted) × so wanted
 
 -- what the main part wrote at its seat, and the workers answered
 abbrev pub RanParts : ℕ → ℕ → Wanted → SeatState → SeatState → Option (List ℕ) → Option (List ℕ)
@@ -96,7 +96,7 @@ IsMakingFault _ = ⊥
 -- each plan has been run as far as its outcome says, or none was run
 abbrev pub RanWorkers : List (Vec Step) → Result (Vec Outcome) RunFault → Type 0
 RanWorkers plans (Ok outcomes) =
-    AllZip (λ (plan : Vec Step) outcome. IsDone plan.items outcome) plans outcomes.items
+    AllZip (λ (plan : Vec Step) outcome. IsCarriedOut plan.items outcome) plans outcomes.items
 RanWorkers plans (Err fault) = IsMakingFault fault
 
 -- what is told of workers that have ended; where they were not run, their fault stays

@@ -3,19 +3,19 @@ use Rattle.std.specs.Prelude.{◌≡◌, ◌<◌, ◌≤◌, ◌^◌, ℕ, FitsS
 use Rattle.std.specs.Prelude.{Option, None, Some, Ok}
 use Rattle.std.specs.Fmt.{decimal, signed_decimal}
 use Rattle.std.specs.Int.{w64}
-use Rattle.mq_cli.specs.declared.limits.TheConstants.{MAX_COUNT, MAX_WITHIN, MAX_WORKERS}
+use Rattle.mq_cli.specs.declared.limits.TheConstants.{MAX_MESSAGES, MAX_WITHIN, MAX_WORKERS}
 use Rattle.mq_cli.specs.declared.step.Step.TheVariants.{Put, Take, Remove}
 use Rattle.mq_cli.specs.declared.threads_script.MainCall.{MainCall}
 use Rattle.mq_cli.specs.declared.threads_script.MainCall.TheVariants.{Get, Set}
 use Rattle.mq_cli.specs.declared.threads_script.ThreadsLine.{ThreadsLine}
 use Rattle.mq_cli.specs.declared.threads_script.ThreadsLine.TheVariants.{Worker, Main, Section}
-use Rattle.mq_cli.specs.Commands.{Call, get, set}
+use Rattle.mq_cli.specs.Commands.{AskedCall, get, set}
 use Rattle.mq_cli.specs.Laws.{spelling, CanBeSpelled}
 use Rattle.mq_cli.specs.Lines.{line_of}
 use Rattle.mq_cli.specs.ThreadsScript.{threads_reading}
 
 -- the command of a serial script that makes the same call
-abbrev pub call_asked : MainCall → Call
+abbrev pub call_asked : MainCall → AskedCall
 call_asked (Get key flags moment) = get key flags
 call_asked (Set id qbytes moment) = set id qbytes
 
@@ -52,10 +52,10 @@ CanStand sections n Worker = sections < MAX_WORKERS
 CanStand sections n (Main call) =
     (sections ≡ 0) × (moment_of call ≡ n) × CanBeSpelled (call_asked call)
 CanStand sections n (Section (Put id mtype count len within moment)) =
-    (0 < sections) × (moment ≡ n) × (id < 2 ^ 32) × FitsSigned w64 mtype × (count ≤ MAX_COUNT)
+    (0 < sections) × (moment ≡ n) × (id < 2 ^ 32) × FitsSigned w64 mtype × (count ≤ MAX_MESSAGES)
     × (len < 2 ^ 64) × CanWait within
 CanStand sections n (Section (Take id msgtyp count within moment)) =
-    (0 < sections) × (moment ≡ n) × (id < 2 ^ 32) × FitsSigned w64 msgtyp × (count ≤ MAX_COUNT)
+    (0 < sections) × (moment ≡ n) × (id < 2 ^ 32) × FitsSigned w64 msgtyp × (count ≤ MAX_MESSAGES)
     × CanWait within
 CanStand sections n (Section (Remove id moment)) =
     (0 < sections) × (moment ≡ n) × (id < 2 ^ 32)

@@ -13,7 +13,7 @@ use Rattle.mq_cli.specs.declared.limits.TheConstants.{MAX_WORKERS}
 use Rattle.mq_cli.specs.declared.step.Step.{Step}
 use Rattle.mq_cli.specs.Input.{ReadsBy}
 use Rattle.mq_cli.specs.Plans.{AreCountable}
-use Rattle.mq_cli.specs.Threads.{Tells, WroteMain, WrotePart, WroteWhole}
+use Rattle.mq_cli.specs.Threads.{TellsWanted, WroteMain, WrotePart, WroteWhole}
 use Rattle.mq_cli.specs.ThreadsScript.{Wanted, wanted_of}
 
 -- sections can be run at some seats: there is one for each
@@ -23,7 +23,8 @@ pub record HaveSeats (count seats : ℕ) (sections : List (Vec Step)) : Type 0 w
 
 -- a script that was read can be run on a system of this size with a ledger of so many parts: a seat
 -- is there for each section, and one for the main part
-pub record CanRun (config : Config) (parts seats : ℕ) (sections : Vec (Vec Step)) : Type 0 where
+pub record CanRunScript (config : Config) (parts seats : ℕ) (sections : Vec (Vec Step))
+    : Type 0 where
   pub enough : LEDGER_PARTS ≤ parts
   pub limits : keeps_limits config ≡ true
   pub seated : seats ≡ vec_len sections + 1
@@ -48,9 +49,9 @@ WritesThreads config script old new (Err Read) = Keeps old new
 WritesThreads config script old new (Err (Script line cause)) =
     IfSome script (λ s. wanted_of s ≡ Err (line, cause)) × Keeps old new
 WritesThreads config script old new (Err Memory) = Keeps old new
-    ⊎ IfSome script (Tells (λ wanted. WrotePart config wanted old new))
+    ⊎ IfSome script (TellsWanted (λ wanted. WrotePart config wanted old new))
 WritesThreads config script old new result =
-    IfSome script (Tells (λ wanted. RanWanted config wanted old new result))
+    IfSome script (TellsWanted (λ wanted. RanWanted config wanted old new result))
 
 -- what a run in several threads read, and what it wrote
 pub record RanThreads (config : Config) (script left old new : Option (List ℕ))

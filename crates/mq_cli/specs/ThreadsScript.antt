@@ -3,7 +3,7 @@ use Rattle.std.specs.Prelude.{ℕ, ◌+◌, ◌^◌, ◌==◌, nat_lt, if◌then
 use Rattle.std.specs.Prelude.{length, codes, Option, Some, None, Result, Ok, Err}
 use Rattle.std.specs.List.{list_all}
 use Rattle.std.specs.Str.{bytes_eq}
-use Rattle.mq_cli.specs.declared.limits.TheConstants.{MAX_COUNT, MAX_WITHIN, MAX_WORKERS}
+use Rattle.mq_cli.specs.declared.limits.TheConstants.{MAX_MESSAGES, MAX_WITHIN, MAX_WORKERS}
 use Rattle.mq_cli.specs.declared.fault.Cause.{Cause}
 use Rattle.mq_cli.specs.declared.fault.Cause.TheVariants.{Words}
 use Rattle.mq_cli.specs.declared.step.Step.{Step}
@@ -12,26 +12,26 @@ use Rattle.mq_cli.specs.declared.threads_script.MainCall.{MainCall}
 use Rattle.mq_cli.specs.declared.threads_script.MainCall.TheVariants.{Get, Set}
 use Rattle.mq_cli.specs.declared.threads_script.ThreadsLine.{ThreadsLine}
 use Rattle.mq_cli.specs.declared.threads_script.ThreadsLine.TheVariants.{Worker, Main, Section}
-use Rattle.mq_cli.specs.Commands.{Call, get, set, get_of, set_of, is_filled, reading_by}
+use Rattle.mq_cli.specs.Commands.{AskedCall, get, set, get_asked, set_asked, is_filled, reading_by}
 use Rattle.mq_cli.specs.Commands.{◌>>=◌}
 use Rattle.mq_cli.specs.Lines.{lines_of}
 use Rattle.mq_cli.specs.Numbers.{number_of, integer_of, under}
 
 -- a call of the main part, made by line n
-abbrev pub main_call : ℕ → Call → Result ThreadsLine Cause
+abbrev pub main_call : ℕ → AskedCall → Result ThreadsLine Cause
 main_call n (get key flags) = Ok (Main (Get key flags n))
 main_call n (set id qbytes) = Ok (Main (Set id qbytes n))
 main_call n _ = Err Words
 
-abbrev pub asked : ℕ → Result Call Cause → Result ThreadsLine Cause
+abbrev pub asked : ℕ → Result AskedCall Cause → Result ThreadsLine Cause
 asked n (Ok call) = main_call n call
 asked n (Err cause) = Err cause
 
 -- the lines of the main part are those of a serial script
 abbrev pub main_of : ℕ → List ℕ → List (List ℕ) → Result ThreadsLine Cause
 main_of n name words =
-    if bytes_eq name (codes "get") then asked n (get_of words)
-    else (if bytes_eq name (codes "set") then asked n (set_of words)
+    if bytes_eq name (codes "get") then asked n (get_asked words)
+    else (if bytes_eq name (codes "set") then asked n (set_asked words)
     else Err Words)
 
 -- within how many milliseconds the waits of a step end, by the words behind its numbers; without
@@ -55,7 +55,7 @@ abbrev pub put_of : ℕ → List (List ℕ) → Result ThreadsLine Cause
 put_of n (id ∷ mtype ∷ count ∷ len ∷ words) = with_end (within_of words) (λ w. do
   i ← under (2 ^ 32) (number_of id)
   z ← integer_of mtype
-  c ← under (MAX_COUNT + 1) (number_of count)
+  c ← under (MAX_MESSAGES + 1) (number_of count)
   l ← number_of len
   Ok (Section (Put i z c l w n)))
 put_of n _ = Err Words
@@ -65,7 +65,7 @@ abbrev pub take_of : ℕ → List (List ℕ) → Result ThreadsLine Cause
 take_of n (id ∷ mtype ∷ count ∷ words) = with_end (within_of words) (λ w. do
   i ← under (2 ^ 32) (number_of id)
   z ← integer_of mtype
-  c ← under (MAX_COUNT + 1) (number_of count)
+  c ← under (MAX_MESSAGES + 1) (number_of count)
   Ok (Section (Take i z c w n)))
 take_of n _ = Err Words
 
@@ -124,16 +124,16 @@ with_line w (Main call) = record { calls = w.calls ++ call ∷ []; sections = w.
 with_line w (Section step) = record { calls = w.calls; sections = onto_last step w.sections }
 
 -- the rest of a script, or the number of a line that is not well formed, and its cause
-abbrev pub goes_on : ℕ → Wanted → Result (Option ThreadsLine) Cause
+abbrev pub reads_on : ℕ → Wanted → Result (Option ThreadsLine) Cause
     → (Wanted → Result Wanted (ℕ × Cause)) → Result Wanted (ℕ × Cause)
-goes_on n w (Ok None) rest = rest w
-goes_on n w (Ok (Some line)) rest = rest (with_line w line)
-goes_on n w (Err cause) rest = Err (n, cause)
+reads_on n w (Ok None) rest = rest w
+reads_on n w (Ok (Some line)) rest = rest (with_line w line)
+reads_on n w (Err cause) rest = Err (n, cause)
 
 unfoldable pub wanted_from : ℕ → Wanted → List (List ℕ) → Result Wanted (ℕ × Cause)
 wanted_from n w [] = Ok w
 wanted_from n w (line ∷ lines) =
-    goes_on n w (threads_reading (length w.sections) n line)
+    reads_on n w (threads_reading (length w.sections) n line)
     (λ more. wanted_from (n + 1) more lines)
 
 -- what a script wants done, or the first line of it that is not well formed, with its cause

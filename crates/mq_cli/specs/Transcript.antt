@@ -11,7 +11,7 @@ use Rattle.mq_one_thread.specs.Calls.{msgsnd, msgrcv, rmid, cut_log}
 use Rattle.mq_one_thread.specs.Calls.{set as set_answer, stat as stat_answer}
 use Rattle.mq_one_thread.specs.Get.{msgget}
 use Rattle.mq_one_thread.specs.Names.{errno_name}
-use Rattle.mq_one_thread.specs.State.{State as System, slot_at}
+use Rattle.mq_one_thread.specs.State.{QueuesState as System, slot_at}
 use Rattle.mq_one_thread.specs.declared.config.Config.{Config}
 use Rattle.mq_one_thread.specs.declared.errno.Errno.{Errno}
 use Rattle.mq_one_thread.specs.declared.errno.Errno.TheVariants.{EINVAL}
@@ -19,11 +19,11 @@ use Rattle.mq_one_thread.specs.declared.results.Delivered.{Delivered}
 use Rattle.mq_one_thread.specs.declared.results.GetFlags.{GetFlags}
 use Rattle.mq_cli.specs.declared.fault.Cause.{Cause}
 use Rattle.mq_cli.specs.Lines.{lines_of}
-use Rattle.mq_cli.specs.Commands.{Call, sit, show, get, snd, rcv, set, rm, stat, cut, ipcs, Text}
-use Rattle.mq_cli.specs.Commands.{reading}
+use Rattle.mq_cli.specs.Commands.{AskedCall, sit, show, get, snd, rcv, set, rm, stat, cut, ipcs}
+use Rattle.mq_cli.specs.Commands.{AskedText, reading}
 use Rattle.mq_cli.specs.Drafts.{draft, spent}
 use Rattle.mq_cli.specs.Reports.{table_of}
-use Rattle.mq_cli.specs.Session.{State, by_errno, start}
+use Rattle.mq_cli.specs.Session.{SessionState, by_errno, first_session}
 
 -- what a command answers, if it does
 pub data Reply : Type 0 where
@@ -39,14 +39,14 @@ pub data Reply : Type 0 where
   table : (queues : System) → Reply
 
 -- the answer of msgrcv, up to the text
-unfoldable pub head_of : ℤ → ℕ → ℕ → ℕ → List ℕ
-head_of mtype sender tag n =
+unfoldable pub message_head : ℤ → ℕ → ℕ → ℕ → List ℕ
+message_head mtype sender tag n =
     codes "msg " ++ signed_decimal mtype ++ codes " seat " ++ decimal sender
     ++ codes " tag " ++ decimal tag ++ codes " len " ++ decimal n ++ codes " ="
 
 -- the answer of `arena`, up to the largest order that fits
-unfoldable pub pages_of : ℕ → ℕ → List ℕ
-pages_of pages free =
+unfoldable pub arena_head : ℕ → ℕ → List ℕ
+arena_head pages free =
     codes "pages " ++ decimal pages ++ codes " free " ++ decimal free ++ codes " largest "
 
 abbrev pub order_name : Option ℕ → List ℕ
@@ -68,51 +68,53 @@ moments_of f =
     ++ decimal f.ctime
 
 -- a reply as it is written
-abbrev pub text_of : Reply → List ℕ
-text_of silent = []
-text_of (refused errno) = errno_name errno
-text_of (given id) = codes "id " ++ decimal id
-text_of (at entry) = codes "at " ++ decimal entry
-text_of (arena pages free most) = pages_of pages free ++ order_name most
-text_of (gone entry events) = codes "at " ++ decimal entry ++ codes " events " ++ decimal events
-text_of (figures queue) = counts_of queue ++ callers_of queue ++ moments_of queue
-text_of (cut_off first end) = codes "cut from " ++ decimal first ++ codes " to " ++ decimal end
-text_of (table queues) = table_of queues
-text_of (message m) = head_of m.mtype m.sender m.tag m.length ++ m.text.bytes
+abbrev pub reply_text : Reply → List ℕ
+reply_text silent = []
+reply_text (refused errno) = errno_name errno
+reply_text (given id) = codes "id " ++ decimal id
+reply_text (at entry) = codes "at " ++ decimal entry
+reply_text (arena pages free most) = arena_head pages free ++ order_name most
+reply_text (gone entry events) = codes "at " ++ decimal entry ++ codes " events " ++ decimal events
+reply_text (figures queue) = counts_of queue ++ callers_of queue ++ moments_of queue
+reply_text (cut_off first end) = codes "cut from " ++ decimal first ++ codes " to " ++ decimal end
+reply_text (table queues) = table_of queues
+reply_text (message m) = message_head m.mtype m.sender m.tag m.length ++ m.text.bytes
 
 -- its line, where there is one
 abbrev pub output : Reply → List ℕ
 output silent = []
-output reply = text_of reply ++ 10 ∷ []
+output reply = reply_text reply ++ 10 ∷ []
 
 -- the reply of an answer, and the state after it: a refused call changes nothing
-abbrev pub told : {T : Type 0} → System → (T × System → Reply × System) → Result (T × System) Errno
+abbrev pub replied : {T : Type 0} → System → (T × System → Reply × System)
+    → Result (T × System) Errno
     → Reply × System
-told q reply (Ok turn) = reply turn
-told q reply (Err e) = (refused e, q)
+replied q reply (Ok turn) = reply turn
+replied q reply (Err e) = (refused e, q)
 
 -- what the calls of line n, made by a seat, reply, and the queues after them
 abbrev pub get_step : ℕ → ℕ → System → ℤ → GetFlags → Reply × System
-get_step n seat q key flags = told q (λ t. (given t.0.id, t.1)) (msgget q seat key flags n)
+get_step n seat q key flags = replied q (λ t. (given t.0.id, t.1)) (msgget q seat key flags n)
 
 -- a text that cannot be made is refused whatever else the line says
-abbrev pub send_step : ℕ → ℕ → System → ℕ → ℤ → Text → Reply × System
+abbrev pub send_step : ℕ → ℕ → System → ℕ → ℤ → AskedText → Reply × System
 send_step n seat q id mtype text =
-    told q (λ d. told q (λ t. (at t.0, t.1)) (by_errno (msgsnd d.1 seat id mtype n d.0 n)))
+    replied q (λ d. replied q (λ t. (at t.0, t.1)) (by_errno (msgsnd d.1 seat id mtype n d.0 n)))
     (draft q text)
 
 -- a text that was handed out gives its pages back once it is written
 abbrev pub receive_step : ℕ → ℕ → System → ℕ → ℕ → ℤ → Bool → Bool → Reply × System
 receive_step n seat q id size mtype except noerror =
-    told q (λ t. (message t.0, spent t.0.text t.1))
+    replied q (λ t. (message t.0, spent t.0.text t.1))
     (by_errno (msgrcv q seat id size mtype except noerror n))
 
 abbrev pub set_step : ℕ → ℕ → System → ℕ → ℕ → Reply × System
-set_step n seat q id qbytes = told q (λ t. (at t.0, t.1)) (by_errno (set_answer q seat id qbytes n))
+set_step n seat q id qbytes =
+    replied q (λ t. (at t.0, t.1)) (by_errno (set_answer q seat id qbytes n))
 
 abbrev pub remove_step : ℕ → ℕ → System → ℕ → Reply × System
 remove_step n seat q id =
-    told q (λ t. (gone t.0.entry (t.0.log.base.places + length t.0.log.tail), t.1))
+    replied q (λ t. (gone t.0.entry (t.0.log.base.places + length t.0.log.tail), t.1))
     (by_errno (rmid q seat id n))
 
 -- a slot's log is cut off where it ends: told are how many entries were cut off before, and how
@@ -124,9 +126,9 @@ cut_step q slot =
     else (refused EINVAL, q)
 
 -- calls that only show change nothing
-abbrev pub stat_reply : Result Figures Errno → Reply
-stat_reply (Ok queue) = figures queue
-stat_reply (Err errno) = refused errno
+abbrev pub figures_reply : Result Figures Errno → Reply
+figures_reply (Ok queue) = figures queue
+figures_reply (Err errno) = refused errno
 
 abbrev pub arena_reply : System → Reply
 arena_reply q =
@@ -134,11 +136,11 @@ arena_reply q =
     (largest q.arena.height q.arena.lent)
 
 -- the same for the whole run, whose seat is kept
-abbrev pub by_seat : State → Reply × System → Reply × State
+abbrev pub by_seat : SessionState → Reply × System → Reply × SessionState
 by_seat s turn = (turn.0, record { queues = turn.1; seat = s.seat })
 
 -- what the command of line n replies, and the state after it
-abbrev pub step : ℕ → State → Call → Reply × State
+abbrev pub step : ℕ → SessionState → AskedCall → Reply × SessionState
 step n s (sit number) = (silent, record { queues = s.queues; seat = number })
 step n s show = (arena_reply s.queues, s)
 step n s (get key flags) = by_seat s (get_step n s.seat s.queues key flags)
@@ -147,12 +149,13 @@ step n s (rcv id size mtype except noerror) =
     by_seat s (receive_step n s.seat s.queues id size mtype except noerror)
 step n s (set id qbytes) = by_seat s (set_step n s.seat s.queues id qbytes)
 step n s (rm id) = by_seat s (remove_step n s.seat s.queues id)
-step n s (stat id) = (stat_reply (stat_answer s.queues id), s)
+step n s (stat id) = (figures_reply (stat_answer s.queues id), s)
 step n s (cut slot) = by_seat s (cut_step s.queues slot)
 step n s ipcs = (table s.queues, s)
 
 -- what a line writes and the state after it, or why it is not well formed
-abbrev pub said : ℕ → State → Result (Option Call) Cause → Result (List ℕ × State) Cause
+abbrev pub said : ℕ → SessionState → Result (Option AskedCall) Cause
+    → Result (List ℕ × SessionState) Cause
 said n s (Ok None) = Ok ([], s)
 said n s (Ok (Some call)) = Ok (output (step n s call).0, (step n s call).1)
 said n s (Err cause) = Err cause
@@ -165,17 +168,17 @@ pub record Run : Type 0 where
 abbrev pub before : List ℕ → Run → Run
 before text run = record { written = text ++ run.written; fault = run.fault }
 
-abbrev pub goes_on : ℕ → Result (List ℕ × State) Cause → (State → Run) → Run
-goes_on n (Ok turn) rest = before turn.0 (rest turn.1)
-goes_on n (Err cause) rest = record { written = []; fault = Some (n, cause) }
+abbrev pub runs_on : ℕ → Result (List ℕ × SessionState) Cause → (SessionState → Run) → Run
+runs_on n (Ok turn) rest = before turn.0 (rest turn.1)
+runs_on n (Err cause) rest = record { written = []; fault = Some (n, cause) }
 
 -- the run of the lines from line n on, up to the first that is not well formed
-unfoldable pub run_from : ℕ → State → List (List ℕ) → Run
+unfoldable pub run_from : ℕ → SessionState → List (List ℕ) → Run
 run_from n s [] = record { written = []; fault = None }
-run_from n s (line ∷ lines) = goes_on n (said n s (reading line)) (λ t. run_from (n + 1) t lines)
+run_from n s (line ∷ lines) = runs_on n (said n s (reading line)) (λ t. run_from (n + 1) t lines)
 
 abbrev pub run_of : Config → List ℕ → Run
-run_of config script = run_from 1 (start config) (lines_of script)
+run_of config script = run_from 1 (first_session config) (lines_of script)
 
 -- all that a script writes, over a system of this size
 abbrev pub transcript : Config → List ℕ → List ℕ

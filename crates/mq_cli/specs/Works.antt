@@ -6,7 +6,8 @@ use Rattle.mq_one_thread.specs.declared.errno.Errno.TheVariants.{ENOMEM}
 use Rattle.mq_cli.specs.declared.outcome.Outcome.{Outcome}
 use Rattle.mq_cli.specs.declared.step.Step.{Step}
 use Rattle.mq_cli.specs.declared.taken.Taken.{Taken}
-use Rattle.mq_cli.specs.Calls.{Call, send, receive, remove, Receipt, calls_in, is_send, tags_rise}
+use Rattle.mq_cli.specs.Calls.{PortCall, send, receive, remove, TakenMessage, calls_in, is_send}
+use Rattle.mq_cli.specs.Calls.{tags_rise}
 
 -- what the calls of a port do: before, what it was told, the answer, after
 abbrev pub Puts : Type 0 → Type 1
@@ -19,7 +20,8 @@ abbrev pub Removals : Type 0 → Type 1
 Removals Q = Q → ℕ → ℕ → Result ℕ Errno → Q → Type 0
 
 -- a call succeeded, and received these
-abbrev pub Succeeds : {Q : Type 0} → Puts Q → Takes Q → Removals Q → Call → Q → List Receipt → Q
+abbrev pub Succeeds : {Q : Type 0} → Puts Q → Takes Q → Removals Q → PortCall → Q
+    → List TakenMessage → Q
     → Type 0
 Succeeds puts takes removes (send id mtype tag n ends moment) old received new =
     (received ≡ []) × ((entry : ℕ) × puts old id mtype tag n ends moment (Ok entry) new)
@@ -30,7 +32,7 @@ Succeeds puts takes removes (remove id moment) old received new =
     (received ≡ []) × ((entry : ℕ) × removes old id moment (Ok entry) new)
 
 -- a call was refused; one that receives may not be made, for want of memory for its note
-abbrev pub Fails : {Q : Type 0} → Puts Q → Takes Q → Removals Q → Call → Q → Errno → Q → Type 0
+abbrev pub Fails : {Q : Type 0} → Puts Q → Takes Q → Removals Q → PortCall → Q → Errno → Q → Type 0
 Fails puts takes removes (send id mtype tag n ends moment) old errno new =
     puts old id mtype tag n ends moment (Err errno) new
 Fails puts takes removes (receive id msgtyp ends moment) old errno new =
@@ -38,16 +40,17 @@ Fails puts takes removes (receive id msgtyp ends moment) old errno new =
 Fails puts takes removes (remove id moment) old errno new = removes old id moment (Err errno) new
 
 -- the calls succeeded one after the other, and received these
-abbrev pub AllSucceed : {Q : Type 0} → Puts Q → Takes Q → Removals Q → List Call → Q
-    → List Receipt → Q → Type 0
+abbrev pub AllSucceed : {Q : Type 0} → Puts Q → Takes Q → Removals Q → List PortCall → Q
+    → List TakenMessage → Q → Type 0
 AllSucceed puts takes removes [] old received new = (received ≡ []) × (new ≡ old)
-AllSucceed {Q} puts takes removes (call ∷ calls) old received new = (first : List Receipt)
-    × (rest : List Receipt) × (mid : Q) × (received ≡ first ++ rest)
+AllSucceed {Q} puts takes removes (call ∷ calls) old received new = (first : List TakenMessage)
+    × (rest : List TakenMessage) × (mid : Q) × (received ≡ first ++ rest)
     × Succeeds puts takes removes call old first mid
     × AllSucceed puts takes removes calls mid rest new
 
 -- none is left, or the first of those that are left was refused
-abbrev pub Ends : {Q : Type 0} → Puts Q → Takes Q → Removals Q → List Call → Q → Option Errno → Q
+abbrev pub Ends : {Q : Type 0} → Puts Q → Takes Q → Removals Q → List PortCall → Q → Option Errno
+    → Q
     → Type 0
 Ends puts takes removes [] old None new = new ≡ old
 Ends puts takes removes (call ∷ calls) old (Some errno) new =
@@ -57,10 +60,10 @@ Ends puts takes removes _ old _ new = ⊥
 -- of these calls the first succeeded, one after the other: so many sent, and these were received;
 -- then none was left, or the next was refused
 pub record AreCalled {Q : Type 0} (puts : Puts Q) (takes : Takes Q) (removes : Removals Q)
-    (calls : List Call) (old : Q) (sent : ℕ) (received : List Receipt) (end : Option Errno)
+    (calls : List PortCall) (old : Q) (sent : ℕ) (received : List TakenMessage) (end : Option Errno)
     (new : Q) : Type 0 where
-  pub first : List Call
-  pub rest : List Call
+  pub first : List PortCall
+  pub rest : List PortCall
   pub mid : Q
   pub cut : calls ≡ first ++ rest
   pub made : AllSucceed puts takes removes first old received mid
@@ -70,7 +73,7 @@ pub record AreCalled {Q : Type 0} (puts : Puts Q) (takes : Takes Q) (removes : R
 -- a worker made the calls of its plan, up to its end
 pub record HasWorked {Q : Type 0} (puts : Puts Q) (takes : Takes Q) (removes : Removals Q)
     (plan : List Step) (outcome : Outcome) (old new : Q) : Type 0 where
-  pub received : List Receipt
+  pub received : List TakenMessage
   pub called : AreCalled puts takes removes (calls_in 0 plan) old outcome.sent received
       outcome.end new
   pub count : outcome.received ≡ length received

@@ -2,9 +2,9 @@ ghost use Rattle.std.specs.Prelude.{◌≡◌, ◌+◌, ◌++◌, OnOk, length, 
 ghost use Rattle.std.specs.List.{range_with_len};
 ghost use Rattle.mq_queue.specs.declared.limits.TheConstants.{MSGMAX};
 ghost use Rattle.mq_cli.specs.Drafts.{letter};
-ghost use Rattle.mq_cli.specs.Seen.{arena_shown, call_of, text_seen};
+ghost use Rattle.mq_cli.specs.Seen.{arena_shown, asked_by, text_seen};
 ghost use Rattle.mq_cli.specs.Serial.{Answered};
-ghost use Rattle.mq_cli.specs.Transcript.{arena_reply, output, stat_reply, step};
+ghost use Rattle.mq_cli.specs.Transcript.{arena_reply, output, figures_reply, step};
 ghost use Rattle.mq_cli.specs.Transcript.{cut_step, get_step, receive_step, remove_step, send_step};
 ghost use Rattle.mq_cli.specs.Transcript.{set_step};
 ghost use Rattle.mq_one_thread.specs.Calls.{stat as stat_answer};
@@ -31,7 +31,7 @@ pub(crate) fn answer<L: Ledger>(
     command: Command<'_>,
     out: &mut Vec<u8>,
 ) -> Result<(), AllocError>
-    ensures { OnOk result (Answered (step line session.old (call_of command.entry))
+    ensures { OnOk result (Answered (step line session.old (asked_by command.entry))
         out.old.items out.new.items session.new) }
 {
     let seat = session.seat;
@@ -200,7 +200,7 @@ fn end_of(cut: &Cut) -> u128
 
 fn stat<L: Ledger>(queues: &OneThread<L>, id: u32, out: &mut Vec<u8>) -> Result<(), AllocError>
     ensures { OnOk result
-        (out.new.items ≡ out.old.items ++ output (stat_reply (stat_answer queues.now id))) }
+        (out.new.items ≡ out.old.items ++ output (figures_reply (stat_answer queues.now id))) }
 {
     match queues.stat(Id::from_number(id)) {
         Ok(figures) => write_figures(out, figures),

@@ -1,7 +1,7 @@
 //! What a run of workers tells at its end.
 
 ghost use Rattle.std.specs.Prelude.{◌≡◌, ◌++◌, IfOk, OnOk};
-ghost use Rattle.mq_one_thread.specs.Closed.{entries_of};
+ghost use Rattle.mq_one_thread.specs.Closed.{entries_at_end};
 ghost use Rattle.mq_cli.specs.Closing.{closing, counts_told, end_name as name_of_end, end_told};
 ghost use Rattle.mq_cli.specs.Closing.{page_line, received_in, sent_in, slot_line};
 ghost use Rattle.mq_cli.specs.Closing.{slot_lines, slot_told, worker_line, worker_lines};
@@ -134,7 +134,7 @@ fn write_told(
 
 /// How many entries a slot had: as many as a u64 can tell may be cut off, and others are left.
 fn count_events(slot: &ClosedSlot) -> u128
-    ensures { result ≡ entries_of slot.now }
+    ensures { result ≡ entries_at_end slot.now }
 {
     slot.first as u128 + slot.past.len() as u128 + slot.last.len() as u128
 }

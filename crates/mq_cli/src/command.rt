@@ -1,9 +1,10 @@
 ghost use Rattle.std.specs.Prelude.{◌≡◌, ◌+◌, ◌^◌, ◌==◌, length};
 ghost use Rattle.std.specs.List.{list_any};
 ghost use Rattle.std.specs.Option.{option_map};
-ghost use Rattle.mq_cli.specs.Commands.{arena_of, command_of, flags_of, get_flags_of, get_of};
-ghost use Rattle.mq_cli.specs.Commands.{cutting_of, ipcs_of, named, receive_of, reading};
-ghost use Rattle.mq_cli.specs.Commands.{remove_of, seat_of, send_of, set_of, stat_of, text_of};
+ghost use Rattle.mq_cli.specs.Commands.{arena_asked, command_asked, flags_asked, get_flags_asked};
+ghost use Rattle.mq_cli.specs.Commands.{get_asked, cutting_asked, ipcs_asked, command_named};
+ghost use Rattle.mq_cli.specs.Commands.{receive_asked, reading, remove_asked, seat_asked};
+ghost use Rattle.mq_cli.specs.Commands.{send_asked, set_asked, stat_asked, text_asked};
 ghost use Rattle.mq_cli.specs.Commands.{is_text as is_text_form};
 ghost use Rattle.mq_cli.specs.Drafts.{bytes_of_text};
 ghost use Rattle.mq_cli.specs.Lines.{words_of};
@@ -104,7 +105,7 @@ pub(crate) fn read_line(line: &[u8]) -> Result<Option<Command<'_>>, Cause>
 }
 
 fn read_command(line: &[u8]) -> Result<Command<'_>, Cause>
-    ensures { seen result ≡ command_of (words_of line.now) }
+    ensures { seen result ≡ command_asked (words_of line.now) }
 {
     let mut words = Words::new(line);
     let Some(name) = words.next() else {
@@ -123,7 +124,7 @@ fn read_command(line: &[u8]) -> Result<Command<'_>, Cause>
 
 /// A command without a text, whose words may be empty only where none is read.
 fn read_named<'a>(name: &[u8], words: Words<'a>) -> Result<Command<'a>, Cause>
-    ensures { seen result ≡ named name.now (parts_left 32 words.entry.rest) }
+    ensures { seen result ≡ command_named name.now (parts_left 32 words.entry.rest) }
 {
     if name == b"rcv".as_slice() {
         return read_receive(words);
@@ -156,7 +157,7 @@ fn read_named<'a>(name: &[u8], words: Words<'a>) -> Result<Command<'a>, Cause>
 }
 
 pub(crate) fn read_get(mut words: Words<'_>) -> Result<Command<'_>, Cause>
-    ensures { seen result ≡ get_of (parts_left 32 words.entry.rest) }
+    ensures { seen result ≡ get_asked (parts_left 32 words.entry.rest) }
 {
     let Some(word) = words.next() else {
         return Err(Cause::Words);
@@ -171,7 +172,7 @@ pub(crate) fn read_get(mut words: Words<'_>) -> Result<Command<'_>, Cause>
 }
 
 fn read_get_flags(mut words: Words<'_>) -> Option<GetFlags>
-    ensures { result ≡ get_flags_of (parts_left 32 words.entry.rest) }
+    ensures { result ≡ get_flags_asked (parts_left 32 words.entry.rest) }
 {
     let (create, exclusive) = match (words.next(), words.next()) {
         (None, _) => (false, false),
@@ -184,7 +185,7 @@ fn read_get_flags(mut words: Words<'_>) -> Option<GetFlags>
 }
 
 fn read_report(mut words: Words<'_>) -> Result<Command<'_>, Cause>
-    ensures { seen result ≡ ipcs_of (parts_left 32 words.entry.rest) }
+    ensures { seen result ≡ ipcs_asked (parts_left 32 words.entry.rest) }
 {
     match words.next() {
         None => Ok(Command::Report),
@@ -193,7 +194,7 @@ fn read_report(mut words: Words<'_>) -> Result<Command<'_>, Cause>
 }
 
 fn read_arena(mut words: Words<'_>) -> Result<Command<'_>, Cause>
-    ensures { seen result ≡ arena_of (parts_left 32 words.entry.rest) }
+    ensures { seen result ≡ arena_asked (parts_left 32 words.entry.rest) }
 {
     match words.next() {
         None => Ok(Command::Arena),
@@ -202,7 +203,7 @@ fn read_arena(mut words: Words<'_>) -> Result<Command<'_>, Cause>
 }
 
 fn read_seat(mut words: Words<'_>) -> Result<Command<'_>, Cause>
-    ensures { seen result ≡ seat_of (parts_left 32 words.entry.rest) }
+    ensures { seen result ≡ seat_asked (parts_left 32 words.entry.rest) }
 {
     match (words.next(), words.next()) {
         (Some(word), None) => match seat_number(word) {
@@ -214,7 +215,7 @@ fn read_seat(mut words: Words<'_>) -> Result<Command<'_>, Cause>
 }
 
 fn read_send(mut words: Words<'_>) -> Result<Command<'_>, Cause>
-    ensures { seen result ≡ send_of (parts_left 32 words.entry.rest) }
+    ensures { seen result ≡ send_asked (parts_left 32 words.entry.rest) }
 {
     let (Some(id), Some(mtype)) = (words.next(), words.next()) else {
         return Err(Cause::Words);
@@ -245,7 +246,7 @@ fn has_space(text: &[u8]) -> bool
 }
 
 fn read_text(text: &[u8]) -> Option<TextForm<'_>>
-    ensures { option_map text_seen result ≡ text_of text.now }
+    ensures { option_map text_seen result ≡ text_asked text.now }
 {
     match text {
         [first, bytes @ ..] if *first == b'=' => Some(TextForm::Plain(bytes)),
@@ -255,7 +256,7 @@ fn read_text(text: &[u8]) -> Option<TextForm<'_>>
 }
 
 fn read_receive(mut words: Words<'_>) -> Result<Command<'_>, Cause>
-    ensures { seen result ≡ receive_of (parts_left 32 words.entry.rest) }
+    ensures { seen result ≡ receive_asked (parts_left 32 words.entry.rest) }
 {
     let (Some(id), Some(size), Some(mtype)) = (words.next(), words.next(), words.next()) else {
         return Err(Cause::Words);
@@ -275,7 +276,7 @@ fn read_receive(mut words: Words<'_>) -> Result<Command<'_>, Cause>
 }
 
 fn read_flags(mut words: Words<'_>) -> Option<ReceiveFlags>
-    ensures { option_map flags_seen result ≡ flags_of (parts_left 32 words.entry.rest) }
+    ensures { option_map flags_seen result ≡ flags_asked (parts_left 32 words.entry.rest) }
 {
     let (except, noerror) = match (words.next(), words.next()) {
         (None, _) => (false, false),
@@ -288,7 +289,7 @@ fn read_flags(mut words: Words<'_>) -> Option<ReceiveFlags>
 }
 
 pub(crate) fn read_set(mut words: Words<'_>) -> Result<Command<'_>, Cause>
-    ensures { seen result ≡ set_of (parts_left 32 words.entry.rest) }
+    ensures { seen result ≡ set_asked (parts_left 32 words.entry.rest) }
 {
     match (words.next(), words.next(), words.next()) {
         (Some(id), Some(qbytes), None) => match (id_of(id), number(qbytes)) {
@@ -300,7 +301,7 @@ pub(crate) fn read_set(mut words: Words<'_>) -> Result<Command<'_>, Cause>
 }
 
 fn read_remove(mut words: Words<'_>) -> Result<Command<'_>, Cause>
-    ensures { seen result ≡ remove_of (parts_left 32 words.entry.rest) }
+    ensures { seen result ≡ remove_asked (parts_left 32 words.entry.rest) }
 {
     match (words.next(), words.next()) {
         (Some(id), None) => match id_of(id) {
@@ -312,7 +313,7 @@ fn read_remove(mut words: Words<'_>) -> Result<Command<'_>, Cause>
 }
 
 fn read_stat(mut words: Words<'_>) -> Result<Command<'_>, Cause>
-    ensures { seen result ≡ stat_of (parts_left 32 words.entry.rest) }
+    ensures { seen result ≡ stat_asked (parts_left 32 words.entry.rest) }
 {
     match (words.next(), words.next()) {
         (Some(id), None) => match id_of(id) {
@@ -324,7 +325,7 @@ fn read_stat(mut words: Words<'_>) -> Result<Command<'_>, Cause>
 }
 
 fn read_cut(mut words: Words<'_>) -> Result<Command<'_>, Cause>
-    ensures { seen result ≡ cutting_of (parts_left 32 words.entry.rest) }
+    ensures { seen result ≡ cutting_asked (parts_left 32 words.entry.rest) }
 {
     match (words.next(), words.next()) {
         (Some(slot), None) => match slot_number(slot) {

@@ -24,7 +24,7 @@ pub(crate) const READ_CALLS: u32 = 2_097_152;
 pub(crate) const MAX_WORKERS: usize = 15;
 
 /// How many messages a line of a section sends or receives at most.
-pub(crate) const MAX_COUNT: u32 = 100_000;
+pub(crate) const MAX_MESSAGES: u32 = 100_000;
 
 /// Within how many milliseconds the waits of a line end at most, where it says so.
 pub(crate) const MAX_WITHIN: u64 = 1_000_000;
@@ -36,6 +36,6 @@ pub fn the_limits()
     ensures line { LINE_LIMIT ≡ 4096 }
     ensures reads { READ_CALLS ≡ 2097152 }
     ensures workers { MAX_WORKERS ≡ 15 }
-    ensures count { MAX_COUNT ≡ 100000 }
+    ensures count { MAX_MESSAGES ≡ 100000 }
     ensures within { MAX_WITHIN ≡ 1000000 }
 {}

@@ -2,7 +2,7 @@ ghost use Rattle.std.specs.Prelude.{◌≡◌, ◌<◌, [], MatchResult};
 ghost use Rattle.std.specs.HashMap.{spare};
 ghost use Rattle.mq_one_thread.specs.declared.errno.Errno.TheVariants.{ENOMEM};
 ghost use Rattle.mq_cli.specs.Calls.{stream_of};
-ghost use Rattle.mq_cli.specs.Progress.{AreNotes, HasNoted, HoldSame};
+ghost use Rattle.mq_cli.specs.Progress.{AreNotes, NotesTag, HoldSame};
 
 use crate::Taken;
 use mq_one_thread::Errno;
@@ -70,7 +70,7 @@ impl Notes {
     /// is above that of the message before in its stream.
     pub(crate) fn note(&mut self, stream: Stream, tag: u64)
         requires { 0 < spare self.old.last }
-        ensures noted { HasNoted ⟦<Stream as PartialEq>⟧.eq self.old self.new stream tag }
+        ensures noted { NotesTag ⟦<Stream as PartialEq>⟧.eq self.old self.new stream tag }
     {
         let Ok(before) = self.last.insert(stream, tag) else {
             unreachable!()

@@ -1,7 +1,8 @@
 ghost use Rattle.std.specs.Prelude.{◌≡◌, ◌+◌, ◌<◌, ◌^◌, replicate};
 ghost use Rattle.mq_cli.specs.Calls.{calls_of, receive, sends_after};
-ghost use Rattle.mq_cli.specs.Plans.{IsCountable, IsDone, HasGrown, puts_of, takes_of, removes_of};
-ghost use Rattle.mq_cli.specs.Progress.{CanCount, GoesOn, HasCounted, end_of, outcome_of};
+ghost use Rattle.mq_cli.specs.Plans.{IsCountable, IsCarriedOut, HasGrown, puts_of, takes_of};
+ghost use Rattle.mq_cli.specs.Plans.{removes_of};
+ghost use Rattle.mq_cli.specs.Progress.{CanCount, ComesFurther, HasCounted, end_of, outcome_of};
 ghost use Rattle.mq_cli.specs.Works.{HasWorked};
 
 use crate::notes::{Notes, Stream};
@@ -25,7 +26,7 @@ pub fn work<Q: Port, R: Wait, C: Clock>(
     plan: &[Step],
 ) -> Outcome
     requires { IsCountable plan.now }
-    ensures done { IsDone plan.now result }
+    ensures done { IsCarriedOut plan.now result }
     ensures grown { HasGrown plan.now result (Q.calls port.old) (Q.calls port.new) }
     ensures worked { HasWorked Q.puts Q.takes Q.removes plan.now result port.old port.new }
 {
@@ -79,7 +80,7 @@ impl Progress {
         requires { CanCount self.old (puts_of step) (takes_of step) }
         ensures counted { HasCounted (puts_of step) (takes_of step) (removes_of step)
             (Q.calls port.old) (Q.calls port.new) self.old self.new result }
-        ensures called { GoesOn ⟦<Stream as PartialEq>⟧.eq Q.puts Q.takes Q.removes
+        ensures called { ComesFurther ⟦<Stream as PartialEq>⟧.eq Q.puts Q.takes Q.removes
             (calls_of self.old.sent step) port.old port.new self.old self.new (end_of result) }
     {
         match step {
@@ -144,7 +145,7 @@ impl Progress {
         requires { self.old.sent + count < 2 ^ 64 }
         ensures counted { HasCounted count 0 0 (Q.calls port.old) (Q.calls port.new)
             self.old self.new result }
-        ensures called { GoesOn ⟦<Stream as PartialEq>⟧.eq Q.puts Q.takes Q.removes
+        ensures called { ComesFurther ⟦<Stream as PartialEq>⟧.eq Q.puts Q.takes Q.removes
             (sends_after self.old.sent id mtype count length T.ends moment)
             port.old port.new self.old self.new (end_of result) }
     {
@@ -183,7 +184,7 @@ impl Progress {
         requires { self.old.received + count < 2 ^ 64 }
         ensures counted { HasCounted 0 count 0 (Q.calls port.old) (Q.calls port.new)
             self.old self.new result }
-        ensures called { GoesOn ⟦<Stream as PartialEq>⟧.eq Q.puts Q.takes Q.removes
+        ensures called { ComesFurther ⟦<Stream as PartialEq>⟧.eq Q.puts Q.takes Q.removes
             (replicate count (receive id msgtyp T.ends moment))
             port.old port.new self.old self.new (end_of result) }
     {

@@ -1,8 +1,8 @@
 ghost use Rattle.std.specs.Prelude.{◌≡◌, ◌++◌, OnOk};
 ghost use Rattle.mq_cli.specs.Input.{IsRunSize};
 ghost use Rattle.mq_cli.specs.Lines.{lines_of};
-ghost use Rattle.mq_cli.specs.Prompt.{Answers, AnswersAll, AnswersNext, answer_of, answers_from};
-ghost use Rattle.mq_cli.specs.Prompt.{answers_to, cause_name, fault_line};
+ghost use Rattle.mq_cli.specs.Prompt.{WritesAnswer, AnswersAll, AnswersNext, answer_of};
+ghost use Rattle.mq_cli.specs.Prompt.{answers_from, answers_to, cause_name, fault_line};
 ghost use Rattle.mq_cli.specs.Serial.{Writes};
 ghost use Rattle.mq_cli.specs.Session.{CanOpen};
 
@@ -131,7 +131,7 @@ fn answer_line<L: Ledger, W: Write>(
     out: &mut Vec<u8>,
     writer: &mut W,
 ) -> Result<(), RunFault>
-    ensures { Answers (W.contents writer.old) (W.contents writer.new)
+    ensures { WritesAnswer (W.contents writer.old) (W.contents writer.new)
         (answer_of number session.old line.now) session.new result }
 {
     match read_line(line) {

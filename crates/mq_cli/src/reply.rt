@@ -1,7 +1,7 @@
 ghost use Rattle.std.specs.Prelude.{◌≡◌, ◌≢◌, ◌++◌, ◌∷◌, [], OnOk};
 ghost use Rattle.mq_cli.specs.Seen.{arena_shown};
-ghost use Rattle.mq_cli.specs.Transcript.{callers_of, counts_of, head_of, moments_of};
-ghost use Rattle.mq_cli.specs.Transcript.{order_name, pages_of};
+ghost use Rattle.mq_cli.specs.Transcript.{callers_of, counts_of, message_head, moments_of};
+ghost use Rattle.mq_cli.specs.Transcript.{order_name, arena_head};
 ghost use Rattle.mq_cli.specs.Transcript.{output, refused, given, at, message, gone, figures};
 ghost use Rattle.mq_cli.specs.Transcript.{cut_off};
 
@@ -60,9 +60,9 @@ pub(crate) fn write_arena(out: &mut Vec<u8>, f: ArenaFigures) -> Result<(), Allo
 }
 
 /// All of that line before the order.
-#[tactic(auto, unfolding(crate::specs::Transcript::pages_of))]
+#[tactic(auto, unfolding(crate::specs::Transcript::arena_head))]
 fn write_pages(out: &mut Vec<u8>, pages: u32, free: u32) -> Result<(), AllocError>
-    ensures { OnOk result (out.new.items ≡ out.old.items ++ pages_of pages free) }
+    ensures { OnOk result (out.new.items ≡ out.old.items ++ arena_head pages free) }
 {
     write_field(out, b"pages ", pages)?;
     write_field(out, b" free ", free)?;
@@ -170,7 +170,7 @@ fn write_parts<L: Ledger>(out: &mut Vec<u8>, text: &Text<L>) -> Result<(), Alloc
 }
 
 /// All of that line before the text.
-#[tactic(auto, unfolding(crate::specs::Transcript::head_of))]
+#[tactic(auto, unfolding(crate::specs::Transcript::message_head))]
 fn write_head(
     out: &mut Vec<u8>,
     mtype: i64,
@@ -178,7 +178,7 @@ fn write_head(
     tag: u64,
     length: u64,
 ) -> Result<(), AllocError>
-    ensures { OnOk result (out.new.items ≡ out.old.items ++ head_of mtype sender tag length) }
+    ensures { OnOk result (out.new.items ≡ out.old.items ++ message_head mtype sender tag length) }
 {
     write_field(out, b"msg ", mtype)?;
     write_field(out, b" seat ", sender)?;

@@ -2,7 +2,7 @@ ghost use Rattle.std.specs.Prelude.{◌≤◌, Some, Ok, length};
 ghost use Rattle.mq_cli.specs.Commands.{reading};
 ghost use Rattle.mq_cli.specs.Input.{IsRunSize};
 ghost use Rattle.mq_cli.specs.Lines.{lines_of};
-ghost use Rattle.mq_cli.specs.Seen.{call_of};
+ghost use Rattle.mq_cli.specs.Seen.{asked_by};
 ghost use Rattle.mq_cli.specs.Serial.{RanSerial, Runs, RunsLine};
 ghost use Rattle.mq_cli.specs.Session.{CanOpen};
 ghost use Rattle.mq_cli.specs.Transcript.{run_from, run_of, said};
@@ -114,7 +114,7 @@ pub(crate) fn run_command<L: Ledger, W: Write>(
     writer: &mut W,
 ) -> Result<(), RunFault>
     ensures { RunsLine (W.contents writer.old) (W.contents writer.new) number
-        (said number session.old (Ok (Some (call_of command.entry)))) session.new result }
+        (said number session.old (Ok (Some (asked_by command.entry)))) session.new result }
 {
     out.clear();
     if let Err(AllocError) = answer(session, number, command, out) {

@@ -1,5 +1,5 @@
 ghost use Rattle.std.specs.Prelude.{◌≡◌, IfOk};
-ghost use Rattle.mq_cli.specs.Session.{CanOpen, start};
+ghost use Rattle.mq_cli.specs.Session.{CanOpen, first_session};
 
 use crate::draft::letters;
 use mq_one_thread::{Config, OneThread};
@@ -21,9 +21,9 @@ impl<L: Ledger> Model for Session<L> {
     ghost use Rattle.std.specs.List.{range_with_len};
     ghost use Rattle.mq_queue.specs.declared.limits.TheConstants.{MSGMAX};
     ghost use Rattle.mq_cli.specs.Drafts.{letter};
-    ghost use Rattle.mq_cli.specs.Session.{State};
+    ghost use Rattle.mq_cli.specs.Session.{SessionState};
 
-    ghost Value = { State };
+    ghost Value = { SessionState };
 
     ghost view = { λ s. record { queues = s.queues; seat = s.seat } };
 
@@ -38,7 +38,7 @@ impl<L: Ledger> Session<L> {
         ledger: Blank,
     ) -> Result<Session<L>, AllocError>
         requires { CanOpen ledger.name ledger.parts L.name L.parts }
-        ensures { IfOk result (λ session. session ≡ start config) }
+        ensures { IfOk result (λ session. session ≡ first_session config) }
     {
         let letters = letters(alloc, MSGMAX)?;
         match OneThread::new(alloc, config, ledger) {

@@ -3,7 +3,7 @@ ghost use Rattle.mq_system.specs.Sizes.{AreNames};
 ghost use Rattle.mq_cli.specs.Input.{IsRunSize};
 ghost use Rattle.mq_cli.specs.Threads.{Flushes, RanParts, RanWorkers, TellsEnd};
 ghost use Rattle.mq_cli.specs.ThreadsParsed.{wanted_seen};
-ghost use Rattle.mq_cli.specs.ThreadsRun.{CanRun, HaveSeats, RanThreads, RanWanted};
+ghost use Rattle.mq_cli.specs.ThreadsRun.{CanRunScript, HaveSeats, RanThreads, RanWanted};
 
 use crate::closing::closing_text;
 use crate::main_part::run_main;
@@ -60,7 +60,7 @@ fn run_wanted<N: Names + Send + Sync, T: Threads + Wait + Clock + Sync, W: Write
     writer: &mut W,
 ) -> Result<(), RunFault>
     requires names { AreNames N.Names.own N.Naming blanks (record config { seats = seats }) }
-    requires run { CanRun config blanks.pages.parts seats wanted.now.sections }
+    requires run { CanRunScript config blanks.pages.parts seats wanted.now.sections }
     ensures { RanWanted config (wanted_seen wanted.now)
         (W.contents writer.old) (W.contents writer.new) result }
 {

@@ -9,7 +9,7 @@ ghost use Rattle.mq_cli.specs.ThreadsScript.{worker_of};
 
 use crate::command::{Command, id_of, read_get, read_set};
 use crate::form::{are_filled, says_something};
-use crate::limits::{MAX_COUNT, MAX_WITHIN, MAX_WORKERS};
+use crate::limits::{MAX_MESSAGES, MAX_WITHIN, MAX_WORKERS};
 use crate::number::{integer, number};
 use crate::threads_script::{MainCall, ThreadsLine};
 use crate::words::Words;
@@ -194,12 +194,12 @@ fn read_drop(line_number: u64, mut words: Words<'_>) -> Result<ThreadsLine, Caus
     }
 }
 
-/// How many messages: at most `MAX_COUNT`.
+/// How many messages: at most `MAX_MESSAGES`.
 fn count_of(word: &[u8]) -> Option<u32>
-    ensures { result ≡ under (MAX_COUNT + 1) (number_of word.now) }
+    ensures { result ≡ under (MAX_MESSAGES + 1) (number_of word.now) }
 {
     match number(word) {
-        Some(count) if count <= u64::from(MAX_COUNT) => Some(count as u32),
+        Some(count) if count <= u64::from(MAX_MESSAGES) => Some(count as u32),
         _ => None,
     }
 }

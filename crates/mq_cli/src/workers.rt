@@ -1,5 +1,5 @@
 ghost use Rattle.std.specs.Prelude.{◌≡◌, length, map, IfOk};
-ghost use Rattle.mq_cli.specs.Plans.{AreCountable, IsCountable, IsDone};
+ghost use Rattle.mq_cli.specs.Plans.{AreCountable, IsCountable, IsCarriedOut};
 ghost use Rattle.mq_cli.specs.Threads.{RanWorkers};
 
 use crate::{Outcome, Port, RunFault, Step, work};
@@ -51,7 +51,7 @@ impl<'a, Q: Port, C: Clock> Job for AtPort<'a, Q, C> {
 
     ghost before = { λ job. IsCountable job.plan.now };
 
-    ghost after = { λ job outcome. IsDone job.plan.now outcome };
+    ghost after = { λ job outcome. IsCarriedOut job.plan.now outcome };
 
     fn run<R: Wait>(self, rt: &R, shared: &Q::Shared) -> Outcome {
         let AtPort {

@@ -123,7 +123,7 @@ fn one_end_holds_for_all_calls_of_a_step(rt: HostRuntime) {
     } else {
         (first, calls)
     };
-    assert!(rt; outcome.end == None, "done");
-    assert!(rt; calls == 9, "each call once");
-    assert!(rt; outcome.sent == 4 && outcome.received == 4, "all");
+    holds!(rt; outcome.end == None, "done");
+    holds!(rt; calls == 9, "each call once");
+    holds!(rt; outcome.sent == 4 && outcome.received == 4, "all");
 }

@@ -19,11 +19,11 @@ fn a_reader_that_fails_leaves_nothing_written(rt: HostRuntime) -> Result<(), Fai
         let ended = run_serial(rt.alloc(), &mut reader, &mut written, ONE_PAGE);
         // One call for each byte, and one that finds the end.
         if fails_at <= 48 {
-            assert!(rt; ended != Err(RunFault::Memory), "out of memory");
+            holds!(rt; ended != Err(RunFault::Memory), "out of memory");
             assert!(rt; ended == Err(RunFault::Read), "at {fails_at}");
             assert!(rt; written.is_empty(), "at {fails_at}");
         } else {
-            assert!(rt; ended != Err(RunFault::Memory), "out of memory");
+            holds!(rt; ended != Err(RunFault::Memory), "out of memory");
             assert!(rt; ended == Ok(()), "at {fails_at}");
             assert!(rt; written.as_slice() == OUTPUT.as_bytes(), "at {fails_at}");
         }
@@ -46,7 +46,7 @@ fn a_writer_that_fails_has_a_prefix_of_the_answers(rt: HostRuntime) -> Result<()
             } else {
                 Ok(())
             };
-            assert!(rt; ended != Err(RunFault::Memory), "out of memory");
+            holds!(rt; ended != Err(RunFault::Memory), "out of memory");
             assert!(rt; ended == expected, "with room for {room}");
             assert!(rt;
                 writer.taken.as_slice() == &OUTPUT.as_bytes()[..room],
@@ -73,15 +73,15 @@ fn a_script_is_too_long_past_its_limit(rt: HostRuntime) -> Result<(), Fail> {
     };
     let mut written = Vec::new(rt.alloc());
     let ended = run_serial(rt.alloc(), &mut reader, &mut written, ONE_PAGE);
-    assert!(rt; ended != Err(RunFault::Memory), "out of memory");
-    assert!(rt; ended == Ok(()));
-    assert!(rt; written.is_empty());
-    assert!(rt; reader.calls == 1_048_577);
+    holds!(rt; ended != Err(RunFault::Memory), "out of memory");
+    holds!(rt; ended == Ok(()));
+    holds!(rt; written.is_empty());
+    holds!(rt; reader.calls == 1_048_577);
 
     script.push(b'#')?;
     let ended = run_serial(rt.alloc(), &mut script.as_slice(), &mut written, ONE_PAGE);
-    assert!(rt; ended != Err(RunFault::Memory), "out of memory");
-    assert!(rt; ended == Err(RunFault::Size));
-    assert!(rt; written.is_empty());
+    holds!(rt; ended != Err(RunFault::Memory), "out of memory");
+    holds!(rt; ended == Err(RunFault::Size));
+    holds!(rt; written.is_empty());
     Ok(())
 }

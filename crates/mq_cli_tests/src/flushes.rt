@@ -41,11 +41,11 @@ fn a_run_flushes_once_after_all_it_writes(rt: HostRuntime) -> Result<(), Fail> {
             };
             let ended = run_serial(rt.alloc(), &mut script.as_bytes(), &mut writer, ONE_PAGE);
             let expected = if fails { Err(RunFault::Write) } else { usual };
-            assert!(rt; ended != Err(RunFault::Memory), "out of memory");
+            holds!(rt; ended != Err(RunFault::Memory), "out of memory");
             assert!(rt; ended == expected, "{script}");
             // A flush that fails hides that memory ran out before it.
             if fails {
-                assert!(rt; writer.taken.len() == output.len(), "out of memory");
+                holds!(rt; writer.taken.len() == output.len(), "out of memory");
             }
             assert!(rt; writer.taken.as_slice() == output.as_bytes(), "{script}");
             assert!(rt; writer.flushes == 1, "{script}");
@@ -69,7 +69,7 @@ fn a_write_that_failed_is_not_tried_again(rt: HostRuntime) -> Result<(), Fail> {
                 kind,
             };
             let ended = run_serial(rt.alloc(), &mut script.as_bytes(), &mut writer, ONE_PAGE);
-            assert!(rt; ended != Err(RunFault::Memory), "out of memory");
+            holds!(rt; ended != Err(RunFault::Memory), "out of memory");
             assert!(rt; ended == Err(RunFault::Write), "at {fails_at}");
             assert!(rt;
                 writer.taken.as_slice() == output.as_bytes(),

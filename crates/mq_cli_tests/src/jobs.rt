@@ -53,9 +53,9 @@ fn jobs_answer_in_their_order(rt: HostRuntime) {
         };
         match again {
             Ok(all) => {
-                assert!(rt; all.len() == count as usize, "an answer for each");
+                holds!(rt; all.len() == count as usize, "an answer for each");
                 for (place, answer) in all.iter().enumerate() {
-                    assert!(rt; *answer as usize == place, "at its place");
+                    holds!(rt; *answer as usize == place, "at its place");
                 }
             }
             Err(error) => panic!(rt; "{error}"),
@@ -120,10 +120,10 @@ fn workers_answer_in_the_order_of_their_plans(rt: HostRuntime) {
         };
         match again {
             Ok(all) => {
-                assert!(rt; all.len() == count as usize, "an outcome for each");
+                holds!(rt; all.len() == count as usize, "an outcome for each");
                 for (place, outcome) in all.iter().enumerate() {
-                    assert!(rt; outcome.end == None, "done");
-                    assert!(rt; outcome.sent as usize == place, "at its place");
+                    holds!(rt; outcome.end == None, "done");
+                    holds!(rt; outcome.sent as usize == place, "at its place");
                 }
             }
             Err(fault) => panic!(rt; "{fault}"),

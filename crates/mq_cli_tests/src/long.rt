@@ -20,7 +20,7 @@ fn the_longest_text_is_answered_whole(rt: HostRuntime) -> Result<(), Fail> {
         expected.push(b'\n')?;
         let mut written = Vec::with_capacity(rt.alloc(), expected.len())?;
         let ended = run_serial(rt.alloc(), &mut script.as_bytes(), &mut written, DEFAULTS);
-        assert!(rt; ended != Err(RunFault::Memory), "out of memory");
+        holds!(rt; ended != Err(RunFault::Memory), "out of memory");
         assert!(rt; ended == Ok(()), "{size}");
         assert!(rt; written == expected, "{size}");
     }
@@ -44,8 +44,8 @@ fn a_long_run_is_answered_whole(rt: HostRuntime) -> Result<(), Fail> {
     expected.extend_from_slice(b"at 104801 events 104802\n")?;
     let mut written = Vec::with_capacity(rt.alloc(), 4 * SCRIPT_LIMIT)?;
     let ended = run_serial(rt.alloc(), &mut script.as_slice(), &mut written, DEFAULTS);
-    assert!(rt; ended != Err(RunFault::Memory), "out of memory");
-    assert!(rt; ended == Ok(()));
-    assert!(rt; written == expected);
+    holds!(rt; ended != Err(RunFault::Memory), "out of memory");
+    holds!(rt; ended == Ok(()));
+    holds!(rt; written == expected);
     Ok(())
 }

@@ -160,17 +160,17 @@ fn two_workers_are_there_at_the_same_time(rt: HostRuntime) {
         match meet(&rt, rt.alloc()) {
             Ok(outcomes) if one_found_no_memory(&outcomes) => (),
             Ok(outcomes) => {
-                assert!(rt; outcomes.len() == 2, "two outcomes");
+                holds!(rt; outcomes.len() == 2, "two outcomes");
                 for outcome in &outcomes {
                     let alone = outcome.end == Some(Errno::EAGAIN);
-                    assert!(rt; !alone, "one ran after the other");
-                    assert!(rt; outcome.end == None && outcome.received == 1, "received");
+                    holds!(rt; !alone, "one ran after the other");
+                    holds!(rt; outcome.end == None && outcome.received == 1, "received");
                 }
                 return;
             }
             Err(fault) => {
                 let wanting = fault == RunFault::Memory || fault == RunFault::Thread;
-                assert!(rt; wanting, "neither memory nor a thread was wanted");
+                holds!(rt; wanting, "neither memory nor a thread was wanted");
             }
         }
     }

@@ -100,14 +100,14 @@ fn ordered<R: Wait>(rt: &R, alloc: Global, taken: &[Taken; 3]) -> Option<bool> {
 #[test]
 fn a_tag_that_falls_in_its_stream_is_told(rt: HostRuntime) {
     let falls = [from(2, 2, 5), from(2, 1, 5), from(2, 3, 5)];
-    assert!(rt; ordered(&rt, rt.alloc(), &falls) == Some(false), "a fall");
+    holds!(rt; ordered(&rt, rt.alloc(), &falls) == Some(false), "a fall");
     let falls_last = [from(2, 4, 5), from(3, 1, 5), from(2, 3, 5)];
-    assert!(rt;
+    holds!(rt;
         ordered(&rt, rt.alloc(), &falls_last) == Some(false),
         "a fall"
     );
     let stays = [from(2, 1, 5), from(3, 1, 5), from(2, 1, 5)];
-    assert!(rt;
+    holds!(rt;
         ordered(&rt, rt.alloc(), &stays) == Some(false),
         "one tag twice"
     );
@@ -116,14 +116,14 @@ fn a_tag_that_falls_in_its_stream_is_told(rt: HostRuntime) {
 #[test]
 fn tags_that_rise_in_each_stream_are_in_order(rt: HostRuntime) {
     let rises = [from(2, 1, 5), from(2, 2, 5), from(2, 9, 5)];
-    assert!(rt; ordered(&rt, rt.alloc(), &rises) == Some(true), "a rise");
+    holds!(rt; ordered(&rt, rt.alloc(), &rises) == Some(true), "a rise");
     let senders = [from(2, 7, 5), from(3, 1, 5), from(4, 1, 5)];
-    assert!(rt;
+    holds!(rt;
         ordered(&rt, rt.alloc(), &senders) == Some(true),
         "three senders"
     );
     let types = [from(2, 7, 5), from(2, 6, 4), from(2, 5, 3)];
-    assert!(rt;
+    holds!(rt;
         ordered(&rt, rt.alloc(), &types) == Some(true),
         "three types"
     );

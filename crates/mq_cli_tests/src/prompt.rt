@@ -20,12 +20,12 @@ fn each_line_is_answered_and_a_wrong_one_is_named(
     let mut prompts = Vec::with_capacity(rt.alloc(), 100)?;
     let mut typed = TYPED.as_bytes();
     let ended = run_prompt(rt.alloc(), &mut typed, &mut answers, &mut prompts, ONE_PAGE);
-    assert!(rt; ended != Err(RunFault::Memory), "out of memory");
-    assert!(rt; ended == Ok(()), "another end");
-    assert!(rt; typed.is_empty(), "not all was read");
-    assert!(rt; answers.as_slice() == ANSWERS.as_bytes(), "other answers");
+    holds!(rt; ended != Err(RunFault::Memory), "out of memory");
+    holds!(rt; ended == Ok(()), "another end");
+    holds!(rt; typed.is_empty(), "not all was read");
+    holds!(rt; answers.as_slice() == ANSWERS.as_bytes(), "other answers");
     // One before each of the seven lines, and one before the end.
-    assert!(rt;
+    holds!(rt;
         prompts.as_slice() == b"> > > > > > > > ".as_slice(),
         "other prompts"
     );
@@ -39,14 +39,14 @@ fn lines_without_a_fault_are_answered_as_a_script_is(
     let script = "get 7 cx\nseat 2\nsnd 0 3 *9\nipcs\nrcv 0 4 3 n\nstat 0\nrm 0\ncut 0\narena\n#\n";
     let mut expected = Vec::with_capacity(rt.alloc(), 4000)?;
     let ran = run_serial(rt.alloc(), &mut script.as_bytes(), &mut expected, ONE_PAGE);
-    assert!(rt; ran != Err(RunFault::Memory), "out of memory");
+    holds!(rt; ran != Err(RunFault::Memory), "out of memory");
     let mut answers = Vec::with_capacity(rt.alloc(), 4000)?;
     let mut prompts = Vec::with_capacity(rt.alloc(), 100)?;
     let mut typed = script.as_bytes();
     let ended = run_prompt(rt.alloc(), &mut typed, &mut answers, &mut prompts, ONE_PAGE);
-    assert!(rt; ended != Err(RunFault::Memory), "out of memory");
-    assert!(rt; ran == Ok(()) && ended == Ok(()), "another end");
-    assert!(rt; answers.as_slice() == expected.as_slice(), "other answers");
+    holds!(rt; ended != Err(RunFault::Memory), "out of memory");
+    holds!(rt; ran == Ok(()) && ended == Ok(()), "another end");
+    holds!(rt; answers.as_slice() == expected.as_slice(), "other answers");
     Ok(())
 }
 
@@ -66,7 +66,7 @@ fn answers_that_are_not_taken_end_the_run(rt: HostRuntime) -> std::result::Resul
         } else {
             Ok(())
         };
-        assert!(rt; ended != Err(RunFault::Memory), "out of memory");
+        holds!(rt; ended != Err(RunFault::Memory), "out of memory");
         assert!(rt; ended == expected, "with room for {room}");
         assert!(rt;
             writer.taken.as_slice() == &ANSWERS.as_bytes()[..room],
@@ -90,10 +90,10 @@ fn an_answer_is_flushed_before_the_next_line_is_read(
         let mut prompts = Vec::with_capacity(rt.alloc(), 100)?;
         let mut typed = TYPED.as_bytes();
         let ended = run_prompt(rt.alloc(), &mut typed, &mut writer, &mut prompts, ONE_PAGE);
-        assert!(rt; ended != Err(RunFault::Memory), "out of memory");
-        assert!(rt; ended == expected, "another end");
-        assert!(rt; writer.flushes == flushes, "other flushes");
-        assert!(rt; writer.flushed == writer.taken.len(), "not all is flushed");
+        holds!(rt; ended != Err(RunFault::Memory), "out of memory");
+        holds!(rt; ended == expected, "another end");
+        holds!(rt; writer.flushes == flushes, "other flushes");
+        holds!(rt; writer.flushed == writer.taken.len(), "not all is flushed");
     }
     Ok(())
 }
@@ -176,8 +176,8 @@ fn a_line_is_answered_before_the_next_is_read(rt: HostRuntime) {
         &mut Counted(&prompts),
         ONE_PAGE,
     );
-    assert!(rt; ended != Err(RunFault::Memory), "out of memory");
-    assert!(rt; ended == Err(RunFault::Read), "another end");
-    assert!(rt; typist.lines == 20, "other lines");
-    assert!(rt; typist.early == 0, "a line was read too early");
+    holds!(rt; ended != Err(RunFault::Memory), "out of memory");
+    holds!(rt; ended == Err(RunFault::Read), "another end");
+    holds!(rt; typist.lines == 20, "other lines");
+    holds!(rt; typist.early == 0, "a line was read too early");
 }

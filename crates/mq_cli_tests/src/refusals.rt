@@ -46,18 +46,18 @@ fn outcome<R: Wait>(rt: &R, alloc: Global, lets: u64) -> (Outcome, u64) {
 fn a_plan_ends_at_the_first_call_that_is_refused(rt: HostRuntime) {
     for lets in 0..7u64 {
         let (outcome, calls) = outcome(&rt, rt.alloc(), lets);
-        assert!(rt;
+        holds!(rt;
             outcome.end != Some(Errno::EEXIST),
             "a call that is not in the plan"
         );
-        assert!(rt; outcome.end == Some(Errno::EPERM), "the refusal");
-        assert!(rt; calls == lets, "a call after the refusal");
-        assert!(rt; outcome.sent == lets.min(3), "sent");
-        assert!(rt;
+        holds!(rt; outcome.end == Some(Errno::EPERM), "the refusal");
+        holds!(rt; calls == lets, "a call after the refusal");
+        holds!(rt; outcome.sent == lets.min(3), "sent");
+        holds!(rt;
             outcome.received == lets.saturating_sub(3).min(3),
             "received"
         );
-        assert!(rt; outcome.ordered, "in order");
+        holds!(rt; outcome.ordered, "in order");
     }
 }
 
@@ -65,9 +65,9 @@ fn a_plan_ends_at_the_first_call_that_is_refused(rt: HostRuntime) {
 fn a_plan_that_is_not_refused_is_done(rt: HostRuntime) {
     for lets in 7..9u64 {
         let (outcome, calls) = outcome(&rt, rt.alloc(), lets);
-        assert!(rt; outcome.end == None, "done");
-        assert!(rt; calls == 7, "each call once");
-        assert!(rt; outcome.sent == 3 && outcome.received == 3, "all");
+        holds!(rt; outcome.end == None, "done");
+        holds!(rt; calls == 7, "each call once");
+        holds!(rt; outcome.sent == 3 && outcome.received == 3, "all");
     }
 }
 
@@ -79,8 +79,8 @@ fn an_empty_plan_makes_no_call(rt: HostRuntime) {
         lets: 9,
     };
     let outcome = work(&rt, &Stopped, rt.alloc(), &(), &mut port, &[]);
-    assert!(rt; outcome.end == None && outcome.ordered, "done");
-    assert!(rt;
+    holds!(rt; outcome.end == None && outcome.ordered, "done");
+    holds!(rt;
         outcome.sent == 0 && outcome.received == 0 && port.calls == 0,
         "nothing"
     );

@@ -242,7 +242,7 @@ fn narrowed<N: Names, R: Abort + Wait>(
         answer => answer,
     };
     match set {
-        Ok(entry) => assert!(rt; entry == 1, "behind its making"),
+        Ok(entry) => holds!(rt; entry == 1, "behind its making"),
         Err(refused) => panic!(rt; "{refused}"),
     }
 }
@@ -342,11 +342,11 @@ fn turns<N: Names, R: Abort + Wait>(
 {
     for number in 0..3u32 {
         let id = queue(rt, system, seats, u64::from(number) + 1);
-        assert!(rt; id == number, "a queue in each slot");
+        holds!(rt; id == number, "a queue in each slot");
     }
     takes_turn(rt, system, seats, letters, at(0, remove(1, 4), 1));
     let id = queue(rt, system, seats, 5);
-    assert!(rt; id == 65, "the second queue of slot 1");
+    holds!(rt; id == 65, "the second queue of slot 1");
     narrowed(rt, system, seats, 6);
     for one in traffic() {
         takes_turn(rt, system, seats, letters, one);
@@ -420,8 +420,8 @@ fn left_by_the_day<R: Abort + Wait>(rt: &R, alloc: Global) -> Left {
 #[test]
 fn each_call_of_a_port_is_that_of_its_seat(rt: HostRuntime) {
     let Left { slots, free_pages } = left_by_the_day(&rt, rt.alloc());
-    assert!(rt; free_pages == 64, "all pages are home");
-    assert!(rt; slots.len() == 4, "four slots");
+    holds!(rt; free_pages == 64, "all pages are home");
+    holds!(rt; slots.len() == 4, "four slots");
     let (before, one, two) = (slot_one_before(), slot_one(), slot_two());
     let zero = [
         made(1, 1),

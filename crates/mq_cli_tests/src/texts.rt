@@ -21,15 +21,15 @@ const FAULTS: [(RunFault, &str); 4] = [
 fn each_fault_has_its_text(rt: HostRuntime) -> Result<(), Fail> {
     for (fault, text) in FAULTS {
         let shown = format!(in rt.alloc(); "{fault}")?;
-        assert!(rt; shown.as_str() == text);
+        holds!(rt; shown.as_str() == text);
     }
     for (cause, text) in CAUSES {
         let shown = format!(in rt.alloc(); "{cause}")?;
-        assert!(rt; shown.as_str() == text);
+        holds!(rt; shown.as_str() == text);
         let fault = RunFault::Script { line: 17, cause };
         let shown = format!(in rt.alloc(); "{fault}")?;
         let expected = format!(in rt.alloc(); "line 17: {text}")?;
-        assert!(rt; shown.as_str() == expected.as_str());
+        holds!(rt; shown.as_str() == expected.as_str());
     }
     Ok(())
 }

@@ -6,7 +6,7 @@ use Rattle.mq_message.specs.Text.{PlainText}
 use Rattle.mq_queue.specs.declared.figures.Figures.{Figures}
 use Rattle.mq_face.specs.Usages.{usage_numbers}
 use Rattle.mq_face.specs.declared.answer.Done.{Done}
-use Rattle.mq_face.specs.declared.answer.Received.{Received}
+use Rattle.mq_face.specs.declared.answer.ReceivedMessage.{ReceivedMessage}
 use Rattle.mq_face.specs.declared.answer.Shown.{Shown}
 use Rattle.mq_face.specs.declared.answer.Shown.TheVariants.{Nothing, Queue, Usage}
 use Rattle.mq_face.specs.declared.refusal.Refusal.{Refusal}
@@ -56,7 +56,7 @@ refusal_numbers r =
     ∷ 0 ∷ []
 
 -- a message: as many bytes of its text follow
-abbrev pub received_numbers : Received PlainText → List ℕ
+abbrev pub received_numbers : ReceivedMessage PlainText → List ℕ
 received_numbers m =
     length m.text.bytes ∷ 0 ∷ 0 ∷ m.slot ∷ 1 ∷ cast_unsigned w64 m.mtype ∷ length m.text.bytes
     ∷ 0 ∷ []

@@ -4,8 +4,8 @@ use Rattle.std.specs.Int.{from_le_bytes, to_le_bytes, w64}
 use Rattle.std.specs.List.{flat_map}
 
 -- each number in eight bytes, the lowest first
-abbrev pub bytes_of : List ℕ → List ℕ
-bytes_of numbers = flat_map (to_le_bytes w64) numbers
+abbrev pub bytes_of_numbers : List ℕ → List ℕ
+bytes_of_numbers numbers = flat_map (to_le_bytes w64) numbers
 
 -- the number at a place
 abbrev pub number_at : List ℕ → ℕ → ℕ

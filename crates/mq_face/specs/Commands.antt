@@ -5,7 +5,7 @@ use Rattle.mq_queue.specs.declared.figures.BoardRow.{BoardRow}
 use Rattle.mq_queue.specs.declared.figures.Figures.{Figures}
 use Rattle.mq_table.specs.Ids.{id_of, slot_of}
 use Rattle.mq_table.specs.KeptShown.{row_now}
-use Rattle.mq_one_thread.specs.State.{State, slot_at}
+use Rattle.mq_one_thread.specs.State.{QueuesState, slot_at}
 use Rattle.mq_one_thread.specs.declared.errno.Errno.{Errno}
 use Rattle.mq_one_thread.specs.declared.errno.Errno.TheVariants.{EINVAL}
 use Rattle.mq_face.specs.Refusals.{fault, gone, refusal}
@@ -14,14 +14,15 @@ use Rattle.mq_face.specs.declared.answer.Done.{Done}
 use Rattle.mq_face.specs.declared.answer.Shown.{Shown}
 use Rattle.mq_face.specs.declared.answer.Shown.TheVariants as shown
 use Rattle.mq_face.specs.declared.call.Call.{Call}
-use Rattle.mq_face.specs.declared.command.Command.{Command}
-use Rattle.mq_face.specs.declared.command.Command.TheVariants.{Remove, Set, Stat, StatSlot, Info}
+use Rattle.mq_face.specs.declared.command.ControlCommand.{ControlCommand}
+use Rattle.mq_face.specs.declared.command.ControlCommand.TheVariants.{Remove, Set, Stat, StatSlot}
+use Rattle.mq_face.specs.declared.command.ControlCommand.TheVariants.{Info}
 use Rattle.mq_face.specs.declared.manual.TheConstants.{EFAULT, IPC_INFO, IPC_RMID, IPC_SET}
 use Rattle.mq_face.specs.declared.manual.TheConstants.{IPC_STAT, MSG_INFO, MSG_STAT, MSG_STAT_ANY}
 use Rattle.mq_face.specs.declared.refusal.Refusal.{Refusal}
 
 -- the command that has this number (msgctl(2))
-abbrev pub command_of : ℕ → Option Command
+abbrev pub command_of : ℕ → Option ControlCommand
 command_of n =
     if n == IPC_RMID then Some Remove
     else (if n == IPC_SET then Some Set
@@ -46,11 +47,11 @@ row_reply call slot row =
     if row.live then show call (id_of slot (row.made - 1)) slot (shown.Queue row.figures)
     else Err (refusal EINVAL)
 
-abbrev pub slot_reply : State → Call → ℕ → Result Done Refusal
+abbrev pub slot_reply : QueuesState → Call → ℕ → Result Done Refusal
 slot_reply s call slot =
     if nat_lt slot (length s.slots) then row_reply call slot (row_now (slot_at s slot))
     else Err (refusal EINVAL)
 
 -- all queues together; the call returns the greatest slot in use (msgctl(2), IPC_INFO)
-abbrev pub info_reply : State → Call → Result Done Refusal
+abbrev pub info_reply : QueuesState → Call → Result Done Refusal
 info_reply s call = show call (usage_of s).greatest 0 (shown.Usage (usage_of s))

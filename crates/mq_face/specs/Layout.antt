@@ -2,18 +2,18 @@
 use Rattle.std.specs.Prelude.{ℕ, ◌==◌, ◌%◌, ◌^◌, not, if◌then◌else◌, List, [], ◌∷◌, slice_index}
 use Rattle.std.specs.Int.{cast_signed, cast_unsigned, from_bool, w32, w64}
 use Rattle.mq_face.specs.declared.call.Call.{Call}
-use Rattle.mq_face.specs.declared.call.Kind.{Kind}
-use Rattle.mq_face.specs.declared.call.Kind.TheVariants.{Get, Send, Receive, Control, Unknown}
+use Rattle.mq_face.specs.declared.call.CallKind.{CallKind}
+use Rattle.mq_face.specs.declared.call.CallKind.TheVariants.{Get, Send, Receive, Control, Unknown}
 
 -- which call has this number
-abbrev pub kind_of : ℕ → Kind
+abbrev pub kind_of : ℕ → CallKind
 kind_of n =
     if n == 1 then Get
     else (if n == 2 then Send
     else (if n == 3 then Receive else (if n == 4 then Control else Unknown)))
 
 -- and its number
-abbrev pub kind_number : Kind → ℕ
+abbrev pub kind_number : CallKind → ℕ
 kind_number Get = 1
 kind_number Send = 2
 kind_number Receive = 3

@@ -10,7 +10,7 @@ use Rattle.mq_one_thread.specs.Get.{msgget}
 use Rattle.mq_one_thread.specs.Look.{Answer}
 use Rattle.mq_one_thread.specs.Names.{errno_number}
 use Rattle.mq_one_thread.specs.Outcome.{Answers}
-use Rattle.mq_one_thread.specs.State.{State, with_arena}
+use Rattle.mq_one_thread.specs.State.{QueuesState, with_arena}
 use Rattle.mq_one_thread.specs.Texts.{drafts, spends}
 use Rattle.mq_one_thread.specs.declared.draft_error.DraftError.{DraftError}
 use Rattle.mq_one_thread.specs.declared.draft_error.DraftError.TheVariants as draft
@@ -23,11 +23,12 @@ use Rattle.mq_face.specs.Commands.{command_of, info_reply, slot_reply, stat_repl
 use Rattle.mq_face.specs.Flags.{has, get_flags}
 use Rattle.mq_face.specs.Refusals.{blocked, fault, gone, id_named, receive_fault, refusal}
 use Rattle.mq_face.specs.declared.answer.Done.{Done}
-use Rattle.mq_face.specs.declared.answer.Received.{Received}
+use Rattle.mq_face.specs.declared.answer.ReceivedMessage.{ReceivedMessage}
 use Rattle.mq_face.specs.declared.answer.Shown.TheVariants as shown
 use Rattle.mq_face.specs.declared.call.Call.{Call}
-use Rattle.mq_face.specs.declared.command.Command.{Command}
-use Rattle.mq_face.specs.declared.command.Command.TheVariants.{Remove, Set, Stat, StatSlot, Info}
+use Rattle.mq_face.specs.declared.command.ControlCommand.{ControlCommand}
+use Rattle.mq_face.specs.declared.command.ControlCommand.TheVariants.{Remove, Set, Stat, StatSlot}
+use Rattle.mq_face.specs.declared.command.ControlCommand.TheVariants.{Info}
 use Rattle.mq_face.specs.declared.manual.TheConstants.{EFAULT, SEAT}
 use Rattle.mq_face.specs.declared.manual.TheConstants.{IPC_NOWAIT, MSG_EXCEPT, MSG_NOERROR}
 use Rattle.mq_face.specs.declared.refusal.Refusal.{Refusal}
@@ -35,10 +36,11 @@ use Rattle.mq_face.specs.declared.refusal.Wait.TheVariants as wait
 
 -- what a call answers and leaves, or why it is refused, and then it leaves all
 abbrev pub Turn : Type 0 → Type 0
-Turn T = Result (T × State) Refusal
+Turn T = Result (T × QueuesState) Refusal
 
 -- a call answers and leaves so; or it is refused, and leaves what stood before
-abbrev pub AnswersTurn : {T : Type 0} → Turn T → State → State → Result T Refusal → Type 0
+abbrev pub AnswersTurn : {T : Type 0} → Turn T → QueuesState → QueuesState → Result T Refusal
+    → Type 0
 AnswersTurn turn before after result = Answers turn (refusal ENOMEM) before after result
 
 -- a call of the id that a number is
@@ -52,7 +54,7 @@ told refuse tell (Ok turn) = Ok (tell turn.0, turn.1)
 told refuse tell (Err r) = Err (refuse r.errno)
 
 -- what is only shown leaves all
-abbrev pub leaves : {T : Type 0} → State → Result T Refusal → Turn T
+abbrev pub leaves : {T : Type 0} → QueuesState → Result T Refusal → Turn T
 leaves s (Ok done) = Ok (done, s)
 leaves s (Err r) = Err r
 
@@ -60,34 +62,35 @@ leaves s (Err r) = Err r
 abbrev pub got : Got → Done
 got g = record { value = g.id; slot = slot_of g.id; entry = g.made; shown = shown.Nothing }
 
-abbrev pub gets : Result (Got × State) Errno → Turn Done
+abbrev pub gets : Result (Got × QueuesState) Errno → Turn Done
 gets (Ok turn) = Ok (got turn.0, turn.1)
 gets (Err errno) = Err (refusal errno)
 
-abbrev pub get_turn : State → Call → Turn Done
+abbrev pub get_turn : QueuesState → Call → Turn Done
 get_turn s call = gets (msgget s SEAT call.number (get_flags call.flags) call.moment)
 
 -- whether a text is longer than all pages are
-abbrev pub never_fits : State → ℕ → Bool
+abbrev pub never_fits : QueuesState → ℕ → Bool
 never_fits s size = nat_lt (2 ^ s.arena.height * PAGE_LEN) size
 
 -- a text for which no pages are free: a queue that is not there is told first; without IPC_NOWAIT
 -- the call waits for pages, unless there are never enough
-abbrev pub without_pages : State → Call → Result Figures Errno → Refusal
+abbrev pub without_pages : QueuesState → Call → Result Figures Errno → Refusal
 without_pages s call (Err errno) = gone call errno
 without_pages s call (Ok _) =
     if has call.flags IPC_NOWAIT || never_fits s call.size then refusal ENOMEM
     else record { errno = errno_number ENOMEM; wait = wait.Pages }
 
 -- a draft, as the call tells it
-abbrev pub drafted : State → Call → ℕ → Result (PlainText × State) DraftError → Turn PlainText
+abbrev pub drafted : QueuesState → Call → ℕ → Result (PlainText × QueuesState) DraftError
+    → Turn PlainText
 drafted s call id (Ok turn) = Ok turn
 drafted s call id (Err draft.TooLong) = Err (refusal EINVAL)
 drafted s call id (Err draft.NoRun) = Err (without_pages s call (stat s id))
 drafted s call id (Err draft.Memory) = Err (refusal ENOMEM)
 
 -- the text of a message that is to be sent (msgop(2), msgsnd)
-abbrev pub draft_turn : State → Call → Turn PlainText
+abbrev pub draft_turn : QueuesState → Call → Turn PlainText
 draft_turn s call =
     if call.buffer
     then with_id (id_named call.number) (λ id.
@@ -96,45 +99,46 @@ draft_turn s call =
     else Err (fault EFAULT)
 
 -- the queues once a text is spent
-abbrev pub spent : PlainText → State → State
-spent text s = with_arena s (spends text s.arena)
+abbrev pub with_text_spent : PlainText → QueuesState → QueuesState
+with_text_spent text s = with_arena s (spends text s.arena)
 
 -- a text that was drafted is sent (msgop(2), msgsnd)
-abbrev pub send_turn : State → Call → PlainText → Turn Done
+abbrev pub send_turn : QueuesState → Call → PlainText → Turn Done
 send_turn s call text = with_id (id_named call.number) (λ id.
     told (blocked call id) (changed (slot_of id))
     (msgsnd s SEAT id call.mtype 0 text call.moment))
 
 -- msgrcv: a message (msgop(2), msgrcv)
-abbrev pub received : ℕ → Delivered PlainText → Received PlainText
-received id d = record { slot = slot_of id; entry = d.entry; mtype = d.mtype; text = d.text }
+abbrev pub received_message : ℕ → Delivered PlainText → ReceivedMessage PlainText
+received_message id d =
+    record { slot = slot_of id; entry = d.entry; mtype = d.mtype; text = d.text }
 
 -- unless its numbers refuse the call
 abbrev pub unless : {T : Type 0} → Option ℤ → Turn T → Turn T
 unless (Some errno) turn = Err (fault errno)
 unless None turn = turn
 
-abbrev pub receive_turn : State → Call → Turn (Received PlainText)
+abbrev pub receive_turn : QueuesState → Call → Turn (ReceivedMessage PlainText)
 receive_turn s call = with_id (id_named call.number) (λ id.
     unless (receive_fault call)
-    (told (blocked call id) (received id)
+    (told (blocked call id) (received_message id)
     (msgrcv s SEAT id call.size call.mtype (has call.flags MSG_EXCEPT)
     (has call.flags MSG_NOERROR) call.moment)))
 
 -- IPC_RMID (msgctl(2), IPC_RMID)
-abbrev pub remove_turn : State → Call → ℕ → Turn Done
+abbrev pub remove_turn : QueuesState → Call → ℕ → Turn Done
 remove_turn s call id =
     told (gone call) (λ removal. changed (slot_of id) removal.entry) (rmid s SEAT id call.moment)
 
 -- IPC_SET (msgctl(2), IPC_SET)
-abbrev pub set_turn : State → Call → ℕ → Turn Done
+abbrev pub set_turn : QueuesState → Call → ℕ → Turn Done
 set_turn s call id =
     if call.buffer
     then told (gone call) (changed (slot_of id)) (set s SEAT id call.size call.moment)
     else Err (fault EFAULT)
 
 -- what is asked for (msgctl(2))
-abbrev pub commanded : State → Call → ℕ → Option Command → Turn Done
+abbrev pub commanded : QueuesState → Call → ℕ → Option ControlCommand → Turn Done
 commanded s call id (Some Remove) = remove_turn s call id
 commanded s call id (Some Set) = set_turn s call id
 commanded s call id (Some Stat) = leaves s (stat_reply call id (stat s id))
@@ -142,6 +146,6 @@ commanded s call id (Some StatSlot) = leaves s (slot_reply s call id)
 commanded s call id (Some Info) = leaves s (info_reply s call)
 commanded s call id None = Err (refusal EINVAL)
 
-abbrev pub control_turn : State → Call → Turn Done
+abbrev pub control_turn : QueuesState → Call → Turn Done
 control_turn s call =
     with_id (id_named call.number) (λ id. commanded s call id (command_of call.flags))

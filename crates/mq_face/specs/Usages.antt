@@ -5,7 +5,7 @@ use Rattle.mq_arena.specs.declared.page.TheConstants.{PAGE_LEN}
 use Rattle.mq_queue.specs.declared.figures.BoardRow.{BoardRow}
 use Rattle.mq_queue.specs.declared.limits.TheConstants.{MSGMAX, MSGMNB}
 use Rattle.mq_table.specs.KeptShown.{row_now}
-use Rattle.mq_one_thread.specs.State.{State, slot_at}
+use Rattle.mq_one_thread.specs.State.{QueuesState, slot_at}
 use Rattle.mq_face.specs.declared.usage.Usage.{Usage}
 
 -- a sum that stays at the greatest u64
@@ -13,7 +13,7 @@ abbrev pub plus : ℕ → ℕ → ℕ
 plus a b = min (a + b) (2 ^ 64 - 1)
 
 -- no slot
-abbrev pub no_usage : State → Usage
+abbrev pub no_usage : QueuesState → Usage
 no_usage s = record {
   queues = 0;
   messages = 0;
@@ -38,12 +38,12 @@ used usage slot row =
     else usage
 
 -- the first slots
-unfoldable pub usage_to : State → ℕ → Usage
+unfoldable pub usage_to : QueuesState → ℕ → Usage
 usage_to s zero = no_usage s
 usage_to s (suc k) = used (usage_to s k) k (row_now (slot_at s k))
 
 -- all of them
-abbrev pub usage_of : State → Usage
+abbrev pub usage_of : QueuesState → Usage
 usage_of s = usage_to s (length s.slots)
 
 -- what is in use, then the limits

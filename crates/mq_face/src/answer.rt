@@ -35,7 +35,7 @@ pub struct Done {
 
 /// A message that is received. It returns the number of bytes that are handed out.
 #[derive(Drop)]
-pub struct Received<B> {
+pub struct ReceivedMessage<B> {
     pub slot: u8,
     /// The entry of the receipt.
     pub entry: u64,
@@ -129,7 +129,7 @@ impl Refusal {
     }
 }
 
-impl<L: Ledger> Received<Text<L>> {
+impl<L: Ledger> ReceivedMessage<Text<L>> {
     /// Its numbers, which the bytes of the text follow.
     pub fn numbers(&self) -> [u64; ANSWER_NUMBERS]
         ensures { result ≡ received_numbers self.now }

@@ -1,12 +1,12 @@
 ghost use Rattle.std.specs.Prelude.{◌≡◌, ◌+◌, ◌*◌, ◌≤◌, length};
-ghost use Rattle.mq_face.specs.Bytes.{bytes_of, number_at, numbers_in};
+ghost use Rattle.mq_face.specs.Bytes.{bytes_of_numbers, number_at, numbers_in};
 
 /// How many bytes eight numbers are.
 pub const EIGHT_BYTES: usize = 64;
 
 /// The bytes of eight numbers, one behind the other, of each the lowest first.
 pub fn to_bytes(numbers: [u64; 8]) -> [u8; EIGHT_BYTES]
-    ensures { result ≡ bytes_of numbers }
+    ensures { result ≡ bytes_of_numbers numbers }
 {
     let mut bytes = [0; EIGHT_BYTES];
     for i in 0..8 {

@@ -7,7 +7,7 @@ pub const CALL_NUMBERS: usize = 8;
 
 /// Which call is made.
 #[derive(Clone, Copy, Debug, PartialEq, Eq)]
-pub enum Kind {
+pub enum CallKind {
     Get,
     Send,
     Receive,
@@ -15,17 +15,17 @@ pub enum Kind {
     Unknown,
 }
 
-impl Kind {
+impl CallKind {
     /// The kind that has this number.
-    pub fn of(number: u64) -> Kind
+    pub fn of(number: u64) -> CallKind
         ensures { result ≡ kind_of number }
     {
         match number {
-            1 => Kind::Get,
-            2 => Kind::Send,
-            3 => Kind::Receive,
-            4 => Kind::Control,
-            _ => Kind::Unknown,
+            1 => CallKind::Get,
+            2 => CallKind::Send,
+            3 => CallKind::Receive,
+            4 => CallKind::Control,
+            _ => CallKind::Unknown,
         }
     }
 
@@ -33,11 +33,11 @@ impl Kind {
         ensures { result ≡ kind_number self }
     {
         match self {
-            Kind::Get => 1,
-            Kind::Send => 2,
-            Kind::Receive => 3,
-            Kind::Control => 4,
-            Kind::Unknown => 0,
+            CallKind::Get => 1,
+            CallKind::Send => 2,
+            CallKind::Receive => 3,
+            CallKind::Control => 4,
+            CallKind::Unknown => 0,
         }
     }
 }
@@ -45,7 +45,7 @@ impl Kind {
 /// A call as C gives it, of which each kind reads the fields that it has.
 #[derive(Clone, Copy, Debug, PartialEq, Eq)]
 pub struct Call {
-    pub kind: Kind,
+    pub kind: CallKind,
     /// A key, or an id, or the number of a slot.
     pub number: i32,
     /// The flags, or the command of `Control`.
@@ -67,7 +67,7 @@ impl Call {
         ensures { result ≡ call_of numbers }
     {
         Call {
-            kind: Kind::of(numbers[0]),
+            kind: CallKind::of(numbers[0]),
             number: low(numbers[1]).cast_signed(),
             flags: low(numbers[2]),
             mtype: numbers[3].cast_signed(),

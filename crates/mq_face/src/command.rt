@@ -5,7 +5,7 @@ use crate::manual::{IPC_INFO, IPC_RMID, IPC_SET, IPC_STAT, MSG_INFO, MSG_STAT, M
 
 /// What msgctl(2) is asked for.
 #[derive(Clone, Copy, Debug, PartialEq, Eq)]
-pub enum Command {
+pub enum ControlCommand {
     /// IPC_RMID.
     Remove,
     /// IPC_SET.
@@ -18,17 +18,17 @@ pub enum Command {
     Info,
 }
 
-impl Command {
+impl ControlCommand {
     /// The command that has this number.
-    pub fn of(number: u32) -> Option<Command>
+    pub fn of(number: u32) -> Option<ControlCommand>
         ensures { result ≡ command_of number }
     {
         match number {
-            IPC_RMID => Some(Command::Remove),
-            IPC_SET => Some(Command::Set),
-            IPC_STAT => Some(Command::Stat),
-            IPC_INFO | MSG_INFO => Some(Command::Info),
-            MSG_STAT | MSG_STAT_ANY => Some(Command::StatSlot),
+            IPC_RMID => Some(ControlCommand::Remove),
+            IPC_SET => Some(ControlCommand::Set),
+            IPC_STAT => Some(ControlCommand::Stat),
+            IPC_INFO | MSG_INFO => Some(ControlCommand::Info),
+            MSG_STAT | MSG_STAT_ANY => Some(ControlCommand::StatSlot),
             _ => None,
         }
     }

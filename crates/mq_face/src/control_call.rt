@@ -7,7 +7,7 @@ ghost use Rattle.mq_face.specs.Commands.{info_reply, row_reply, show, slot_reply
 use crate::manual::{EFAULT, SEAT};
 use crate::refusal::{gone, id_of};
 use crate::usage::usage_of;
-use crate::{Call, Command, Done, Refusal, Shown};
+use crate::{Call, ControlCommand, Done, Refusal, Shown};
 use mq_one_thread::{Errno, OneThread, Removal};
 use mq_queue::BoardRow;
 use mq_table::{Id, MAX_SEQ, MAX_SLOTS};
@@ -18,12 +18,12 @@ pub fn control<L: Ledger>(queues: &mut OneThread<L>, call: Call) -> Result<Done,
     ensures answer { AnswersTurn (control_turn queues.old call) queues.old queues.new result }
 {
     let id = id_of(call.number)?;
-    match Command::of(call.flags) {
-        Some(Command::Remove) => remove(queues, call, id),
-        Some(Command::Set) => set(queues, call, id),
-        Some(Command::Stat) => stat(queues, call, id),
-        Some(Command::StatSlot) => stat_slot(queues, call, id),
-        Some(Command::Info) => info(queues, call),
+    match ControlCommand::of(call.flags) {
+        Some(ControlCommand::Remove) => remove(queues, call, id),
+        Some(ControlCommand::Set) => set(queues, call, id),
+        Some(ControlCommand::Stat) => stat(queues, call, id),
+        Some(ControlCommand::StatSlot) => stat_slot(queues, call, id),
+        Some(ControlCommand::Info) => info(queues, call),
         None => Err(Refusal::of(Errno::EINVAL)),
     }
 }

@@ -19,10 +19,10 @@ mod send_call;
 mod usage;
 pub mod worked;
 
-pub use answer::{ANSWER_NUMBERS, Done, Received, SHOWN_NUMBERS, Shown};
+pub use answer::{ANSWER_NUMBERS, Done, ReceivedMessage, SHOWN_NUMBERS, Shown};
 pub use bytes::{EIGHT_BYTES, from_bytes, to_bytes};
-pub use call::{CALL_NUMBERS, Call, Kind};
-pub use command::Command;
+pub use call::{CALL_NUMBERS, Call, CallKind};
+pub use command::ControlCommand;
 pub use control_call::control;
 pub use get_call::get;
 pub use log::{LOG_BOUND, cut_where_due};

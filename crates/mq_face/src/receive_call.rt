@@ -1,12 +1,12 @@
 ghost use Rattle.std.specs.Prelude.{◌≡◌};
-ghost use Rattle.mq_face.specs.Turns.{AnswersTurn, receive_turn, received};
+ghost use Rattle.mq_face.specs.Turns.{AnswersTurn, receive_turn, received_message};
 ghost use Rattle.mq_face.specs.Refusals.{copy_fault, receive_fault};
 
 use crate::manual::{
     EFAULT, ENOSYS, IPC_NOWAIT, MSG_COPY, MSG_EXCEPT, MSG_NOERROR, SEAT, SSIZE_MAX,
 };
 use crate::refusal::{blocked, id_of};
-use crate::{Call, Received, Refusal};
+use crate::{Call, ReceivedMessage, Refusal};
 use mq_message::Text;
 use mq_one_thread::{Delivered, Errno, OneThread};
 use mq_table::Id;
@@ -16,7 +16,7 @@ use std::sync::ledger::Ledger;
 pub fn receive<L: Ledger>(
     queues: &mut OneThread<L>,
     call: Call,
-) -> Result<Received<Text<L>>, Refusal>
+) -> Result<ReceivedMessage<Text<L>>, Refusal>
     ensures answer { AnswersTurn (receive_turn queues.old call) queues.old queues.new result }
 {
     let id = id_of(call.number)?;
@@ -63,8 +63,8 @@ fn copy_fault(call: Call) -> i32
     }
 }
 
-fn received<L: Ledger>(id: Id, delivered: Delivered<Text<L>>) -> Received<Text<L>>
-    ensures { result ≡ received id delivered }
+fn received<L: Ledger>(id: Id, delivered: Delivered<Text<L>>) -> ReceivedMessage<Text<L>>
+    ensures { result ≡ received_message id delivered }
 {
     let Delivered {
         entry,
@@ -74,7 +74,7 @@ fn received<L: Ledger>(id: Id, delivered: Delivered<Text<L>>) -> Received<Text<L
         length: _,
         text,
     } = delivered;
-    Received {
+    ReceivedMessage {
         slot: id.slot(),
         entry,
         mtype,

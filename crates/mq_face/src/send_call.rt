@@ -1,7 +1,7 @@
 ghost use Rattle.std.specs.Prelude.{◌≡◌};
 ghost use Rattle.mq_one_thread.specs.Calls.{stat as stat_answer};
 ghost use Rattle.mq_face.specs.Turns.{AnswersTurn, draft_turn, never_fits};
-ghost use Rattle.mq_face.specs.Turns.{send_turn, spent, without_pages};
+ghost use Rattle.mq_face.specs.Turns.{send_turn, with_text_spent, without_pages};
 
 use crate::manual::{EFAULT, IPC_NOWAIT, SEAT};
 use crate::refusal::{blocked, gone, id_of};
@@ -62,7 +62,7 @@ pub fn send<L: Ledger>(
     call: Call,
     text: Text<L>,
 ) -> Result<Done, Refusal>
-    ensures answer { AnswersTurn (send_turn queues.old call text) (spent text queues.old)
+    ensures answer { AnswersTurn (send_turn queues.old call text) (with_text_spent text queues.old)
         queues.new result }
 {
     let id = match id_of(call.number) {

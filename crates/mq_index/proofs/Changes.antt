@@ -11,7 +11,7 @@ use Rattle.std.proofs.lemmas.List.Elements.{All-from_recursion, filter-append}
 use Rattle.std.proofs.lemmas.List.Folds.{find-append}
 use Rattle.std.proofs.lemmas.Option.{none-some, same_Some}
 use Rattle.mq_select.specs.Waiting.{message_at}
-use Rattle.mq_index.specs.Index.{front_of, merged, of_type, queue_at, queue_of, unless_empty, IsIndex}
+use Rattle.mq_index.specs.Index.{first_place, merged, of_type, queue_at, queue_of, unless_empty, IsIndex}
 use Rattle.mq_index.proofs.Firsts.{found_all}
 use Rattle.mq_index.proofs.Merging.{at_is, int_eq-here, int_eq-same, merged_is, rising_append, weaker}
 use Rattle.mq_index.proofs.Sames.{none_found}
@@ -114,7 +114,7 @@ put_last {X} type_of all queues new fronts after types after_types t place m h i
         by true f g = not_empty (queue_of queues s) (place, m) (same_Some _ _ g)
         by false f g = apart t s f (h.kept s g)
 
-    fronted : (s : ℤ) → after s ≡ front_of type_of (all ++ (place, m) ∷ []) s
+    fronted : (s : ℤ) → after s ≡ first_place type_of (all ++ (place, m) ∷ []) s
     fronted s = front s ∙ rw (h.fronted s) (by (find (λ (x : ℕ × X). int_eq (type_of x.1) s) all)) ∙ ap (option_map (λ (x : ℕ × X). x.0)) (sym (find-append (λ (x : ℕ × X). int_eq (type_of x.1) s) all ((place, m) ∷ [])))
       where
         last : (b : Bool) → cond b (Some place) None ≡ option_map (λ (x : ℕ × X). x.0) (cond b (Some (place, m)) None)
@@ -150,7 +150,7 @@ same_index type_of all queues fronts after types after_types older h front type 
   typed = λ n. type n ∙ h.typed n;
 }
 
-pub front_below : {X : Type 0} (type_of : X → ℤ) (all : List (ℕ × X)) (place : ℕ) (t : ℤ) (n : ℕ) → AllByRecursion (λ x. x.0 < place) all → front_of type_of all t ≡ Some n → n ≤ place
+pub front_below : {X : Type 0} (type_of : X → ℤ) (all : List (ℕ × X)) (place : ℕ) (t : ℤ) (n : ℕ) → AllByRecursion (λ x. x.0 < place) all → first_place type_of all t ≡ Some n → n ≤ place
 front_below {X} type_of all place t n above h = by (find (λ (x : ℕ × X). int_eq (type_of x.1) t) all) refl h
   where
     by : (o : Option (ℕ × X)) → find (λ (x : ℕ × X). int_eq (type_of x.1) t) all ≡ o → option_map (λ (x : ℕ × X). x.0) o ≡ Some n → n ≤ place

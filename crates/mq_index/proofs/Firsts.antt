@@ -5,7 +5,7 @@ use Rattle.std.specs.Option.{option_map}
 use Rattle.std.specs.Ordering.{int_eq}
 use Rattle.std.proofs.lemmas.Option.{none-some, same_Some}
 use Rattle.mq_index.specs.Fronts.{IsLeastAt}
-use Rattle.mq_index.specs.Index.{front_of, IsRising}
+use Rattle.mq_index.specs.Index.{first_place, IsRising}
 use Rattle.mq_index.proofs.Merging.{all_filter, each, filter_gone, filter_kept, filter_swap, int_eq-same, int_eq-here, weaker}
 
 pub found_passes : {X : Type 0} (p : X → Bool) (xs : List X) (x : X) → find p xs ≡ Some x → p x ≡ true
@@ -94,7 +94,7 @@ found_kept {X} p q (y ∷ ys) x h k = by (q y) refl (p y) refl h (λ g. found_ke
     by false e false f g again = again g
 
 -- the least of the fronts whose types pass is the place of the first message whose type passes
-pub least_found : {X : Type 0} (type_of : X → ℤ) (all : List (ℕ × X)) (fronts : ℤ → Option ℕ) (passes : ℤ → Bool) (r : Option ℕ) → IsRising all → ((t : ℤ) → fronts t ≡ front_of type_of all t) → IsLeastAt passes fronts r → r ≡ option_map (λ m. m.0) (find (λ m. passes (type_of m.1)) all)
+pub least_found : {X : Type 0} (type_of : X → ℤ) (all : List (ℕ × X)) (fronts : ℤ → Option ℕ) (passes : ℤ → Bool) (r : Option ℕ) → IsRising all → ((t : ℤ) → fronts t ≡ first_place type_of all t) → IsLeastAt passes fronts r → r ≡ option_map (λ m. m.0) (find (λ m. passes (type_of m.1)) all)
 least_found {X} type_of all fronts passes r rising fronted least = by (find p all) refl r least
   where
     p : ℕ × X → Bool

@@ -14,7 +14,7 @@ use Rattle.mq_select.specs.Laws.{IsLowest}
 use Rattle.mq_select.specs.Selection.{least_of, pick}
 use Rattle.mq_select.proofs.Lowest.{finds_lowest}
 use Rattle.mq_select.proofs.Places.{find_none}
-use Rattle.mq_index.specs.Index.{front_of, of_type, queue_of, some_wait}
+use Rattle.mq_index.specs.Index.{first_place, of_type, queue_of, some_wait}
 use Rattle.mq_index.proofs.Merging.{at_is, int_eq-here, int_eq-same, weaker}
 
 -- of no type does a message wait; or of this one does, and of no lower one
@@ -163,7 +163,7 @@ abbrev pub place_of_type : (ℤ → Option ℕ) → Option ℤ → Option ℕ
 place_of_type fronts None = None
 place_of_type fronts (Some t) = fronts t
 
-pub place_found : {X : Type 0} (type_of : X → ℤ) (all : List (ℕ × X)) (fronts : ℤ → Option ℕ) (bound : ℕ) (low : Option ℤ) → ((t : ℤ) → fronts t ≡ front_of type_of all t) → low ≡ least_of bound (map (λ m. type_of m.1) all) → place_of_type fronts low ≡ option_map (λ m. m.0) (pick (λ m. type_of m.1) all (UpTo bound))
+pub place_found : {X : Type 0} (type_of : X → ℤ) (all : List (ℕ × X)) (fronts : ℤ → Option ℕ) (bound : ℕ) (low : Option ℤ) → ((t : ℤ) → fronts t ≡ first_place type_of all t) → low ≡ least_of bound (map (λ m. type_of m.1) all) → place_of_type fronts low ≡ option_map (λ m. m.0) (pick (λ m. type_of m.1) all (UpTo bound))
 place_found {X} type_of all fronts bound low fronted is = by low ∙ ap (λ o. option_map (λ (m : ℕ × X). m.0) (find (λ m. option_map_or (int_eq (type_of m.1)) o false) all)) is
   where
     by : (o : Option ℤ) → place_of_type fronts o ≡ option_map (λ m. m.0) (find (λ (m : ℕ × X). option_map_or (int_eq (type_of m.1)) o false) all)

@@ -8,7 +8,7 @@ use Rattle.std.specs.Ordering.{int_cmp, int_eq}
 use Rattle.std.proofs.lemmas.Bool.{eqb-true, eqb-false, ne_eqb}
 use Rattle.std.proofs.lemmas.Option.{none-some, same_Some}
 use Rattle.mq_select.specs.Waiting.{message_at, without}
-use Rattle.mq_index.specs.Index.{front_of, of_type, queue_at, queue_of, unless_empty, IsIndex, IsRising}
+use Rattle.mq_index.specs.Index.{first_place, of_type, queue_at, queue_of, unless_empty, IsIndex, IsRising}
 use Rattle.mq_index.proofs.Changes.{emptied, never_empty}
 use Rattle.mq_index.proofs.Firsts.{filter_later, find_gone, find_kept, first_is, found_kept, found_passes, none_kept}
 use Rattle.mq_index.proofs.Merging.{filter_kept, filter_swap, int_eq-here, int_eq-same, rising_filter, weaker}
@@ -55,7 +55,7 @@ others {X} type_of place all m s rising h other = filter_kept (λ (x : ℕ × X)
         by true k = let same : type_of x.1 ≡ type_of m = ap type_of (f k) in let clash : false ≡ true = sym other ∙ ap (λ t. int_eq t s) (sym same) ∙ e in cc
 
 -- the front of a type is the place of the first message of its queue
-pub front_is : {X : Type 0} (type_of : X → ℤ) (all : List (ℕ × X)) (t : ℤ) → front_of type_of all t ≡ option_map (λ m. m.0) (slice_get (of_type type_of all t) 0)
+pub front_is : {X : Type 0} (type_of : X → ℤ) (all : List (ℕ × X)) (t : ℤ) → first_place type_of all t ≡ option_map (λ m. m.0) (slice_get (of_type type_of all t) 0)
 front_is {X} type_of all t = ap (option_map (λ (m : ℕ × X). m.0)) (first_is (λ (m : ℕ × X). int_eq (type_of m.1) t) all)
 
 -- the queues that are left
@@ -67,7 +67,7 @@ left_in {X} type_of all queues new place m rising parted h at s = ap (λ (o : Op
     by false e = parted s ∙ sym (others type_of place all m s rising h e)
 
 -- the new front of the type is no earlier than the old one
-pub front_later : {X : Type 0} (type_of : X → ℤ) (all : List (ℕ × X)) (fronts : ℤ → Option ℕ) (place : ℕ) (m : X) (first : Option ℕ) → IsRising all → ((s : ℤ) → fronts s ≡ front_of type_of all s) → message_at place all ≡ Some m → first ≡ front_of type_of (without place all) (type_of m) → IfSome first (λ n. IsSomeAnd (fronts (type_of m)) (λ k. k ≤ n))
+pub front_later : {X : Type 0} (type_of : X → ℤ) (all : List (ℕ × X)) (fronts : ℤ → Option ℕ) (place : ℕ) (m : X) (first : Option ℕ) → IsRising all → ((s : ℤ) → fronts s ≡ first_place type_of all s) → message_at place all ≡ Some m → first ≡ first_place type_of (without place all) (type_of m) → IfSome first (λ n. IsSomeAnd (fronts (type_of m)) (λ k. k ≤ n))
 front_later {X} type_of all fronts place m first rising fronted h is = by first (find q (without place all)) refl (find q all) refl is (fronted (type_of m))
   where
     q : ℕ × X → Bool
@@ -103,10 +103,10 @@ taken_out {X} type_of all queues new fronts after types after_types place m h at
         by true f g = never_empty (Some (without place (queue_of queues s))) g
         by false f g = absurd (none-some s (h.kept s g))
 
-    fronted : (s : ℤ) → after s ≡ front_of type_of (without place all) s
+    fronted : (s : ℤ) → after s ≡ first_place type_of (without place all) s
     fronted s = front s ∙ by (int_eq (type_of m) s) refl
       where
-        by : (b : Bool) → int_eq (type_of m) s ≡ b → cond b (option_map (λ (x : ℕ × X). x.0) (slice_get (queue_of new (type_of m)) 0)) (fronts s) ≡ front_of type_of (without place all) s
+        by : (b : Bool) → int_eq (type_of m) s ≡ b → cond b (option_map (λ (x : ℕ × X). x.0) (slice_get (queue_of new (type_of m)) 0)) (fronts s) ≡ first_place type_of (without place all) s
         by true e =
             let same : type_of m ≡ s = int_eq-same _ _ e in
             rw (same, parted s) (sym (front_is type_of (without place all) s))
@@ -163,7 +163,7 @@ later_of {X} type_of all queues new fronts types older place t first h p at is =
     let First : ℤ → Type 0 = λ t. first ≡ option_map (λ (x : ℕ × X). x.0) (slice_get (queue_of new t) 0) in
     let Later : ℤ → Type 0 = λ t. IfSome first (λ n. IsSomeAnd (fronts t) (λ k. k ≤ n)) in
     let there = left_in type_of all queues new place p.message h.rising h.parted p.at (subst At (sym p.type) at) (type_of p.message) in
-    let front : first ≡ front_of type_of (without place all) (type_of p.message) =
+    let front : first ≡ first_place type_of (without place all) (type_of p.message) =
     subst First (sym p.type) is
     ∙ ap (λ (ys : List (ℕ × X)). option_map (λ (x : ℕ × X). x.0) (slice_get ys 0)) there
     ∙ sym (front_is type_of (without place all) (type_of p.message)) in

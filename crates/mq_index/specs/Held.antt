@@ -1,16 +1,16 @@
 -- Waiting messages in a list or in a list by type.
 use Rattle.std.specs.Prelude.{ℕ, Bool, length, nat_lt}
 use Rattle.mq_select.specs.Waiting.{Listed}
-use Rattle.mq_index.specs.declared.index.Held.{Held}
-use Rattle.mq_index.specs.declared.index.Held.TheVariants.{Few, Many}
+use Rattle.mq_index.specs.declared.index.WaitingForm.{WaitingForm}
+use Rattle.mq_index.specs.declared.index.WaitingForm.TheVariants.{Few, Many}
 
 -- the messages and the prepared type, whichever holds them
-abbrev pub waiting_in : {B : Type 0} → Held B → Listed B
+abbrev pub waiting_in : {B : Type 0} → WaitingForm B → Listed B
 waiting_in (Few list) = list
 waiting_in (Many index) = index
 
 -- whether one message more is held in the same way: in a list where that is no longer than the
 -- most, and by type where more than a few wait
-abbrev pub stays : {B : Type 0} → ℕ → ℕ → Held B → Bool
+abbrev pub stays : {B : Type 0} → ℕ → ℕ → WaitingForm B → Bool
 stays most few (Few list) = nat_lt (length list.messages) most
 stays most few (Many index) = nat_lt few (length index.messages)

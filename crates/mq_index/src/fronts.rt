@@ -12,11 +12,11 @@ use std::marker::Model;
 /// The place of the first message of each type that waits. The least of all is at hand, and so is
 /// the least of all types but one; to change one takes time by the logarithm of their count.
 #[derive(Drop)]
-pub struct Fronts {
+pub struct FirstPlaces {
     heap: Heap,
 }
 
-impl Model for Fronts {
+impl Model for FirstPlaces {
     ghost use Rattle.indexmap.specs.IndexMap.{spare};
     ghost use Rattle.mq_index.specs.Fronts.{Firsts};
     ghost use Rattle.mq_index.specs.Heap.{IsHeap};
@@ -28,11 +28,11 @@ impl Model for Fronts {
     ghost invariant = { λ f. IsHeap f.heap.entries };
 }
 
-impl Fronts {
-    pub fn new(alloc: Global) -> Fronts
+impl FirstPlaces {
+    pub fn new(alloc: Global) -> FirstPlaces
         ensures { (t : ℤ) → first_of result t ≡ None }
     {
-        Fronts {
+        FirstPlaces {
             heap: IndexMap::new(alloc),
         }
     }

@@ -16,8 +16,8 @@ mod room;
 mod same;
 
 pub use by_type::ByType;
-pub use fronts::Fronts;
+pub use fronts::FirstPlaces;
 pub use index::IndexWaiting;
 pub use layered::Layered;
-pub use queue::Queue;
+pub use queue::TypeQueue;
 pub use room::Room;

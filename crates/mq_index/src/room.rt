@@ -6,11 +6,11 @@ use std::collections::LinkedList;
 use std::marker::Model;
 
 /// A message at its place, or an empty node in which there will be one.
-pub(crate) type Node<B> = Option<(u64, Message<B>)>;
+pub(crate) type MessageNode<B> = Option<(u64, Message<B>)>;
 
 /// Room for one message, once it is made: a node that a queue takes when the message comes.
 pub struct Room<B> {
-    pub(crate) node: LinkedList<Node<B>>,
+    pub(crate) node: LinkedList<MessageNode<B>>,
 }
 
 impl<B> Model for Room<B> {
@@ -24,7 +24,7 @@ impl<B> Model for Room<B> {
 }
 
 /// Lets an empty node go.
-fn let_go<B>(node: Node<B>)
+fn let_go<B>(node: MessageNode<B>)
     requires { node ≡ None }
 {
     match node {
@@ -73,7 +73,7 @@ impl<B> Room<B> {
 }
 
 /// Puts a message into the one empty node of a list.
-pub(crate) fn fill<B>(node: &mut LinkedList<Node<B>>, message: (u64, Message<B>))
+pub(crate) fn fill<B>(node: &mut LinkedList<MessageNode<B>>, message: (u64, Message<B>))
     requires { node.old ≡ None ∷ [] }
     ensures { node.new ≡ Some message ∷ [] }
 {

@@ -7,7 +7,7 @@ use Rattle.std.specs.List.{concat, refill, length_refill}
 use Rattle.mq_arena.specs.Bytes.{AreWhole}
 use Rattle.mq_arena.specs.OwnedBlock.{OwnedBlock, owned}
 use Rattle.mq_arena.specs.Lent.{place}
-use Rattle.mq_arena.specs.Lends.{with_part as with_page}
+use Rattle.mq_arena.specs.Lends.{with_page_left as with_page}
 use Rattle.mq_arena.specs.declared.page.TheConstants.{PAGE_LEN}
 use Rattle.mq_message.specs.Text.{PlainText, count_of, text_part, with_part}
 use Rattle.mq_message.specs.Held.{text_of}

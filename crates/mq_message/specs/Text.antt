@@ -2,7 +2,7 @@
 use Rattle.std.specs.Prelude.{◌≡◌, ℕ, ◌+◌, ◌-◌, ◌*◌, ◌/◌, ◌^◌, nat_lt, List, [], ◌++◌, length, take, drop, Option, None, Some, IfSome, count_by}
 use Rattle.std.specs.List.{concat, range_with_len}
 use Rattle.std.specs.Option.{option_map}
-use Rattle.mq_tree.specs.Blocks.{Block}
+use Rattle.mq_tree.specs.Blocks.{PlainBlock}
 use Rattle.mq_tree.specs.LentSet.{Lending}
 use Rattle.mq_arena.specs.Bytes.{AreWhole}
 use Rattle.mq_arena.specs.Lent.{lend}
@@ -12,7 +12,7 @@ use Rattle.mq_arena.specs.declared.page.TheConstants.{PAGE_LEN}
 -- a text: its bytes, and where its block lies if it has one
 pub record PlainText : Type 0 where
   pub bytes : List ℕ
-  pub block : Option Block
+  pub block : Option PlainBlock
 
 -- the empty text, which has no block
 abbrev pub no_text : PlainText

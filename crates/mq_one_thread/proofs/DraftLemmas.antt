@@ -3,9 +3,9 @@ use Rattle.std.proofs.Common.{inl, inr, ◌≡◌, ◌∙◌, ℕ, ◌<◌, ◌�
 use Rattle.std.proofs.lemmas.Bool.{cases_lt}
 use Rattle.std.proofs.lemmas.Bool.Decides.{nat_tests}
 use Rattle.std.specs.Option.{option_map, option_map_or}
-use Rattle.mq_tree.specs.Blocks.{Block, block}
+use Rattle.mq_tree.specs.Blocks.{PlainBlock, block}
 use Rattle.mq_tree.specs.Fit.{fit}
-use Rattle.mq_tree.specs.LentSet.{Lending, joined}
+use Rattle.mq_tree.specs.LentSet.{Lending, inserted}
 use Rattle.mq_tree.proofs.Kept.{left_fit}
 use Rattle.mq_arena.specs.Lent.{lend, with_lent}
 use Rattle.mq_arena.specs.declared.limits.TheConstants.{INLINE_ORDER}
@@ -14,30 +14,31 @@ use Rattle.mq_arena.specs.declared.take_error.TakeError.TheVariants as take
 use Rattle.mq_message.specs.declared.order.TheConstants.{INLINE_LEN}
 use Rattle.mq_message.specs.Text.{PlainText, no_text, order_for, text_in}
 use Rattle.mq_queue.specs.declared.limits.TheConstants.{MSGMAX}
-use Rattle.mq_one_thread.specs.State.{State, with_arena}
+use Rattle.mq_one_thread.specs.State.{QueuesState, with_arena}
 use Rattle.mq_one_thread.specs.Memory.{or_memory}
-use Rattle.mq_one_thread.specs.Texts.{by_take, in_block, drafts, drafts_of, spends, with_bytes, zeros_lent}
+use Rattle.mq_one_thread.specs.Texts.{by_take, in_block, drafts, drafts_of, spends, filled_with, zeros_lent}
 use Rattle.mq_one_thread.specs.declared.draft_error.DraftError.{DraftError}
 use Rattle.mq_one_thread.specs.declared.draft_error.DraftError.TheVariants.{TooLong, NoRun, Memory}
 
 -- what is answered where the arena answers this
-abbrev pub answer_of : State → Option (PlainText × Lending) → Result (PlainText × State) DraftError
+abbrev pub answer_of : QueuesState → Option (PlainText × Lending)
+    → Result (PlainText × QueuesState) DraftError
 answer_of s found = option_map_or (λ t. Ok (t.0, with_arena s t.1)) found (Err NoRun)
 
-placed : (s : State) (bytes : List ℕ) (found : Option (Block × Lending))
-    → with_bytes bytes (in_block s (length bytes) found)
+placed : (s : QueuesState) (bytes : List ℕ) (found : Option (PlainBlock × Lending))
+    → filled_with bytes (in_block s (length bytes) found)
     ≡ answer_of s (option_map (λ l. (record { bytes = bytes; block = Some l.0 }, l.1)) found)
 placed s bytes None = refl
 placed s bytes (Some lent) = refl
 
 -- zeros: more than a message may have, or some and no more than that
-pub zeros_too_long : (s : State) (n : ℕ) → MSGMAX < n → drafts s n ≡ Err TooLong
+pub zeros_too_long : (s : QueuesState) (n : ℕ) → MSGMAX < n → drafts s n ≡ Err TooLong
 zeros_too_long s n long =
     let over : nat_lt MSGMAX n ≡ true = grind (arith, nat_tests) in
     ap (λ t. if t then Err TooLong
     else (if n == 0 then Ok (no_text, s) else in_block s n (lend s.arena (order_for n)))) over
 
-zeros_in : (s : State) (n : ℕ) → 0 < n → n ≤ MSGMAX
+zeros_in : (s : QueuesState) (n : ℕ) → 0 < n → n ≤ MSGMAX
     → drafts s n ≡ in_block s n (lend s.arena (order_for n))
 zeros_in s n some short =
     let over : nat_lt MSGMAX n ≡ false = grind (arith, nat_tests) in
@@ -47,17 +48,18 @@ zeros_in s n some short =
     ∙ ap (λ t. if t then Ok (no_text, s) else lent) none
 
 -- the same of bytes
-pub too_long : (s : State) (bytes : List ℕ) → MSGMAX < length bytes → drafts_of s bytes ≡ Err TooLong
-too_long s bytes long = ap (with_bytes bytes) (zeros_too_long s (length bytes) long)
+pub too_long : (s : QueuesState) (bytes : List ℕ) → MSGMAX < length bytes → drafts_of s bytes ≡ Err TooLong
+too_long s bytes long = ap (filled_with bytes) (zeros_too_long s (length bytes) long)
 
-pub drafted : (s : State) (bytes : List ℕ) → 0 < length bytes → length bytes ≤ MSGMAX
+pub drafted : (s : QueuesState) (bytes : List ℕ) → 0 < length bytes → length bytes ≤ MSGMAX
     → drafts_of s bytes ≡ answer_of s (text_in s.arena bytes)
 drafted s bytes some short =
-    ap (with_bytes bytes) (zeros_in s (length bytes) some short)
+    ap (filled_with bytes) (zeros_in s (length bytes) some short)
     ∙ placed s bytes (lend s.arena (order_for (length bytes)))
 
 -- why nothing is drafted where the arena lends nothing
-by_lent : {A : Type 0} (found : Option A) (answer : A → PlainText × State) (refusal : TakeError)
+by_lent : {A : Type 0} (found : Option A) (answer : A → PlainText × QueuesState)
+    (refusal : TakeError)
     → (refusal ≡ take.NoRun → found ≡ None) → (found ≡ None → refusal ≡ take.NoRun)
     → by_take refusal ≡ or_memory Memory (option_map_or (λ a. Ok (answer a)) found (Err NoRun))
 by_lent None answer take.NoRun none run = refl
@@ -66,7 +68,7 @@ by_lent (Some a) answer take.NoRun none run = absurd (cc (none refl))
 by_lent (Some a) answer take.Memory none run = refl
 
 -- zeros for which the arena lends no block
-pub refused_take : (s : State) (n : ℕ) (refusal : TakeError) → 0 < n → n ≤ MSGMAX
+pub refused_take : (s : QueuesState) (n : ℕ) (refusal : TakeError) → 0 < n → n ≤ MSGMAX
     → (refusal ≡ take.NoRun → lend s.arena (order_for n) ≡ None)
     → (lend s.arena (order_for n) ≡ None → refusal ≡ take.NoRun)
     → by_take refusal ≡ or_memory Memory (drafts s n)
@@ -75,7 +77,7 @@ refused_take s n refusal some short none run =
     ∙ ap (or_memory Memory) (sym (zeros_in s n some short))
 
 -- bytes for which it lends none
-pub refused_in : (s : State) (bytes : List ℕ) (refusal : TakeError) → 0 < length bytes
+pub refused_in : (s : QueuesState) (bytes : List ℕ) (refusal : TakeError) → 0 < length bytes
     → length bytes ≤ MSGMAX → (refusal ≡ take.NoRun → text_in s.arena bytes ≡ None)
     → (text_in s.arena bytes ≡ None → refusal ≡ take.NoRun)
     → by_take refusal ≡ or_memory Memory (drafts_of s bytes)
@@ -96,12 +98,12 @@ pub ruleset zero_drafts = (zeros_too_long, refused_take, memory_over)
 pub ruleset byte_drafts = (too_long, drafted, refused_in)
 
 -- the queues once what was drafted is spent
-home : State → Result (PlainText × State) DraftError → State
+home : QueuesState → Result (PlainText × QueuesState) DraftError → QueuesState
 home s (Ok d) = with_arena d.1 (spends d.0 d.1.arena)
 home s (Err e) = s
 
 -- a block that was lent and is home again leaves the arena as it was
-all_home : (s : State) (bytes : List ℕ) → home s (drafts_of s bytes) ≡ s
+all_home : (s : QueuesState) (bytes : List ℕ) → home s (drafts_of s bytes) ≡ s
 unfolding home
 all_home s bytes = by (nat_lt MSGMAX n) (n == 0) (fit s.arena.height s.arena.lent order) refl
   where
@@ -111,22 +113,22 @@ all_home s bytes = by (nat_lt MSGMAX n) (n == 0) (fit s.arena.height s.arena.len
     order : ℕ
     order = order_for n
 
-    lent : ℕ → Block × Lending
+    lent : ℕ → PlainBlock × Lending
     lent start =
-        (block start order, with_lent s.arena (joined (block start order) s.arena.lent))
+        (block start order, with_lent s.arena (inserted (block start order) s.arena.lent))
 
     by : (long none : Bool) (found : Option ℕ) → fit s.arena.height s.arena.lent order ≡ found
-        → home s (with_bytes bytes (if long then Err TooLong
+        → home s (filled_with bytes (if long then Err TooLong
         else (if none then Ok (no_text, s) else in_block s n (option_map lent found)))) ≡ s
     by true none found e = refl
     by false true found e = refl
     by false false None e = refl
     by false false (Some start) e =
-        ap (λ (left : List Block). with_arena s (with_lent s.arena left))
+        ap (λ (left : List PlainBlock). with_arena s (with_lent s.arena left))
         (left_fit s.arena.height s.arena.lent order start e)
 
 -- a text that is spent after it was drafted leaves the queues as they were
-pub spent_after : (s after : State) (bytes : List ℕ) (text : PlainText)
+pub spent_after : (s after : QueuesState) (bytes : List ℕ) (text : PlainText)
     → drafts_of s bytes ≡ Ok (text, after) → with_arena after (spends text after.arena) ≡ s
 unfolding home
 spent_after s after bytes text e = ap (home s) (sym e) ∙ all_home s bytes

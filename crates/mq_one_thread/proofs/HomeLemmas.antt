@@ -9,7 +9,7 @@ use Rattle.std.proofs.lemmas.Grind.{flat_map-append}
 use Rattle.std.proofs.lemmas.List.{map-append, reverse-append}
 use Rattle.std.proofs.lemmas.List.Elements.{filter_agree}
 use Rattle.std.proofs.lemmas.List.Folds.{list_any-append}
-use Rattle.mq_tree.specs.Blocks.{Block, is_block}
+use Rattle.mq_tree.specs.Blocks.{PlainBlock, is_block}
 use Rattle.mq_tree.specs.LentSet.{Lending}
 use Rattle.mq_arena.specs.Lent.{gives_back, with_lent}
 use Rattle.mq_message.specs.Text.{PlainText}
@@ -42,7 +42,8 @@ pub none_home : (arena : Lending) → spends_all [] arena ≡ arena
 none_home arena = ap (with_lent arena) (kept_all arena.lent)
 
 -- the same of a text that lies in this block or in none
-placed_home : (block : Option Block) (messages : List (ℕ × Message PlainText)) (arena : Lending)
+placed_home : (block : Option PlainBlock) (messages : List (ℕ × Message PlainText))
+    (arena : Lending)
     → with_lent arena (filter (λ b. not (option_map_or (λ c. is_block c b) block false || list_any (λ m. lies_in b m.1.body) messages)) arena.lent)
     ≡ spends_all messages (option_map_or (λ b. gives_back b arena) block arena)
 placed_home None messages arena = refl
@@ -63,7 +64,7 @@ order_home xs ys arena is =
 -- the texts of two lists come home one list after the other
 both_home : (xs ys : List (ℕ × Message PlainText)) (arena : Lending) → spends_all (xs ++ ys) arena ≡ spends_all xs (spends_all ys arena)
 both_home xs ys arena =
-    let waits : List (ℕ × Message PlainText) → Block → Bool = λ ms b. list_any (λ m. lies_in b m.1.body) ms in
+    let waits : List (ℕ × Message PlainText) → PlainBlock → Bool = λ ms b. list_any (λ m. lies_in b m.1.body) ms in
     ap (with_lent arena)
     (filter_agree (λ b. not (waits (xs ++ ys) b)) (λ b. not (waits ys b || waits xs b))
     (λ b. ap not (list_any-append (λ m. lies_in b m.1.body) xs ys ∙ or_comm (waits xs b) (waits ys b))) arena.lent

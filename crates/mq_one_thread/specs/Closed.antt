@@ -47,8 +47,8 @@ pub record IsClosed (last_seq : ℕ) (slot : ClosedSlot) : Type 0 where
 
 -- how many entries a slot that was closed had: those that were cut off before, and those that it
 -- leaves
-abbrev pub entries_of : ClosedSlot → ℕ
-entries_of slot = slot.first + length slot.past.items + length slot.last.items
+abbrev pub entries_at_end : ClosedSlot → ℕ
+entries_at_end slot = slot.first + length slot.past.items + length slot.last.items
 
 -- the arena once all that waits in any slot is home
 abbrev pub all_home : List (KeptSlot PlainText) → Lending → Lending

@@ -7,7 +7,7 @@ use Rattle.mq_table.specs.KeptCalls.{kept_makes}
 use Rattle.mq_table.specs.KeptShown.{is_free_now, next_id_now}
 use Rattle.mq_table.specs.Keys.{id_of_key, entered}
 use Rattle.mq_table.specs.declared.limits.TheConstants.{MAX_SEQ}
-use Rattle.mq_one_thread.specs.State.{State, slot_at, with_slot}
+use Rattle.mq_one_thread.specs.State.{QueuesState, slot_at, with_slot}
 use Rattle.mq_one_thread.specs.declared.errno.Errno.{Errno}
 use Rattle.mq_one_thread.specs.declared.errno.Errno.TheVariants.{EEXIST, ENOENT, ENOSPC}
 use Rattle.mq_one_thread.specs.declared.results.GetFlags.{GetFlags}
@@ -15,11 +15,11 @@ use Rattle.mq_one_thread.specs.declared.results.Got.{Got}
 
 -- the id, and what is left
 abbrev pub GetAnswer : Type 0
-GetAnswer = Result (Got × State) Errno
+GetAnswer = Result (Got × QueuesState) Errno
 
 -- a queue is made in slot k: its id is the slot's next one, and its key, if it has one, is entered
 -- last
-abbrev pub made_in : State → ℤ → ℕ → ℕ → Option ℕ → GetAnswer
+abbrev pub made_in : QueuesState → ℤ → ℕ → ℕ → Option ℕ → GetAnswer
 made_in s key seat moment None = Err ENOSPC
 made_in s key seat moment (Some k) =
     let slot = slot_at s k in
@@ -31,22 +31,22 @@ made_in s key seat moment (Some k) =
     )
 
 -- the first slot in which no queue is and an id is left
-abbrev pub free_slot : State → Option ℕ
+abbrev pub free_slot : QueuesState → Option ℕ
 free_slot s = position (λ slot. is_free_now s.last_seq slot) s.slots
 
 -- a queue is made in that slot
-abbrev pub makes_one : State → ℤ → ℕ → ℕ → GetAnswer
+abbrev pub makes_one : QueuesState → ℤ → ℕ → ℕ → GetAnswer
 makes_one s key seat moment = made_in s key seat moment (free_slot s)
 
 -- by a key: the queue that has it, or a new one (msgget(2), IPC_CREAT and IPC_EXCL)
-abbrev pub by_key : State → ℕ → ℤ → GetFlags → ℕ → Option ℕ → GetAnswer
+abbrev pub by_key : QueuesState → ℕ → ℤ → GetFlags → ℕ → Option ℕ → GetAnswer
 by_key s seat key flags moment (Some id) =
     if flags.create && flags.exclusive then Err EEXIST else Ok (record { id = id; made = None }, s)
 by_key s seat key flags moment None =
     if flags.create then makes_one s key seat moment else Err ENOENT
 
 -- msgget: key 0, which is IPC_PRIVATE, always makes a queue (msgget(2))
-abbrev pub msgget : State → ℕ → ℤ → GetFlags → ℕ → GetAnswer
+abbrev pub msgget : QueuesState → ℕ → ℤ → GetFlags → ℕ → GetAnswer
 msgget s seat key flags moment =
     if int_eq key (pos 0) then makes_one s key seat moment
     else by_key s seat key flags moment (id_of_key s.keys key)
@@ -57,7 +57,7 @@ MayRunOut (Ok turn) = IsSome turn.0.made
 MayRunOut (Err errno) = Unit {0}
 
 -- a queue can be made in slot k: none is in it, and a seq is left
-pub record IsFreePlace (s : State) (k : ℕ) : Type 0 where
+pub record IsFreePlace (s : QueuesState) (k : ℕ) : Type 0 where
   pub within : k < length s.slots
   pub empty : is_live_kept (slot_at s k) ≡ false
   pub unused : made_of (slot_at s k) ≤ MAX_SEQ

@@ -6,7 +6,7 @@ use Rattle.mq_message.specs.Text.{PlainText}
 use Rattle.mq_table.specs.Kept.{KeptSlot}
 use Rattle.mq_table.specs.SlotParts.{empty_kept}
 use Rattle.mq_table.specs.declared.limits.TheConstants.{MAX_SLOTS, MAX_SEQ}
-use Rattle.mq_one_thread.specs.State.{State}
+use Rattle.mq_one_thread.specs.State.{QueuesState}
 use Rattle.mq_one_thread.specs.declared.config.Config.{Config}
 use Rattle.mq_one_thread.specs.declared.limits.TheConstants.{MAX_SEATS}
 
@@ -30,8 +30,8 @@ abbrev pub empty_slots : ℕ → List (KeptSlot PlainText)
 empty_slots count = map empty_kept (range_with_len 0 count)
 
 -- no queue is made, and nothing is lent
-abbrev pub start : Config → State
-start c = record {
+abbrev pub empty_queues : Config → QueuesState
+empty_queues c = record {
   arena = record { height = c.height; lent = [] };
   slots = empty_slots c.slots;
   keys = [];

@@ -7,20 +7,20 @@ use Rattle.mq_table.specs.SlotParts.{empty_kept}
 
 -- what the arena has lent, what is kept of the slots, the keys of the live queues with their ids in
 -- the order of making, and the seq with which a slot is used up
-pub record State : Type 0 where
+pub record QueuesState : Type 0 where
   pub arena : Lending
   pub slots : List (KeptSlot PlainText)
   pub keys : List (ℤ × ℕ)
   pub last_seq : ℕ
 
 -- the slot with this number
-abbrev pub slot_at : State → ℕ → KeptSlot PlainText
+abbrev pub slot_at : QueuesState → ℕ → KeptSlot PlainText
 slot_at s k = slice_index_or s.slots k (empty_kept k)
 
 -- the state with another arena
-abbrev pub with_arena : State → Lending → State
+abbrev pub with_arena : QueuesState → Lending → QueuesState
 with_arena s arena = record s { arena = arena }
 
 -- the state with another slot k
-abbrev pub with_slot : State → ℕ → KeptSlot PlainText → State
+abbrev pub with_slot : QueuesState → ℕ → KeptSlot PlainText → QueuesState
 with_slot s k slot = record s { slots = slice_set s.slots k slot }

@@ -3,7 +3,7 @@ use Rattle.std.specs.Prelude.{ℕ, ◌==◌, nat_lt, if◌then◌else◌, Bool, 
 use Rattle.std.specs.Prelude.{List, length, take, filter, replicate, Option, Some, Result, Ok, Err}
 use Rattle.std.specs.List.{list_any}
 use Rattle.std.specs.Option.{option_map_or}
-use Rattle.mq_tree.specs.Blocks.{Block, is_block}
+use Rattle.mq_tree.specs.Blocks.{PlainBlock, is_block}
 use Rattle.mq_tree.specs.LentSet.{Lending, is_lent}
 use Rattle.mq_arena.specs.declared.homecoming.Homecoming.{Homecoming}
 use Rattle.mq_arena.specs.declared.homecoming.Homecoming.TheVariants.{Home, Stray}
@@ -15,7 +15,7 @@ use Rattle.mq_message.specs.declared.message.Message.{Message}
 use Rattle.mq_queue.specs.declared.limits.TheConstants.{MSGMAX}
 use Rattle.mq_select.specs.Waiting.{message_at}
 use Rattle.mq_one_thread.specs.Memory.{or_memory}
-use Rattle.mq_one_thread.specs.State.{State, with_arena}
+use Rattle.mq_one_thread.specs.State.{QueuesState, with_arena}
 use Rattle.mq_one_thread.specs.declared.draft_error.DraftError.{DraftError}
 use Rattle.mq_one_thread.specs.declared.draft_error.DraftError.TheVariants.{TooLong, NoRun, Memory}
 use Rattle.mq_one_thread.specs.declared.errno.Errno.{Errno}
@@ -26,29 +26,30 @@ abbrev pub bytes_of : PlainText → List ℕ
 bytes_of text = text.bytes
 
 -- a text of n zeros in a block that the arena lends
-abbrev pub zeros_lent : State → ℕ → Block × Lending → PlainText × State
+abbrev pub zeros_lent : QueuesState → ℕ → PlainBlock × Lending → PlainText × QueuesState
 zeros_lent s n lent =
     (record { bytes = replicate n 0; block = Some lent.0 }, with_arena s lent.1)
 
 -- the same, where a block fits
-abbrev pub in_block : State → ℕ → Option (Block × Lending) → Result (PlainText × State) DraftError
+abbrev pub in_block : QueuesState → ℕ → Option (PlainBlock × Lending)
+    → Result (PlainText × QueuesState) DraftError
 in_block s n found = option_map_or (λ lent. Ok (zeros_lent s n lent)) found (Err NoRun)
 
 -- a text of n zeros, no longer than a message's: the empty one has no block
-abbrev pub drafts : State → ℕ → Result (PlainText × State) DraftError
+abbrev pub drafts : QueuesState → ℕ → Result (PlainText × QueuesState) DraftError
 drafts s n =
     if nat_lt MSGMAX n then Err TooLong
     else (if n == 0 then Ok (no_text, s) else in_block s n (lend s.arena (order_for n)))
 
 -- a draft once these bytes are in its text
-abbrev pub with_bytes : List ℕ → Result (PlainText × State) DraftError
-    → Result (PlainText × State) DraftError
-with_bytes bytes (Ok d) = Ok (record { bytes = bytes; block = d.0.block }, d.1)
-with_bytes bytes (Err e) = Err e
+abbrev pub filled_with : List ℕ → Result (PlainText × QueuesState) DraftError
+    → Result (PlainText × QueuesState) DraftError
+filled_with bytes (Ok d) = Ok (record { bytes = bytes; block = d.0.block }, d.1)
+filled_with bytes (Err e) = Err e
 
 -- a text of these bytes, in the block that one of as many zeros has
-abbrev pub drafts_of : State → List ℕ → Result (PlainText × State) DraftError
-drafts_of s bytes = with_bytes bytes (drafts s (length bytes))
+abbrev pub drafts_of : QueuesState → List ℕ → Result (PlainText × QueuesState) DraftError
+drafts_of s bytes = filled_with bytes (drafts s (length bytes))
 
 -- the text that waits at a place
 abbrev pub text_at : ℕ → List (ℕ × Message PlainText) → PlainText
@@ -72,7 +73,7 @@ abbrev pub comes_home : PlainText → Lending → Homecoming
 comes_home text arena = at_home (option_map_or (λ b. is_lent b arena.lent) text.block true)
 
 -- whether a text lies in this block
-abbrev pub lies_in : Block → PlainText → Bool
+abbrev pub lies_in : PlainBlock → PlainText → Bool
 lies_in b text = option_map_or (λ c. is_block c b) text.block false
 
 -- the arena once the blocks of all these messages are home
@@ -92,5 +93,5 @@ by_take take.NoRun = NoRun
 by_take take.Memory = Memory
 
 -- where nothing refuses a draft that failed, memory did
-abbrev pub draft_refusal : Result (PlainText × State) DraftError → DraftError
+abbrev pub draft_refusal : Result (PlainText × QueuesState) DraftError → DraftError
 draft_refusal answer = or_memory Memory answer

@@ -9,7 +9,7 @@ ghost use Rattle.mq_message.specs.Text.{order_for};
 ghost use Rattle.mq_table.specs.KeptPart.{IsLawfulSlot, WaitsNow};
 ghost use Rattle.mq_table.specs.KeptShown.{row_now};
 ghost use Rattle.mq_one_thread.specs.Holds.{AreKeysOf};
-ghost use Rattle.mq_one_thread.specs.Limits.{keeps_limits, start, empty_slots};
+ghost use Rattle.mq_one_thread.specs.Limits.{keeps_limits, empty_queues, empty_slots};
 ghost use Rattle.mq_one_thread.specs.Outcome.{Answers};
 ghost use Rattle.mq_one_thread.specs.State.{slot_at, with_arena};
 ghost use Rattle.mq_one_thread.specs.Texts.{bytes_of, comes_home, drafts, drafts_of, spends};
@@ -42,10 +42,10 @@ pub struct OneThread<L: Ledger> {
 
 impl<L: Ledger> Model for OneThread<L> {
     ghost use Rattle.std.specs.Prelude.{vec_capacity};
-    ghost use Rattle.mq_one_thread.specs.State.{State};
+    ghost use Rattle.mq_one_thread.specs.State.{QueuesState};
     ghost use Rattle.mq_one_thread.specs.Kept.{IsKept};
 
-    ghost Value = { State };
+    ghost Value = { QueuesState };
 
     ghost view = { λ s.
         record { arena = s.arena; slots = s.slots.items; keys = s.keys; last_seq = s.last_seq } };
@@ -84,7 +84,7 @@ impl<L: Ledger> OneThread<L> {
         requires name { ledger.name ≡ L.name }
         requires parts { ledger.parts ≡ L.parts }
         requires enough { LEDGER_PARTS ≤ ledger.parts }
-        ensures ok { IfOk result (λ system. system ≡ start config) }
+        ensures ok { IfOk result (λ system. system ≡ empty_queues config) }
         ensures err { IsErrOf result SysError.Config ↔ (keeps_limits config ≡ false) }
     {
         if !config.is_valid() {

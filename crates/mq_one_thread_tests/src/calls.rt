@@ -76,7 +76,7 @@ pub(crate) fn made<L: Ledger>(
     match OneThread::new(alloc, config, ledger) {
         Ok(system) => system,
         Err(refusal) => {
-            assert!(rt; refusal != SysError::Memory, "out of memory");
+            holds!(rt; refusal != SysError::Memory, "out of memory");
             panic!(rt; "no system");
         }
     }
@@ -198,7 +198,7 @@ fn end_of(cut: &Cut) -> u64 {
 
 /// What is cut off of a slot. Where that is refused at first, the refusal tells all entries.
 pub(crate) fn cut<L: Ledger>(rt: &impl Abort, system: &mut OneThread<L>, slot: u8) -> Cut {
-    assert!(rt; slot < system.slots());
+    holds!(rt; slot < system.slots());
     match system.cut_log(slot) {
         Ok(cut) => cut,
         Err(refused) => match system.cut_log(slot) {
@@ -234,7 +234,7 @@ pub(crate) fn written<L: Ledger>(
 ) -> Text<L> {
     match system.draft_of(bytes) {
         Ok(text) => {
-            assert!(rt; text.len() == bytes.len() as u64);
+            holds!(rt; text.len() == bytes.len() as u64);
             text
         }
         Err(_) => panic!(rt; "not drafted"),
@@ -275,13 +275,13 @@ pub(crate) fn delivered<L: Ledger>(
 
 /// Spends a text that is the system's own.
 pub(crate) fn spent<L: Ledger>(rt: &impl Abort, system: &mut OneThread<L>, text: Text<L>) {
-    assert!(rt; system.spend(text) == Homecoming::Home);
+    holds!(rt; system.spend(text) == Homecoming::Home);
 }
 
 /// Ends a system, all of whose pages are free or under a text that waits.
 pub(crate) fn ended<L: Ledger>(rt: &impl Abort, system: OneThread<L>) {
     let Closed { slots: _, arena } = system.close();
-    assert!(rt; arena.free_pages() == arena.pages());
+    holds!(rt; arena.free_pages() == arena.pages());
 }
 
 /// Whether a text of one page has these bytes.

@@ -85,11 +85,11 @@ const LEFT: Figures = Figures {
 };
 
 fn filled<L: Ledger>(rt: &impl Abort, system: &mut OneThread<L>) {
-    assert!(rt; get(system, 9, NEW, 4).is_ok());
+    holds!(rt; get(system, 9, NEW, 4).is_ok());
     let text = written(rt, system, b"one");
-    assert!(rt; taken(rt, system, 0, 1, text) == 1);
+    holds!(rt; taken(rt, system, 0, 1, text) == 1);
     let text = written(rt, system, b"four");
-    assert!(rt; taken(rt, system, 0, 2, text) == 2);
+    holds!(rt; taken(rt, system, 0, 2, text) == 2);
 }
 
 /// The queue is found and shown as it would be if nothing had been cut off.
@@ -98,16 +98,16 @@ fn is_there<L: Ledger>(rt: &impl Abort, system: &mut OneThread<L>, figures: Figu
         id: Id::from_number(0),
         made: None,
     };
-    assert!(rt; get(system, 9, NO_FLAG, 5) == Ok(got));
-    assert!(rt; system.stat(Id::from_number(0)) == Ok(figures));
-    assert!(rt; system.slots() > 0);
+    holds!(rt; get(system, 9, NO_FLAG, 5) == Ok(got));
+    holds!(rt; system.stat(Id::from_number(0)) == Ok(figures));
+    holds!(rt; system.slots() > 0);
     let row = BoardRow {
         made: 1,
         live: true,
         key: 9,
         figures,
     };
-    assert!(rt; system.row(0) == row);
+    holds!(rt; system.row(0) == row);
 }
 
 /// `one` is received by entry 3.
@@ -120,10 +120,10 @@ fn receives<L: Ledger>(rt: &impl Abort, system: &mut OneThread<L>) {
         length,
         text,
     } = delivered(rt, system, 0, first(9));
-    assert!(rt; has(&text, b"one"));
+    holds!(rt; has(&text, b"one"));
     spent(rt, system, text);
-    assert!(rt; entry == 3 && mtype == 1 && sender == 1);
-    assert!(rt; tag == 7 && length == 3);
+    holds!(rt; entry == 3 && mtype == 1 && sender == 1);
+    holds!(rt; tag == 7 && length == 3);
 }
 
 /// What is known of the entries before a cut: these figures and messages.
@@ -136,10 +136,10 @@ fn known(
 ) {
     match base {
         Some(base) => {
-            assert!(rt; base.places == places && base.figures == figures);
-            assert!(rt; base.waiting.len() == waiting.len() as u64);
+            holds!(rt; base.places == places && base.figures == figures);
+            holds!(rt; base.waiting.len() == waiting.len() as u64);
             for (index, entry) in waiting.iter().enumerate() {
-                assert!(rt; base.waiting.get(index as u64) == Some(*entry));
+                holds!(rt; base.waiting.get(index as u64) == Some(*entry));
             }
         }
         None => panic!(rt; "a base is missing"),
@@ -148,38 +148,38 @@ fn known(
 
 /// Nothing happened in the slot by this cut.
 fn is_new(rt: &impl Abort, cut: &Cut) {
-    assert!(rt; cut.first == 0 && cut.made == 0 && cut.base.is_none());
-    assert!(rt; cut.past.is_empty() && cut.last.is_empty());
+    holds!(rt; cut.first == 0 && cut.made == 0 && cut.base.is_none());
+    holds!(rt; cut.past.is_empty() && cut.last.is_empty());
 }
 
 /// Slot 0 is cut while both messages wait, and at once again.
 fn cut_twice<L: Ledger>(rt: &impl Abort, system: &mut OneThread<L>) {
     let all = cut(rt, system, 0);
-    assert!(rt; all.first == 0 && all.made == 0 && all.base.is_none());
-    assert!(rt; all.past.is_empty() && all.last.as_slice() == SENT.as_slice());
+    holds!(rt; all.first == 0 && all.made == 0 && all.base.is_none());
+    holds!(rt; all.past.is_empty() && all.last.as_slice() == SENT.as_slice());
     is_there(rt, system, BOTH);
     let none = cut(rt, system, 0);
-    assert!(rt; none.first == 3 && none.made == 1);
+    holds!(rt; none.first == 3 && none.made == 1);
     known(rt, &none.base, 3, BOTH, &[ONE, FOUR]);
-    assert!(rt; none.past.is_empty() && none.last.is_empty());
+    holds!(rt; none.past.is_empty() && none.last.is_empty());
     is_there(rt, system, BOTH);
 }
 
 /// At the end only what is kept is told.
 fn kept(rt: &impl Abort, slot: &ClosedSlot) {
-    assert!(rt; slot.first == 4 && slot.made == 1 && slot.left == 2);
+    holds!(rt; slot.first == 4 && slot.made == 1 && slot.left == 2);
     known(rt, &slot.base, 4, LEFT, &[FOUR]);
-    assert!(rt; slot.past.is_empty() && slot.last.len() == 1);
+    holds!(rt; slot.past.is_empty() && slot.last.len() == 1);
 }
 
 fn closed<L: Ledger>(rt: &impl Abort, system: OneThread<L>) {
     let Closed { slots, arena } = system.close();
-    assert!(rt; slots.len() == 2);
+    holds!(rt; slots.len() == 2);
     match slots.first() {
         Some(slot) => kept(rt, slot),
         None => panic!(rt; "a slot is missing"),
     }
-    assert!(rt; arena.free_pages() == 2);
+    holds!(rt; arena.free_pages() == 2);
 }
 
 fn cut_while_messages_wait<L: Ledger, R: Abort>(rt: &R, alloc: Global, ledger: Blank)
@@ -193,12 +193,12 @@ fn cut_while_messages_wait<L: Ledger, R: Abort>(rt: &R, alloc: Global, ledger: B
     cut_twice(rt, &mut system);
     receives(rt, &mut system);
     let one = cut(rt, &mut system, 0);
-    assert!(rt; one.first == 3 && one.made == 1);
+    holds!(rt; one.first == 3 && one.made == 1);
     known(rt, &one.base, 3, BOTH, &[ONE, FOUR]);
-    assert!(rt; one.past.is_empty() && one.last.as_slice() == RECEIVED.as_slice());
+    holds!(rt; one.past.is_empty() && one.last.as_slice() == RECEIVED.as_slice());
     is_there(rt, &mut system, LEFT);
     let text = written(rt, &mut system, b"two");
-    assert!(rt; taken(rt, &mut system, 0, 1, text) == 4);
+    holds!(rt; taken(rt, &mut system, 0, 1, text) == 4);
     is_new(rt, &cut(rt, &mut system, 1));
     closed(rt, system);
 }
@@ -219,23 +219,23 @@ fn removed_after_a_cut<L: Ledger, R: Abort>(rt: &R, alloc: Global, ledger: Blank
     receives(rt, &mut system);
     match remove(&mut system, 0, 8) {
         Ok(Removal { entry, log }) => {
-            assert!(rt; entry == 4 && log.len() == 5 && log.first() == 3);
+            holds!(rt; entry == 4 && log.len() == 5 && log.first() == 3);
             let (base, tail) = log.into_parts();
             known(rt, &Some(base), 3, BOTH, &[ONE, FOUR]);
-            assert!(rt; tail.len() == 2 && tail.get(0) == RECEIVED.get(0));
+            holds!(rt; tail.len() == 2 && tail.get(0) == RECEIVED.get(0));
         }
         Err(refused) => panic!(rt; "it is not removed: {refused}"),
     }
     let Closed { slots, arena } = system.close();
     match slots.first() {
         Some(slot) => {
-            assert!(rt; slot.first == 3 && slot.made == 1 && slot.left == 0);
+            holds!(rt; slot.first == 3 && slot.made == 1 && slot.left == 0);
             known(rt, &slot.base, 3, BOTH, &[ONE, FOUR]);
-            assert!(rt; slot.past.len() == 2 && slot.last.is_empty());
+            holds!(rt; slot.past.len() == 2 && slot.last.is_empty());
         }
         None => panic!(rt; "a slot is missing"),
     }
-    assert!(rt; arena.free_pages() == 2);
+    holds!(rt; arena.free_pages() == 2);
 }
 
 #[test]

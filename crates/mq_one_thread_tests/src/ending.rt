@@ -18,13 +18,13 @@ fn sent<L: Ledger>(rt: &impl Abort, system: &mut OneThread<L>, id: u32, bytes: &
 /// Two texts wait in the first slot, of which one queue was removed, and none in the second; one
 /// waits in the third, and another was received.
 fn used<L: Ledger>(rt: &impl Abort, system: &mut OneThread<L>) -> Text<L> {
-    assert!(rt; get(system, 5, CREATE, 4).is_ok());
+    holds!(rt; get(system, 5, CREATE, 4).is_ok());
     sent(rt, system, 0, b"gone");
-    assert!(rt; remove(system, 0, 5).is_ok());
+    holds!(rt; remove(system, 0, 5).is_ok());
     for key in 5..8i32 {
-        assert!(rt; get(system, key, CREATE, 6).is_ok());
+        holds!(rt; get(system, key, CREATE, 6).is_ok());
     }
-    assert!(rt; remove(system, 1, 7).is_ok());
+    holds!(rt; remove(system, 1, 7).is_ok());
     sent(rt, system, 64, b"one");
     sent(rt, system, 64, b"two");
     sent(rt, system, 2, b"outside");
@@ -45,10 +45,10 @@ fn used<L: Ledger>(rt: &impl Abort, system: &mut OneThread<L>) -> Text<L> {
 fn left(rt: &impl Abort, slots: &[ClosedSlot], at: usize, past: usize, last: usize, left: u64) {
     match slots.get(at) {
         Some(slot) => {
-            assert!(rt; slot.first == 0 && slot.made == 0 && slot.base.is_none());
-            assert!(rt; slot.past.len() == past);
-            assert!(rt; slot.last.len() == last);
-            assert!(rt; slot.left == left);
+            holds!(rt; slot.first == 0 && slot.made == 0 && slot.base.is_none());
+            holds!(rt; slot.past.len() == past);
+            holds!(rt; slot.last.len() == last);
+            holds!(rt; slot.left == left);
         }
         None => panic!(rt; "no slot"),
     }
@@ -56,7 +56,7 @@ fn left(rt: &impl Abort, slots: &[ClosedSlot], at: usize, past: usize, last: usi
 
 fn comes_home<L: Ledger>(rt: &impl Abort, arena: &mut ArenaState<L>, text: Text<L>) {
     match text.into_block() {
-        Some(block) => assert!(rt; arena.put(block) == Homecoming::Home),
+        Some(block) => holds!(rt; arena.put(block) == Homecoming::Home),
         None => panic!(rt; "no block"),
     }
 }
@@ -68,17 +68,17 @@ fn closed_with_texts<L: Ledger, R: Abort>(rt: &R, alloc: Global, ledger: Blank)
 {
     let mut system = made::<L>(rt, alloc, config(3, 4, 9), ledger);
     let outside = used(rt, &mut system);
-    assert!(rt; system.free_pages() == 4);
+    holds!(rt; system.free_pages() == 4);
     let Closed { slots, mut arena } = system.close();
-    assert!(rt; slots.len() == 4);
+    holds!(rt; slots.len() == 4);
     left(rt, &slots, 0, 3, 3, 2);
     left(rt, &slots, 1, 2, 0, 0);
     left(rt, &slots, 2, 0, 4, 1);
     left(rt, &slots, 3, 0, 0, 0);
-    assert!(rt; arena.free_pages() == 7);
+    holds!(rt; arena.free_pages() == 7);
     comes_home(rt, &mut arena, outside);
-    assert!(rt; arena.free_pages() == 8);
-    assert!(rt; arena.lent_pages() == 0);
+    holds!(rt; arena.free_pages() == 8);
+    holds!(rt; arena.lent_pages() == 0);
 }
 
 #[test]

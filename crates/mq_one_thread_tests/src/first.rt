@@ -32,7 +32,7 @@ fn said_hello<L: Ledger>(rt: &impl Abort, alloc: Global, ledger: Blank)
     let got = match queues.msgget(1, 1234, CREATE, 1) {
         Ok(got) => got,
         Err(errno) => {
-            assert!(rt; errno == Errno::ENOMEM, "no queue");
+            holds!(rt; errno == Errno::ENOMEM, "no queue");
             panic!(rt; "out of memory");
         }
     };
@@ -41,15 +41,15 @@ fn said_hello<L: Ledger>(rt: &impl Abort, alloc: Global, ledger: Blank)
     };
     text.fill(b"hello");
     match queues.msgsnd(1, got.id, 7, 0, text, 2) {
-        Ok(entry) => assert!(rt; entry == 1),
+        Ok(entry) => holds!(rt; entry == 1),
         Err(refusal) => {
-            assert!(rt; refusal.refused.errno == Errno::ENOMEM, "not sent");
+            holds!(rt; refusal.refused.errno == Errno::ENOMEM, "not sent");
             panic!(rt; "out of memory");
         }
     }
     match queues.msgrcv(2, got.id, 100, 0, false, false, 3) {
         Ok(Delivered { text, .. }) => {
-            assert!(rt; text.parts().next() == Some(b"hello".as_slice()));
+            holds!(rt; text.parts().next() == Some(b"hello".as_slice()));
             queues.spend(text);
         }
         Err(_) => panic!(rt; "nothing waits"),

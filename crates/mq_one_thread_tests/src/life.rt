@@ -77,14 +77,14 @@ const LOG: [Event; 3] = [
 ];
 
 fn row<L: Ledger>(rt: &impl Abort, system: &OneThread<L>, slot: u8) -> BoardRow {
-    assert!(rt; slot < system.slots());
+    holds!(rt; slot < system.slots());
     system.row(slot)
 }
 
 fn is_empty<L: Ledger>(rt: &impl Abort, system: &mut OneThread<L>) {
     match receive(system, 0, first(9), 5) {
         Ok(_delivered) => panic!(rt; "a message waits"),
-        Err(Refused { errno, entry }) => assert!(rt; (errno, entry) == (Errno::ENOMSG, Some(1))),
+        Err(Refused { errno, entry }) => holds!(rt; (errno, entry) == (Errno::ENOMSG, Some(1))),
     }
 }
 
@@ -95,32 +95,32 @@ fn refused<L: Ledger>(rt: &impl Abort, system: &mut OneThread<L>) -> Text<L> {
     match send(system, 0, 0, text, 5) {
         Ok(_) => panic!(rt; "type 0 was sent"),
         Err(SendRefused { refused, text }) => {
-            assert!(rt; (refused.errno, refused.entry) == (Errno::EINVAL, None));
-            assert!(rt; has(&text, b"hi"));
-            assert!(rt; text.start() == Some(0));
+            holds!(rt; (refused.errno, refused.entry) == (Errno::EINVAL, None));
+            holds!(rt; has(&text, b"hi"));
+            holds!(rt; text.start() == Some(0));
             text
         }
     }
 }
 
 fn sent<L: Ledger>(rt: &impl Abort, system: &mut OneThread<L>, text: Text<L>) {
-    assert!(rt; taken(rt, system, 0, 1, text) == 1);
-    assert!(rt; system.stat(Id::from_number(0)) == Ok(FIGURES));
-    assert!(rt; row(rt, system, 0) == LIVE);
-    assert!(rt; system.free_pages() == 0);
+    holds!(rt; taken(rt, system, 0, 1, text) == 1);
+    holds!(rt; system.stat(Id::from_number(0)) == Ok(FIGURES));
+    holds!(rt; row(rt, system, 0) == LIVE);
+    holds!(rt; system.free_pages() == 0);
 }
 
 fn removed<L: Ledger>(rt: &impl Abort, system: &mut OneThread<L>) {
     match remove(system, 0, 6) {
         Ok(Removal { entry, log }) => {
-            assert!(rt; entry == 2);
-            assert!(rt; log.into_parts().1.as_slice() == LOG.as_slice());
+            holds!(rt; entry == 2);
+            holds!(rt; log.into_parts().1.as_slice() == LOG.as_slice());
         }
         Err(_) => panic!(rt; "not removed"),
     }
-    assert!(rt; system.free_pages() == 1);
-    assert!(rt; system.stat(Id::from_number(0)) == Err(Errno::EIDRM));
-    assert!(rt; row(rt, system, 0) == BoardRow { made: 1, ..NO_ROW });
+    holds!(rt; system.free_pages() == 1);
+    holds!(rt; system.stat(Id::from_number(0)) == Err(Errno::EIDRM));
+    holds!(rt; row(rt, system, 0) == BoardRow { made: 1, ..NO_ROW });
 }
 
 fn one_life<L: Ledger, R: Abort>(rt: &R, alloc: Global, ledger: Blank)
@@ -133,18 +133,18 @@ fn one_life<L: Ledger, R: Abort>(rt: &R, alloc: Global, ledger: Blank)
         id: Id::from_number(0),
         made: Some(0),
     };
-    assert!(rt; get(&mut system, 0, NEW, 4) == Ok(got));
+    holds!(rt; get(&mut system, 0, NEW, 4) == Ok(got));
     let text = refused(rt, &mut system);
     sent(rt, &mut system, text);
     removed(rt, &mut system);
     let Closed { slots, arena } = system.close();
-    assert!(rt; slots.len() == 1);
+    holds!(rt; slots.len() == 1);
     for slot in slots {
-        assert!(rt; slot.past.as_slice() == LOG.as_slice());
-        assert!(rt; slot.last.is_empty());
-        assert!(rt; slot.left == 0);
+        holds!(rt; slot.past.as_slice() == LOG.as_slice());
+        holds!(rt; slot.last.is_empty());
+        holds!(rt; slot.left == 0);
     }
-    assert!(rt; arena.free_pages() == 1);
+    holds!(rt; arena.free_pages() == 1);
 }
 
 #[test]
@@ -154,8 +154,8 @@ fn a_queue_is_made_filled_shown_and_removed(rt: HostRuntime) {
 
 /// The first queue is empty, and in the second a message waits.
 fn two_made<L: Ledger>(rt: &impl Abort, system: &mut OneThread<L>) {
-    assert!(rt; get(system, 0, NO_FLAG, 0).is_ok());
-    assert!(rt; get(system, -8, NEW, 4).is_ok());
+    holds!(rt; get(system, 0, NO_FLAG, 0).is_ok());
+    holds!(rt; get(system, -8, NEW, 4).is_ok());
     let text = written(rt, system, b"hi");
     taken(rt, system, 1, 1, text);
 }
@@ -167,9 +167,9 @@ fn rows_shown<L: Ledger, R: Abort>(rt: &R, alloc: Global, ledger: Blank)
 {
     let mut system = made::<L>(rt, alloc, config(0, 3, 9), ledger);
     two_made(rt, &mut system);
-    assert!(rt; row(rt, &system, 0) == MADE);
-    assert!(rt; row(rt, &system, 1) == BoardRow { key: -8, ..LIVE });
-    assert!(rt; row(rt, &system, 2) == NO_ROW);
+    holds!(rt; row(rt, &system, 0) == MADE);
+    holds!(rt; row(rt, &system, 1) == BoardRow { key: -8, ..LIVE });
+    holds!(rt; row(rt, &system, 2) == NO_ROW);
     ended(rt, system);
 }
 

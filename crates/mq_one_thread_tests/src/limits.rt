@@ -23,12 +23,12 @@ fn sized<L: Ledger, R: Abort>(
 {
     match OneThread::<L>::new(alloc, config, ledger) {
         Ok(system) => {
-            assert!(rt; Ok((system.pages(), system.slots())) == wanted);
+            holds!(rt; Ok((system.pages(), system.slots())) == wanted);
             let Closed { slots: _, arena: _ } = system.close();
         }
         Err(refusal) => {
-            assert!(rt; refusal != SysError::Memory, "out of memory");
-            assert!(rt; Err(refusal) == wanted, "refused");
+            holds!(rt; refusal != SysError::Memory, "out of memory");
+            holds!(rt; Err(refusal) == wanted, "refused");
         }
     }
 }
@@ -53,8 +53,8 @@ const LARGE: Config = Config {
 
 #[test]
 fn the_bounds_of_a_configuration_are_taken(rt: HostRuntime) {
-    assert!(rt; SMALL.is_valid());
-    assert!(rt; LARGE.is_valid());
+    holds!(rt; SMALL.is_valid());
+    holds!(rt; LARGE.is_valid());
     size(&rt, rt.alloc(), SMALL, Ok((1, 1)));
     size(&rt, rt.alloc(), LARGE, Ok((1024, 64)));
 }

@@ -98,17 +98,17 @@ fn receives<L: Ledger>(rt: &impl Abort, system: &mut OneThread<L>, place: u64) {
 }
 
 fn changes<L: Ledger>(rt: &impl Abort, system: &mut OneThread<L>) {
-    assert!(rt; set(system, 0, 100, 90) == Ok(81));
+    holds!(rt; set(system, 0, 100, 90) == Ok(81));
     match system.stat(Id::from_number(0)) {
-        Ok(figures) => assert!(rt; figures.qnum == 0 && figures.qbytes == 100),
+        Ok(figures) => holds!(rt; figures.qnum == 0 && figures.qbytes == 100),
         Err(errno) => panic!(rt; "{errno}"),
     }
     match remove(system, 0, 91) {
         Ok(removal) => {
-            assert!(rt; removal.entry == 82 && removal.log.len() == 83);
+            holds!(rt; removal.entry == 82 && removal.log.len() == 83);
             let (base, tail) = removal.log.into_parts();
-            assert!(rt; base.places == 61 && base.waiting.len() == 20);
-            assert!(rt; tail.len() == 22);
+            holds!(rt; base.places == 61 && base.waiting.len() == 20);
+            holds!(rt; tail.len() == 22);
         }
         Err(refused) => panic!(rt; "not removed: {refused}"),
     }

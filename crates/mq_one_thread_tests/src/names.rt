@@ -22,8 +22,8 @@ fn a_refusal_is_named_as_in_the_manual(rt: HostRuntime) {
         (Errno::ENOSPC, "ENOSPC", 28),
     ];
     for (errno, name, number) in cases {
-        assert!(rt; errno.name() == name);
-        assert!(rt; errno.number() == number);
+        holds!(rt; errno.name() == name);
+        holds!(rt; errno.number() == number);
     }
 }
 
@@ -39,21 +39,21 @@ fn each_layers_refusal_has_its_errno(rt: HostRuntime) {
         (QueueError::Memory, Errno::ENOMEM),
     ];
     for (refusal, errno) in of_queue {
-        assert!(rt; Errno::from(refusal) == errno);
+        holds!(rt; Errno::from(refusal) == errno);
     }
-    assert!(rt; Errno::from(IdRefusal::Never) == Errno::EINVAL);
-    assert!(rt; Errno::from(IdRefusal::Removed) == Errno::EIDRM);
-    assert!(rt; DraftError::TooLong.errno() == Errno::EINVAL);
-    assert!(rt; DraftError::NoRun.errno() == Errno::ENOMEM);
-    assert!(rt; DraftError::Memory.errno() == Errno::ENOMEM);
-    assert!(rt; DraftError::from(TakeError::NoRun) == DraftError::NoRun);
-    assert!(rt; DraftError::from(TakeError::Memory) == DraftError::Memory);
+    holds!(rt; Errno::from(IdRefusal::Never) == Errno::EINVAL);
+    holds!(rt; Errno::from(IdRefusal::Removed) == Errno::EIDRM);
+    holds!(rt; DraftError::TooLong.errno() == Errno::EINVAL);
+    holds!(rt; DraftError::NoRun.errno() == Errno::ENOMEM);
+    holds!(rt; DraftError::Memory.errno() == Errno::ENOMEM);
+    holds!(rt; DraftError::from(TakeError::NoRun) == DraftError::NoRun);
+    holds!(rt; DraftError::from(TakeError::Memory) == DraftError::Memory);
 }
 
 /// Checks what a value prints.
 fn prints<T: Display>(rt: &impl Abort, alloc: Global, value: &T, text: &str) -> Result<(), Fail> {
     let printed = format!(in alloc; "{value}")?;
-    assert!(rt; printed.as_str() == text);
+    holds!(rt; printed.as_str() == text);
     Ok(())
 }
 
@@ -103,7 +103,7 @@ fn an_unsent_text_prints_its_refusal_and_is_handed_back(rt: HostRuntime) -> Resu
     let unsent = SendRefused { refused, text: 7u8 };
     prints(&rt, alloc, &unsent, "EAGAIN after 5 entries")?;
     let debug = format!(in alloc; "{unsent:?}")?;
-    assert!(rt; debug.as_str() == "SendRefused(Refused { errno: EAGAIN, entry: Some(5) })");
-    assert!(rt; unsent.into_text() == (refused, 7));
+    holds!(rt; debug.as_str() == "SendRefused(Refused { errno: EAGAIN, entry: Some(5) })");
+    holds!(rt; unsent.into_text() == (refused, 7));
     Ok(())
 }

@@ -16,7 +16,7 @@ use std::sync::ledger::{Blank, Ledger};
 fn drafted<L: Ledger>(rt: &impl Abort, system: &mut OneThread<L>, len: u64) -> Text<L> {
     match draft(system, len) {
         Ok(text) => {
-            assert!(rt; text.len() == len);
+            holds!(rt; text.len() == len);
             text
         }
         Err(_) => panic!(rt; "not drafted"),
@@ -54,7 +54,7 @@ const LENGTHS: [Beside; 15] = [
 fn is_zero<L: Ledger>(rt: &impl Abort, text: &Text<L>) {
     for part in text.parts() {
         for byte in part {
-            assert!(rt; *byte == 0);
+            holds!(rt; *byte == 0);
         }
     }
 }
@@ -62,12 +62,12 @@ fn is_zero<L: Ledger>(rt: &impl Abort, text: &Text<L>) {
 fn length_drafted<L: Ledger>(rt: &impl Abort, system: &mut OneThread<L>, beside: Beside) {
     let (len, free, largest, start) = beside;
     let text = drafted(rt, system, len);
-    assert!(rt; text.start() == start);
+    holds!(rt; text.start() == start);
     is_zero(rt, &text);
-    assert!(rt; system.free_pages() == free);
-    assert!(rt; system.largest() == largest);
+    holds!(rt; system.free_pages() == free);
+    holds!(rt; system.largest() == largest);
     spent(rt, system, text);
-    assert!(rt; system.free_pages() == 64);
+    holds!(rt; system.free_pages() == 64);
 }
 
 fn lengths_drafted<L: Ledger, R: Abort>(rt: &R, alloc: Global, ledger: Blank)
@@ -76,7 +76,7 @@ fn lengths_drafted<L: Ledger, R: Abort>(rt: &R, alloc: Global, ledger: Blank)
     requires enough { 1024 < ledger.parts }
 {
     let mut system = made::<L>(rt, alloc, config(6, 1, 9), ledger);
-    assert!(rt; system.pages() == 64);
+    holds!(rt; system.pages() == 64);
     for beside in LENGTHS {
         length_drafted(rt, &mut system, beside);
     }
@@ -95,23 +95,23 @@ fn drafts_refused<L: Ledger, R: Abort>(rt: &R, alloc: Global, ledger: Blank)
 {
     let mut system = made::<L>(rt, alloc, config(3, 1, 9), ledger);
     let page = drafted(rt, &mut system, 1);
-    assert!(rt; system.largest() == Some(2));
-    assert!(rt; not_drafted(rt, &mut system, 8192) == DraftError::NoRun);
-    assert!(rt; not_drafted(rt, &mut system, 65_537) == DraftError::TooLong);
+    holds!(rt; system.largest() == Some(2));
+    holds!(rt; not_drafted(rt, &mut system, 8192) == DraftError::NoRun);
+    holds!(rt; not_drafted(rt, &mut system, 65_537) == DraftError::TooLong);
     spent(rt, &mut system, page);
     let whole = drafted(rt, &mut system, 8192);
-    assert!(rt; (system.free_pages(), system.largest()) == (0, None));
-    assert!(rt; not_drafted(rt, &mut system, 1) == DraftError::NoRun);
-    assert!(rt; not_drafted(rt, &mut system, 8193) == DraftError::NoRun);
-    assert!(rt; not_drafted(rt, &mut system, 65_536) == DraftError::NoRun);
-    assert!(rt; not_drafted(rt, &mut system, 65_537) == DraftError::TooLong);
-    assert!(rt; not_drafted(rt, &mut system, u64::MAX) == DraftError::TooLong);
+    holds!(rt; (system.free_pages(), system.largest()) == (0, None));
+    holds!(rt; not_drafted(rt, &mut system, 1) == DraftError::NoRun);
+    holds!(rt; not_drafted(rt, &mut system, 8193) == DraftError::NoRun);
+    holds!(rt; not_drafted(rt, &mut system, 65_536) == DraftError::NoRun);
+    holds!(rt; not_drafted(rt, &mut system, 65_537) == DraftError::TooLong);
+    holds!(rt; not_drafted(rt, &mut system, u64::MAX) == DraftError::TooLong);
     // The empty text needs no page.
     let empty = drafted(rt, &mut system, 0);
-    assert!(rt; empty.start() == None);
+    holds!(rt; empty.start() == None);
     spent(rt, &mut system, empty);
     spent(rt, &mut system, whole);
-    assert!(rt; (system.free_pages(), system.largest()) == (8, Some(3)));
+    holds!(rt; (system.free_pages(), system.largest()) == (8, Some(3)));
     ended(rt, system);
 }
 
@@ -129,21 +129,21 @@ fn long_drafts_refused<L: Ledger, R: Abort>(rt: &R, alloc: Global, ledger: Blank
 {
     let mut system = made::<L>(rt, alloc, config(6, 1, 9), ledger);
     let page = drafted(rt, &mut system, 1);
-    assert!(rt; not_drafted(rt, &mut system, 65_536) == DraftError::NoRun);
-    assert!(rt; not_drafted(rt, &mut system, 32_769) == DraftError::NoRun);
+    holds!(rt; not_drafted(rt, &mut system, 65_536) == DraftError::NoRun);
+    holds!(rt; not_drafted(rt, &mut system, 32_769) == DraftError::NoRun);
     let half = drafted(rt, &mut system, 32_768);
-    assert!(rt; half.start() == Some(32));
-    assert!(rt; not_drafted(rt, &mut system, 16_385) == DraftError::NoRun);
+    holds!(rt; half.start() == Some(32));
+    holds!(rt; not_drafted(rt, &mut system, 16_385) == DraftError::NoRun);
     let quarter = drafted(rt, &mut system, 8193);
-    assert!(rt; quarter.start() == Some(16));
-    assert!(rt; not_drafted(rt, &mut system, 8193) == DraftError::NoRun);
-    assert!(rt; system.largest() == Some(3));
+    holds!(rt; quarter.start() == Some(16));
+    holds!(rt; not_drafted(rt, &mut system, 8193) == DraftError::NoRun);
+    holds!(rt; system.largest() == Some(3));
     spent(rt, &mut system, page);
     spent(rt, &mut system, quarter);
     spent(rt, &mut system, half);
     let whole = drafted(rt, &mut system, 65_536);
-    assert!(rt; (whole.start(), whole.count()) == (Some(0), 64));
-    assert!(rt; system.free_pages() == 0);
+    holds!(rt; (whole.start(), whole.count()) == (Some(0), 64));
+    holds!(rt; system.free_pages() == 0);
     spent(rt, &mut system, whole);
     ended(rt, system);
 }
@@ -154,7 +154,7 @@ fn a_long_draft_is_refused_just_where_no_run_is_free(rt: HostRuntime) {
 }
 
 fn all_is_free<L: Ledger>(rt: &impl Abort, system: &OneThread<L>) {
-    assert!(rt; (system.free_pages(), system.largest()) == (64, Some(6)));
+    holds!(rt; (system.free_pages(), system.largest()) == (64, Some(6)));
 }
 
 /// A text of 8,193 of these letters, which takes a block of 16 pages of the 64.
@@ -167,13 +167,13 @@ fn long_spent<L: Ledger>(
     let Ok(text) = answer else {
         panic!(rt; "not drafted");
     };
-    assert!(rt; (text.len(), text.count(), text.start()) == (8193, 9, Some(0)));
+    holds!(rt; (text.len(), text.count(), text.start()) == (8193, 9, Some(0)));
     for part in text.parts() {
         for byte in part {
-            assert!(rt; *byte == letter);
+            holds!(rt; *byte == letter);
         }
     }
-    assert!(rt; system.free_pages() == 48);
+    holds!(rt; system.free_pages() == 48);
     spent(rt, system, text);
     all_is_free(rt, system);
 }
@@ -219,14 +219,14 @@ fn text_of<L: Ledger>(rt: &impl Abort, delivered: Delivered<Text<L>>, length: u6
         length: whole,
         text,
     } = delivered;
-    assert!(rt; entry == 2 && mtype == 3 && sender == 1 && tag == 7);
-    assert!(rt; whole == length);
+    holds!(rt; entry == 2 && mtype == 3 && sender == 1 && tag == 7);
+    holds!(rt; whole == length);
     text
 }
 
 /// In a queue waits `hello` in the second page, with type 3.
 fn hello_sent<L: Ledger>(rt: &impl Abort, system: &mut OneThread<L>) {
-    assert!(rt; get(system, 9, CREATE, 4).is_ok());
+    holds!(rt; get(system, 9, CREATE, 4).is_ok());
     let before = written(rt, system, b"before");
     let text = written(rt, system, b"hello");
     spent(rt, system, before);
@@ -236,7 +236,7 @@ fn hello_sent<L: Ledger>(rt: &impl Abort, system: &mut OneThread<L>) {
 fn is_too_long<L: Ledger>(rt: &impl Abort, system: &mut OneThread<L>, size: u64) {
     match receive(system, 0, first(size), 6) {
         Ok(_delivered) => panic!(rt; "a text that is too long was handed out"),
-        Err(Refused { errno, entry }) => assert!(rt; (errno, entry) == (Errno::E2BIG, Some(2))),
+        Err(Refused { errno, entry }) => holds!(rt; (errno, entry) == (Errno::E2BIG, Some(2))),
     }
 }
 
@@ -254,9 +254,9 @@ fn hello_cut<L: Ledger, R: Abort>(rt: &R, alloc: Global, ledger: Blank)
     };
     let delivered = delivered(rt, &mut system, 0, cut);
     let text = text_of(rt, delivered, 5);
-    assert!(rt; has(&text, b"he"));
-    assert!(rt; text.start() == Some(1));
-    assert!(rt; system.free_pages() == 1);
+    holds!(rt; has(&text, b"he"));
+    holds!(rt; text.start() == Some(1));
+    holds!(rt; system.free_pages() == 1);
     spent(rt, &mut system, text);
     ended(rt, system);
 }

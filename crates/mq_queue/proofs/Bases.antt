@@ -11,7 +11,7 @@ use Rattle.mq_queue.specs.declared.figures.Figures.{Figures}
 use Rattle.mq_queue.specs.Base.{base_after, base_of, figures_from, live_figures_from, quota_from, waiting_from}
 use Rattle.mq_queue.specs.Figures.{figures, live_figures, sender_told, sending_told, receiver_told, receipt_told, change_told}
 use Rattle.mq_queue.specs.Lawful.{AllFollow, CanFollow, Lawful}
-use Rattle.mq_queue.specs.LawfulFrom.{AllFollowFrom, CanFollowFrom, GoesOn, IsOpen, is_unbegun}
+use Rattle.mq_queue.specs.LawfulFrom.{AllFollowFrom, CanFollowFrom, GoesOn, IsOpenLog, is_unbegun}
 use Rattle.mq_queue.specs.Log.{is_empty, is_removed, ends_with_removed, last_told}
 use Rattle.mq_queue.specs.Room.{quota, qbytes_told}
 use Rattle.mq_queue.specs.Waiting.{is_received, names, sent_from, waiting}
@@ -111,7 +111,7 @@ both_follow before (x ∷ xs) ys front back =
     (front.0, both_follow (before ++ x ∷ []) xs ys front.1 (subst (λ log. AllFollow log ys) (sym (append_assoc before (x ∷ []) xs)) back))
 
 -- a log that may be cut off follows
-pub open_follows : (cut : List Event) → IsOpen cut → AllFollow [] cut
+pub open_follows : (cut : List Event) → IsOpenLog cut → AllFollow [] cut
 open_follows cut opened = by cut opened.lawful
   where
     by : (cut : List Event) → (cut ≡ []) ⊎ Lawful cut → AllFollow [] cut
@@ -125,7 +125,7 @@ based_on cut tail all live =
     ap (λ n. made n (figures (cut ++ tail)) (waiting (cut ++ tail))) (length-append cut tail) ∙ ap (λ f. made (length cut + length tail) f (waiting (cut ++ tail))) (figures_on cut tail all live) ∙ ap (made (length cut + length tail) (figures_from (base_of cut) tail)) (waits_on cut tail all)
 
 -- so all that holds of the whole log is known from the base
-pub goes_on : (cut tail : List Event) → IsOpen cut → GoesOn cut tail
+pub goes_on : (cut tail : List Event) → IsOpenLog cut → GoesOn cut tail
 goes_on cut tail opened =
     let all = open_follows cut opened in
     let none : cut ++ [] ≡ cut = append-nil cut in

@@ -14,7 +14,7 @@ use Rattle.mq_queue.specs.declared.figures.Figures.{Figures}
 use Rattle.mq_queue.specs.Answer.{receive_answer}
 use Rattle.mq_queue.specs.Lawful.{CanHappen, Lawful}
 use Rattle.mq_queue.specs.Queue.{AreFigures, IsSound}
-use Rattle.mq_queue.specs.Room.{bytes_of, quota}
+use Rattle.mq_queue.specs.Room.{bytes_waiting, quota}
 use Rattle.mq_queue.specs.Waiting.{waiting}
 use Rattle.mq_queue.proofs.Found.{headers_without, picked_header}
 use Rattle.mq_queue.proofs.Places.{found_at, length-without, sum_by-without}
@@ -60,7 +60,8 @@ taken_within log kept selection size noerror m are taken =
     let fewer = length-without (λ (x : Header). x.place) m.place (waiting log) m (waits_rising log) at in
     let less = sum_by-without (λ (x : Header). x.place) m.place (λ (x : Header). x.length) (waiting log) m (waits_rising log) at in
     let count : kept.qnum ≡ length (waiting log) = ap (λ (f : Figures). f.qnum) are.same in
-    let bytes : kept.cbytes ≡ bytes_of (waiting log) = ap (λ (f : Figures). f.cbytes) are.same in
+    let bytes : kept.cbytes ≡ bytes_waiting (waiting log) =
+    ap (λ (f : Figures). f.cbytes) are.same in
     (omega arith, omega arith)
 
 -- so are those of the message that the waiting list finds
@@ -79,12 +80,13 @@ taken_figures log log' kept selection size noerror m seat moment lawful are take
     let left : List Header = filter (λ x. not (x.place == m.place)) (waiting log) in
     let at = taken_at log selection size noerror m taken in
     let fewer : 1 + length left ≡ length (waiting log) = length-without (λ (x : Header). x.place) m.place (waiting log) m (waits_rising log) at in
-    let less : m.length + bytes_of left ≡ bytes_of (waiting log) = sum_by-without (λ (x : Header). x.place) m.place (λ (x : Header). x.length) (waiting log) m (waits_rising log) at in
+    let less : m.length + bytes_waiting left ≡ bytes_waiting (waiting log) = sum_by-without (λ (x : Header). x.place) m.place (λ (x : Header). x.length) (waiting log) m (waits_rising log) at in
     let count : kept.qnum ≡ length (waiting log) = ap (λ (f : Figures). f.qnum) are.same in
-    let bytes : kept.cbytes ≡ bytes_of (waiting log) = ap (λ (f : Figures). f.cbytes) are.same in
+    let bytes : kept.cbytes ≡ bytes_waiting (waiting log) =
+    ap (λ (f : Figures). f.cbytes) are.same in
     let counted : kept.qnum - 1 ≡ length left = omega arith in
-    let added : kept.cbytes - m.length ≡ bytes_of left = omega arith in
-    let step : Figures → Figures = λ f. record f { qnum = length left; cbytes = bytes_of left; rtime = moment; lrpid = seat } in
+    let added : kept.cbytes - m.length ≡ bytes_waiting left = omega arith in
+    let step : Figures → Figures = λ f. record f { qnum = length left; cbytes = bytes_waiting left; rtime = moment; lrpid = seat } in
     let count_limit = are.count in
     let bytes_limit = are.bytes in
     record {

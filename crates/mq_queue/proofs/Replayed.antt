@@ -4,7 +4,7 @@ use Rattle.mq_queue.specs.declared.event.Event.{Event}
 use Rattle.mq_queue.specs.declared.event.Event.TheVariants.{Made, Sent, Received, Changed, Removed}
 use Rattle.mq_queue.specs.Lawful.{AllFollow, CanFollow}
 use Rattle.mq_queue.specs.Replay.{after_event, played, state_after}
-use Rattle.mq_queue.specs.Replies.{Reply, given, replayed, replies_from, reply_to}
+use Rattle.mq_queue.specs.Replies.{QueueReply, given, replayed, replies_from, reply_to}
 use Rattle.mq_queue.specs.Room.{quota}
 use Rattle.mq_queue.specs.Waiting.{waiting, sent_at}
 use Rattle.mq_queue.proofs.Allowed.{sent_allowed, set_allowed}
@@ -44,7 +44,7 @@ play before (event ∷ events) none all = by (play (before ++ event ∷ []) even
         let replies = rw (longer, moved, whole) at later.replies in
         record {
           state = state;
-          replies = ap₂ (λ (x : Reply) (xs : List Reply). x ∷ xs) (reply_given before event (event ∷ events) all.0) replies;
+          replies = ap₂ (λ (x : QueueReply) (xs : List QueueReply). x ∷ xs) (reply_given before event (event ∷ events) all.0) replies;
         }
 
 pub replay_is : (log : List Event) → AllFollow [] log → (state_after log ≡ record { headers = waiting log; quota = quota log }) × (replayed log ≡ map (given log) log)

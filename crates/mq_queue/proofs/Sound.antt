@@ -11,7 +11,7 @@ use Rattle.mq_queue.specs.Lawful.{CanFollow, CanHappen, Lawful}
 use Rattle.mq_queue.specs.Log.{is_empty, is_made, is_removed, ends_with_removed, last_told}
 use Rattle.mq_queue.specs.Queue.{IsSound}
 use Rattle.mq_queue.specs.Replay.{after_event}
-use Rattle.mq_queue.specs.Room.{bytes_of, quota}
+use Rattle.mq_queue.specs.Room.{bytes_waiting, quota}
 use Rattle.mq_queue.specs.Waiting.{waiting}
 use Rattle.mq_queue.proofs.Logs.{one_more_follows}
 use Rattle.mq_queue.proofs.Places.{Rises, all_unmapped, pairs_unmapped}
@@ -54,7 +54,7 @@ figures_after log event =
     let s = after_event (length log) (state_of log) event in
     record {
       qnum = length s.headers;
-      cbytes = bytes_of s.headers;
+      cbytes = bytes_waiting s.headers;
       qbytes = s.quota;
       stime = unwrap_or (sending_told event) (last_told sending_told 0 log);
       rtime = unwrap_or (receipt_told event) (last_told receipt_told 0 log);

@@ -9,7 +9,7 @@ use Rattle.mq_queue.specs.declared.figures.Figures.{Figures}
 use Rattle.mq_queue.specs.Figures.{figures, no_figures, change_told}
 use Rattle.mq_queue.specs.Figures.{sender_told, sending_told, receiver_told, receipt_told}
 use Rattle.mq_queue.specs.Log.{ends_with_removed, last_told}
-use Rattle.mq_queue.specs.Room.{bytes_of, qbytes_told}
+use Rattle.mq_queue.specs.Room.{bytes_waiting, qbytes_told}
 use Rattle.mq_queue.specs.Waiting.{is_received, sent_from, waiting}
 
 -- what is kept of a log that is cut off: how many events it has, its figures and what waits
@@ -29,7 +29,7 @@ quota_from base tail = last_told qbytes_told base.figures.qbytes tail
 abbrev pub live_figures_from : Base → List Event → Figures
 live_figures_from base tail = record {
   qnum = length (waiting_from base tail);
-  cbytes = bytes_of (waiting_from base tail);
+  cbytes = bytes_waiting (waiting_from base tail);
   qbytes = quota_from base tail;
   stime = last_told sending_told base.figures.stime tail;
   rtime = last_told receipt_told base.figures.rtime tail;

@@ -4,7 +4,7 @@ use Rattle.mq_queue.specs.declared.event.Event.{Event}
 use Rattle.mq_queue.specs.declared.event.Event.TheVariants.{Made, Sent, Received, Changed}
 use Rattle.mq_queue.specs.declared.figures.Figures.{Figures}
 use Rattle.mq_queue.specs.Log.{ends_with_removed, last_told}
-use Rattle.mq_queue.specs.Room.{bytes_of, quota}
+use Rattle.mq_queue.specs.Room.{bytes_waiting, quota}
 use Rattle.mq_queue.specs.Waiting.{waiting}
 
 -- who sent, if the event is a sending
@@ -38,7 +38,7 @@ change_told _ = None
 abbrev pub live_figures : List Event → Figures
 live_figures log = record {
   qnum = length (waiting log);
-  cbytes = bytes_of (waiting log);
+  cbytes = bytes_waiting (waiting log);
   qbytes = quota log;
   stime = last_told sending_told 0 log;
   rtime = last_told receipt_told 0 log;

@@ -31,7 +31,7 @@ pub record LawfulFrom (base : Base) (tail : List Event) : Type 0 where
   pub each : AllFollowFrom base [] tail
 
 -- a log that may be cut off: it is empty, or that of a queue which is not removed
-pub record IsOpen (log : List Event) : Type 0 where
+pub record IsOpenLog (log : List Event) : Type 0 where
   pub lawful : (log ≡ []) ⊎ Lawful log
   pub live : ends_with_removed log ≡ false
 
@@ -46,4 +46,4 @@ pub record GoesOn (cut tail : List Event) : Type 0 where
 
 -- that holds of each log that may be cut off
 abbrev pub GoesOnFromBase : Type 0
-GoesOnFromBase = (cut tail : List Event) → IsOpen cut → GoesOn cut tail
+GoesOnFromBase = (cut tail : List Event) → IsOpenLog cut → GoesOn cut tail

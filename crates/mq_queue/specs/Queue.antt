@@ -9,7 +9,7 @@ use Rattle.mq_queue.specs.declared.limits.TheConstants.{MAX_CUT, MSGMNB}
 use Rattle.mq_queue.specs.Base.{base_of, waiting_from}
 use Rattle.mq_queue.specs.Figures.{live_figures}
 use Rattle.mq_queue.specs.Lawful.{Lawful}
-use Rattle.mq_queue.specs.LawfulFrom.{IsOpen, LawfulFrom}
+use Rattle.mq_queue.specs.LawfulFrom.{IsOpenLog, LawfulFrom}
 use Rattle.mq_queue.specs.Log.{ends_with_removed}
 use Rattle.mq_queue.specs.Waiting.{waiting}
 
@@ -54,10 +54,10 @@ pub record AreFigures (log : List Event) (kept : Figures) : Type 0 where
 
 -- the base is that of some log, with which the queue is sound and the figures are its figures, and
 -- not too much of the log is cut off
-pub record IsKept {B : Type 0} (bytes : B → List ℕ) (base : Base) (tail : List Event)
+pub record IsKeptQueue {B : Type 0} (bytes : B → List ℕ) (base : Base) (tail : List Event)
     (messages : List (ℕ × Message B)) (kept : Figures) : Type 0 where
   pub cut : List Event
-  pub opened : IsOpen cut
+  pub opened : IsOpenLog cut
   pub known : base ≡ base_of cut
   pub sound : IsSound bytes (cut ++ tail) messages
   pub figures : AreFigures (cut ++ tail) kept

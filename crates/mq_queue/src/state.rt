@@ -24,7 +24,7 @@ pub struct QueueState<B: Body, W: Waiting<B>> {
 }
 
 impl<B: Body, W: Waiting<B>> Model for QueueState<B, W> {
-    ghost use Rattle.mq_queue.specs.Queue.{Queue, IsKept};
+    ghost use Rattle.mq_queue.specs.Queue.{Queue, IsKeptQueue};
 
     ghost Value = { Queue B };
 
@@ -34,7 +34,8 @@ impl<B: Body, W: Waiting<B>> Model for QueueState<B, W> {
       messages = W.messages q.waiting;
     } };
 
-    ghost invariant = { λ q. IsKept B.bytes q.base q.tail.items (W.messages q.waiting) q.kept };
+    ghost invariant = { λ q. IsKeptQueue B.bytes q.base q.tail.items
+        (W.messages q.waiting) q.kept };
 }
 
 impl<B: Body, W: Waiting<B>> QueueState<B, W> {

@@ -11,9 +11,10 @@ ghost use Rattle.mq_queue.specs.Replay.{state_after};
 ghost use Rattle.mq_queue.specs.Replies.{replayed};
 ghost use Rattle.mq_queue.specs.Room.{quota};
 ghost use Rattle.mq_queue.specs.Waiting.{waiting};
-ghost use Rattle.mq_queue.specs.Worked.{text, ab_and_cd, hello_and_hi, four_types, received};
-ghost use Rattle.mq_queue.specs.Worked.{quota_of_4, ef_for_ab, four_texts, over_quota, under_quota, shut};
-ghost use Rattle.mq_queue.specs.Worked.{hello_received, two_of_type_1, made, removed};
+ghost use Rattle.mq_queue.specs.Worked.{text, ab_and_cd, hello_and_hi, four_types, a_receipt};
+ghost use Rattle.mq_queue.specs.Worked.{quota_of_4, ef_for_ab, four_texts, over_quota, under_quota};
+ghost use Rattle.mq_queue.specs.Worked.{shut, hello_received, two_of_type_1_received, a_making};
+ghost use Rattle.mq_queue.specs.Worked.{a_removal};
 
 /// With a quota of 4, the bytes are at most 4, and so are the messages.
 pub(crate) fn room_by_quota()
@@ -56,7 +57,7 @@ pub(crate) fn selected()
 pub(crate) fn full_by_bytes_and_by_count()
     ensures waits { waiting quota_of_4 ≡ ab_and_cd }
     ensures quota { quota quota_of_4 ≡ 4 }
-    ensures made { quota (made 1 ∷ []) ≡ 131072 }
+    ensures made { quota (a_making 1 ∷ []) ≡ 131072 }
     ensures bytes { send_refusal (waiting quota_of_4) (quota quota_of_4) (pos 1) 2 ≡ Some Full }
     ensures empty { send_refusal (waiting quota_of_4) (quota quota_of_4) (pos 1) 0 ≡ None }
     ensures count { send_refusal (waiting four_texts) (quota four_texts) (pos 1) 0 ≡ Some Full }
@@ -96,14 +97,14 @@ pub(crate) fn figures_shown()
       lspid = 1;
       lrpid = 0;
     } }
-    ensures removed { figures (hello_received ++ removed 5 ∷ []) ≡ no_figures }
+    ensures removed { figures (hello_received ++ a_removal 5 ∷ []) ≡ no_figures }
     ensures key { made_key hello_received ≡ pos 7 }
 {}
 
 /// A log that is replayed: what is left, and what the last two receivers got.
 pub(crate) fn played_again()
-    ensures waits { (state_after two_of_type_1).headers ≡ text 1 3 1 ∷ text 3 2 1 ∷ [] }
-    ensures answers { drop 5 (replayed two_of_type_1)
+    ensures waits { (state_after two_of_type_1_received).headers ≡ text 1 3 1 ∷ text 3 2 1 ∷ [] }
+    ensures answers { drop 5 (replayed two_of_type_1_received)
         ≡ Ok (Some (text 2 1 1)) ∷ Ok (Some (text 4 1 1)) ∷ [] }
 {}
 
@@ -124,8 +125,8 @@ pub(crate) fn cut_and_gone_on()
       lspid = 1;
       lrpid = 2;
     } }
-    ensures removed { figures_from (base_of quota_of_4) (removed 5 ∷ []) ≡ no_figures }
+    ensures removed { figures_from (base_of quota_of_4) (a_removal 5 ∷ []) ≡ no_figures }
     ensures cut_off { event_from 4 ef_for_ab 3 ≡ None }
-    ensures entry { event_from 4 ef_for_ab 4 ≡ Some (received 5 1) }
+    ensures entry { event_from 4 ef_for_ab 4 ≡ Some (a_receipt 5 1) }
     ensures end { event_from 4 ef_for_ab 6 ≡ None }
 {}

@@ -20,9 +20,9 @@ fn the_messages_of_a_base_are_read_one_by_one(rt: HostRuntime) -> Result<(), Fai
     headers.push(first)?;
     headers.push(second)?;
     let entries = BaseEntries::of(headers);
-    assert!(rt; none.len() == 0 && none.get(0) == None);
-    assert!(rt; entries.len() == 2);
-    assert!(rt; entries.get(0) == Some(first) && entries.get(1) == Some(second));
-    assert!(rt; entries.get(2) == None && entries.get(u64::MAX) == None);
+    holds!(rt; none.len() == 0 && none.get(0) == None);
+    holds!(rt; entries.len() == 2);
+    holds!(rt; entries.get(0) == Some(first) && entries.get(1) == Some(second));
+    holds!(rt; entries.get(2) == None && entries.get(u64::MAX) == None);
     Ok(())
 }

@@ -24,10 +24,10 @@ fn check(
     steps: &[Step],
     wanted: &[Option<u64>],
 ) -> Result<(), AllocError> {
-    assert!(rt; places::<List>(alloc, steps)?.as_slice() == wanted);
-    assert!(rt; places::<Typed>(alloc, steps)?.as_slice() == wanted);
-    assert!(rt; places::<Layers>(alloc, steps)?.as_slice() == wanted);
-    assert!(rt; places::<Index>(alloc, steps)?.as_slice() == wanted);
+    holds!(rt; places::<List>(alloc, steps)?.as_slice() == wanted);
+    holds!(rt; places::<Typed>(alloc, steps)?.as_slice() == wanted);
+    holds!(rt; places::<Layers>(alloc, steps)?.as_slice() == wanted);
+    holds!(rt; places::<Index>(alloc, steps)?.as_slice() == wanted);
     Ok(())
 }
 
@@ -209,7 +209,7 @@ fn the_bodies_give_the_same_answers(rt: HostRuntime) -> Result<(), Fail> {
         };
         crossed = crossed.wrapping_add(u64::from(crosses));
     }
-    assert!(rt; 500 < crossed);
+    holds!(rt; 500 < crossed);
     Ok(())
 }
 
@@ -245,10 +245,10 @@ fn behind_one_type_the_bodies_give_the_same_answers(rt: HostRuntime) -> Result<(
             return Err("the bodies differ".into());
         };
         let wanted = places::<List>(rt.alloc(), &steps)?;
-        assert!(rt; places::<Layers>(rt.alloc(), &steps)?.as_slice() == wanted.as_slice());
+        holds!(rt; places::<Layers>(rt.alloc(), &steps)?.as_slice() == wanted.as_slice());
         crossed = crossed.wrapping_add(u64::from(crosses));
     }
-    assert!(rt; 100 < crossed);
+    holds!(rt; 100 < crossed);
     Ok(())
 }
 
@@ -271,7 +271,7 @@ fn there_and_back(alloc: Global) -> Result<Vec<Step>, AllocError> {
 #[test]
 fn a_refused_crossing_goes_on_where_it_was(rt: HostRuntime) -> Result<(), Fail> {
     let steps = there_and_back(rt.alloc())?;
-    assert!(rt; agree(rt.alloc(), &steps)? == Some(true));
+    holds!(rt; agree(rt.alloc(), &steps)? == Some(true));
     Ok(())
 }
 
@@ -297,7 +297,7 @@ fn layer_upon_layer(alloc: Global) -> Result<Vec<Step>, AllocError> {
 #[test]
 fn a_refused_layer_goes_on_where_it_was(rt: HostRuntime) -> Result<(), Fail> {
     let steps = layer_upon_layer(rt.alloc())?;
-    assert!(rt; agree(rt.alloc(), &steps)? == Some(true));
+    holds!(rt; agree(rt.alloc(), &steps)? == Some(true));
     Ok(())
 }
 
@@ -338,8 +338,8 @@ fn a_full_queue_of_as_many_types_is_emptied(rt: HostRuntime) -> Result<(), Fail>
     let by_exact = emptied(alloc, &exact)?;
     let by_except = emptied(alloc, &except)?;
     let by_lowest = emptied(alloc, &lowest)?;
-    assert!(rt; by_any.get(0).copied() == Some(Some(1)));
-    assert!(rt;
+    holds!(rt; by_any.get(0).copied() == Some(Some(1)));
+    holds!(rt;
         by_any.get(MOST as usize + 1).copied() == Some(None),
         "one more is sent"
     );
@@ -347,15 +347,15 @@ fn a_full_queue_of_as_many_types_is_emptied(rt: HostRuntime) -> Result<(), Fail>
     for i in 0..MOST as usize {
         let place = i as u64 + 2;
         let at = MOST as usize + 2 + i;
-        assert!(rt; by_any.get(i + 1).copied() == Some(Some(place)));
-        assert!(rt; by_any.get(at).copied() == Some(Some(place)));
-        assert!(rt; by_exact.get(at).copied() == Some(Some(place)));
+        holds!(rt; by_any.get(i + 1).copied() == Some(Some(place)));
+        holds!(rt; by_any.get(at).copied() == Some(Some(place)));
+        holds!(rt; by_exact.get(at).copied() == Some(Some(place)));
         let other = if place <= MOST { Some(place + 1) } else { None };
-        assert!(rt; by_except.get(at).copied() == Some(other));
+        holds!(rt; by_except.get(at).copied() == Some(other));
         let Some(Some(low)) = by_lowest.get(at).copied() else {
             return Err("nothing waits".into());
         };
-        assert!(rt; last < type_of(low));
+        holds!(rt; last < type_of(low));
         last = type_of(low);
     }
     Ok(())

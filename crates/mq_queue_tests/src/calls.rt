@@ -289,8 +289,8 @@ fn a_text_that_is_too_long_is_handed_back(rt: HostRuntime) -> Result<(), Fail> {
     let back = handed_back(&mut queue, long);
     close(queue);
     let back = back.ok_or("it was taken")?;
-    assert!(rt; back.mtype == 5 && back.sender == 3 && back.tag == 70);
-    assert!(rt; back.body.bytes().len() == 65_537);
+    holds!(rt; back.mtype == 5 && back.sender == 3 && back.tag == 70);
+    holds!(rt; back.body.bytes().len() == 65_537);
     Ok(())
 }
 
@@ -306,10 +306,10 @@ fn a_received_text_is_the_front_of_what_was_sent(rt: HostRuntime) -> Result<(), 
     let sent = send(&mut queue, hello, 60);
     let got = queue.receive(2, Selection::Any, true, 4, 80, &mut NoNotice);
     close(queue);
-    assert!(rt; sent == Answer::At(1));
+    holds!(rt; sent == Answer::At(1));
     let got = got?;
-    assert!(rt; got.body.bytes() == b"he".as_slice());
-    assert!(rt; got.mtype == 5 && got.sender == 3 && got.tag == 70 && got.length == 5);
+    holds!(rt; got.body.bytes() == b"he".as_slice());
+    holds!(rt; got.mtype == 5 && got.sender == 3 && got.tag == 70 && got.length == 5);
     Ok(())
 }
 
@@ -326,7 +326,7 @@ fn each_refusal_says_why(rt: HostRuntime) -> Result<(), Fail> {
     ];
     for (refusal, text) in texts {
         let said = format!(in rt.alloc(); "{refusal}")?;
-        assert!(rt; said.as_str() == text);
+        holds!(rt; said.as_str() == text);
     }
     Ok(())
 }

@@ -84,7 +84,7 @@ fn a_queue_that_is_cut_answers_as_one_that_is_not(rt: HostRuntime) -> Result<(),
         let differs = differs?;
         assert!(rt; differs == None, "cut after every {every}");
         keep(&mut all, log.into_parts().1)?;
-        assert!(rt; all.as_slice() == wanted.into_parts().1.as_slice());
+        holds!(rt; all.as_slice() == wanted.into_parts().1.as_slice());
     }
     Ok(())
 }

@@ -18,7 +18,7 @@ fn cut(rt: &impl Abort, queue: &mut QueueState<VecBody, List>) -> (Base, Vec<Eve
         return cut;
     }
     let after = (queue.first(), queue.log_len(), queue.figures());
-    assert!(rt; after == before, "a refused cut changes the queue");
+    holds!(rt; after == before, "a refused cut changes the queue");
     match queue.cut() {
         Ok(cut) => cut,
         Err(AllocError) => panic!(rt; "out of memory"),
@@ -84,21 +84,21 @@ fn a_cut_hands_out_the_log_and_keeps_what_waits(rt: HostRuntime) -> Result<(), F
     let second = cut(&rt, &mut queue);
     let left = places(&queue.base().waiting);
     close(queue);
-    assert!(rt; begun? == BEGUN);
+    holds!(rt; begun? == BEGUN);
     let (base, tail) = first;
-    assert!(rt; (base.places, base.figures) == (0, NO_FIGURES));
-    assert!(rt; base.waiting.len() == 0);
-    assert!(rt; tail.len() == 5);
-    assert!(rt; kept == (5, FIGURES));
-    assert!(rt; waiting == [Some((1, 1)), Some((3, 3)), None]);
-    assert!(rt; seen == (5, 5, None, FIGURES));
-    assert!(rt; received == Answer::Got(5, 1, 1, 1));
-    assert!(rt; last == (6, true, None));
+    holds!(rt; (base.places, base.figures) == (0, NO_FIGURES));
+    holds!(rt; base.waiting.len() == 0);
+    holds!(rt; tail.len() == 5);
+    holds!(rt; kept == (5, FIGURES));
+    holds!(rt; waiting == [Some((1, 1)), Some((3, 3)), None]);
+    holds!(rt; seen == (5, 5, None, FIGURES));
+    holds!(rt; received == Answer::Got(5, 1, 1, 1));
+    holds!(rt; last == (6, true, None));
     let (base, tail) = second;
-    assert!(rt; (base.places, base.figures) == (5, FIGURES));
-    assert!(rt; places(&base.waiting) == waiting);
-    assert!(rt; tail.len() == 1);
-    assert!(rt; left == [Some((3, 3)), None]);
+    holds!(rt; (base.places, base.figures) == (5, FIGURES));
+    holds!(rt; places(&base.waiting) == waiting);
+    holds!(rt; tail.len() == 1);
+    holds!(rt; left == [Some((3, 3)), None]);
     Ok(())
 }
 
@@ -110,13 +110,13 @@ fn a_second_cut_at_once_hands_out_no_event(rt: HostRuntime) -> Result<(), Fail> 
     let second = cut(&rt, &mut queue);
     let third = cut(&rt, &mut queue);
     close(queue);
-    assert!(rt; begun? == BEGUN);
-    assert!(rt; first.1.len() == 5);
+    holds!(rt; begun? == BEGUN);
+    holds!(rt; first.1.len() == 5);
     for cut in [second, third] {
         let (base, tail) = cut;
-        assert!(rt; (base.places, base.figures) == (5, FIGURES));
-        assert!(rt; places(&base.waiting) == [Some((1, 1)), Some((3, 3)), None]);
-        assert!(rt; tail.len() == 0);
+        holds!(rt; (base.places, base.figures) == (5, FIGURES));
+        holds!(rt; places(&base.waiting) == [Some((1, 1)), Some((3, 3)), None]);
+        holds!(rt; tail.len() == 0);
     }
     Ok(())
 }
@@ -147,18 +147,18 @@ fn a_removed_queue_hands_out_its_base(rt: HostRuntime) -> Result<(), Fail> {
         Err(_) => None,
     };
     let log = removed(queue);
-    assert!(rt; begun? == BEGUN);
-    assert!(rt; quota == Answer::At(5));
-    assert!(rt; full.is_some(), "four bytes wait, and three may");
-    assert!(rt; (log.first(), log.len()) == (5, 7));
-    assert!(rt; (log.get(4), log.get(7)) == (None, None));
+    holds!(rt; begun? == BEGUN);
+    holds!(rt; quota == Answer::At(5));
+    holds!(rt; full.is_some(), "four bytes wait, and three may");
+    holds!(rt; (log.first(), log.len()) == (5, 7));
+    holds!(rt; (log.get(4), log.get(7)) == (None, None));
     let removal = Event::Removed {
         seat: 2,
         moment: 90,
     };
-    assert!(rt; log.get(6) == Some(removal));
+    holds!(rt; log.get(6) == Some(removal));
     let (base, tail) = log.into_parts();
-    assert!(rt; (base.places, base.figures) == (5, FIGURES));
-    assert!(rt; tail.len() == 2);
+    holds!(rt; (base.places, base.figures) == (5, FIGURES));
+    holds!(rt; tail.len() == 2);
     Ok(())
 }

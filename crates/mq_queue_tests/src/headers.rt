@@ -64,7 +64,7 @@ fn check<W: Waiting<VecBody>>(
     wanted: &[Header],
 ) -> Result<(), AllocError> {
     let (_log, headers) = left::<W>(alloc, types, selections)?;
-    assert!(rt; headers.as_slice() == wanted);
+    holds!(rt; headers.as_slice() == wanted);
     Ok(())
 }
 
@@ -204,9 +204,9 @@ fn headers_are_those_that_the_log_leaves_waiting(rt: HostRuntime) -> Result<(), 
         (52, 8),
     ] {
         let picked = picking(alloc, received)?;
-        assert!(rt; agrees::<ListWaiting<VecBody>>(alloc, &types, &picked, count)?);
-        assert!(rt; agrees::<ByType<VecBody>>(alloc, &types, &picked, count)?);
-        assert!(rt; agrees::<IndexWaiting<VecBody>>(alloc, &types, &picked, count)?);
+        holds!(rt; agrees::<ListWaiting<VecBody>>(alloc, &types, &picked, count)?);
+        holds!(rt; agrees::<ByType<VecBody>>(alloc, &types, &picked, count)?);
+        holds!(rt; agrees::<IndexWaiting<VecBody>>(alloc, &types, &picked, count)?);
     }
     Ok(())
 }

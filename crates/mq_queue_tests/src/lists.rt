@@ -141,7 +141,7 @@ fn a_selection_hands_out_the_message_that_the_manual_names(rt: HostRuntime) -> R
     ];
     for (types, selections, places) in cases {
         let got = places_of::<ListWaiting<VecBody>>(rt.alloc(), types, selections)?;
-        assert!(rt; got.as_slice() == places);
+        holds!(rt; got.as_slice() == places);
     }
     Ok(())
 }
@@ -185,11 +185,11 @@ fn a_message_comes_back_whole(rt: HostRuntime) -> Result<(), Fail> {
     discard(list);
     put?;
     let message = message.ok_or("nothing waits")?;
-    assert!(rt; length == Some(5));
-    assert!(rt; other == None);
-    assert!(rt; message.mtype == 5 && message.sender == 1 && message.tag == 3);
-    assert!(rt; message.body.bytes() == b"first".as_slice());
-    assert!(rt; more == None);
+    holds!(rt; length == Some(5));
+    holds!(rt; other == None);
+    holds!(rt; message.mtype == 5 && message.sender == 1 && message.tag == 3);
+    holds!(rt; message.body.bytes() == b"first".as_slice());
+    holds!(rt; more == None);
     Ok(())
 }
 
@@ -203,7 +203,7 @@ fn no_message_is_lost_on_the_way_out(rt: HostRuntime) -> Result<(), Fail> {
         let mut list: ListWaiting<VecBody> = filled(rt.alloc(), types)?;
         let got = popped(rt.alloc(), &mut list);
         discard(list);
-        assert!(rt; got?.as_slice() == tags);
+        holds!(rt; got?.as_slice() == tags);
     }
     Ok(())
 }
@@ -215,6 +215,6 @@ fn a_refused_growth_leaves_the_list(rt: HostRuntime) -> Result<(), Fail> {
     let _ = list.prepare(4);
     let got = handed_out(rt.alloc(), &mut list, &[Selection::Any; 5]);
     discard(list);
-    assert!(rt; got?.as_slice() == [Some(0), Some(1), Some(2), Some(3), None].as_slice());
+    holds!(rt; got?.as_slice() == [Some(0), Some(1), Some(2), Some(3), None].as_slice());
     Ok(())
 }

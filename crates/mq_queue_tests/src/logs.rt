@@ -40,7 +40,7 @@ fn figures_show_the_last_moment_whatever_it_is(rt: HostRuntime) -> Result<(), Fa
         let visited = visit(rt.alloc(), &mut queue, moments);
         let figures = queue.figures();
         close(queue);
-        assert!(rt; visited? == VISITED);
+        holds!(rt; visited? == VISITED);
         let wanted = Figures {
             qnum: 0,
             cbytes: 0,
@@ -51,7 +51,7 @@ fn figures_show_the_last_moment_whatever_it_is(rt: HostRuntime) -> Result<(), Fa
             lspid: 3,
             lrpid: 4,
         };
-        assert!(rt; figures == wanted);
+        holds!(rt; figures == wanted);
     }
     Ok(())
 }
@@ -74,8 +74,8 @@ fn refusals_leave_log_and_figures(rt: HostRuntime) -> Result<(), Fail> {
     let count = queue.log_len();
     close(queue);
     checked?;
-    assert!(rt; (after, count) == (before, 1));
-    assert!(rt; (before.qbytes, before.ctime) == (131_072, 50));
+    holds!(rt; (after, count) == (before, 1));
+    holds!(rt; (before.qbytes, before.ctime) == (131_072, 50));
     Ok(())
 }
 
@@ -109,7 +109,7 @@ fn the_log_of_a_removed_queue_tells_all(rt: HostRuntime) -> Result<(), Fail> {
     let last = queue.event(4);
     let beyond = (queue.event(5), queue.event(u64::MAX));
     let log = removed(queue, 90);
-    assert!(rt; visited? == VISITED);
+    holds!(rt; visited? == VISITED);
     let events = [
         Event::Made {
             seat: 2,
@@ -138,11 +138,11 @@ fn the_log_of_a_removed_queue_tells_all(rt: HostRuntime) -> Result<(), Fail> {
             moment: 90,
         },
     ];
-    assert!(rt; last == Some(changed(80)));
-    assert!(rt; beyond == (None, None));
-    assert!(rt; log.len() == 6);
-    assert!(rt; (log.get(0), log.get(6)) == (Some(events[0]), None));
-    assert!(rt; log.into_parts().1.as_slice() == events.as_slice());
+    holds!(rt; last == Some(changed(80)));
+    holds!(rt; beyond == (None, None));
+    holds!(rt; log.len() == 6);
+    holds!(rt; (log.get(0), log.get(6)) == (Some(events[0]), None));
+    holds!(rt; log.into_parts().1.as_slice() == events.as_slice());
     Ok(())
 }
 
@@ -189,7 +189,7 @@ fn no_more_messages_wait_than_the_quota_has_bytes(rt: HostRuntime) -> Result<(),
         _ => Ok(()),
     };
     close(queue);
-    assert!(rt; last? == 131_072);
+    holds!(rt; last? == 131_072);
     checked?;
     Ok(())
 }
@@ -202,7 +202,7 @@ fn a_long_log_refuses_no_call(rt: HostRuntime) -> Result<(), Fail> {
     let count = queue.log_len();
     let log = removed(queue, 90);
     played?;
-    assert!(rt; more == Answer::Refused(QueueError::NoMessage));
-    assert!(rt; (count, log.len()) == (120_001, 120_002));
+    holds!(rt; more == Answer::Refused(QueueError::NoMessage));
+    holds!(rt; (count, log.len()) == (120_001, 120_002));
     Ok(())
 }

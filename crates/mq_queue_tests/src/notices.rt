@@ -85,13 +85,13 @@ fn each_event_is_noticed_with_the_figures_after_it(rt: HostRuntime) -> Result<()
             panic!(rt; "out of memory");
         }
     }
-    assert!(rt; told?);
+    holds!(rt; told?);
     let event = Event::Removed {
         seat: 2,
         moment: 90,
     };
     let after = NO_FIGURES;
-    assert!(rt; notice.taken == Some(Taken { event, after }));
+    holds!(rt; notice.taken == Some(Taken { event, after }));
     Ok(())
 }
 
@@ -144,9 +144,9 @@ fn a_notice_that_refuses_leaves_the_queue(rt: HostRuntime) -> Result<(), Fail> {
     };
     let after = (queue.figures(), queue.log_len());
     close(queue);
-    assert!(rt; !is_made(rt.alloc(), &mut refuses));
-    assert!(rt; sent, "out of memory");
-    assert!(rt; refused == [Some(QueueError::Memory); 3]);
-    assert!(rt; before == after && after.1 == 2);
+    holds!(rt; !is_made(rt.alloc(), &mut refuses));
+    holds!(rt; sent, "out of memory");
+    holds!(rt; refused == [Some(QueueError::Memory); 3]);
+    holds!(rt; before == after && after.1 == 2);
     Ok(())
 }

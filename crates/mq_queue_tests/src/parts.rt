@@ -2,7 +2,7 @@ ghost use Rattle.std.specs.Prelude.{◌≡◌, ◌+◌, ◌<◌, ◌≤◌, ◌+
 ghost use Rattle.std.specs.Prelude.{IfNone, IfSome, OnOk, length, map};
 ghost use Rattle.mq_index.specs.Fronts.{first_of};
 
-use mq_index::{Fronts, Queue, Room};
+use mq_index::{FirstPlaces, Room, TypeQueue};
 use mq_message::{Message, VecBody};
 use std::alloc::{AllocError, Global};
 use std::process::Abort;
@@ -18,7 +18,7 @@ fn next(seed: u64) -> u64 {
 }
 
 /// A type that has no place is entered with this one; another moves on to it, or leaves.
-fn step(fronts: &mut Fronts, mtype: i64, place: u64, leaves: bool) -> Result<(), AllocError>
+fn step(fronts: &mut FirstPlaces, mtype: i64, place: u64, leaves: bool) -> Result<(), AllocError>
     requires { (t : ℤ) (n : ℕ) → first_of fronts.old t ≡ Some n → n ≤ place }
     ensures { OnOk result ((t : ℤ) (n : ℕ) → first_of fronts.new t ≡ Some n → n ≤ place) }
 {
@@ -47,17 +47,17 @@ fn least(places: &[Option<u64>; TYPES], other: usize) -> Option<u64> {
 }
 
 /// Checks what the fronts tell of each type, and of all.
-fn told(rt: &impl Abort, fronts: &Fronts, places: &[Option<u64>; TYPES]) {
-    assert!(rt; fronts.least() == least(places, TYPES));
+fn told(rt: &impl Abort, fronts: &FirstPlaces, places: &[Option<u64>; TYPES]) {
+    holds!(rt; fronts.least() == least(places, TYPES));
     for mtype in 0..TYPES {
-        assert!(rt; fronts.place_of(mtype as i64) == places[mtype]);
-        assert!(rt; fronts.least_beside(mtype as i64) == least(places, mtype));
+        holds!(rt; fronts.place_of(mtype as i64) == places[mtype]);
+        holds!(rt; fronts.least_beside(mtype as i64) == least(places, mtype));
     }
 }
 
 #[test]
 fn the_least_places_are_those_of_a_search(rt: HostRuntime) -> Result<(), Fail> {
-    let mut fronts = Fronts::new(rt.alloc());
+    let mut fronts = FirstPlaces::new(rt.alloc());
     let mut places = [None; TYPES];
     let mut seed = 1;
     for place in 0..2000 {
@@ -73,7 +73,7 @@ fn the_least_places_are_those_of_a_search(rt: HostRuntime) -> Result<(), Fail> {
 }
 
 /// The least place, those beside the types 1 and -1, and the place of the type -1.
-fn few_told(fronts: &Fronts) -> [Option<u64>; 4] {
+fn few_told(fronts: &FirstPlaces) -> [Option<u64>; 4] {
     [
         fronts.least(),
         fronts.least_beside(1),
@@ -84,19 +84,19 @@ fn few_told(fronts: &Fronts) -> [Option<u64>; 4] {
 
 #[test]
 fn of_no_type_there_is_no_least_place(rt: HostRuntime) -> Result<(), Fail> {
-    let mut fronts = Fronts::new(rt.alloc());
-    assert!(rt; few_told(&fronts) == [None; 4]);
+    let mut fronts = FirstPlaces::new(rt.alloc());
+    holds!(rt; few_told(&fronts) == [None; 4]);
     fronts.take_out(1);
     fronts.reserve()?;
     fronts.add(-1, 0);
-    assert!(rt; few_told(&fronts) == [Some(0), Some(0), None, Some(0)]);
+    holds!(rt; few_told(&fronts) == [Some(0), Some(0), None, Some(0)]);
     Ok(())
 }
 
 /// Puts a message at the end, with its place as its tag too.
 fn put(
     alloc: Global,
-    queue: &mut Queue<VecBody>,
+    queue: &mut TypeQueue<VecBody>,
     room: &mut Room<VecBody>,
     place: u64,
 ) -> Result<(), AllocError>
@@ -122,7 +122,7 @@ fn put(
 /// Three messages, at the places 0, 1 and 2.
 fn put_three(
     alloc: Global,
-    queue: &mut Queue<VecBody>,
+    queue: &mut TypeQueue<VecBody>,
     room: &mut Room<VecBody>,
 ) -> Result<(), AllocError>
     requires { queue.old ≡ [] }
@@ -134,7 +134,7 @@ fn put_three(
 }
 
 /// Takes out the first message, and tells its tag.
-fn pop(queue: &mut Queue<VecBody>) -> Option<u64>
+fn pop(queue: &mut TypeQueue<VecBody>) -> Option<u64>
     ensures none { IfNone result (queue.new ≡ []) }
     ensures some { IfSome result (λ _. length queue.new < length queue.old) }
 {
@@ -144,7 +144,7 @@ fn pop(queue: &mut Queue<VecBody>) -> Option<u64>
 }
 
 /// The tags of all messages in the order in which they leave, at the end of the queue.
-fn emptied(alloc: Global, queue: Queue<VecBody>) -> Result<Vec<u64>, AllocError> {
+fn emptied(alloc: Global, queue: TypeQueue<VecBody>) -> Result<Vec<u64>, AllocError> {
     let mut queue = queue;
     let mut tags = Vec::new(alloc);
     let mut refused = false;
@@ -157,7 +157,7 @@ fn emptied(alloc: Global, queue: Queue<VecBody>) -> Result<Vec<u64>, AllocError>
 
 /// The tags that are left of three once the message in their middle, or none, has left.
 fn left_of_three(alloc: Global, middle: bool) -> Result<Vec<u64>, AllocError> {
-    let mut queue = Queue::new(alloc);
+    let mut queue = TypeQueue::new(alloc);
     let mut room = Room::new(alloc);
     let put = put_three(alloc, &mut queue, &mut room);
     room.end();
@@ -173,8 +173,8 @@ fn left_of_three(alloc: Global, middle: bool) -> Result<Vec<u64>, AllocError> {
 #[test]
 fn messages_of_a_type_leave_in_their_order(rt: HostRuntime) -> Result<(), Fail> {
     let all = left_of_three(rt.alloc(), false)?;
-    assert!(rt; all.as_slice() == [0, 1, 2].as_slice());
+    holds!(rt; all.as_slice() == [0, 1, 2].as_slice());
     let rest = left_of_three(rt.alloc(), true)?;
-    assert!(rt; rest.as_slice() == [0, 2].as_slice());
+    holds!(rt; rest.as_slice() == [0, 2].as_slice());
     Ok(())
 }

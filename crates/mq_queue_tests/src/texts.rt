@@ -28,7 +28,7 @@ fn drafted<L: Ledger>(rt: &impl Abort, arena: &mut ArenaState<L>) -> Text<L>
 
 fn spent<L: Ledger>(rt: &impl Abort, arena: &mut ArenaState<L>, text: Text<L>) {
     match text.into_block() {
-        Some(block) => assert!(rt; arena.put(block) == Homecoming::Home),
+        Some(block) => holds!(rt; arena.put(block) == Homecoming::Home),
         None => panic!(rt; "no block"),
     }
 }
@@ -50,7 +50,7 @@ fn sent<L: Ledger>(rt: &impl Abort, queue: &mut Queue<L>, text: Text<L>) {
     match queue.send(message, 1, &mut NoNotice) {
         Ok(_) => (),
         Err((refusal, _message)) => {
-            assert!(rt; refusal != QueueError::Memory, "out of memory");
+            holds!(rt; refusal != QueueError::Memory, "out of memory");
             panic!(rt; "refused");
         }
     }
@@ -70,7 +70,7 @@ fn received<L: Ledger>(rt: &impl Abort, queue: &mut Queue<L>) -> Text<L> {
             },
         ) => body,
         Err(refusal) => {
-            assert!(rt; refusal != QueueError::Memory, "out of memory");
+            holds!(rt; refusal != QueueError::Memory, "out of memory");
             panic!(rt; "refused");
         }
     }
@@ -115,7 +115,7 @@ fn filled<L: Ledger, R: Abort + Threads>(rt: &R, arena: &mut ArenaState<L>) -> T
     let before = drafted(rt, arena);
     let mut text = drafted(rt, arena);
     spent(rt, arena, before);
-    assert!(rt; is_zero(&text));
+    holds!(rt; is_zero(&text));
     text.fill_halves(rt, 1, &[b'A'; PAGE_LEN], &[b'B'; 1026]);
     text
 }
@@ -149,17 +149,17 @@ fn sent_on<L: Ledger, R: Abort + Threads>(rt: &R, alloc: Global, unopened: Unope
     let mut second = made(rt, alloc);
     let text = filled(rt, &mut arena);
     let start = text.start();
-    assert!(rt; start == Some(4));
+    holds!(rt; start == Some(4));
     let text = handed_on(rt, &mut first, text);
-    assert!(rt; is_as_filled(&text, start));
+    holds!(rt; is_as_filled(&text, start));
     let text = handed_on(rt, &mut second, text);
-    assert!(rt; is_as_filled(&text, start));
-    assert!(rt; arena.free_pages() == 60);
+    holds!(rt; is_as_filled(&text, start));
+    holds!(rt; arena.free_pages() == 60);
     let mut text = text;
     written_over(rt, &mut text, b'C');
-    assert!(rt; has_letters(&text, b'C', b'C'));
+    holds!(rt; has_letters(&text, b'C', b'C'));
     spent(rt, &mut arena, text);
-    assert!(rt; arena.free_pages() == 64);
+    holds!(rt; arena.free_pages() == 64);
     ended(rt, first);
     ended(rt, second);
 }
@@ -179,14 +179,14 @@ fn part_copied<L: Ledger>(rt: &impl Abort, copy: &mut Text<L>, text: &Text<L>, i
 {
     let bytes = text.part(i);
     let part = copy.part_mut(i);
-    assert!(rt; part.len() == bytes.len());
+    holds!(rt; part.len() == bytes.len());
     part.copy_from_slice(bytes);
 }
 
 /// The same bytes in another block.
 fn copied<L: Ledger>(rt: &impl Abort, arena: &mut ArenaState<L>, text: Text<L>) -> Text<L> {
     let mut copy = drafted(rt, arena);
-    assert!(rt; text.len() == LEN as u64);
+    holds!(rt; text.len() == LEN as u64);
     for i in 0..text.count() {
         part_copied(rt, &mut copy, &text, i);
     }
@@ -212,10 +212,10 @@ fn copied_on_its_way<L: Ledger, R: Abort + Threads>(
     let text = handed_on(rt, &mut first, text);
     let text = copied(rt, &mut arena, text);
     let text = handed_on(rt, &mut second, text);
-    assert!(rt; !is_as_filled(&text, start));
-    assert!(rt; is_as_filled(&text, text.start()));
+    holds!(rt; !is_as_filled(&text, start));
+    holds!(rt; is_as_filled(&text, text.start()));
     spent(rt, &mut arena, text);
-    assert!(rt; arena.free_pages() == 64);
+    holds!(rt; arena.free_pages() == 64);
     ended(rt, first);
     ended(rt, second);
 }

@@ -10,10 +10,11 @@ abbrev pub picked : List (ℕ × ℤ) → Selection → Option ℕ
 picked messages selection = option_map (λ m. m.0) (pick (λ m. m.1) messages selection)
 
 -- the places that receives with these selections hand out in turn, each from what is left
-abbrev pub handed_out : List (ℕ × ℤ) → List Selection → List (Option ℕ)
-handed_out messages [] = []
-handed_out messages (s ∷ selections) =
-    picked messages s ∷ handed_out (without (unwrap_or (picked messages s) 0) messages) selections
+abbrev pub places_handed_out : List (ℕ × ℤ) → List Selection → List (Option ℕ)
+places_handed_out messages [] = []
+places_handed_out messages (s ∷ selections) =
+    picked messages s
+    ∷ places_handed_out (without (unwrap_or (picked messages s) 0) messages) selections
 
 -- types 3, 1, 2, 1
 abbrev pub two_of_type_1 : List (ℕ × ℤ)

@@ -7,7 +7,7 @@ use Rattle.mq_queue.specs.declared.error.QueueError.{QueueError}
 use Rattle.mq_queue.specs.Queue.{rest_of}
 use Rattle.mq_queue.specs.Row.{is_live, last_log, live_key}
 use Rattle.mq_queue.specs.declared.event.Event.{Event}
-use Rattle.mq_table.specs.Calls.{Receipt, Turn, refusal_of}
+use Rattle.mq_table.specs.Calls.{Receipt, SlotTurn, refusal_of}
 use Rattle.mq_table.specs.Kept.{KeptSlot, is_live_kept}
 use Rattle.mq_table.specs.KeptPart.{IsKeptPart, whole}
 use Rattle.mq_table.specs.KeptShown.{last_id_now}
@@ -17,21 +17,22 @@ use Rattle.mq_one_thread.specs.Calls.{delivers}
 use Rattle.mq_one_thread.specs.Look.{errno_of, once}
 use Rattle.mq_one_thread.specs.declared.results.Refused.{Refused}
 use Rattle.mq_one_thread.specs.declared.results.Removal.{Removal}
-use Rattle.mq_system.specs.Answer.{answered, id_with_key, refused_here, refused_or_memory, removal}
+use Rattle.mq_system.specs.Answer.{answered_in_slot, id_with_key, refused_here}
+use Rattle.mq_system.specs.Answer.{refused_or_memory_in_slot, removal}
 
 module _ (s : SlotState PlainText) where
   -- the queue is there, and was not refused
   pub answered_by : {T : Type 0} (looked : Result (Unit {0}) Refused) → Ok tt ≡ looked
-      → (turn : Turn PlainText T) (r : T) (t : SlotState PlainText) → turn ≡ Ok (r, t)
-      → once looked (answered s turn) ≡ Ok (r, t)
-  answered_by (Ok _) there turn r t is = ap (answered s) is
+      → (turn : SlotTurn PlainText T) (r : T) (t : SlotState PlainText) → turn ≡ Ok (r, t)
+      → once looked (answered_in_slot s turn) ≡ Ok (r, t)
+  answered_by (Ok _) there turn r t is = ap (answered_in_slot s) is
   answered_by (Err refused) there turn r t is = cc
 
   -- or it was
   pub refused_by : {T : Type 0} (looked : Result (Unit {0}) Refused) → Ok tt ≡ looked
-      → (turn : Turn PlainText T) (refusal : QueueError) (r : Refused)
+      → (turn : SlotTurn PlainText T) (refusal : QueueError) (r : Refused)
       → refusal ≡ refusal_of turn → r ≡ refused_here s (errno_of refusal)
-      → r ≡ refused_or_memory s (once looked (answered s turn))
+      → r ≡ refused_or_memory_in_slot s (once looked (answered_in_slot s turn))
   refused_by (Ok _) there (Ok turn) refusal r why is =
       is ∙ ap (λ e. refused_here s (errno_of e)) why
   refused_by (Ok _) there (Err e) refusal r why is =
@@ -40,7 +41,7 @@ module _ (s : SlotState PlainText) where
 
 -- why a receiver is refused
 pub not_delivered : (messages : List (ℕ × Message PlainText)) (size : ℕ)
-    (turn : Turn PlainText Receipt) → refusal_of turn ≡ refusal_of (delivers messages size turn)
+    (turn : SlotTurn PlainText Receipt) → refusal_of turn ≡ refusal_of (delivers messages size turn)
 not_delivered messages size (Ok turn) = refl
 not_delivered messages size (Err refusal) = refl
 

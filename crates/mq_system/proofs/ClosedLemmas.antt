@@ -7,7 +7,7 @@ use Rattle.std.proofs.lemmas.List.{get_or-reverse, get_or_append_left, length-dr
 use Rattle.std.proofs.lemmas.List.Sums.{sum_by-cons}
 use Rattle.mq_queue.specs.declared.event.Event.{Event}
 use Rattle.mq_table.specs.Cut.{IsCutOf}
-use Rattle.mq_one_thread.specs.Closed.{IsEndOf, cut_in, entries_of}
+use Rattle.mq_one_thread.specs.Closed.{IsEndOf, cut_in, entries_at_end}
 use Rattle.mq_one_thread.specs.declared.close.ClosedSlot.{ClosedSlot}
 use Rattle.mq_system.specs.Seat.{SeatState, front_of}
 use Rattle.mq_system.specs.Closed.{AreEnds, entries_in}
@@ -15,7 +15,7 @@ use Rattle.mq_system.proofs.StartLemmas.{Each, each_push}
 
 -- a cut of a list has its whole length
 pub whole_length : (list : List Event) (closed : ClosedSlot) → IsCutOf list (cut_in closed)
-    → entries_of closed ≡ length list
+    → entries_at_end closed ≡ length list
 whole_length list closed h =
     omega (arith, h.within, ap length h.entries, length-append closed.past.items closed.last.items, length-drop closed.first list)
 
@@ -94,4 +94,4 @@ sums_agree last_seq (l ∷ ls) (s ∷ ss) h =
       count = omega (arith, h.count);
       each = λ k d e low. h.each (suc k) d e (omega (arith, low));
     } in
-    omega (arith, sum_by-cons length l ls, sum_by-cons entries_of s ss, whole_length l s first.kept, sums_agree last_seq ls ss rest)
+    omega (arith, sum_by-cons length l ls, sum_by-cons entries_at_end s ss, whole_length l s first.kept, sums_agree last_seq ls ss rest)

@@ -17,7 +17,7 @@ use Rattle.mq_system.specs.Outcome.{IsLook}
 use Rattle.mq_system.specs.Seat.{IsLater, SeatState, front_of}
 use Rattle.mq_system.specs.Seen.{IsDone, Verdict}
 use Rattle.mq_system.proofs.LaterLemmas.{later_self, look_trans, step_after}
-use Rattle.mq_system.specs.Get.{HadFree, IsFound, IsFree, IsGot, IsNew, IsNotGot, IsNotNew, IsTaken, MayRefuse, Was, WasAt, WasBelow, WasLacked, WhyNotGot, may_make}
+use Rattle.mq_system.specs.Get.{HadFree, IsFound, IsFree, IsGot, IsNew, IsNotGot, IsNotNew, IsNotFree, MayRefuse, Was, WasAt, WasBelow, WasLacked, WhyNotGot, may_make}
 
 -- it is so now
 pub was_now : (fact : List Event → Type 0) (old new : SeatState) (slot : ℕ) → IsLater old new
@@ -109,7 +109,7 @@ wanted last_seq events _ is other = absurd is
 -- a slot is free, and none below it was
 pub free_now : (slots last_seq : ℕ) (old had now : SeatState) (slot : ℕ) → slot < slots
     → IsLater old had → IsLater had now → IsFree last_seq (front_of now slot)
-    → WasBelow (IsTaken last_seq) old had slot → HadFree slots last_seq old now
+    → WasBelow (IsNotFree last_seq) old had slot → HadFree slots last_seq old now
 free_now slots last_seq old had now slot within before later free lower = record {
   slot = slot;
   within = within;
@@ -117,7 +117,7 @@ free_now slots last_seq old had now slot within before later free lower = record
       was_around (IsFree last_seq) old had now now slot before (later_self now)
       (was_now (IsFree last_seq) had now slot later free);
   lower =
-      below_around (IsTaken last_seq) old old had now slot (later_self old) later lower;
+      below_around (IsNotFree last_seq) old old had now slot (later_self old) later lower;
 }
 
 -- a queue that was found by a seat that knew less before
@@ -148,7 +148,7 @@ module _ (slots last_seq : ℕ) (key : ℤ) (flags : GetFlags) (moment : ℕ) (a
         within = new.within;
         made = made;
         lower =
-            below_around (IsTaken last_seq) a b c c (slot_of got.id) look.later (later_self c) new.lower;
+            below_around (IsNotFree last_seq) a b c c (slot_of got.id) look.later (later_self c) new.lower;
       } in record {
         allowed = rw made.made may;
         within = new.within;
@@ -169,7 +169,7 @@ module _ (slots last_seq : ℕ) (key : ℤ) (flags : GetFlags) (moment : ℕ) (a
   why : (errno : Errno) → IsLater b c → IsNotNew slots last_seq b c errno
       → WhyNotGot slots last_seq key a c errno
   why ENOSPC after full = (
-    below_around (IsTaken last_seq) a b c c slots look.later (later_self c) full,
+    below_around (IsNotFree last_seq) a b c c slots look.later (later_self c) full,
     still_lacked after,
   )
   why ENOMEM after had = (
@@ -178,7 +178,7 @@ module _ (slots last_seq : ℕ) (key : ℤ) (flags : GetFlags) (moment : ℕ) (a
       within = had.within;
       free = was_around (IsFree last_seq) a b c c had.slot look.later (later_self c) had.free;
       lower =
-          below_around (IsTaken last_seq) a b c c had.slot look.later (later_self c) had.lower;
+          below_around (IsNotFree last_seq) a b c c had.slot look.later (later_self c) had.lower;
     },
     still_lacked after,
   )

@@ -17,7 +17,7 @@ use Rattle.mq_queue.specs.declared.received.Received.{Received}
 use Rattle.mq_queue.specs.Answer.{handed_out, received_header}
 use Rattle.mq_queue.specs.Row.{last_log}
 use Rattle.mq_queue.specs.Waiting.{waiting}
-use Rattle.mq_table.specs.Calls.{Receipt, Turn, receipt_of, received, receives}
+use Rattle.mq_table.specs.Calls.{Receipt, SlotTurn, receipt_of, received, receives}
 use Rattle.mq_table.specs.Slot.{SlotState}
 use Rattle.mq_one_thread.specs.Calls.{delivered, delivers}
 use Rattle.mq_one_thread.specs.Texts.{bytes_of, cut_to}
@@ -57,7 +57,7 @@ delivered_is messages size r body =
 
 -- so it is what the call answers
 pub delivers_it : (messages : List (ℕ × Message PlainText)) (size : ℕ) (r : Received PlainText)
-    (turn : Turn PlainText Receipt) (t : SlotState PlainText) → turn ≡ Ok (receipt_of r, t)
+    (turn : SlotTurn PlainText Receipt) (t : SlotState PlainText) → turn ≡ Ok (receipt_of r, t)
     → IsSomeAnd (message_at r.place messages) (λ m. (r.body.bytes ≡ take size m.body.bytes) × (r.body.block ≡ m.body.block))
     → delivers messages size turn ≡ Ok (delivery r, t)
 delivers_it messages size r turn t is body =

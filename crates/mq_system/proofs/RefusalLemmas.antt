@@ -20,7 +20,7 @@ use Rattle.mq_queue.specs.declared.error.QueueError.TheVariants.{TypeInvalid, To
 use Rattle.mq_queue.specs.declared.event.Event.{Event}
 use Rattle.mq_queue.specs.declared.event.Event.TheVariants as event
 use Rattle.mq_queue.specs.declared.limits.TheConstants.{MSGMAX}
-use Rattle.mq_table.specs.Calls.{goes_on, received, removes, sends, unless}
+use Rattle.mq_table.specs.Calls.{with_event, received, removes, sends, changed_unless}
 use Rattle.mq_table.specs.Ids.{seq_of, slot_of}
 use Rattle.mq_table.specs.Shown.{by_standing}
 use Rattle.mq_table.specs.Slot.{SlotState}
@@ -34,7 +34,7 @@ use Rattle.mq_one_thread.specs.declared.errno.Errno.{Errno}
 use Rattle.mq_one_thread.specs.declared.errno.Errno.TheVariants.{EAGAIN, ENOMSG}
 use Rattle.mq_one_thread.specs.declared.results.Refused.{Refused}
 use Rattle.mq_one_thread.specs.declared.results.Removal.{Removal}
-use Rattle.mq_system.specs.Answer.{SlotAnswer, answered, by_id, in_queue, looks, receive, refused_or_memory, remove, send}
+use Rattle.mq_system.specs.Answer.{SlotAnswer, answered_in_slot, by_id_in_slot, in_slot_queue, looks_in_slot, receive_in_slot, refused_or_memory_in_slot, remove_in_slot, send_in_slot}
 use Rattle.mq_system.specs.Outcome.{IsLook, IsTurnedAway}
 use Rattle.mq_system.specs.Refusals.{MayReceive, MaySend, Refuses, never_sent, out_of_slots}
 use Rattle.mq_system.specs.Seat.{SeatState}
@@ -105,9 +105,11 @@ module _ (s : SlotState PlainText) (nowait : Bool) where
 
   in_queue_may : (looked : Result (Unit {0}) IdRefusal) (o : Option QueueError)
       (after : SlotState PlainText) → RefusesSend o
-      → ((refused_or_memory s (once (by_id s looked) (answered s (unless o s after)))).errno
+      → ((refused_or_memory_in_slot s
+      (once (by_id_in_slot s looked) (answered_in_slot s (changed_unless o s after)))).errno
       ≡ EAGAIN → nowait ≡ true)
-      → SendMay (refused_or_memory s (once (by_id s looked) (answered s (unless o s after))))
+      → SendMay (refused_or_memory_in_slot s
+      (once (by_id_in_slot s looked) (answered_in_slot s (changed_unless o s after))))
   in_queue_may (Err Never) o after h again = (refl, tt)
   in_queue_may (Err Removed) o after h again = (refl, tt)
   in_queue_may (Ok _) None after h again = (refl, tt)
@@ -117,16 +119,19 @@ module _ (s : SlotState PlainText) (nowait : Bool) where
   in_queue_may (Ok _) (Some _) after h again = absurd h
 
   pub send_may : (id : ℕ) (m : Message PlainText) (moment : ℕ) (r : Refused)
-      → int_lt m.mtype (pos 1) ≡ false → r ≡ refused_or_memory s (send s id m moment)
+      → int_lt m.mtype (pos 1) ≡ false
+      → r ≡ refused_or_memory_in_slot s (send_in_slot s id m moment)
       → (r.errno ≡ EAGAIN → nowait ≡ true) → SendMay r
   send_may id m moment r sent is again =
       let log = last_log s.events in
       let n = length (bytes_of m.body) in
       let after : SlotState PlainText =
-      goes_on s (event.Sent m.sender moment m.tag m.mtype n) (s.messages ++ (length log, m) ∷ []) in
-      let answer : SlotAnswer ℕ = in_queue s id (sends bytes_of s m moment) in
-      let its : r ≡ refused_or_memory s answer =
-      is ∙ ap (λ a. refused_or_memory s a) (if_false (int_lt m.mtype (pos 1)) _ answer sent) in
+      with_event s (event.Sent m.sender moment m.tag m.mtype n)
+      (s.messages ++ (length log, m) ∷ []) in
+      let answer : SlotAnswer ℕ = in_slot_queue s id (sends bytes_of s m moment) in
+      let its : r ≡ refused_or_memory_in_slot s answer =
+      is
+      ∙ ap (λ a. refused_or_memory_in_slot s a) (if_false (int_lt m.mtype (pos 1)) _ answer sent) in
       subst SendMay (sym its)
       (in_queue_may (by_standing (standing s.events (seq_of id)))
       (send_refusal (waiting log) (quota log) m.mtype n) after
@@ -141,8 +146,8 @@ module _ (s : SlotState PlainText) (nowait : Bool) where
   -- what a receiver is answered where its selection picks this
   abbrev picked : Result (Unit {0}) IdRefusal → (Header → Event) → ℕ → Bool → Option Header → Refused
   picked looked e size noerror o =
-      refused_or_memory s
-      (once (by_id s looked) (answered s (delivers s.messages size (received s e (handed_out size noerror o)))))
+      refused_or_memory_in_slot s
+      (once (by_id_in_slot s looked) (answered_in_slot s (delivers s.messages size (received s e (handed_out size noerror o)))))
 
   picked_may : (looked : Result (Unit {0}) IdRefusal) (e : Header → Event) (size : ℕ)
       (noerror : Bool) (o : Option Header)
@@ -160,7 +165,8 @@ module _ (s : SlotState PlainText) (nowait : Bool) where
       by false long = rw long (refl, refl)
 
   pub receive_may : (id size : ℕ) (selection : Selection) (noerror : Bool) (seat moment : ℕ)
-      (r : Refused) → r ≡ refused_or_memory s (receive s id size selection noerror seat moment)
+      (r : Refused)
+      → r ≡ refused_or_memory_in_slot s (receive_in_slot s id size selection noerror seat moment)
       → (r.errno ≡ ENOMSG → nowait ≡ true) → ReceiveMay noerror r
   receive_may id size selection noerror seat moment r is again =
       subst (ReceiveMay noerror) (sym is)
@@ -180,8 +186,8 @@ left (Err refused) other = other
 
 -- what a removal tells
 pub is_removal : (last_seq : ℕ) (s t : SlotState PlainText) (id seat moment : ℕ) (r : Removal)
-    → remove s id seat moment r.log.base.places ≡ Ok (r, t) → IsSlotList last_seq t.events → IsRemoval last_seq r
-is_removal last_seq s t id seat moment r is lawful = by (looks s id) is
+    → remove_in_slot s id seat moment r.log.base.places ≡ Ok (r, t) → IsSlotList last_seq t.events → IsRemoval last_seq r
+is_removal last_seq s t id seat moment r is lawful = by (looks_in_slot s id) is
   where
     by : (looked : Result (Unit {0}) Refused)
         → once {A = Removal × SlotState PlainText} looked

@@ -130,7 +130,7 @@ state number by_slot readers =
 module _ (seats slots number : ℕ) (readers : List ReaderState) (by_slot : List ℕ)
     (parts amount slot : ℕ) (before after : ReaderState) (low : slot < slots)
     (h : IsSeat seats slots number readers by_slot parts amount)
-    (is : before ≡ slice_index_or readers slot before) (later : reader.IsLater before after)
+    (is : before ≡ slice_index_or readers slot before) (later : reader.HasSeenMore before after)
   where
     inside : slot < length readers
     inside = rw h.readers_each low

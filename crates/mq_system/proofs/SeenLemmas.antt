@@ -16,7 +16,7 @@ use Rattle.mq_queue.specs.Waiting.{waiting}
 use Rattle.mq_queue.specs.declared.error.QueueError.{QueueError}
 use Rattle.mq_queue.specs.declared.event.Event.{Event}
 use Rattle.mq_queue.specs.declared.event.Event.TheVariants as event
-use Rattle.mq_table.specs.Calls.{Receipt, Turn, goes_on, makes, received, receives, removes, sends, sets, unless}
+use Rattle.mq_table.specs.Calls.{Receipt, SlotTurn, with_event, makes, received, receives, removes, sends, sets, changed_unless}
 use Rattle.mq_table.specs.Ids.{seq_of}
 use Rattle.mq_table.specs.Shown.{by_standing}
 use Rattle.mq_table.specs.Slot.{SlotState, next_id}
@@ -36,7 +36,7 @@ use Rattle.mq_system.specs.Held.{HasNoted}
 use Rattle.mq_system.specs.Making.{IsMade, make_verdict}
 use Rattle.mq_system.specs.Outcome.{IsLook, IsStep, IsUnderLock}
 use Rattle.mq_system.specs.Seat.{IsCounted, SeatState, front_of}
-use Rattle.mq_system.specs.Seen.{IsDecided, IsDone, IsReceipt, IsRefused, Verdict, in_queue, receive_verdict, remove_verdict, send_verdict, set_verdict}
+use Rattle.mq_system.specs.Seen.{IsDecided, IsDone, IsReceipt, IsRefused, Verdict, unless_refused, receive_verdict, remove_verdict, send_verdict, set_verdict}
 use Rattle.mq_system.proofs.KeysLemmas.{seq_of_id, slot_of_next}
 use Rattle.mq_system.proofs.LaterLemmas.{front_set, later_set, look_trans, step_after}
 use Rattle.mq_system.proofs.RefusalLemmas.{if_false}
@@ -52,25 +52,26 @@ enters old had now slot at s held there is look entered = record {
 }
 
 -- why the slot's queue refuses, if it does
-abbrev why : {T : Type 0} → Turn PlainText T → Option QueueError
+abbrev why : {T : Type 0} → SlotTurn PlainText T → Option QueueError
 why (Ok turn) = None
 why (Err refusal) = Some refusal
 
 -- what is answered where the slot answers so, by where the id's queue stands
-abbrev answers : {T : Type 0} → SlotState PlainText → Standing → Turn PlainText T → answer.SlotAnswer T
-answers s stands turn = once (answer.by_id s (by_standing stands)) (answer.answered s turn)
+abbrev answers : {T : Type 0} → SlotState PlainText → Standing → SlotTurn PlainText T → answer.SlotAnswer T
+answers s stands turn =
+    once (answer.by_id_in_slot s (by_standing stands)) (answer.answered_in_slot s turn)
 
 -- a call that is not refused
-record IsTurn {T : Type 0} (stands : Standing) (turn : Turn PlainText T)
+record IsTurn {T : Type 0} (stands : Standing) (turn : SlotTurn PlainText T)
     (told : T × SlotState PlainText) : Type 0 where
   turns : turn ≡ Ok told
-  allowed : in_queue stands (why turn) ≡ None
+  allowed : unless_refused stands (why turn) ≡ None
 
-abbrev as_turn : {T : Type 0} → Turn PlainText T → answer.SlotAnswer T → Turn PlainText T
+abbrev as_turn : {T : Type 0} → SlotTurn PlainText T → answer.SlotAnswer T → SlotTurn PlainText T
 as_turn other (Ok turn) = Ok turn
 as_turn other (Err refused) = other
 
-turn_ok : {T : Type 0} (s : SlotState PlainText) (stands : Standing) (turn : Turn PlainText T)
+turn_ok : {T : Type 0} (s : SlotState PlainText) (stands : Standing) (turn : SlotTurn PlainText T)
     (told : T × SlotState PlainText) → answers s stands turn ≡ Ok told → IsTurn stands turn told
 turn_ok s Never turn told is = cc
 turn_ok s Removed turn told is = cc
@@ -78,26 +79,27 @@ turn_ok s Live (Ok turn) told is = record { turns = ap (as_turn (Ok turn)) is; a
 turn_ok s Live (Err refusal) told is = cc
 
 -- a call that is refused
-turn_refused : {T : Type 0} (s : SlotState PlainText) (stands : Standing) (turn : Turn PlainText T)
-    → answer.refused_or_memory s (answers s stands turn)
-    ≡ answer.refused_here s (unwrap_or (in_queue stands (why turn)) ENOMEM)
+turn_refused : {T : Type 0} (s : SlotState PlainText) (stands : Standing)
+    (turn : SlotTurn PlainText T)
+    → answer.refused_or_memory_in_slot s (answers s stands turn)
+    ≡ answer.refused_here s (unwrap_or (unless_refused stands (why turn)) ENOMEM)
 turn_refused s Never turn = refl
 turn_refused s Removed turn = refl
 turn_refused s Live (Ok turn) = refl
 turn_refused s Live (Err refusal) = refl
 
 why_unless : (refusal : Option QueueError) (s after : SlotState PlainText)
-    → why (unless refusal s after) ≡ refusal
+    → why (changed_unless refusal s after) ≡ refusal
 why_unless None s after = refl
 why_unless (Some refusal) s after = refl
 
 -- what is told of a change: its entry, and the slot that it leaves
 unless_ok : (refusal : Option QueueError) (s after t : SlotState PlainText) (entry : ℕ)
-    → unless refusal s after ≡ Ok (entry, t) → (entry ≡ length s.events) × (t ≡ after)
+    → changed_unless refusal s after ≡ Ok (entry, t) → (entry ≡ length s.events) × (t ≡ after)
 unless_ok None s after t entry is =
     (ap (λ turn. (told turn).0) (sym is), ap (λ turn. (told turn).1) (sym is))
   where
-    told : Turn PlainText ℕ → ℕ × SlotState PlainText
+    told : SlotTurn PlainText ℕ → ℕ × SlotState PlainText
     told (Ok turn) = turn
     told (Err refusal) = (entry, t)
 unless_ok (Some refusal) s after t entry is = cc
@@ -141,7 +143,7 @@ module _ (old now new : SeatState) (slot : ℕ) (s : SlotState PlainText) (h : I
 
     -- the slot's list grew, and the seat counted and learned of it
     grown : (e : Event) (messages : List (ℕ × Message PlainText)) (t : SlotState PlainText)
-        → goes_on s e messages ≡ t → HasNoted now new s.number t.events
+        → with_event s e messages ≡ t → HasNoted now new s.number t.events
         → IsStep old new slot × (front_of new slot ≡ t.events)
     grown e messages t goes noted =
         let at : new.fronts ≡ slice_set now.fronts slot t.events =
@@ -154,7 +156,7 @@ module _ (old now new : SeatState) (slot : ℕ) (s : SlotState PlainText) (h : I
 
     pub done_send : (id entry : ℕ) (mtype : ℤ) (tag moment : ℕ) (text : PlainText)
         (t : SlotState PlainText) → int_lt mtype (pos 1) ≡ false → HasNoted now new s.number t.events
-        → answer.send s id (record { mtype = mtype; sender = now.number; tag = tag; body = text }) moment
+        → answer.send_in_slot s id (record { mtype = mtype; sender = now.number; tag = tag; body = text }) moment
         ≡ Ok (entry, t)
         → IsStep old new slot × IsDone old new slot (send_verdict (seq_of id) mtype (length text.bytes)) entry
         (event.Sent old.number moment tag mtype (length text.bytes))
@@ -165,7 +167,7 @@ module _ (old now new : SeatState) (slot : ℕ) (s : SlotState PlainText) (h : I
         let n = length text.bytes in
         let e = event.Sent now.number moment tag mtype n in
         let refusal = send_refusal (waiting log) (quota log) mtype n in
-        let after : SlotState PlainText = goes_on s e (s.messages ++ (length log, m) ∷ []) in
+        let after : SlotState PlainText = with_event s e (s.messages ++ (length log, m) ∷ []) in
         let turn = turn_ok s (standing s.events (seq_of id)) (sends bytes_of s m moment) (entry, t) (sym (if_false (int_lt mtype (pos 1)) (Err (refused_early EINVAL)) (answers s (standing s.events (seq_of id)) (sends bytes_of s m moment)) sent) ∙ is) in
         let told = unless_ok refusal s after t entry turn.turns in
         let grew =
@@ -175,19 +177,21 @@ module _ (old now new : SeatState) (slot : ℕ) (s : SlotState PlainText) (h : I
               (rw told.0
               (done_at (send_verdict (seq_of id) mtype n) e
               (grew.1 ∙ ap (λ (x : SlotState PlainText). x.events) told.1)
-              (ap (in_queue (standing s.events (seq_of id))) (sym (why_unless refusal s after))
+              (ap (unless_refused (standing s.events (seq_of id)))
+              (sym (why_unless refusal s after))
               ∙ turn.allowed))),
         )
 
     pub decided_send : (id : ℕ) (m : Message PlainText) (moment : ℕ) (r : Refused)
-        → front_of new slot ≡ s.events → r ≡ answer.refused_or_memory s (answer.send s id m moment)
+        → front_of new slot ≡ s.events
+        → r ≡ answer.refused_or_memory_in_slot s (answer.send_in_slot s id m moment)
         → IsDecided old new slot (send_verdict (seq_of id) m.mtype (length m.body.bytes)) r
     decided_send id m moment r learned is =
         let log = last_log s.events in
         let n = length (bytes_of m.body) in
         let refusal = send_refusal (waiting log) (quota log) m.mtype n in
         let after : SlotState PlainText =
-        goes_on s (event.Sent m.sender moment m.tag m.mtype n) (s.messages ++ (length log, m) ∷ []) in
+        with_event s (event.Sent m.sender moment m.tag m.mtype n) (s.messages ++ (length log, m) ∷ []) in
         by (int_lt m.mtype (pos 1)) refl (why_unless refusal s after)
       where
         n : ℕ
@@ -205,20 +209,20 @@ module _ (old now new : SeatState) (slot : ℕ) (s : SlotState PlainText) (h : I
             answers s (standing s.events (seq_of id)) (sends bytes_of s m moment) in
             decided_at (send_verdict (seq_of id) m.mtype n) learned r
             (is
-            ∙ ap (λ a. answer.refused_or_memory s a)
+            ∙ ap (λ a. answer.refused_or_memory_in_slot s a)
             (if_false (int_lt m.mtype (pos 1)) (Err (refused_early EINVAL)) asked sent)
             ∙ turn_refused s (standing s.events (seq_of id)) (sends bytes_of s m moment)
-            ∙ ap (λ o. answer.refused_here s (unwrap_or (in_queue (standing s.events (seq_of id)) o) ENOMEM))
+            ∙ ap (λ o. answer.refused_here s (unwrap_or (unless_refused (standing s.events (seq_of id)) o) ENOMEM))
             reason)
 
     pub done_set : (id entry qbytes moment : ℕ) (t : SlotState PlainText)
         → HasNoted now new s.number t.events
-        → answer.set s id qbytes now.number moment ≡ Ok (entry, t)
+        → answer.set_in_slot s id qbytes now.number moment ≡ Ok (entry, t)
         → IsStep old new slot × IsDone old new slot (set_verdict (seq_of id) qbytes) entry
         (event.Changed old.number moment qbytes)
     done_set id entry qbytes moment t noted is =
         let e = event.Changed now.number moment qbytes in
-        let after : SlotState PlainText = goes_on s e s.messages in
+        let after : SlotState PlainText = with_event s e s.messages in
         let turn = turn_ok s (standing s.events (seq_of id)) (sets s qbytes now.number moment) (entry, t) is in
         let told = unless_ok (set_refusal qbytes) s after t entry turn.turns in
         let grew = grown e s.messages t (sym told.1) noted in (
@@ -227,23 +231,24 @@ module _ (old now new : SeatState) (slot : ℕ) (s : SlotState PlainText) (h : I
               (rw told.0
               (done_at (set_verdict (seq_of id) qbytes) e
               (grew.1 ∙ ap (λ (x : SlotState PlainText). x.events) told.1)
-              (ap (in_queue (standing s.events (seq_of id))) (sym (why_unless (set_refusal qbytes) s after))
+              (ap (unless_refused (standing s.events (seq_of id))) (sym (why_unless (set_refusal qbytes) s after))
               ∙ turn.allowed))),
         )
 
     pub decided_set : (id qbytes seat moment : ℕ) (r : Refused) → front_of new slot ≡ s.events
-        → r ≡ answer.refused_or_memory s (answer.set s id qbytes seat moment)
+        → r ≡ answer.refused_or_memory_in_slot s (answer.set_in_slot s id qbytes seat moment)
         → IsDecided old new slot (set_verdict (seq_of id) qbytes) r
     decided_set id qbytes seat moment r learned is =
-        let after : SlotState PlainText = goes_on s (event.Changed seat moment qbytes) s.messages in
+        let after : SlotState PlainText =
+        with_event s (event.Changed seat moment qbytes) s.messages in
         decided_at (set_verdict (seq_of id) qbytes) learned r
         (is ∙ turn_refused s (standing s.events (seq_of id)) (sets s qbytes seat moment)
-        ∙ ap (λ o. answer.refused_here s (unwrap_or (in_queue (standing s.events (seq_of id)) o) ENOMEM))
+        ∙ ap (λ o. answer.refused_here s (unwrap_or (unless_refused (standing s.events (seq_of id)) o) ENOMEM))
         (why_unless (set_refusal qbytes) s after))
 
     pub done_remove : (id moment : ℕ) (r : Removal) (t : SlotState PlainText)
         → HasNoted now new s.number t.events
-        → answer.remove s id now.number moment r.log.base.places ≡ Ok (r, t)
+        → answer.remove_in_slot s id now.number moment r.log.base.places ≡ Ok (r, t)
         → IsStep old new slot
         × IsDone old new slot (remove_verdict (seq_of id)) r.entry (event.Removed old.number moment)
         × (r.log ≡ rest_of r.log.base.places (last_log (take (r.entry + 1) (front_of new slot))))
@@ -263,7 +268,7 @@ module _ (old now new : SeatState) (slot : ℕ) (s : SlotState PlainText) (h : I
           rw (← entry, front, take-whole s.events e) (sym (ap (λ (x : Removal). x.log) its)),
         )
       where
-        told : Turn PlainText Removal → Removal × SlotState PlainText
+        told : SlotTurn PlainText Removal → Removal × SlotState PlainText
         told (Ok turn) = turn
         told (Err refusal) = (r, t)
 
@@ -273,7 +278,7 @@ module _ (old now new : SeatState) (slot : ℕ) (s : SlotState PlainText) (h : I
             ap (λ n. take n (es ++ e ∷ [])) (sym (length_push es e)) ∙ take-length (es ++ e ∷ [])
 
     pub decided_remove : (id seat moment : ℕ) (r : Refused) → front_of new slot ≡ s.events
-        → r ≡ answer.refused_or_memory s (answer.remove s id seat moment 0)
+        → r ≡ answer.refused_or_memory_in_slot s (answer.remove_in_slot s id seat moment 0)
         → IsDecided old new slot (remove_verdict (seq_of id)) r
     decided_remove id seat moment r learned is =
         let after : SlotState PlainText = removes s seat moment in
@@ -283,7 +288,7 @@ module _ (old now new : SeatState) (slot : ℕ) (s : SlotState PlainText) (h : I
     pub done_receive : (id size : ℕ) (selection : Selection) (noerror : Bool) (moment : ℕ)
         (d : Delivered PlainText) (t : SlotState PlainText)
         → HasNoted now new s.number t.events
-        → answer.receive s id size selection noerror now.number moment ≡ Ok (d, t)
+        → answer.receive_in_slot s id size selection noerror now.number moment ≡ Ok (d, t)
         → IsStep old new slot × IsReceipt old new slot (seq_of id) size selection noerror moment d
     done_receive id size selection noerror moment d t noted is =
         by (receive_answer (waiting (last_log s.events)) size selection noerror) refl is
@@ -291,7 +296,7 @@ module _ (old now new : SeatState) (slot : ℕ) (s : SlotState PlainText) (h : I
         e : Header → Event
         e m = event.Received now.number moment m.place selection size noerror
 
-        told : Turn PlainText (Delivered PlainText) → Delivered PlainText × SlotState PlainText
+        told : SlotTurn PlainText (Delivered PlainText) → Delivered PlainText × SlotState PlainText
         told (Ok turn) = turn
         told (Err refusal) = (d, t)
 
@@ -300,7 +305,7 @@ module _ (old now new : SeatState) (slot : ℕ) (s : SlotState PlainText) (h : I
             → answers s (standing s.events (seq_of id)) (delivers s.messages size (received s e named)) ≡ Ok (d, t)
             → IsStep old new slot × IsReceipt old new slot (seq_of id) size selection noerror moment d
         by (Ok m) picked its =
-            let after : SlotState PlainText = goes_on s (e m) (without m.place s.messages) in
+            let after : SlotState PlainText = with_event s (e m) (without m.place s.messages) in
             let receipt : Receipt = record { entry = length s.events; message = m } in
             let turn = turn_ok s (standing s.events (seq_of id)) (Ok (delivered s.messages size receipt, after)) (d, t) its in
             let same : delivered s.messages size receipt ≡ d = ap (λ turn. (told turn).0) turn.turns in
@@ -335,13 +340,14 @@ module _ (old now new : SeatState) (slot : ℕ) (s : SlotState PlainText) (h : I
 
     pub decided_receive : (id size : ℕ) (selection : Selection) (noerror : Bool) (seat moment : ℕ)
         (r : Refused) → front_of new slot ≡ s.events
-        → r ≡ answer.refused_or_memory s (answer.receive s id size selection noerror seat moment)
+        → r ≡ answer.refused_or_memory_in_slot s
+        (answer.receive_in_slot s id size selection noerror seat moment)
         → IsDecided old new slot (receive_verdict (seq_of id) size selection noerror) r
     decided_receive id size selection noerror seat moment r learned is =
         let named = receive_answer (waiting (last_log s.events)) size selection noerror in
         decided_at (receive_verdict (seq_of id) size selection noerror) learned r
         (is ∙ turn_refused s (standing s.events (seq_of id)) (delivers s.messages size (received s e named))
-        ∙ ap (λ o. answer.refused_here s (unwrap_or (in_queue (standing s.events (seq_of id)) o) ENOMEM))
+        ∙ ap (λ o. answer.refused_here s (unwrap_or (unless_refused (standing s.events (seq_of id)) o) ENOMEM))
         (why_received named))
       where
         e : Header → Event

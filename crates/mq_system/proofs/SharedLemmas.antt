@@ -14,7 +14,8 @@ use Rattle.mq_queue.specs.Answer.{receive_answer, send_refusal, set_refusal}
 use Rattle.mq_queue.specs.Room.{quota}
 use Rattle.mq_queue.specs.Row.{made_count, is_live, last_log}
 use Rattle.mq_queue.specs.Waiting.{waiting}
-use Rattle.mq_table.specs.Calls.{Receipt, goes_on, makes, received, receives, removes, sends, sets}
+use Rattle.mq_table.specs.Calls.{Receipt, with_event, makes, received, receives, removes, sends}
+use Rattle.mq_table.specs.Calls.{sets}
 use Rattle.mq_table.specs.Kept.{KeptSlot, kept_figures}
 use Rattle.mq_table.specs.KeptCalls.{kept_makes, kept_receives, kept_removes, kept_sends, kept_sets}
 use Rattle.mq_table.specs.KeptPart.{whole}
@@ -50,7 +51,8 @@ module _ (kept : Pledged) (s t : SlotState PlainText) (h : AllPledged kept s.mes
       let log = last_log s.events in
       let n = length (bytes_of m.body) in
       let after : SlotState PlainText =
-      goes_on s (event.Sent m.sender moment m.tag m.mtype n) (s.messages ++ (length log, m) ∷ []) in
+      with_event s (event.Sent m.sender moment m.tag m.mtype n)
+      (s.messages ++ (length log, m) ∷ []) in
       let is : after ≡ t =
       left_is (send_refusal (waiting log) (quota log) m.mtype n) s after t entry e in
       rw (← ap (λ (x : SlotState PlainText). x.messages) is)
@@ -60,7 +62,7 @@ module _ (kept : Pledged) (s t : SlotState PlainText) (h : AllPledged kept s.mes
       → AllPledged kept t.messages
   set_pledged qbytes seat moment entry e =
       let after : SlotState PlainText =
-      goes_on s (event.Changed seat moment qbytes) s.messages in
+      with_event s (event.Changed seat moment qbytes) s.messages in
       let is : after ≡ t = left_is (set_refusal qbytes) s after t entry e in
       rw (← ap (λ (x : SlotState PlainText). x.messages) is) h
 
@@ -84,7 +86,7 @@ none_pledged kept k d low = absurd (omega (arith, low))
 
 -- a call changed the slot by an event of this seat, which is to be published: so it is left as the
 -- call leaves the whole slot
-pub record IsChange (kept : Pledged) (slots last_seq seat : ℕ) {W : Type 0} (old now : Desk W)
+pub record IsChange (kept : Pledged) (slots last_seq seat : ℕ) {C : Type 0} (old now : Desk C)
     (s t : KeptSlot PlainText) (parts amount : ℕ) (leaves : SlotState PlainText → Type 0)
     : Type 0 where
   pub due : IsDue kept slots last_seq seat now.board now.events now.pending t parts amount
@@ -92,7 +94,7 @@ pub record IsChange (kept : Pledged) (slots last_seq seat : ℕ) {W : Type 0} (o
   pub known : now.events ≡ old.events
   pub left : leaves (whole (with_pending now.events now.pending) t)
 
-module _ (kept : Pledged) (slots last_seq parts amount : ℕ) {W : Type 0} (desk due : Desk W)
+module _ (kept : Pledged) (slots last_seq parts amount : ℕ) {C : Type 0} (desk due : Desk C)
     (s t : KeptSlot PlainText)
     (h : IsShared kept slots last_seq desk.board desk.events desk.pending s parts amount)
     (short : length desk.events < 2 ^ 64 - 1) (few : made_count desk.events ≤ MAX_SEQ + 1)
@@ -112,7 +114,7 @@ module _ (kept : Pledged) (slots last_seq parts amount : ℕ) {W : Type 0} (desk
           ap (λ p. with_pending desk.events (p ++ posting e (kept_figures t) ∷ [])) h.published.none
 
       next_is : with_pending due.events due.pending ≡ desk.events ++ e ∷ []
-      next_is = ap (λ (w : Desk W). with_pending w.events w.pending) took ∙ list_is
+      next_is = ap (λ (w : Desk C). with_pending w.events w.pending) took ∙ list_is
 
       changes : (seat : ℕ) → seat_of e ≡ seat → AllPledged kept t.messages
           → (leaves : SlotState PlainText → Type 0) → leaves (whole (desk.events ++ e ∷ []) t)
@@ -143,7 +145,7 @@ module _ (kept : Pledged) (slots last_seq parts amount : ℕ) {W : Type 0} (desk
               };
             });
         number = turn.number;
-        known = ap (λ (w : Desk W). w.events) took;
+        known = ap (λ (w : Desk C). w.events) took;
         left = rw next_is left;
       }
 
@@ -215,7 +217,7 @@ module _ (kept : Pledged) (slots last_seq parts amount : ℕ) {W : Type 0} (desk
           (λ x. x ≡ removes (whole desk.events s) seat moment) (rw is refl)
 
 -- what is so once a change is published
-module _ (kept : Pledged) (slots last_seq seat parts amount : ℕ) {W : Type 0} (old new : Desk W)
+module _ (kept : Pledged) (slots last_seq seat parts amount : ℕ) {C : Type 0} (old new : Desk C)
     (slot : KeptSlot PlainText)
     (due : IsDue kept slots last_seq seat old.board old.events old.pending slot parts amount)
     (published : new ≡ record old {
@@ -225,15 +227,15 @@ module _ (kept : Pledged) (slots last_seq seat parts amount : ℕ) {W : Type 0} 
     })
   where
     pub events_are : new.events ≡ with_pending old.events old.pending
-    events_are = ap (λ (w : Desk W). w.events) published
+    events_are = ap (λ (w : Desk C). w.events) published
 
     pub board_is : new.board ≡ slot.number
-    board_is = ap (λ (w : Desk W). w.board) published ∙ due.shared.published.numbered
+    board_is = ap (λ (w : Desk C). w.board) published ∙ due.shared.published.numbered
 
     pub shared_is : (now_parts now_amount : ℕ) → now_parts ≡ parts → now_amount ≡ amount + 1
         → IsShared kept slots last_seq new.board new.events new.pending slot now_parts now_amount
     shared_is now_parts now_amount part noted =
-        subst (λ (w : Desk W).
+        subst (λ (w : Desk C).
         IsShared kept slots last_seq w.board w.events w.pending slot now_parts now_amount)
         (sym published) (rw (part, noted) due.shared)
 
@@ -248,7 +250,7 @@ module _ (kept : Pledged) (slots last_seq seat parts amount : ℕ) {W : Type 0} 
     }
 
 -- a change that is published and noted: the call has changed the slot as it answers
-module _ (kept : Pledged) (slots last_seq seat parts amount : ℕ) {W : Type 0} (old now : Desk W)
+module _ (kept : Pledged) (slots last_seq seat parts amount : ℕ) {C : Type 0} (old now : Desk C)
     (s t : KeptSlot PlainText) (leaves : SlotState PlainText → Type 0)
     (its : IsChange kept slots last_seq seat old now s t parts amount leaves)
     (events : List Event) (published : events ≡ with_pending now.events now.pending)

@@ -9,7 +9,7 @@ use Rattle.mq_queue.specs.Queue.{rest_of}
 use Rattle.mq_queue.specs.Row.{is_live, last_log, live_key}
 use Rattle.mq_queue.specs.declared.figures.Figures.{Figures}
 use Rattle.mq_select.specs.declared.selection.Selection.{Selection}
-use Rattle.mq_table.specs.Calls.{Turn, sends, receives, sets, removes}
+use Rattle.mq_table.specs.Calls.{SlotTurn, sends, receives, sets, removes}
 use Rattle.mq_table.specs.Ids.{seq_of}
 use Rattle.mq_table.specs.Shown.{by_standing}
 use Rattle.mq_table.specs.Slot.{SlotState, last_id}
@@ -33,34 +33,38 @@ abbrev pub refused_here : SlotState PlainText → Errno → Refused
 refused_here s errno = call.refused_after (length s.events) errno
 
 -- whether the slot has the id's queue, or why not
-abbrev pub by_id : SlotState PlainText → Result (Unit {0}) IdRefusal → Result (Unit {0}) Refused
-by_id s there = call.by_id (length s.events) there
+abbrev pub by_id_in_slot : SlotState PlainText → Result (Unit {0}) IdRefusal
+    → Result (Unit {0}) Refused
+by_id_in_slot s there = call.by_id (length s.events) there
 
 -- whether the id's queue is in the slot, or why not
-abbrev pub looks : SlotState PlainText → ℕ → Result (Unit {0}) Refused
-looks s id = by_id s (by_standing (standing s.events (seq_of id)))
+abbrev pub looks_in_slot : SlotState PlainText → ℕ → Result (Unit {0}) Refused
+looks_in_slot s id = by_id_in_slot s (by_standing (standing s.events (seq_of id)))
 
 -- what is answered where the slot's queue answers so
-abbrev pub answered : {T : Type 0} → SlotState PlainText → Turn PlainText T → SlotAnswer T
-answered s turn = call.answered (length s.events) turn
+abbrev pub answered_in_slot : {T : Type 0} → SlotState PlainText → SlotTurn PlainText T
+    → SlotAnswer T
+answered_in_slot s turn = call.answered (length s.events) turn
 
 -- a call of the queue that an id names
-abbrev pub in_queue : {T : Type 0} → SlotState PlainText → ℕ → Turn PlainText T → SlotAnswer T
-in_queue s id turn = call.once (looks s id) (answered s turn)
+abbrev pub in_slot_queue : {T : Type 0} → SlotState PlainText → ℕ → SlotTurn PlainText T
+    → SlotAnswer T
+in_slot_queue s id turn = call.once (looks_in_slot s id) (answered_in_slot s turn)
 
 -- msgsnd (msgop(2), msgsnd)
-abbrev pub send : SlotState PlainText → ℕ → Message PlainText → ℕ → SlotAnswer ℕ
-send s id m moment = call.send m.mtype (in_queue s id (sends bytes_of s m moment))
+abbrev pub send_in_slot : SlotState PlainText → ℕ → Message PlainText → ℕ → SlotAnswer ℕ
+send_in_slot s id m moment = call.send m.mtype (in_slot_queue s id (sends bytes_of s m moment))
 
 -- msgrcv (msgop(2), msgrcv)
-abbrev pub receive : SlotState PlainText → ℕ → ℕ → Selection → Bool → ℕ → ℕ
+abbrev pub receive_in_slot : SlotState PlainText → ℕ → ℕ → Selection → Bool → ℕ → ℕ
     → SlotAnswer (Delivered PlainText)
-receive s id size selection noerror seat moment =
-    in_queue s id (call.delivers s.messages size (receives s size selection noerror seat moment))
+receive_in_slot s id size selection noerror seat moment =
+    in_slot_queue s id
+    (call.delivers s.messages size (receives s size selection noerror seat moment))
 
 -- IPC_SET (msgctl(2), IPC_SET)
-abbrev pub set : SlotState PlainText → ℕ → ℕ → ℕ → ℕ → SlotAnswer ℕ
-set s id qbytes seat moment = in_queue s id (sets s qbytes seat moment)
+abbrev pub set_in_slot : SlotState PlainText → ℕ → ℕ → ℕ → ℕ → SlotAnswer ℕ
+set_in_slot s id qbytes seat moment = in_slot_queue s id (sets s qbytes seat moment)
 
 -- the entry of a removal, and the removed queue's own log, of which so many events were cut off
 abbrev pub removal : SlotState PlainText → SlotState PlainText → ℕ → Removal
@@ -68,18 +72,18 @@ removal s after places =
     record { entry = length s.events; log = rest_of places (last_log after.events) }
 
 -- IPC_RMID (msgctl(2), IPC_RMID)
-abbrev pub remove : SlotState PlainText → ℕ → ℕ → ℕ → ℕ → SlotAnswer Removal
-remove s id seat moment places =
+abbrev pub remove_in_slot : SlotState PlainText → ℕ → ℕ → ℕ → ℕ → SlotAnswer Removal
+remove_in_slot s id seat moment places =
     let after = removes s seat moment in
-    call.once (looks s id) (Ok (removal s after places, after))
+    call.once (looks_in_slot s id) (Ok (removal s after places, after))
 
 -- IPC_STAT (msgctl(2), IPC_STAT)
-abbrev pub stat : SlotState PlainText → ℕ → Result Figures Refused
-stat s id = call.once (looks s id) (Ok (figures (last_log s.events)))
+abbrev pub stat_in_slot : SlotState PlainText → ℕ → Result Figures Refused
+stat_in_slot s id = call.once (looks_in_slot s id) (Ok (figures (last_log s.events)))
 
 -- where nothing refuses a call that failed, memory did
-abbrev pub refused_or_memory : {T : Type 0} → SlotState PlainText → SlotAnswer T → Refused
-refused_or_memory s answer = or_memory (refused_here s ENOMEM) answer
+abbrev pub refused_or_memory_in_slot : {T : Type 0} → SlotState PlainText → SlotAnswer T → Refused
+refused_or_memory_in_slot s answer = or_memory (refused_here s ENOMEM) answer
 
 -- the id of the queue in the slot, where it is there and has this key
 abbrev pub id_with_key : SlotState PlainText → ℤ → Option ℕ

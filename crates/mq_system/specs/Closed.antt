@@ -4,7 +4,7 @@ use Rattle.std.specs.Prelude.{slice_index, slice_index_or}
 use Rattle.std.specs.List.{AllPairs, sum_by}
 use mathlib.Core.List.{IsPrefix}
 use Rattle.mq_queue.specs.declared.event.Event.{Event}
-use Rattle.mq_one_thread.specs.Closed.{IsEndOf, entries_of}
+use Rattle.mq_one_thread.specs.Closed.{IsEndOf, entries_at_end}
 use Rattle.mq_one_thread.specs.declared.close.ClosedSlot.{ClosedSlot}
 use Rattle.mq_system.specs.Fronts.{FrontsState}
 use Rattle.mq_system.specs.Seat.{AreKnown, SeatState, front_of}
@@ -18,7 +18,7 @@ pub record AreEnds (last_seq : ℕ) (lists : List (List Event)) (slots : List Cl
 
 -- the entries of all slots together
 abbrev pub entries_in : List ClosedSlot → ℕ
-entries_in slots = sum_by entries_of slots
+entries_in slots = sum_by entries_at_end slots
 
 -- each front of each seat is a prefix of its slot's list
 abbrev pub AreSeen : List SeatState → List (List Event) → Type 0

@@ -63,8 +63,8 @@ WasBelow fact old new count = (slot : ℕ) → slot < count → WasAt fact old n
 abbrev pub IsFree : ℕ → List Event → Type 0
 IsFree last_seq events = is_free last_seq events ≡ true
 
-abbrev pub IsTaken : ℕ → List Event → Type 0
-IsTaken last_seq events = is_free last_seq events ≡ false
+abbrev pub IsNotFree : ℕ → List Event → Type 0
+IsNotFree last_seq events = is_free last_seq events ≡ false
 
 -- a queue was found: it was there with its key, and the front holds its making
 pub record IsFound (key : ℤ) (old new : SeatState) (id : ℕ) : Type 0 where
@@ -76,18 +76,18 @@ pub record IsNew (slots last_seq : ℕ) (key : ℤ) (moment : ℕ) (old new : Se
     : Type 0 where
   pub within : slot_of got.id < slots
   pub made : IsMade old new (slot_of got.id) last_seq key moment got
-  pub lower : WasBelow (IsTaken last_seq) old new (slot_of got.id)
+  pub lower : WasBelow (IsNotFree last_seq) old new (slot_of got.id)
 
 -- a slot was free, and none below it
 pub record HadFree (slots last_seq : ℕ) (old new : SeatState) : Type 0 where
   pub slot : ℕ
   pub within : slot < slots
   pub free : WasAt (IsFree last_seq) old new slot
-  pub lower : WasBelow (IsTaken last_seq) old new slot
+  pub lower : WasBelow (IsNotFree last_seq) old new slot
 
 -- why no queue was made: no slot was free, or one was and memory ran out
 abbrev pub IsNotNew : ℕ → ℕ → SeatState → SeatState → Errno → Type 0
-IsNotNew slots last_seq old new ENOSPC = WasBelow (IsTaken last_seq) old new slots
+IsNotNew slots last_seq old new ENOSPC = WasBelow (IsNotFree last_seq) old new slots
 IsNotNew slots last_seq old new ENOMEM = HadFree slots last_seq old new
 IsNotNew slots last_seq old new _ = ⊥
 

@@ -8,7 +8,7 @@ use Rattle.mq_table.specs.Keys.{entered}
 use Rattle.mq_table.specs.Slot.{SlotState, next_id}
 use Rattle.mq_one_thread.specs.declared.results.Got.{Got}
 use Rattle.mq_one_thread.specs.declared.results.Refused.{Refused}
-use Rattle.mq_system.specs.Answer.{SlotAnswer, refused_or_memory}
+use Rattle.mq_system.specs.Answer.{SlotAnswer, refused_or_memory_in_slot}
 use Rattle.mq_system.specs.Seat.{IsCounted, SeatState, front_of}
 
 -- a call may begin: its id's slot is locked, and the caller's seat knows all of it
@@ -31,7 +31,7 @@ pub record HasChanged {T : Type 0} (decided : SlotAnswer T) (held left : SlotSta
 -- a call is refused as was decided for it, or for memory, and left all as it was
 pub record HasRefused {T : Type 0} (decided : SlotAnswer T) (held left : SlotState PlainText)
     (old new : SeatState) (r : Refused) : Type 0 where
-  pub why : r ≡ refused_or_memory held decided
+  pub why : r ≡ refused_or_memory_in_slot held decided
   pub unchanged : left ≡ held
   pub same : new ≡ old
 

@@ -24,31 +24,31 @@ abbrev pub Verdict : Type 0
 Verdict = List Event → Option Errno
 
 -- where the id's queue is there, what its queue refuses; else the id is refused
-abbrev pub in_queue : Standing → Option QueueError → Option Errno
-in_queue Never refusal = Some EINVAL
-in_queue Removed refusal = Some EIDRM
-in_queue Live None = None
-in_queue Live (Some refusal) = Some (errno_of refusal)
+abbrev pub unless_refused : Standing → Option QueueError → Option Errno
+unless_refused Never refusal = Some EINVAL
+unless_refused Removed refusal = Some EIDRM
+unless_refused Live None = None
+unless_refused Live (Some refusal) = Some (errno_of refusal)
 
 -- msgsnd of a text of n bytes (msgop(2), msgsnd)
 abbrev pub send_verdict : ℕ → ℤ → ℕ → Verdict
 send_verdict seq mtype n events =
     let log = last_log events in
-    in_queue (standing events seq) (send_refusal (waiting log) (quota log) mtype n)
+    unless_refused (standing events seq) (send_refusal (waiting log) (quota log) mtype n)
 
 -- msgrcv (msgop(2), msgrcv)
 abbrev pub receive_verdict : ℕ → ℕ → Selection → Bool → Verdict
 receive_verdict seq size selection noerror events =
-    in_queue (standing events seq)
+    unless_refused (standing events seq)
     (receive_refusal (receive_answer (waiting (last_log events)) size selection noerror))
 
 -- IPC_SET (msgctl(2), IPC_SET)
 abbrev pub set_verdict : ℕ → ℕ → Verdict
-set_verdict seq qbytes events = in_queue (standing events seq) (set_refusal qbytes)
+set_verdict seq qbytes events = unless_refused (standing events seq) (set_refusal qbytes)
 
 -- IPC_RMID (msgctl(2), IPC_RMID)
 abbrev pub remove_verdict : ℕ → Verdict
-remove_verdict seq events = in_queue (standing events seq) None
+remove_verdict seq events = unless_refused (standing events seq) None
 
 -- a change was made: the slot's event at its entry, which the seat did not know before, and the
 -- events before it do not refuse it

@@ -6,7 +6,7 @@ use Rattle.mq_table.specs.Ids.{slot_of}
 use Rattle.mq_table.specs.Kept.{KeptSlot}
 use Rattle.mq_table.specs.KeptPart.{IsKeptPart}
 use Rattle.mq_table.specs.SlotList.{IsSlotList}
-use Rattle.mq_board.specs.Writers.{IsReady}
+use Rattle.mq_board.specs.Writers.{HasOnePending}
 use Rattle.mq_board.specs.declared.posting.Posting.{Posting}
 use Rattle.mq_system.specs.Pledge.{Pledged, IsPledged}
 use Rattle.mq_system.specs.Seat.{seat_of}
@@ -39,7 +39,7 @@ with_pending events pending = events ++ map (λ p. p.event) pending
 -- published, and its entry is there
 pub record IsDue (kept : Pledged) (slots last_seq seat board : ℕ) (events : List Event)
     (pending : List Posting) (slot : KeptSlot PlainText) (parts amount : ℕ) : Type 0 where
-  pub ready : IsReady events pending
+  pub ready : HasOnePending events pending
   pub own : seat_of ready.next.event ≡ seat
   pub shared : IsShared kept slots last_seq board (with_pending events pending) [] slot parts
       (amount + 1)

@@ -35,11 +35,11 @@ pub record IsRemoval (last_seq : ℕ) (r : Removal) : Type 0 where
   pub removed : ends_with_removed events ≡ true
 
 -- the figures, or the manual's name of the refusal
-abbrev pub named : Result Figures IdRefusal → Result Figures Errno
-named (Ok figures) = Ok figures
-named (Err refusal) = Err (errno_of_id refusal)
+abbrev pub figures_or_errno : Result Figures IdRefusal → Result Figures Errno
+figures_or_errno (Ok figures) = Ok figures
+figures_or_errno (Err refusal) = Err (errno_of_id refusal)
 
 -- IPC_STAT after these events of the id's slot, where there are so many slots
 abbrev pub stat_of : ℕ → List Event → ℕ → Result Figures Errno
 stat_of slots events id =
-    if out_of_slots slots id then Err EINVAL else named (stat_answer events (seq_of id))
+    if out_of_slots slots id then Err EINVAL else figures_or_errno (stat_answer events (seq_of id))

@@ -30,7 +30,7 @@ all_changes slots seats = seats * (slots * MAX_COUNT)
 -- a place for each slot, of which there is one at least, and as many as ids have numbers for at
 -- most; room for what the end answers; and what all parts of the ledger of entries have together is
 -- all that the seats can make
-pub record IsWhole {C : Type 0} (slots seats last_seq places stored_seq : ℕ) (closed : List C)
+pub record IsSystem {C : Type 0} (slots seats last_seq places stored_seq : ℕ) (closed : List C)
     (room parts amount : ℕ) : Type 0 where
   pub placed : places ≡ slots
   pub some : 0 < slots

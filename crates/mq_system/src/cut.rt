@@ -1,7 +1,7 @@
 //! The call that cuts a slot's list off.
 
 ghost use Rattle.std.specs.Prelude.{◌≡◌, ◌<◌, Some, length, MatchResult};
-ghost use Rattle.mq_table.specs.Cut.{IsCutOf, shown};
+ghost use Rattle.mq_table.specs.Cut.{IsCutOf, cut_shown};
 ghost use Rattle.mq_one_thread.specs.declared.errno.Errno.TheVariants.{ENOMEM};
 ghost use Rattle.mq_system.specs.Outcome.{IsLook};
 ghost use Rattle.mq_system.specs.Seat.{front_of};
@@ -17,7 +17,8 @@ impl<P: Pledge, N: Names> System<P, N, Copies<N>> {
     /// whole list. It is no change, adds to no count and publishes nothing. ENOMEM alone.
     pub fn cut_log<R: Wait>(&self, rt: &R, seat: &mut Seat<N>, slot: u8) -> Result<Cut, Refused>
         requires within { slot < N.slots }
-        ensures answer { MatchResult result (λ cut. IsCutOf (front_of seat.new slot) (shown cut))
+        ensures answer { MatchResult result
+            (λ cut. IsCutOf (front_of seat.new slot) (cut_shown cut))
             (λ r. r ≡ record { errno = ENOMEM; entry = Some (length (front_of seat.new slot)) }) }
         ensures look { IsLook seat.old seat.new }
     {

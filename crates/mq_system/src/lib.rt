@@ -69,7 +69,7 @@ pub use mq_one_thread::{
 pub use mq_table::Cut;
 pub use names::{Entries, Names, Pages, SlotOf, TextOf, WaitingOf};
 pub use patience::{Forever, NoWait, Patience, Until};
-pub(crate) use place::Place;
+pub(crate) use place::SlotMonitor;
 pub use pledge::Pledge;
 pub use seat::Seat;
 pub use slot::{SharedSlot, SlotParts};

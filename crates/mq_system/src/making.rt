@@ -6,13 +6,13 @@ ghost use Rattle.mq_system.specs.Making.{IsMade, IsNotMade, IsThere, Lacks};
 ghost use Rattle.mq_system.specs.Outcome.{IsLook};
 ghost use Rattle.mq_system.specs.Seat.{front_of};
 
-use crate::{Keys, Names, Place, Pledge, Seat};
+use crate::{Keys, Names, Pledge, Seat, SlotMonitor};
 use mq_board::Copies;
 use mq_one_thread::{Errno, Got};
 use mq_table::Id;
 use std::sync::{MutexGuard, Wait};
 
-impl<P: Pledge, N: Names> Place<P, N, Copies<N>> {
+impl<P: Pledge, N: Names> SlotMonitor<P, N, Copies<N>> {
     /// The id of the queue in the slot, where it is there and has this key, which is not 0.
     pub(crate) fn with_key<R: Wait>(
         &self,

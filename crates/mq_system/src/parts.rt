@@ -6,7 +6,9 @@ ghost use Rattle.mq_system.specs.Seat.{fresh_seat};
 ghost use Rattle.mq_system.specs.Sizes.{all_changes};
 ghost use Rattle.mq_system.specs.Started.{AreEmpty, AreFresh};
 
-use crate::{Fronts, MAX_SLOTS, Names, Pages, Place, Pledge, Seat, SharedSlot, SlotParts, Tally};
+use crate::{
+    Fronts, MAX_SLOTS, Names, Pages, Pledge, Seat, SharedSlot, SlotMonitor, SlotParts, Tally,
+};
 use mq_arena::ArenaState;
 use mq_board::{BoardReader, OpenedBoard, next_board};
 use mq_one_thread::end_slot;
@@ -80,7 +82,7 @@ pub(crate) fn give_up<P: Pledge, N: Names, R: Wait>(
 /// The places of these slots.
 pub(crate) fn fill_places<P: Pledge, N: Names>(
     slots: Vec<SharedSlot<P, N>>,
-    places: &mut Vec<Place<P, N>>,
+    places: &mut Vec<SlotMonitor<P, N>>,
 )
     requires within { vec_len slots ≡ N.slots }
     requires none { vec_len places.old ≡ 0 }
@@ -89,7 +91,7 @@ pub(crate) fn fill_places<P: Pledge, N: Names>(
 {
     let mut slots = slots;
     while let Some(slot) = slots.pop() {
-        places.push_reserved(Place::new(slot));
+        places.push_reserved(SlotMonitor::new(slot));
     }
     slots.destroy_empty();
     places.reverse();

@@ -55,15 +55,15 @@ impl Pauses {
 
 /// A slot's lock, and those who wait: senders for room, receivers for what arrives. They look at
 /// lines of their own, which no change of the slot takes away from them.
-pub(crate) struct Place<P: Pledge, N: Names, W = Copies<N>> {
-    held: Mutex<SharedSlot<P, N, W>>,
+pub(crate) struct SlotMonitor<P: Pledge, N: Names, C = Copies<N>> {
+    held: Mutex<SharedSlot<P, N, C>>,
     pub(crate) room: CachePadded<Waiters>,
     pub(crate) arrived: CachePadded<Waiters>,
 }
 
-impl<P: Pledge, N: Names, W> Place<P, N, W> {
-    pub(crate) fn new(slot: SharedSlot<P, N, W>) -> Place<P, N, W> {
-        Place {
+impl<P: Pledge, N: Names, C> SlotMonitor<P, N, C> {
+    pub(crate) fn new(slot: SharedSlot<P, N, C>) -> SlotMonitor<P, N, C> {
+        SlotMonitor {
             held: Mutex::new(slot),
             room: CachePadded::new(Waiters::new()),
             arrived: CachePadded::new(Waiters::new()),
@@ -71,8 +71,8 @@ impl<P: Pledge, N: Names, W> Place<P, N, W> {
     }
 
     /// The slot alone. No thread has the place any more.
-    pub(crate) fn into_slot(self) -> SharedSlot<P, N, W> {
-        let Place {
+    pub(crate) fn into_slot(self) -> SharedSlot<P, N, C> {
+        let SlotMonitor {
             held,
             room: _,
             arrived: _,
@@ -81,7 +81,7 @@ impl<P: Pledge, N: Names, W> Place<P, N, W> {
     }
 }
 
-impl<P: Pledge, N: Names> Place<P, N, Copies<N>> {
+impl<P: Pledge, N: Names> SlotMonitor<P, N, Copies<N>> {
     /// Takes the lock for a seat, which then knows all that happened in the slot. A slot of another
     /// number, or one of which the seat knew more, would be let go, and looked at again: no run
     /// meets either.

@@ -7,7 +7,7 @@ ghost use Rattle.mq_system.specs.Shown.{stat_answer};
 ghost use Rattle.mq_system.specs.declared.seat.TheConstants.{MAX_COUNT};
 
 use crate::{Entries, Fronts, Names};
-use mq_board::{BoardReader, Told};
+use mq_board::{BoardReader, PublishedList};
 use mq_queue::{BoardRow, Figures};
 use mq_table::{Id, IdRefusal};
 use std::alloc::{AllocError, Global};
@@ -102,7 +102,7 @@ impl<N: Names> Seat<N> {
     }
 
     /// Learns what happened in the slot, if it is at least as much as the seat knows.
-    pub fn learn(&mut self, slot: u8, told: Told<N>) -> bool
+    pub fn learn(&mut self, slot: u8, told: PublishedList<N>) -> bool
         requires slot { slot < N.slots }
         requires told { told.board ≡ slot }
         ensures same { IsSame self.old self.new }
@@ -153,7 +153,7 @@ impl<N: Names> Seat<N> {
     }
 
     /// Counts a change of its own in the slot, and learns of it. Its entry goes to the slot's part.
-    pub(crate) fn note(&mut self, entries: &mut Share<Entries<N>>, slot: u8, told: Told<N>)
+    pub(crate) fn note(&mut self, entries: &mut Share<Entries<N>>, slot: u8, told: PublishedList<N>)
         requires slot { slot < N.slots }
         requires told { told.board ≡ slot }
         requires next { IsNext self.old.number (front_of self.old slot) told.events }

@@ -1,6 +1,6 @@
 ghost use Rattle.std.specs.Prelude.{◌≡◌, ◌<◌, ◌≤◌, ◌+◌, ◌-◌, ◌^◌, ◌==◌, [], true, length, All, IfSome, IsTrue, MatchResult, OnOk};
 ghost use Rattle.mq_queue.specs.Row.{is_live, made_count};
-ghost use Rattle.mq_table.specs.Cut.{IsCutOf, shown};
+ghost use Rattle.mq_table.specs.Cut.{IsCutOf, cut_shown};
 ghost use Rattle.mq_table.specs.Ids.{slot_of};
 ghost use Rattle.mq_table.specs.KeptPart.{whole};
 ghost use Rattle.mq_table.specs.Slot.{empty_slot, Waits};
@@ -9,7 +9,7 @@ ghost use Rattle.mq_table.specs.SlotParts.{empty_kept};
 ghost use Rattle.mq_table.specs.declared.limits.TheConstants.{MAX_SEQ, MAX_SLOTS};
 ghost use Rattle.mq_one_thread.specs.Texts.{bytes_of};
 ghost use Rattle.mq_one_thread.specs.declared.errno.Errno.TheVariants.{ENOMEM};
-ghost use Rattle.mq_system.specs.Answer.{id_with_key, looks, refused_here};
+ghost use Rattle.mq_system.specs.Answer.{id_with_key, looks_in_slot, refused_here};
 ghost use Rattle.mq_system.specs.Pledge.{IsPledged};
 ghost use Rattle.mq_system.specs.Outcome.{IsLook};
 ghost use Rattle.mq_system.specs.Seat.{front_of};
@@ -24,24 +24,24 @@ use std::sync::ledger::Share;
 
 /// A slot of a system, under its lock, with the writer of its board, which has published all that
 /// happened in the slot and nothing else, also what was cut off of the slot's list since then. It is
-/// seen as the whole slot; the pledge holds of each message that waits in it. `W` is the type of the
+/// seen as the whole slot; the pledge holds of each message that waits in it. `C` is the type of the
 /// board's copies.
-pub struct SharedSlot<P: Pledge, N: Names, W = Copies<N>> {
+pub struct SharedSlot<P: Pledge, N: Names, C = Copies<N>> {
     pub(crate) slot: SlotOf<N>,
-    pub(crate) writer: BoardWriter<N, W>,
+    pub(crate) writer: BoardWriter<N, C>,
     /// As much as its whole list has entries.
     pub(crate) entries: Share<Entries<N>>,
     pledge: PhantomData<P>,
 }
 
 /// What a slot under its lock is made of.
-pub struct SlotParts<N: Names, W = Copies<N>> {
+pub struct SlotParts<N: Names, C = Copies<N>> {
     pub slot: SlotOf<N>,
-    pub writer: BoardWriter<N, W>,
+    pub writer: BoardWriter<N, C>,
     pub entries: Share<Entries<N>>,
 }
 
-impl<P: Pledge, N: Names, W> Model for SharedSlot<P, N, W> {
+impl<P: Pledge, N: Names, C> Model for SharedSlot<P, N, C> {
     ghost use Rattle.mq_message.specs.Text.{PlainText};
     ghost use Rattle.mq_table.specs.KeptPart.{whole};
     ghost use Rattle.mq_table.specs.Slot.{SlotState};
@@ -55,14 +55,14 @@ impl<P: Pledge, N: Names, W> Model for SharedSlot<P, N, W> {
         s.writer.pending s.slot s.entries.parts s.entries.amount };
 }
 
-impl<P: Pledge, N: Names, W> SharedSlot<P, N, W> {
+impl<P: Pledge, N: Names, C> SharedSlot<P, N, C> {
     /// A slot in which no queue was made, and its board, of the same number, on which nothing is
     /// published.
     pub fn new(
         slot: SlotOf<N>,
-        writer: BoardWriter<N, W>,
+        writer: BoardWriter<N, C>,
         entries: Share<Entries<N>>,
-    ) -> SharedSlot<P, N, W>
+    ) -> SharedSlot<P, N, C>
         requires within { slot.number < N.slots }
         requires board { writer.board ≡ slot.number }
         requires empty { slot ≡ empty_kept slot.number }
@@ -117,7 +117,7 @@ impl<P: Pledge, N: Names, W> SharedSlot<P, N, W> {
     /// Whether this id's queue is in the slot, or why not.
     pub fn look(&self, id: Id) -> Result<(), Refused>
         requires id { slot_of id ≡ self.now.number }
-        ensures value { result ≡ looks self.now id }
+        ensures value { result ≡ looks_in_slot self.now id }
         ensures live { OnOk result (is_live self.now.events ≡ true) }
     {
         match self.slot.look(id) {
@@ -160,7 +160,7 @@ impl<P: Pledge, N: Names, W> SharedSlot<P, N, W> {
     /// Cuts the slot's list off where it ends now, and hands out what was kept of it. This is no
     /// event: the whole list, the board and the counts stay. ENOMEM alone.
     pub fn cut(&mut self) -> Result<Cut, Refused>
-        ensures answer { MatchResult result (λ cut. IsCutOf self.old.events (shown cut))
+        ensures answer { MatchResult result (λ cut. IsCutOf self.old.events (cut_shown cut))
             (λ r. r ≡ refused_here self.old ENOMEM) }
         ensures same { self.new ≡ self.old }
     {
@@ -171,7 +171,7 @@ impl<P: Pledge, N: Names, W> SharedSlot<P, N, W> {
     }
 
     /// What it is made of, at the end.
-    pub fn into_parts(self) -> SlotParts<N, W>
+    pub fn into_parts(self) -> SlotParts<N, C>
         ensures slot { whole result.writer.events result.slot ≡ self }
         ensures shared { IsShared P.kept N.slots N.last_seq result.writer.board
             result.writer.events result.writer.pending result.slot result.entries.parts

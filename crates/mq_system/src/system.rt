@@ -9,8 +9,8 @@ use crate::close::Rest;
 use crate::magazines::Magazines;
 use crate::parts::{fill_places, give_up, leave, make_seats, make_slots};
 use crate::{
-    Blanks, Config, DraftError, Entries, Keys, Names, NoWait, Pages, Patience, Place, Pledge, Seat,
-    SysError, Tally, TextOf,
+    Blanks, Config, DraftError, Entries, Keys, Names, NoWait, Pages, Patience, Pledge, Seat,
+    SlotMonitor, SysError, Tally, TextOf,
 };
 use mq_arena::{Arena, Block, Homecoming, LEDGER_PARTS, TakeError, Unopened};
 use mq_board::Copies;
@@ -24,8 +24,8 @@ use std::sync::ledger::Total;
 use std::sync::{Mutex, Wait};
 
 /// The queues of several threads, by the calls of the manual. `close` ends it.
-pub struct System<P: Pledge, N: Names, W = Copies<N>> {
-    pub(crate) places: Vec<Place<P, N, W>>,
+pub struct System<P: Pledge, N: Names, C = Copies<N>> {
+    pub(crate) places: Vec<SlotMonitor<P, N, C>>,
     pub(crate) keys: Mutex<Keys<N>>,
     /// What the parts of all slots and seats have together.
     pub(crate) total: Total<Entries<N>>,
@@ -38,15 +38,15 @@ pub struct System<P: Pledge, N: Names, W = Copies<N>> {
     pub(crate) closed: Vec<ClosedSlot>,
 }
 
-impl<P: Pledge, N: Names, W> Model for System<P, N, W> {
+impl<P: Pledge, N: Names, C> Model for System<P, N, C> {
     ghost use Rattle.std.specs.Prelude.{ℕ, vec_len, vec_capacity};
-    ghost use Rattle.mq_system.specs.Sizes.{IsWhole};
+    ghost use Rattle.mq_system.specs.Sizes.{IsSystem};
 
     ghost Value = { ℕ };
 
     ghost view = { λ s. s.last_seq };
 
-    ghost invariant = { λ s. IsWhole N.slots N.seats N.last_seq (vec_len s.places) s.last_seq
+    ghost invariant = { λ s. IsSystem N.slots N.seats N.last_seq (vec_len s.places) s.last_seq
         s.closed.items (vec_capacity s.closed) s.total.parts s.total.amount };
 }
 
@@ -128,7 +128,7 @@ impl<P: Pledge, N: Names> System<P, N, Copies<N>> {
     }
 }
 
-impl<P: Pledge, N: Names, W> System<P, N, W> {
+impl<P: Pledge, N: Names, C> System<P, N, C> {
     /// How many slots there are.
     pub fn slots(&self) -> u8
         ensures count { result ≡ N.slots }

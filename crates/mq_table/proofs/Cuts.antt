@@ -3,7 +3,7 @@ use Rattle.std.proofs.Common.{◌≡◌, ◌⊎◌, inl, inr, ℕ, ◌+◌, ◌-
 use Rattle.std.proofs.Math.Seq.{drop-append_seam, take-append_seam}
 use Rattle.mq_queue.specs.declared.event.Event.{Event}
 use Rattle.mq_queue.specs.Base.{base_after, base_of}
-use Rattle.mq_queue.specs.LawfulFrom.{IsOpen}
+use Rattle.mq_queue.specs.LawfulFrom.{IsOpenLog}
 use Rattle.mq_queue.specs.Row.{is_live, last_log, made_count}
 use Rattle.mq_queue.proofs.Bases.{goes_on}
 use Rattle.mq_table.specs.Cut.{IsCutOf, base_left, cut_of, kept_cuts}
@@ -66,7 +66,7 @@ module _ {B : Type 0} (list : List Event) (s : KeptSlot B) (k : IsKeptPart list 
     keyed = k.keyed;
   }
     where
-      opened : (b : Bool) → is_live list ≡ b → IsOpen (live_log list)
+      opened : (b : Bool) → is_live list ≡ b → IsOpenLog (live_log list)
       opened true live =
           let there = log_there last_seq list lawful live in
           rw (its_log list live) (record { lawful = inr there.0; live = there.1 })

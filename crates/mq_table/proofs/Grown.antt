@@ -11,7 +11,7 @@ use Rattle.mq_queue.specs.Room.{quota}
 use Rattle.mq_queue.specs.Row.{is_live, last_log, made_count}
 use Rattle.mq_queue.specs.Waiting.{waiting}
 use Rattle.mq_queue.proofs.Sound.{lawful_more}
-use Rattle.mq_table.specs.Slot.{ArePast, IsEnded}
+use Rattle.mq_table.specs.Slot.{ArePast, IsEndedLog}
 use Rattle.mq_table.specs.SlotList.{IsSlotList, joined}
 use Rattle.mq_table.proofs.Logs.{counted, ends_as, last_log_is, made_more, not_empty}
 use Rattle.mq_table.proofs.Pasts.{list_counted, list_of_live}
@@ -55,7 +55,7 @@ record AreLogs (logs : List (List Event)) : Type 0 where
 
 -- so is the first of several, and so are the others
 first_ended : (log next : List Event) (logs : List (List Event)) → AreLogs (log ∷ next ∷ logs)
-    → IsEnded log
+    → IsEndedLog log
 first_ended log next logs h =
     let all = subst (All Ended) (but_last log next logs) h.ended in record {
       lawful = All-head Lawful log (next ∷ logs) h.lawful;
@@ -86,7 +86,7 @@ split_of (log ∷ []) h live =
       past = [];
       log = log;
       whole = append-nil log;
-      ended = record { logs = []; whole = refl; ended = All-nil IsEnded };
+      ended = record { logs = []; whole = refl; ended = All-nil IsEndedLog };
       lawful = All-head Lawful log [] h.lawful;
       unended =
           not_true (ends_with_removed log)
@@ -102,7 +102,8 @@ split_of (log ∷ next ∷ logs) h live =
       ended = record {
         logs = log ∷ rest.ended.logs;
         whole = ap (λ l. log ++ l) rest.ended.whole;
-        ended = All-cons IsEnded log rest.ended.logs (first_ended log next logs h) rest.ended.ended;
+        ended =
+            All-cons IsEndedLog log rest.ended.logs (first_ended log next logs h) rest.ended.ended;
       };
       lawful = rest.lawful;
       unended = rest.unended;
@@ -110,7 +111,7 @@ split_of (log ∷ next ∷ logs) h live =
 
 past_of : (logs : List (List Event)) → AreLogs logs → is_live (joined logs) ≡ false
     → ArePast (joined logs)
-past_of [] h off = record { logs = []; whole = refl; ended = All-nil IsEnded }
+past_of [] h off = record { logs = []; whole = refl; ended = All-nil IsEndedLog }
 past_of (log ∷ []) h off =
     let lawful = All-head Lawful log [] h.lawful in
     let removed = by (ends_with_removed log) refl (rw (append-nil log, lawful.begun) at off) in
@@ -118,8 +119,8 @@ past_of (log ∷ []) h off =
       logs = log ∷ [];
       whole = refl;
       ended =
-          All-cons IsEnded log [] (record { lawful = lawful; removed = removed })
-          (All-nil IsEnded);
+          All-cons IsEndedLog log [] (record { lawful = lawful; removed = removed })
+          (All-nil IsEndedLog);
     }
   where
     by : (b : Bool) → ends_with_removed log ≡ b → (true && not b) ≡ false
@@ -132,7 +133,7 @@ past_of (log ∷ next ∷ logs) h off =
     record {
       logs = log ∷ rest.logs;
       whole = ap (λ l. log ++ l) rest.whole;
-      ended = All-cons IsEnded log rest.logs (first_ended log next logs h) rest.ended;
+      ended = All-cons IsEndedLog log rest.logs (first_ended log next logs h) rest.ended;
     }
 
 module _ (last_seq : ℕ) (list : List Event) (h : IsSlotList last_seq list) where

@@ -6,7 +6,7 @@ use Rattle.mq_queue.specs.declared.base.Base.{Base}
 use Rattle.mq_queue.specs.declared.event.Event.{Event}
 use Rattle.mq_queue.specs.declared.event.Event.TheVariants as event
 use Rattle.mq_queue.specs.Base.{base_of}
-use Rattle.mq_queue.specs.LawfulFrom.{IsOpen}
+use Rattle.mq_queue.specs.LawfulFrom.{IsOpenLog}
 use Rattle.mq_queue.specs.Log.{is_made, is_removed, key_told, made_key}
 use Rattle.mq_queue.specs.Room.{quota}
 use Rattle.mq_queue.specs.Row.{is_live, last_log, live_key, log_after}
@@ -45,7 +45,7 @@ none_before [] [] none = (refl, refl)
 none_before [] (e ∷ es) none = cc
 none_before (e ∷ es) last none = cc
 
-pub none_open : IsOpen []
+pub none_open : IsOpenLog []
 none_open = record { lawful = inl refl; live = refl }
 
 -- where an entry of a removed queue is kept, nothing was cut off of the next one's log

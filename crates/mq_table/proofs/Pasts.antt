@@ -8,7 +8,7 @@ use Rattle.mq_queue.specs.declared.event.Event.{Event}
 use Rattle.mq_queue.specs.Lawful.{Lawful}
 use Rattle.mq_queue.specs.Log.{ends_with_removed}
 use Rattle.mq_queue.specs.Row.{made_count, is_live}
-use Rattle.mq_table.specs.Slot.{IsEnded, ArePast}
+use Rattle.mq_table.specs.Slot.{IsEndedLog, ArePast}
 use Rattle.mq_table.specs.SlotList.{joined, IsSlotList}
 use Rattle.mq_table.proofs.Logs.{counted, made_once}
 
@@ -20,11 +20,11 @@ joined_push (l ∷ ls) log =
     ap (λ rest. l ++ rest) (joined_push ls log) ∙ sym (append_assoc l (joined ls) log)
 
 -- one more queue was removed
-pub past_grows : (past log : List Event) → ArePast past → IsEnded log → ArePast (past ++ log)
+pub past_grows : (past log : List Event) → ArePast past → IsEndedLog log → ArePast (past ++ log)
 past_grows past log h ended = record {
   logs = h.logs ++ log ∷ [];
   whole = ap (λ p. p ++ log) h.whole ∙ sym (joined_push h.logs log);
-  ended = All-push IsEnded h.logs log h.ended ended;
+  ended = All-push IsEndedLog h.logs log h.ended ended;
 }
 
 -- each log has one making
@@ -56,7 +56,7 @@ made_some last_seq events h live = by h.logs h.whole (list_counted last_seq even
     by (log ∷ logs) whole count = omega (arith, count)
 
 -- the logs of removed queues are lawful
-all_lawful : (logs : List (List Event)) → All IsEnded logs → All Lawful logs
+all_lawful : (logs : List (List Event)) → All IsEndedLog logs → All Lawful logs
 all_lawful logs ended k d within = (ended k d within).lawful
 
 -- the events of removed queues are a slot list

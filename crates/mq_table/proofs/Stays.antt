@@ -14,7 +14,7 @@ use Rattle.mq_queue.specs.QueueCalls.{sending}
 use Rattle.mq_queue.specs.Room.{quota}
 use Rattle.mq_queue.specs.Row.{made_count, is_live, log_after, last_log}
 use Rattle.mq_queue.specs.Waiting.{waiting}
-use Rattle.mq_table.specs.Calls.{Turn, Receipt, goes_on, unless, received, sends, receives, sets, makes, removes}
+use Rattle.mq_table.specs.Calls.{SlotTurn, Receipt, with_event, changed_unless, received, sends, receives, sets, makes, removes}
 use Rattle.mq_table.specs.Slot.{SlotState}
 use Rattle.mq_table.specs.SlotList.{IsSlotList}
 use Rattle.mq_table.proofs.Logs.{begun, counted, ends_as}
@@ -35,7 +35,7 @@ grows events e none = fold-append log_after [] events (e ∷ []) ∙ rw none ref
 -- one more event that is neither a making nor a removal
 goes : {B : Type 0} (s : SlotState B) (e : Event) (messages : List (ℕ × Message B))
     → is_live s.events ≡ true → is_made e ≡ false → is_removed e ≡ false → key_told e ≡ None
-    → Stays s (goes_on s e messages)
+    → Stays s (with_event s e messages)
 goes s e messages live unmade left untold =
     let one : made_count (e ∷ []) ≡ 0 = rw unmade refl in
     let ends = ends_as s.events (e ∷ []) refl ∙ left in record {
@@ -50,13 +50,13 @@ goes s e messages live unmade left untold =
     }
 
 -- the slot that a call leaves, or this one
-abbrev left : {B T : Type 0} → Turn B T → SlotState B → SlotState B
+abbrev left : {B T : Type 0} → SlotTurn B T → SlotState B → SlotState B
 left (Ok turn) s = turn.1
 left (Err refusal) s = s
 
 -- what is left where a call is not refused
 pub left_is : {B : Type 0} (o : Option QueueError) (s after t : SlotState B) (n : ℕ)
-    → unless o s after ≡ Ok (n, t) → after ≡ t
+    → changed_unless o s after ≡ Ok (n, t) → after ≡ t
 left_is None s after t n e = ap (λ turn. left turn t) e
 left_is (Some refusal) s after t n e = cc
 
@@ -66,9 +66,9 @@ stays_as s after t e h = rw (← e) h
 module _ {B : Type 0} (s t : SlotState B) (live : is_live s.events ≡ true) where
   unless_stays : (o : Option QueueError) (e : Event) (messages : List (ℕ × Message B)) (entry : ℕ)
       → is_made e ≡ false → is_removed e ≡ false → key_told e ≡ None
-      → unless o s (goes_on s e messages) ≡ Ok (entry, t) → Stays s t
+      → changed_unless o s (with_event s e messages) ≡ Ok (entry, t) → Stays s t
   unless_stays o e messages entry unmade left untold is =
-      stays_as s (goes_on s e messages) t (left_is o s (goes_on s e messages) t entry is)
+      stays_as s (with_event s e messages) t (left_is o s (with_event s e messages) t entry is)
       (goes s e messages live unmade left untold)
 
   pub sent_stays : (bytes : B → List ℕ) (m : Message B) (moment entry : ℕ)
@@ -91,7 +91,7 @@ module _ {B : Type 0} (s t : SlotState B) (live : is_live s.events ≡ true) whe
       → Stays s t
   receipt_stays size selection noerror seat moment (Ok m) r e =
       let got = event.Received seat moment m.place selection size noerror in
-      stays_as s (goes_on s got (without m.place s.messages)) t (ap (λ turn. left turn t) e)
+      stays_as s (with_event s got (without m.place s.messages)) t (ap (λ turn. left turn t) e)
       (goes s got (without m.place s.messages) live refl refl refl)
   receipt_stays size selection noerror seat moment (Err refusal) r e = cc
 

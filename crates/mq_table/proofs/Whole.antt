@@ -11,7 +11,7 @@ use Rattle.mq_queue.specs.QueueCalls.{sending}
 use Rattle.mq_queue.specs.Room.{quota}
 use Rattle.mq_queue.specs.Row.{is_live, last_log}
 use Rattle.mq_queue.specs.Waiting.{waiting}
-use Rattle.mq_table.specs.Calls.{Receipt, Turn, goes_on, received, receives, sends, sets, unless, refusal_of}
+use Rattle.mq_table.specs.Calls.{Receipt, SlotTurn, with_event, received, receives, sends, sets, changed_unless, refusal_of}
 use Rattle.mq_table.specs.Kept.{KeptSlot, entries_of}
 use Rattle.mq_table.specs.KeptCalls.{kept_goes_on, kept_received, kept_receives, kept_refusal_of, kept_sends, kept_sets, kept_unless}
 use Rattle.mq_table.specs.KeptPart.{IsKeptPart, whole}
@@ -22,12 +22,12 @@ use Rattle.mq_table.proofs.OneMore.{entry_of, slot_left}
 
 -- why a call is refused, where it answers an entry
 refused_same : {B : Type 0} (o : Option QueueError) (s after : KeptSlot B) (w other : SlotState B)
-    → kept_refusal_of (kept_unless o s after) ≡ refusal_of (unless o w other)
+    → kept_refusal_of (kept_unless o s after) ≡ refusal_of (changed_unless o w other)
 refused_same None s after w other = refl
 refused_same (Some refusal) s after w other = refl
 
 -- the whole slot answers so too, and goes on with this event
-pub record IsWholeTurn {B T : Type 0} (list : List Event) (e : Event) (turn : Turn B T) (r : T)
+pub record IsWholeTurn {B T : Type 0} (list : List Event) (e : Event) (turn : SlotTurn B T) (r : T)
     (t : KeptSlot B) : Type 0 where
   pub answers : turn ≡ Ok (r, whole (list ++ e ∷ []) t)
 
@@ -36,7 +36,7 @@ module _ {B : Type 0} (list : List Event) (s : KeptSlot B) (k : IsKeptPart list 
   -- a call that answers an entry
   unless_whole : (e : Event) (messages : List (ℕ × Message B)) (entry : ℕ) (t : KeptSlot B)
       (o : Option QueueError) → kept_unless o s (kept_goes_on s e messages) ≡ Ok (entry, t)
-      → unless o (whole list s) (goes_on (whole list s) e messages)
+      → changed_unless o (whole list s) (with_event (whole list s) e messages)
       ≡ Ok (entry, whole (list ++ e ∷ []) t)
   unless_whole e messages entry t None is =
       let its : entries_of s ≡ entry = ap (λ turn. entry_of turn 0) is in

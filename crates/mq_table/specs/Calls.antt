@@ -16,31 +16,32 @@ use Rattle.mq_queue.specs.Waiting.{waiting}
 use Rattle.mq_table.specs.Slot.{SlotState}
 
 -- what a call answers, with the slot that it leaves; or why the call is refused
-abbrev pub Turn : Type 0 → Type 0 → Type 0
-Turn B T = Result (T × SlotState B) QueueError
+abbrev pub SlotTurn : Type 0 → Type 0 → Type 0
+SlotTurn B T = Result (T × SlotState B) QueueError
 
 -- why the call is refused: where nothing else refuses it, memory does
-abbrev pub refusal_of : {B T : Type 0} → Turn B T → QueueError
+abbrev pub refusal_of : {B T : Type 0} → SlotTurn B T → QueueError
 refusal_of (Ok turn) = Memory
 refusal_of (Err e) = e
 
 -- the slot with one more event, and with this waiting
-abbrev pub goes_on : {B : Type 0} → SlotState B → Event → List (ℕ × Message B) → SlotState B
-goes_on s e messages =
+abbrev pub with_event : {B : Type 0} → SlotState B → Event → List (ℕ × Message B) → SlotState B
+with_event s e messages =
     record { number = s.number; events = s.events ++ e ∷ []; messages = messages }
 
 -- the entry of the event that the call adds to the slot list, unless the call is refused
-abbrev pub unless : {B : Type 0} → Option QueueError → SlotState B → SlotState B → Turn B ℕ
-unless None s after = Ok (length s.events, after)
-unless (Some e) s after = Err e
+abbrev pub changed_unless : {B : Type 0} → Option QueueError → SlotState B → SlotState B
+    → SlotTurn B ℕ
+changed_unless None s after = Ok (length s.events, after)
+changed_unless (Some e) s after = Err e
 
 -- what msgsnd does in the slot's queue
-abbrev pub sends : {B : Type 0} → (B → List ℕ) → SlotState B → Message B → ℕ → Turn B ℕ
+abbrev pub sends : {B : Type 0} → (B → List ℕ) → SlotState B → Message B → ℕ → SlotTurn B ℕ
 sends bytes s m moment =
     let log = last_log s.events in
     let n = length (bytes m.body) in
-    unless (send_refusal (waiting log) (quota log) m.mtype n) s
-    (goes_on s (event.Sent m.sender moment m.tag m.mtype n) (s.messages ++ (length log, m) ∷ []))
+    changed_unless (send_refusal (waiting log) (quota log) m.mtype n) s
+    (with_event s (event.Sent m.sender moment m.tag m.mtype n) (s.messages ++ (length log, m) ∷ []))
 
 -- what a receiver is told beside the text: the entry of the receipt in the slot list, and the
 -- message as it was sent, with its place in the queue's log
@@ -63,29 +64,30 @@ receipt_of r = record {
 
 -- what msgrcv does in the slot's queue, where the queue answers so
 abbrev pub received : {B : Type 0} → SlotState B → (Header → Event) → Result Header QueueError
-    → Turn B Receipt
+    → SlotTurn B Receipt
 received s e (Ok m) =
     Ok (
       record { entry = length s.events; message = m },
-      goes_on s (e m) (without m.place s.messages),
+      with_event s (e m) (without m.place s.messages),
     )
 received s e (Err refusal) = Err refusal
 
 -- what msgrcv does in the slot's queue
-abbrev pub receives : {B : Type 0} → SlotState B → ℕ → Selection → Bool → ℕ → ℕ → Turn B Receipt
+abbrev pub receives : {B : Type 0} → SlotState B → ℕ → Selection → Bool → ℕ → ℕ → SlotTurn B Receipt
 receives s size selection noerror seat moment =
     received s (λ m. event.Received seat moment m.place selection size noerror)
     (receive_answer (waiting (last_log s.events)) size selection noerror)
 
 -- what IPC_SET does in the slot's queue
-abbrev pub sets : {B : Type 0} → SlotState B → ℕ → ℕ → ℕ → Turn B ℕ
+abbrev pub sets : {B : Type 0} → SlotState B → ℕ → ℕ → ℕ → SlotTurn B ℕ
 sets s qbytes seat moment =
-    unless (set_refusal qbytes) s (goes_on s (event.Changed seat moment qbytes) s.messages)
+    changed_unless (set_refusal qbytes) s
+    (with_event s (event.Changed seat moment qbytes) s.messages)
 
 -- the slot once a queue was made in it
 abbrev pub makes : {B : Type 0} → SlotState B → ℤ → ℕ → ℕ → SlotState B
-makes s key seat moment = goes_on s (event.Made seat moment key) []
+makes s key seat moment = with_event s (event.Made seat moment key) []
 
 -- the slot once its queue was removed
 abbrev pub removes : {B : Type 0} → SlotState B → ℕ → ℕ → SlotState B
-removes s seat moment = goes_on s (event.Removed seat moment) []
+removes s seat moment = with_event s (event.Removed seat moment) []

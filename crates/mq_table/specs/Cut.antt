@@ -21,8 +21,8 @@ pub record CutState : Type 0 where
   pub last : List Event
 
 -- a cut, with its lists
-abbrev pub shown : Cut → CutState
-shown c = record {
+abbrev pub cut_shown : Cut → CutState
+cut_shown c = record {
   first = c.first;
   made = c.made;
   base = c.base;

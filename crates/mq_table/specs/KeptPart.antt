@@ -4,7 +4,7 @@ use Rattle.mq_select.specs.Waiting.{headers_of}
 use Rattle.mq_queue.specs.declared.base.Base.{Base}
 use Rattle.mq_queue.specs.declared.event.Event.{Event}
 use Rattle.mq_queue.specs.Base.{base_of}
-use Rattle.mq_queue.specs.LawfulFrom.{IsOpen}
+use Rattle.mq_queue.specs.LawfulFrom.{IsOpenLog}
 use Rattle.mq_queue.specs.Row.{is_live, last_log, live_key, made_count}
 use Rattle.mq_table.specs.Kept.{KeptSlot, base_now, kept_of, waiting_now}
 use Rattle.mq_table.specs.Slot.{SlotState}
@@ -25,7 +25,7 @@ pub record IsKeptPart {B : Type 0} (list : List Event) (s : KeptSlot B) : Type 0
   pub made : s.made ≡ made_count gone
   pub base : s.base ≡ base_at gone
   pub log : live_log list ≡ before ++ s.last
-  pub opened : IsOpen before
+  pub opened : IsOpenLog before
   pub based : base_now s ≡ base_of before
   pub keyed : s.key ≡ live_key list
 

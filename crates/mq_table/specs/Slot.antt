@@ -34,7 +34,7 @@ abbrev pub Waits : {B : Type 0} → (B → List ℕ) → SlotState B → Type 0
 Waits bytes s = headers_of bytes s.messages ≡ waiting (live_log s.events)
 
 -- the log of a queue that was removed
-pub record IsEnded (log : List Event) : Type 0 where
+pub record IsEndedLog (log : List Event) : Type 0 where
   pub lawful : Lawful log
   pub removed : ends_with_removed log ≡ true
 
@@ -42,4 +42,4 @@ pub record IsEnded (log : List Event) : Type 0 where
 pub record ArePast (events : List Event) : Type 0 where
   pub logs : List (List Event)
   pub whole : events ≡ joined logs
-  pub ended : All IsEnded logs
+  pub ended : All IsEndedLog logs

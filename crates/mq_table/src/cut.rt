@@ -1,5 +1,5 @@
 ghost use Rattle.std.specs.Prelude.{◌≡◌, [], is_some, IfOk, IfSome, MatchResult};
-ghost use Rattle.mq_table.specs.Cut.{cut_of, cut_queue, kept_cuts, shown};
+ghost use Rattle.mq_table.specs.Cut.{cut_of, cut_queue, kept_cuts, cut_shown};
 ghost use Rattle.mq_table.specs.Kept.{base_now, is_live_kept};
 ghost use Rattle.mq_table.specs.SlotParts.{live_base, slot_with, tail_of};
 
@@ -60,7 +60,7 @@ impl<B: Body, W: Waiting<B>> Slot<B, W> {
     /// Cuts the slot list off where it ends now, and hands out the entries since the last cut, with
     /// what is known of those before. What waits stays. `Err` means out of memory.
     pub fn cut(&mut self) -> Result<Cut, AllocError>
-        ensures handed { IfOk result (λ c. shown c ≡ cut_of self.old) }
+        ensures handed { IfOk result (λ c. cut_shown c ≡ cut_of self.old) }
         ensures after { MatchResult result (λ _. self.new ≡ kept_cuts self.old)
             (λ _. self.new ≡ self.old) }
     {

@@ -11,7 +11,7 @@ use Rattle.mq_queue.specs.Log.{ends_with_removed}
 use Rattle.mq_queue.specs.Row.{made_count, slot_figures}
 use Rattle.mq_queue.proofs.Uncut.{lawful_uncut}
 use Rattle.mq_table.proofs.Logs.{counted, last_log_is, made_once}
-use Rattle.mq_board.specs.Writers.{Desk, IsReady, posting}
+use Rattle.mq_board.specs.Writers.{Desk, HasOnePending, posting}
 use Rattle.mq_table_tests.specs.Shown.{IsPending, IsShown}
 
 -- once a queue is removed there are no figures, in its log as in its slot
@@ -30,7 +30,7 @@ slot_is log lawful =
 -- the last event of a queue may be published, where those before it are
 pub ready : (events log : List Event) (event : Event) (after : Figures) → log ≡ events ++ event ∷ []
     → Lawful log → after ≡ figures log → length events < 2 ^ 63
-    → IsReady events (posting event after ∷ [])
+    → HasOnePending events (posting event after ∷ [])
 ready events log event after is lawful same short = record {
   next = posting event after;
   one = refl;
@@ -40,37 +40,37 @@ ready events log event after is lawful same short = record {
 }
 
 -- so it may be where a writer that had nothing pending took it in
-pub taken : {W : Type 0} (old new : Desk W) (log : List Event) (event : Event) → old.pending ≡ []
+pub taken : {C : Type 0} (old new : Desk C) (log : List Event) (event : Event) → old.pending ≡ []
     → new ≡ record old { pending = old.pending ++ posting event (figures log) ∷ [] }
     → log ≡ old.events ++ event ∷ [] → Lawful log → length old.events < 2 ^ 63
-    → IsReady new.events new.pending
-taken {W} old new log event idle took is lawful short =
-    let Ready : Desk W → Type 0 = λ desk. IsReady desk.events desk.pending in
+    → HasOnePending new.events new.pending
+taken {C} old new log event idle took is lawful short =
+    let Ready : Desk C → Type 0 = λ desk. HasOnePending desk.events desk.pending in
     subst Ready (sym took)
     (rw idle (ready old.events log event (figures log) is lawful refl short))
 
 -- so it may be of a queue whose log was not cut
-pub taken_from : {W : Type 0} (base : Base) (old new : Desk W) (log : List Event) (event : Event)
+pub taken_from : {C : Type 0} (base : Base) (old new : Desk C) (log : List Event) (event : Event)
     → base ≡ base_of [] → old.pending ≡ []
     → new ≡ record old { pending = old.pending ++ posting event (figures_from base log) ∷ [] }
     → log ≡ old.events ++ event ∷ [] → LawfulFrom base log → length old.events < 2 ^ 63
-    → IsReady new.events new.pending
-taken_from {W} base old new log event none idle took is lawful short =
+    → HasOnePending new.events new.pending
+taken_from {C} base old new log event none idle took is lawful short =
     taken old new log event idle
     (subst (λ (b : Base). new ≡ record old { pending = old.pending ++ posting event (figures_from b log) ∷ [] }) none took)
     is (lawful_uncut log (subst (λ (b : Base). LawfulFrom b log) none lawful)) short
 
 -- and it is what is pending then
-pub pending : {W : Type 0} (base base' : Base) (before log : List Event) (old new : Desk W)
+pub pending : {C : Type 0} (base base' : Base) (before log : List Event) (old new : Desk C)
     (event : Event) → base' ≡ base → IsShown base before old
     → new ≡ record old { pending = old.pending ++ posting event (figures_from base' log) ∷ [] }
     → log ≡ before ++ event ∷ [] → LawfulFrom base' log → length before < 2 ^ 63
     → IsPending base' log new
-pending {W} base base' before log old new event same shown took is lawful short =
+pending {C} base base' before log old new event same shown took is lawful short =
     let none : base' ≡ base_of [] = same ∙ shown.0 in
     let is' : log ≡ old.events ++ event ∷ [] = rw shown.1 is in
     let short' : length old.events < 2 ^ 63 = rw shown.1 short in
-    let Whole : Desk W → Type 0 = λ desk. desk.events ++ map (λ p. p.event) desk.pending ≡ log in (
+    let Whole : Desk C → Type 0 = λ desk. desk.events ++ map (λ p. p.event) desk.pending ≡ log in (
       none,
       taken_from base' old new log event none shown.2 took is' lawful short',
       subst Whole (sym took) (rw shown.2 (sym is')),

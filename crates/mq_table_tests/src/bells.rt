@@ -70,7 +70,7 @@ fn run<R: Wait>(rt: &R, alloc: Global) -> Result<Shown, AllocError> {
 #[test]
 fn a_reader_enters_after_each_of_ten_events(rt: HostRuntime) -> Result<(), Fail> {
     let shown = run(&rt, rt.alloc())?;
-    assert!(rt; shown.each);
-    assert!(rt; shown.last);
+    holds!(rt; shown.each);
+    holds!(rt; shown.last);
     Ok(())
 }

@@ -14,7 +14,7 @@ use std::process::Abort;
 use std::sync::Wait;
 
 fn sees<J: Naming>(rt: &impl Abort, reader: &mut BoardReader<J>, row: BoardRow) {
-    assert!(rt; reader.figures() == row, "what was refused is shown");
+    holds!(rt; reader.figures() == row, "what was refused is shown");
 }
 
 /// A text of these bytes.

@@ -14,7 +14,7 @@ fn cut(rt: &impl Abort, slot: &mut Place) -> Cut {
     if let Ok(cut) = slot.cut() {
         return cut;
     }
-    assert!(rt; shown(slot) == before, "a refused cut changes the slot");
+    holds!(rt; shown(slot) == before, "a refused cut changes the slot");
     match slot.cut() {
         Ok(cut) => cut,
         Err(AllocError) => panic!(rt; "out of memory"),
@@ -61,20 +61,20 @@ fn a_slot_that_is_cut_goes_on_as_before(rt: HostRuntime) -> Result<(), Fail> {
     let again = make(&mut keys, &mut slot, 7, 3);
     let end = (slot.first(), slot.events(), slot.offset(), slot.made());
     close(slot);
-    assert!(rt; made == Some(Id::of(8, 0)));
-    assert!(rt; (first, second) == (Answer::At(1), Answer::At(2)));
-    assert!(rt; before == (0, 0, 0, 2, None));
-    assert!(rt; after == (2, 1, 0, 0, Some(2)));
-    assert!(rt; shown == (2, 2, 0, None) && key == 9);
-    assert!(rt; (row.made, row.live, row.key, row.figures.qnum) == (1, true, 9, 1));
+    holds!(rt; made == Some(Id::of(8, 0)));
+    holds!(rt; (first, second) == (Answer::At(1), Answer::At(2)));
+    holds!(rt; before == (0, 0, 0, 2, None));
+    holds!(rt; after == (2, 1, 0, 0, Some(2)));
+    holds!(rt; shown == (2, 2, 0, None) && key == 9);
+    holds!(rt; (row.made, row.live, row.key, row.figures.qnum) == (1, true, 9, 1));
     let Some(log) = gone else {
         panic!(rt; "not removed");
     };
-    assert!(rt; (log.first(), log.len()) == (2, 4));
-    assert!(rt; third == (2, 1, 2, 0, Some(2)));
-    assert!(rt; fourth == (4, 1, 0, 0, None));
-    assert!(rt; again == Some(Id::of(8, 1)));
-    assert!(rt; end == (4, 5, 4, 2));
+    holds!(rt; (log.first(), log.len()) == (2, 4));
+    holds!(rt; third == (2, 1, 2, 0, Some(2)));
+    holds!(rt; fourth == (4, 1, 0, 0, None));
+    holds!(rt; again == Some(Id::of(8, 1)));
+    holds!(rt; end == (4, 5, 4, 2));
     Ok(())
 }
 
@@ -85,9 +85,9 @@ fn a_slot_without_a_queue_hands_out_an_empty_cut(rt: HostRuntime) -> Result<(), 
     let second = cut(&rt, &mut slot);
     let shown = (slot.first(), slot.events(), slot.made());
     close(slot);
-    assert!(rt; told(&first) == (0, 0, 0, 0, None));
-    assert!(rt; told(&second) == (0, 0, 0, 0, None));
-    assert!(rt; shown == (0, 0, 0));
+    holds!(rt; told(&first) == (0, 0, 0, 0, None));
+    holds!(rt; told(&second) == (0, 0, 0, 0, None));
+    holds!(rt; shown == (0, 0, 0));
     Ok(())
 }
 
@@ -111,15 +111,15 @@ fn a_queue_made_after_a_cut_begins_its_own_log(rt: HostRuntime) -> Result<(), Fa
     let second = cut(&rt, &mut slot);
     let third = cut(&rt, &mut slot);
     close(slot);
-    assert!(rt; told(&first) == (0, 0, 0, 1, None));
-    assert!(rt; sending == Answer::At(3));
-    assert!(rt; shown == (1, 2, None, true));
-    assert!(rt; told(&second) == (1, 1, 1, 2, Some(1)));
+    holds!(rt; told(&first) == (0, 0, 0, 1, None));
+    holds!(rt; sending == Answer::At(3));
+    holds!(rt; shown == (1, 2, None, true));
+    holds!(rt; told(&second) == (1, 1, 1, 2, Some(1)));
     let removal = Event::Removed {
         seat: 2,
         moment: 20,
     };
-    assert!(rt; second.past.first() == Some(&removal));
-    assert!(rt; told(&third) == (4, 2, 0, 0, Some(2)));
+    holds!(rt; second.past.first() == Some(&removal));
+    holds!(rt; told(&third) == (4, 2, 0, 0, Some(2)));
     Ok(())
 }

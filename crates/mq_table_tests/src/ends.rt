@@ -64,8 +64,8 @@ fn ends<R: Wait>(rt: &R, alloc: Global, count: usize) -> Result<bool, AllocError
 
 #[test]
 fn a_board_ends_with_one_two_and_sixteen_readers(rt: HostRuntime) -> Result<(), Fail> {
-    assert!(rt; ends(&rt, rt.alloc(), 1)?);
-    assert!(rt; ends(&rt, rt.alloc(), 2)?);
-    assert!(rt; ends(&rt, rt.alloc(), 16)?);
+    holds!(rt; ends(&rt, rt.alloc(), 1)?);
+    holds!(rt; ends(&rt, rt.alloc(), 2)?);
+    holds!(rt; ends(&rt, rt.alloc(), 16)?);
     Ok(())
 }

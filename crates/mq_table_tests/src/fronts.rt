@@ -88,26 +88,26 @@ fn run<R: Wait>(rt: &R, alloc: Global) -> Result<(Seen, Left), AllocError> {
 #[test]
 fn a_reader_enters(rt: HostRuntime) -> Result<(), Fail> {
     let (seen, _left) = run(&rt, rt.alloc())?;
-    assert!(rt; seen.before.made == 0 && !seen.before.live);
-    assert!(rt; seen.made.made == 1 && seen.made.live && seen.made.key == 7);
-    assert!(rt; seen.made.figures.qbytes == 131_072 && seen.made.figures.ctime == 10);
-    assert!(rt; seen.sent.figures.qnum == 1 && seen.sent.figures.stime == 20);
-    assert!(rt; seen.sent == seen.told);
+    holds!(rt; seen.before.made == 0 && !seen.before.live);
+    holds!(rt; seen.made.made == 1 && seen.made.live && seen.made.key == 7);
+    holds!(rt; seen.made.figures.qbytes == 131_072 && seen.made.figures.ctime == 10);
+    holds!(rt; seen.sent.figures.qnum == 1 && seen.sent.figures.stime == 20);
+    holds!(rt; seen.sent == seen.told);
     Ok(())
 }
 
 #[test]
 fn a_list_is_learned_that_is_not_shorter(rt: HostRuntime) -> Result<(), Fail> {
     let (seen, _left) = run(&rt, rt.alloc())?;
-    assert!(rt; !seen.shorter && seen.same && seen.longer);
-    assert!(rt; seen.learned == seen.told);
+    holds!(rt; !seen.shorter && seen.same && seen.longer);
+    holds!(rt; seen.learned == seen.told);
     Ok(())
 }
 
 #[test]
 fn a_reader_of_a_board_given_up_answers_its_front(rt: HostRuntime) -> Result<(), Fail> {
     let (seen, left) = run(&rt, rt.alloc())?;
-    assert!(rt; left.saw_all == seen.told);
-    assert!(rt; left.never_looked == seen.before);
+    holds!(rt; left.saw_all == seen.told);
+    holds!(rt; left.never_looked == seen.before);
     Ok(())
 }

@@ -38,10 +38,10 @@ fn an_id_is_told_by_slot_and_seq_up_to_the_bounds(rt: HostRuntime) -> Result<(),
     ];
     for (slot, seq, number) in cases {
         let id = Id::of(slot, seq);
-        assert!(rt; id.number() == number);
-        assert!(rt; Id::from_number(number) == id);
-        assert!(rt; id.slot() == slot);
-        assert!(rt; id.seq() == seq);
+        holds!(rt; id.number() == number);
+        holds!(rt; Id::from_number(number) == id);
+        holds!(rt; id.slot() == slot);
+        holds!(rt; id.seq() == seq);
     }
     Ok(())
 }
@@ -55,10 +55,10 @@ fn each_key_has_its_own_id(rt: HostRuntime) -> Result<(), Fail> {
         (1, Id::of(12, 0)),
         (i32::MAX, Id::of(13, 0)),
     ] {
-        assert!(rt; keys.look(key) == Some(id));
+        holds!(rt; keys.look(key) == Some(id));
     }
     for absent in [0, 2, -2, i32::MAX - 1, i32::MIN + 2] {
-        assert!(rt; keys.look(absent) == None);
+        holds!(rt; keys.look(absent) == None);
     }
     Ok(())
 }
@@ -68,23 +68,23 @@ fn what_is_left_keeps_the_order_of_making(rt: HostRuntime) -> Result<(), Fail> {
     let mut keys = filled(rt.alloc());
     // An id that no key has, though its slot has one.
     keys.forget(Id::of(11, 2));
-    assert!(rt; keys.len() == 5);
+    holds!(rt; keys.len() == 5);
     keys.forget(Id::of(11, 3));
-    assert!(rt; keys.look(i32::MIN) == None);
-    assert!(rt; keys.len() == 4);
-    assert!(rt; has(&keys, 0, -1, Id::of(10, 0)));
-    assert!(rt; has(&keys, 1, 1, Id::of(12, 0)));
-    assert!(rt; has(&keys, 2, i32::MAX, Id::of(13, 0)));
-    assert!(rt; has(&keys, 3, i32::MIN + 1, Id::of(14, 0)));
-    assert!(rt; keys.entry(4) == None);
+    holds!(rt; keys.look(i32::MIN) == None);
+    holds!(rt; keys.len() == 4);
+    holds!(rt; has(&keys, 0, -1, Id::of(10, 0)));
+    holds!(rt; has(&keys, 1, 1, Id::of(12, 0)));
+    holds!(rt; has(&keys, 2, i32::MAX, Id::of(13, 0)));
+    holds!(rt; has(&keys, 3, i32::MIN + 1, Id::of(14, 0)));
+    holds!(rt; keys.entry(4) == None);
     enter(&mut keys, i32::MIN, Id::of(11, 4));
-    assert!(rt; has(&keys, 4, i32::MIN, Id::of(11, 4)));
+    holds!(rt; has(&keys, 4, i32::MIN, Id::of(11, 4)));
     // A key that the table has not, and one that it has.
     keys.forget_key(2);
-    assert!(rt; keys.len() == 5);
+    holds!(rt; keys.len() == 5);
     keys.forget_key(1);
-    assert!(rt; keys.look(1) == None);
-    assert!(rt; keys.len() == 4);
-    assert!(rt; has(&keys, 1, i32::MAX, Id::of(13, 0)));
+    holds!(rt; keys.look(1) == None);
+    holds!(rt; keys.len() == 4);
+    holds!(rt; has(&keys, 1, i32::MAX, Id::of(13, 0)));
     Ok(())
 }

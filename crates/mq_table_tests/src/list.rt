@@ -119,7 +119,7 @@ fn follow<J: Naming, R: Abort + Wait>(
     shows(rt, reader, REMOVED);
     let left = waiting.len();
     discard(waiting);
-    assert!(rt; left == 0 && log.len() == REMOVED + 1);
+    holds!(rt; left == 0 && log.len() == REMOVED + 1);
 }
 
 fn are_of<J: Naming>(readers: &[BoardReader<J>], board: u8) -> bool
@@ -146,7 +146,7 @@ fn listed<J: Naming, R: Abort + Wait>(
         writer.close(rt);
         panic!(rt; "readers of another board");
     }
-    assert!(rt; told == row_after(REMOVED));
+    holds!(rt; told == row_after(REMOVED));
     Ok(())
 }
 
@@ -157,6 +157,6 @@ fn run<R: Abort + Wait>(rt: &R, alloc: Global) -> Result<(), AllocError> {
 #[test]
 fn a_list_of_calls_answers_as_if_memory_had_never_run_out(rt: HostRuntime) {
     if run(&rt, rt.alloc()).is_err() {
-        assert!(rt; run(&rt, rt.alloc()).is_ok(), "no memory for a board");
+        holds!(rt; run(&rt, rt.alloc()).is_ok(), "no memory for a board");
     }
 }

@@ -89,6 +89,6 @@ fn run<R: Wait>(rt: &R, alloc: Global) -> Result<BoardRow, AllocError> {
 #[test]
 fn a_hundred_thousand_events_are_shown(rt: HostRuntime) -> Result<(), Fail> {
     let row = run(&rt, rt.alloc())?;
-    assert!(rt; row.made == 50_000 && !row.live && row.key == 0);
+    holds!(rt; row.made == 50_000 && !row.live && row.key == 0);
     Ok(())
 }

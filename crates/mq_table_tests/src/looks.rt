@@ -105,13 +105,13 @@ fn watched_by<R: Threads + Wait + Sync>(
 #[test]
 fn what_waits_never_falls_beside_two_readers(rt: HostRuntime) -> Result<(), Fail> {
     let right = watched_by(&rt, rt.alloc(), 2)?;
-    assert!(rt; right);
+    holds!(rt; right);
     Ok(())
 }
 
 #[test]
 fn what_waits_never_falls_beside_sixteen_readers(rt: HostRuntime) -> Result<(), Fail> {
     let right = watched_by(&rt, rt.alloc(), 16)?;
-    assert!(rt; right);
+    holds!(rt; right);
     Ok(())
 }

@@ -135,7 +135,7 @@ fn each_event_of_a_slot_is_noticed_with_its_figures(rt: HostRuntime) -> Result<(
     let mut slot = Place::new(rt.alloc(), 8);
     let told = tells_all(&mut keys, &mut slot, text);
     close(slot);
-    assert!(rt; told?, "not told");
+    holds!(rt; told?, "not told");
     Ok(())
 }
 
@@ -155,8 +155,8 @@ fn a_notice_that_refuses_leaves_slot_and_keys(rt: HostRuntime) -> Result<(), Fai
     let kept = removes(&mut keys, &mut slot, &mut refuses).is_err();
     let there = keys.look(9).is_some() && slot.events() == 1 && slot.is_live();
     close(slot);
-    assert!(rt; unmade && left);
-    assert!(rt; made, "out of memory");
-    assert!(rt; kept && there && refuses.event.is_none());
+    holds!(rt; unmade && left);
+    holds!(rt; made, "out of memory");
+    holds!(rt; kept && there && refuses.event.is_none());
     Ok(())
 }

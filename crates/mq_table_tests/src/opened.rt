@@ -36,6 +36,6 @@ fn run<R: Wait>(rt: &R, alloc: Global) -> Result<bool, AllocError> {
 
 #[test]
 fn boards_that_are_opened_together_are_made_by_their_numbers(rt: HostRuntime) -> Result<(), Fail> {
-    assert!(rt; run(&rt, rt.alloc())?);
+    holds!(rt; run(&rt, rt.alloc())?);
     Ok(())
 }

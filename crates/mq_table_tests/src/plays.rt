@@ -169,7 +169,7 @@ fn check(
     steps: &[Step],
     answers: &[Answer],
 ) -> Result<(), AllocError> {
-    assert!(rt; played(alloc, number, steps)?.as_slice() == answers);
+    holds!(rt; played(alloc, number, steps)?.as_slice() == answers);
     Ok(())
 }
 

@@ -3,9 +3,9 @@
 ghost use Rattle.std.specs.Prelude.{◌≡◌, ◌++◌, ◌∷◌, [], IfOk, OnErr};
 ghost use Rattle.std.specs.List.{All};
 ghost use Rattle.mq_queue.specs.Base.{base_of};
-ghost use Rattle.mq_board.specs.Writers.{IsReady, posting};
+ghost use Rattle.mq_board.specs.Writers.{HasOnePending, posting};
 
-use mq_board::{BoardReader, BoardWriter, Copies, Naming, Told};
+use mq_board::{BoardReader, BoardWriter, Copies, Naming, PublishedList};
 use mq_message::{Message, VecBody};
 use mq_queue::{Event, Figures, Notice, QueueState};
 use mq_select::{ListWaiting, discard};
@@ -21,7 +21,7 @@ pub(crate) fn publish<J: Naming, R: Wait>(
     event: Event,
     after: Figures,
 ) -> Result<(), AllocError>
-    requires ready { IsReady writer.old.events (posting event after ∷ []) }
+    requires ready { HasOnePending writer.old.events (posting event after ∷ []) }
     requires idle { writer.old.pending ≡ [] }
     ensures { IfOk result (λ _. (writer.new.events ≡ writer.old.events ++ event ∷ [])
         × (writer.new.pending ≡ [])) }
@@ -103,6 +103,6 @@ pub(crate) fn of_board<J: Naming>(
 }
 
 /// Whether the reader learns a list, which has to be told by its board.
-pub(crate) fn learns<J: Naming>(reader: &mut BoardReader<J>, told: Told<J>) -> bool {
+pub(crate) fn learns<J: Naming>(reader: &mut BoardReader<J>, told: PublishedList<J>) -> bool {
     reader.board() == told.board() && reader.learn(told)
 }

@@ -103,17 +103,17 @@ fn an_id_is_never_given_then_live_then_removed_for_good(rt: HostRuntime) -> Resu
     for seq in 0..4u32 {
         let id = Id::of(63, seq);
         let next = Id::of(63, seq + 1);
-        assert!(rt; look(&slot, id) == Some(Err(IdRefusal::Never)));
-        assert!(rt; make(&mut keys, &mut slot, 0, MAX_SEQ) == Some(id));
-        assert!(rt; look(&slot, id) == Some(Ok(())));
-        assert!(rt; look(&slot, next) == Some(Err(IdRefusal::Never)));
-        assert!(rt; look(&slot, last) == Some(Err(IdRefusal::Never)));
+        holds!(rt; look(&slot, id) == Some(Err(IdRefusal::Never)));
+        holds!(rt; make(&mut keys, &mut slot, 0, MAX_SEQ) == Some(id));
+        holds!(rt; look(&slot, id) == Some(Ok(())));
+        holds!(rt; look(&slot, next) == Some(Err(IdRefusal::Never)));
+        holds!(rt; look(&slot, last) == Some(Err(IdRefusal::Never)));
         for earlier in 0..seq {
-            assert!(rt; look(&slot, Id::of(63, earlier)) == Some(Err(IdRefusal::Removed)));
+            holds!(rt; look(&slot, Id::of(63, earlier)) == Some(Err(IdRefusal::Removed)));
         }
-        assert!(rt; remove(&mut keys, &mut slot).is_some());
-        assert!(rt; look(&slot, id) == Some(Err(IdRefusal::Removed)));
-        assert!(rt; slot.made() == seq + 1);
+        holds!(rt; remove(&mut keys, &mut slot).is_some());
+        holds!(rt; look(&slot, id) == Some(Err(IdRefusal::Removed)));
+        holds!(rt; slot.made() == seq + 1);
     }
     close(slot);
     Ok(())
@@ -131,20 +131,20 @@ fn removal_forgets_that_key_and_the_others_keep_their_order(rt: HostRuntime) -> 
     let _ = make(&mut keys, &mut private, 0, 9);
     let _ = make(&mut keys, &mut first, i32::MIN, 9);
     let _ = make(&mut keys, &mut third, 5, 9);
-    assert!(rt; keys.len() == 3);
+    holds!(rt; keys.len() == 3);
     // A queue without a key takes none with it.
-    assert!(rt; remove(&mut keys, &mut private).is_some());
-    assert!(rt; keys.len() == 3);
-    assert!(rt; remove(&mut keys, &mut second).is_some());
-    assert!(rt; keys.look(-1) == None);
-    assert!(rt;
+    holds!(rt; remove(&mut keys, &mut private).is_some());
+    holds!(rt; keys.len() == 3);
+    holds!(rt; remove(&mut keys, &mut second).is_some());
+    holds!(rt; keys.look(-1) == None);
+    holds!(rt;
         keys.entry(0)
             == Some(KeyEntry {
                 key: i32::MIN,
                 id: Id::of(0, 0)
             })
     );
-    assert!(rt;
+    holds!(rt;
         keys.entry(1)
             == Some(KeyEntry {
                 key: 5,
@@ -152,8 +152,8 @@ fn removal_forgets_that_key_and_the_others_keep_their_order(rt: HostRuntime) -> 
             })
     );
     // The same key goes last again, with the slot's next id.
-    assert!(rt; make(&mut keys, &mut second, -1, 9) == Some(Id::of(1, 1)));
-    assert!(rt;
+    holds!(rt; make(&mut keys, &mut second, -1, 9) == Some(Id::of(1, 1)));
+    holds!(rt;
         keys.entry(2)
             == Some(KeyEntry {
                 key: -1,
@@ -216,35 +216,35 @@ const MADE: Event = Event::Made {
 
 /// The slot shows its first queue.
 fn shows_live(rt: &impl Abort, slot: &Place) {
-    assert!(rt; slot.row() == LIVE);
-    assert!(rt; slot.offset() == 0);
+    holds!(rt; slot.row() == LIVE);
+    holds!(rt; slot.offset() == 0);
     if slot.is_live() {
-        assert!(rt; slot.figures() == FIGURES);
-        assert!(rt; slot.key() == 9);
-        assert!(rt; slot.last_id() == Id::of(8, 0));
+        holds!(rt; slot.figures() == FIGURES);
+        holds!(rt; slot.key() == 9);
+        holds!(rt; slot.last_id() == Id::of(8, 0));
     }
 }
 
 /// The slot shows the three events of its first queue, and the making of its second.
 fn shows_events(rt: &impl Abort, slot: &Place) {
-    assert!(rt; slot.offset() == 3);
-    assert!(rt; slot.events() == 4);
-    assert!(rt; slot.event(2) == Some(REMOVED));
-    assert!(rt; slot.event(3) == Some(MADE));
-    assert!(rt; slot.event(4) == None);
-    assert!(rt; slot.event(u64::MAX) == None);
+    holds!(rt; slot.offset() == 3);
+    holds!(rt; slot.events() == 4);
+    holds!(rt; slot.event(2) == Some(REMOVED));
+    holds!(rt; slot.event(3) == Some(MADE));
+    holds!(rt; slot.event(4) == None);
+    holds!(rt; slot.event(u64::MAX) == None);
 }
 
 /// The slot is taken apart into those events.
 fn has_parts(rt: &impl Abort, slot: Place) {
     let (cut, live) = slot.into_parts();
-    assert!(rt; cut.past.len() == 3);
-    assert!(rt; cut.past[2] == REMOVED);
-    assert!(rt; live.is_some());
+    holds!(rt; cut.past.len() == 3);
+    holds!(rt; cut.past[2] == REMOVED);
+    holds!(rt; live.is_some());
     if let Some(queue) = live {
         let (log, waiting) = queue.into_parts();
         discard(waiting);
-        assert!(rt; log.get(0) == Some(MADE));
+        holds!(rt; log.get(0) == Some(MADE));
     }
 }
 
@@ -254,14 +254,14 @@ fn a_slot_shows_the_queue_that_is_in_it(rt: HostRuntime) -> Result<(), Fail> {
     let five = message(alloc, 1, 5)?;
     let mut keys = KeyTable::new(alloc);
     let mut slot = Place::new(alloc, 8);
-    assert!(rt; slot.row() == EMPTY);
-    assert!(rt; slot.key() == 0);
+    holds!(rt; slot.row() == EMPTY);
+    holds!(rt; slot.key() == 0);
     let _ = make(&mut keys, &mut slot, 9, 1);
-    assert!(rt; sent(&mut slot, five) == Answer::At(1));
+    holds!(rt; sent(&mut slot, five) == Answer::At(1));
     shows_live(&rt, &slot);
-    assert!(rt; remove(&mut keys, &mut slot).is_some());
-    assert!(rt; slot.row() == BoardRow { made: 1, ..EMPTY });
-    assert!(rt; slot.offset() == 3);
+    holds!(rt; remove(&mut keys, &mut slot).is_some());
+    holds!(rt; slot.row() == BoardRow { made: 1, ..EMPTY });
+    holds!(rt; slot.offset() == 3);
     let _ = make(&mut keys, &mut slot, 7, 1);
     shows_events(&rt, &slot);
     has_parts(&rt, slot);
@@ -276,21 +276,21 @@ fn a_slot_shows_its_queue_as_before_a_cut(rt: HostRuntime) -> Result<(), Fail> {
     let mut keys = KeyTable::new(alloc);
     let mut slot = Place::new(alloc, 8);
     let _ = make(&mut keys, &mut slot, 9, 1);
-    assert!(rt; sent(&mut slot, five) == Answer::At(1));
-    assert!(rt; cut(&mut slot).is_some());
+    holds!(rt; sent(&mut slot, five) == Answer::At(1));
+    holds!(rt; cut(&mut slot).is_some());
     shows_live(&rt, &slot);
-    assert!(rt; slot.first() == 2 && slot.events() == 2);
-    assert!(rt; slot.event(0) == None && slot.event(2) == None);
-    assert!(rt; look(&slot, Id::of(8, 0)) == Some(Ok(())));
-    assert!(rt; remove(&mut keys, &mut slot).is_some());
-    assert!(rt; slot.row() == BoardRow { made: 1, ..EMPTY });
-    assert!(rt; slot.key() == 0 && slot.offset() == 3);
-    assert!(rt; slot.event(1) == None && slot.event(2) == Some(REMOVED));
-    assert!(rt; cut(&mut slot).is_some());
-    assert!(rt; look(&slot, Id::of(8, 0)) == Some(Err(IdRefusal::Removed)));
+    holds!(rt; slot.first() == 2 && slot.events() == 2);
+    holds!(rt; slot.event(0) == None && slot.event(2) == None);
+    holds!(rt; look(&slot, Id::of(8, 0)) == Some(Ok(())));
+    holds!(rt; remove(&mut keys, &mut slot).is_some());
+    holds!(rt; slot.row() == BoardRow { made: 1, ..EMPTY });
+    holds!(rt; slot.key() == 0 && slot.offset() == 3);
+    holds!(rt; slot.event(1) == None && slot.event(2) == Some(REMOVED));
+    holds!(rt; cut(&mut slot).is_some());
+    holds!(rt; look(&slot, Id::of(8, 0)) == Some(Err(IdRefusal::Removed)));
     let _ = make(&mut keys, &mut slot, 7, 1);
-    assert!(rt; slot.key() == 7 && slot.offset() == 3);
-    assert!(rt; slot.event(2) == None && slot.event(3) == Some(MADE));
+    holds!(rt; slot.key() == 7 && slot.offset() == 3);
+    holds!(rt; slot.event(2) == None && slot.event(3) == Some(MADE));
     close(slot);
     Ok(())
 }
@@ -303,9 +303,9 @@ fn what_a_cut_left_of_a_removed_queue_is_handed_out(rt: HostRuntime) -> Result<(
     let mut keys = KeyTable::new(alloc);
     let mut slot = Place::new(alloc, 8);
     let _ = make(&mut keys, &mut slot, 9, 1);
-    assert!(rt; sent(&mut slot, five) == Answer::At(1));
-    assert!(rt; cut(&mut slot).is_some());
-    assert!(rt; remove(&mut keys, &mut slot).is_some());
+    holds!(rt; sent(&mut slot, five) == Answer::At(1));
+    holds!(rt; cut(&mut slot).is_some());
+    holds!(rt; remove(&mut keys, &mut slot).is_some());
     let handed = cut(&mut slot);
     close(slot);
     let Some(handed) = handed else {
@@ -315,9 +315,9 @@ fn what_a_cut_left_of_a_removed_queue_is_handed_out(rt: HostRuntime) -> Result<(
     let Some(base) = base else {
         return Err("no base is handed out".into());
     };
-    assert!(rt; past.len() == 1 && past[0] == REMOVED);
-    assert!(rt; base.places == 2 && base.figures == FIGURES);
-    assert!(rt; base.waiting.len() == 1);
-    assert!(rt; base.waiting.get(0).map(|entry| entry.place) == Some(1));
+    holds!(rt; past.len() == 1 && past[0] == REMOVED);
+    holds!(rt; base.places == 2 && base.figures == FIGURES);
+    holds!(rt; base.waiting.len() == 1);
+    holds!(rt; base.waiting.get(0).map(|entry| entry.place) == Some(1));
     Ok(())
 }

@@ -250,7 +250,7 @@ fn a_caller_is_told_each_refusal_by_its_name_whatever_its_size(rt: HostRuntime) 
                 },
             ) => match answer {
                 Ok(()) => {
-                    assert!(rt; free_pages == 256);
+                    holds!(rt; free_pages == 256);
                     return;
                 }
                 Err(wrong) => {

@@ -125,7 +125,7 @@ fn trade<R: Threads + Wait + Sync>(rt: &R, alloc: Global) -> Result<Traded, Work
 fn tells_all(rt: &impl Abort, answer: Result<Counted, Errno>) -> Counted {
     match answer {
         Ok(counted) => {
-            assert!(rt; counted.told == counted.made);
+            holds!(rt; counted.told == counted.made);
             counted
         }
         Err(errno) => panic!(rt; "{errno}"),
@@ -138,14 +138,14 @@ fn entries(slot: &ClosedSlot) -> usize {
 
 /// Two queues were made, and three texts sent and received in each.
 fn has_all(rt: &impl Abort, slots: &[ClosedSlot], one: Counted, other: Counted) {
-    assert!(rt; slots.len() == 4);
+    holds!(rt; slots.len() == 4);
     for k in 0..2usize {
         let both = one.told[k].wrapping_add(other.told[k]);
-        assert!(rt; both == 7);
-        assert!(rt; entries(&slots[k]) == 7);
+        holds!(rt; both == 7);
+        holds!(rt; entries(&slots[k]) == 7);
     }
-    assert!(rt; entries(&slots[2]) == 0);
-    assert!(rt; entries(&slots[3]) == 0);
+    holds!(rt; entries(&slots[2]) == 0);
+    holds!(rt; entries(&slots[3]) == 0);
 }
 
 #[test]

@@ -82,12 +82,12 @@ fn a_call_with_flags_does_not_wait_and_cuts(rt: HostRuntime) {
         };
         match &ended.answer[0] {
             Ok(met) if !met.found_none() => {
-                assert!(rt; met.empty == Some(Errno::ENOMSG));
-                assert!(rt; met.full == Some(Errno::EAGAIN));
-                assert!(rt; met.long == Some(Errno::E2BIG));
-                assert!(rt; met.cut == (10, 65_536));
-                assert!(rt; ended.slots[0].left == 1);
-                assert!(rt; ended.free_pages == 256);
+                holds!(rt; met.empty == Some(Errno::ENOMSG));
+                holds!(rt; met.full == Some(Errno::EAGAIN));
+                holds!(rt; met.long == Some(Errno::E2BIG));
+                holds!(rt; met.cut == (10, 65_536));
+                holds!(rt; ended.slots[0].left == 1);
+                holds!(rt; ended.free_pages == 256);
                 return;
             }
             Err(errno) if *errno != Errno::ENOMEM => panic!(rt; "{errno}"),

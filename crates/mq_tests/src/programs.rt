@@ -87,13 +87,13 @@ fn a_program_runs_once_and_all_that_it_left_comes_back(rt: HostRuntime) {
     else {
         panic!(rt; "no answer");
     };
-    assert!(rt; runs.get() == 1);
-    assert!(rt; answer == Ok((4, 3)));
-    assert!(rt; free_pages == 8);
+    holds!(rt; runs.get() == 1);
+    holds!(rt; answer == Ok((4, 3)));
+    holds!(rt; free_pages == 8);
     let wanted: [(usize, usize, u64); 4] = [(0, 2, 1), (0, 2, 1), (0, 0, 0), (0, 0, 0)];
-    assert!(rt; slots.len() == 4);
+    holds!(rt; slots.len() == 4);
     for (slot, wanted) in slots.iter().zip(wanted) {
-        assert!(rt; (slot.past.len(), slot.last.len(), slot.left) == wanted);
+        holds!(rt; (slot.past.len(), slot.last.len(), slot.left) == wanted);
     }
 }
 
@@ -119,7 +119,7 @@ fn a_size_out_of_its_limits_is_refused_before_the_program_runs(rt: HostRuntime) 
             Err(refusal) => assert_eq!(rt; refusal, SysError::Config, "{config:?}"),
             Ok(_) => panic!(rt; "{config:?}"),
         }
-        assert!(rt; runs.get() == 0);
+        holds!(rt; runs.get() == 0);
     }
 }
 

@@ -92,13 +92,13 @@ fn ended<R: Wait>(
 fn one_thread_calls_at_all_seats(rt: HostRuntime) {
     match ended(&rt, rt.alloc(), SMALL) {
         Ok(ended) => {
-            assert!(rt; ended.answer == Ok((1, 1)));
-            assert!(rt; ended.slots.len() == 4);
-            assert!(rt; ended.free_pages == 32);
+            holds!(rt; ended.answer == Ok((1, 1)));
+            holds!(rt; ended.slots.len() == 4);
+            holds!(rt; ended.free_pages == 32);
             for (place, slot) in ended.slots.iter().enumerate() {
                 let events = if place == 0 { 3 } else { 0 };
-                assert!(rt; slot.last.len() == events);
-                assert!(rt; slot.left == 0);
+                holds!(rt; slot.last.len() == events);
+                holds!(rt; slot.left == 0);
             }
         }
         Err(error) => panic!(rt; "{error}"),
@@ -112,7 +112,7 @@ fn a_system_out_of_its_limits_is_not_made(rt: HostRuntime) {
         ..SMALL
     };
     match ended(&rt, rt.alloc(), config) {
-        Err(error) => assert!(rt; error == SysError::Config),
+        Err(error) => holds!(rt; error == SysError::Config),
         Ok(_) => panic!(rt; "2,048 pages"),
     }
 }

@@ -26,10 +26,10 @@ fn taken<L: OfHeight, R: Abort + Wait>(
     ensures { IfSome result (λ b. b.order ≡ order) }
 {
     let block = arena.take_filled(rt, order, &[letter; 1500]).ok()?;
-    assert!(rt; out.fetch_add(1, Ordering::SeqCst) <= 1);
-    assert!(rt; block.part(0)[0] == letter);
-    assert!(rt; block.part(1)[475] == letter);
-    assert!(rt; block.part(1)[476] == 0);
+    holds!(rt; out.fetch_add(1, Ordering::SeqCst) <= 1);
+    holds!(rt; block.part(0)[0] == letter);
+    holds!(rt; block.part(1)[475] == letter);
+    holds!(rt; block.part(1)[476] == 0);
     Some(block)
 }
 
@@ -41,7 +41,7 @@ fn given<L: OfHeight, R: Abort + Wait>(
 ) {
     if let Some(block) = block {
         out.fetch_sub(1, Ordering::SeqCst);
-        assert!(rt; arena.put(rt, block) == Homecoming::Home);
+        holds!(rt; arena.put(rt, block) == Homecoming::Home);
     }
 }
 
@@ -85,11 +85,11 @@ fn shared<L: OfHeight + Send + Sync, R: Abort + Threads + Wait + Sync>(
         || takes_and_gives(rt, &arena, &out, order, b'B'),
     );
     if let Ok(block) = arena.take(rt, order) {
-        assert!(rt; block.part(0)[0] == 0);
-        assert!(rt; arena.put(rt, block) == Homecoming::Home);
+        holds!(rt; block.part(0)[0] == 0);
+        holds!(rt; arena.put(rt, block) == Homecoming::Home);
     }
     let state = arena.into_state();
-    assert!(rt; state.free_pages() == state.pages());
+    holds!(rt; state.free_pages() == state.pages());
 }
 
 #[test]

@@ -25,18 +25,18 @@ fn taken_at<L: Ledger>(
     ensures { result.order ≡ order }
 {
     let block = taken(rt, arena, order);
-    assert!(rt; block.start() == start);
+    holds!(rt; block.start() == start);
     block
 }
 
 fn given<L: Ledger>(rt: &impl Abort, arena: &mut ArenaState<L>, block: Block<L>) {
-    assert!(rt; arena.put(block) == Homecoming::Home);
+    holds!(rt; arena.put(block) == Homecoming::Home);
 }
 
 /// Blocks of each order up to that one fit, and none of an order over it; where it is `None`, none
 /// at all.
 fn fits_to<L: Ledger>(rt: &impl Abort, arena: &mut ArenaState<L>, most: Option<u8>) {
-    assert!(rt; arena.largest() == most);
+    holds!(rt; arena.largest() == most);
     for order in 0..=MAX_ORDER {
         match asked(rt, arena, order) {
             Ok(block) => {
@@ -44,7 +44,7 @@ fn fits_to<L: Ledger>(rt: &impl Abort, arena: &mut ArenaState<L>, most: Option<u
                 assert!(rt; Some(order) <= most, "a block of order {order}");
             }
             Err(refusal) => {
-                assert!(rt; refusal == TakeError::NoRun);
+                holds!(rt; refusal == TakeError::NoRun);
                 assert!(rt; most < Some(order), "no block of order {order}");
             }
         }
@@ -54,17 +54,17 @@ fn fits_to<L: Ledger>(rt: &impl Abort, arena: &mut ArenaState<L>, most: Option<u
 fn shows<L: Ledger>(rt: &impl Abort, block: &Block<L>, bytes: &[u8]) {
     let mut rest = bytes;
     for part in block.parts_to(bytes.len()) {
-        assert!(rt; part.len() <= rest.len());
+        holds!(rt; part.len() <= rest.len());
         let (now, later) = rest.split_at(part.len());
-        assert!(rt; part == now);
+        holds!(rt; part == now);
         rest = later;
     }
-    assert!(rt; rest.is_empty());
+    holds!(rt; rest.is_empty());
 }
 
 fn are_zero(rt: &impl Abort, bytes: &[u8]) {
     for byte in bytes {
-        assert!(rt; *byte == 0);
+        holds!(rt; *byte == 0);
     }
 }
 
@@ -78,10 +78,10 @@ fn written<L: Ledger>(rt: &impl Abort, arena: &mut ArenaState<L>, order: u8, let
     shows(rt, &block, letters);
     block.part_mut(last)[1023] = 9;
     block.front_mut(0, 5).fill(8);
-    assert!(rt; block.part(0)[4] == 8);
-    assert!(rt; block.part(0)[5] == 7);
-    assert!(rt; block.part(last)[1022] == 7);
-    assert!(rt; block.part(last)[1023] == 9);
+    holds!(rt; block.part(0)[4] == 8);
+    holds!(rt; block.part(0)[5] == 7);
+    holds!(rt; block.part(last)[1022] == 7);
+    holds!(rt; block.part(last)[1023] == 9);
     given(rt, arena, block);
 }
 
@@ -92,7 +92,7 @@ fn zero_again<L: Ledger>(rt: &impl Abort, arena: &mut ArenaState<L>, order: u8)
     for part in block.parts() {
         are_zero(rt, part);
     }
-    assert!(rt; block.parts().count() == 1 << order);
+    holds!(rt; block.parts().count() == 1 << order);
     given(rt, arena, block);
 }
 
@@ -102,9 +102,9 @@ fn filled_again<L: Ledger>(rt: &impl Abort, arena: &mut ArenaState<L>, order: u8
     requires two { 2 ≤ 2 ^ order }
 {
     let block = taken_filled(rt, arena, order, &[5; 1500]);
-    assert!(rt; block.start() == 0);
+    holds!(rt; block.start() == 0);
     shows(rt, &block, &[5; 1500]);
-    assert!(rt; block.part(1)[475] == 5);
+    holds!(rt; block.part(1)[475] == 5);
     are_zero(rt, &block.part(1)[476..]);
     for part in block.parts().skip(2) {
         are_zero(rt, part);
@@ -160,20 +160,20 @@ fn fills_up<L: Ledger>(rt: &impl Abort, unopened: Unopened, ledger: Blank)
     requires enough { 2 ^ unopened < ledger.parts }
 {
     let mut arena = unopened.open::<L>(ledger);
-    assert!(rt; arena.pages() == 4);
+    holds!(rt; arena.pages() == 4);
     fits_to(rt, &mut arena, Some(2));
     let mut pair = taken_at(rt, &mut arena, 1, 0);
     let one = taken_at(rt, &mut arena, 0, 2);
     fits_to(rt, &mut arena, Some(0));
-    assert!(rt; arena.free_pages() == 1);
-    assert!(rt; arena.lent_pages() == 3);
+    holds!(rt; arena.free_pages() == 1);
+    holds!(rt; arena.lent_pages() == 3);
 
     arena.account(from_mut(&mut pair));
     given(rt, &mut arena, pair);
     fits_to(rt, &mut arena, Some(1));
     given(rt, &mut arena, one);
     fits_to(rt, &mut arena, Some(2));
-    assert!(rt; arena.lent_pages() == 0);
+    holds!(rt; arena.lent_pages() == 0);
 }
 
 #[test]
@@ -256,17 +256,17 @@ fn taken_at_last<L: Ledger>(rt: &impl Abort, arena: &mut ArenaState<L>, order: u
         Ok(block) => given(rt, arena, block),
         Err(TakeError::NoRun) => panic!(rt; "no run"),
         Err(TakeError::Memory) => {
-            assert!(rt; arena.free_pages() == 64);
-            assert!(rt; arena.largest() == Some(6));
+            holds!(rt; arena.free_pages() == 64);
+            holds!(rt; arena.largest() == Some(6));
             let Ok(block) = arena.take(order) else {
                 panic!(rt; "refused once more");
             };
-            assert!(rt; block.start() == 0);
-            assert!(rt; arena.lent_pages() == 1 << order);
+            holds!(rt; block.start() == 0);
+            holds!(rt; arena.lent_pages() == 1 << order);
             given(rt, arena, block);
         }
     }
-    assert!(rt; arena.free_pages() == 64);
+    holds!(rt; arena.free_pages() == 64);
 }
 
 fn each_taken_at_last<L: Ledger>(rt: &impl Abort, unopened: Unopened, ledger: Blank)
@@ -295,11 +295,11 @@ fn is_cut<L: Ledger>(rt: &impl Abort, block: &Block<L>, i: usize, letters: (u8, 
     for part in block.parts() {
         let want = if k < i { letters.0 } else { letters.1 };
         for byte in part {
-            assert!(rt; *byte == want);
+            holds!(rt; *byte == want);
         }
         k = k.saturating_add(1);
     }
-    assert!(rt; k == 1 << block.order());
+    holds!(rt; k == 1 << block.order());
 }
 
 fn cut_at<L: Ledger, R: Abort + Threads>(
@@ -349,7 +349,7 @@ fn halves<L: Ledger, R: Abort + Threads>(
     cut_at(rt, &mut block, 1, first, second);
     cut_at(rt, &mut block, count / 2, first, second);
     cut_at(rt, &mut block, count, first, second);
-    assert!(rt; block.order() == order);
+    holds!(rt; block.order() == order);
     given(rt, &mut arena, block);
 }
 
@@ -383,9 +383,9 @@ fn two_threads_write_the_two_halves(rt: HostRuntime) -> Result<(), Fail> {
 fn an_arena_is_refused_by_height_and_by_memory_alone(rt: HostRuntime) {
     match Unopened::new(rt.alloc(), 11) {
         Ok(_) => panic!(rt; "a height of 11"),
-        Err(refused) => assert!(rt; refused == TreeError::Height),
+        Err(refused) => holds!(rt; refused == TreeError::Height),
     }
     if let Err(refused) = Unopened::new(rt.alloc(), 2) {
-        assert!(rt; refused == TreeError::Memory);
+        holds!(rt; refused == TreeError::Memory);
     }
 }

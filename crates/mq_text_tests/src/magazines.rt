@@ -87,7 +87,7 @@ fn kept<L: OfHeight, R: Abort + Wait>(
     lacks_a_page(rt, &mut magazine);
     fills(rt, &arena, &mut magazine);
     lacks_a_page(rt, &mut magazine);
-    assert!(rt;
+    holds!(rt;
         emptied(rt, &arena, &mut magazine, 1) == 4,
         "it kept eight pages"
     );
@@ -96,12 +96,12 @@ fn kept<L: OfHeight, R: Abort + Wait>(
     let Some(block) = magazine.pop() else {
         panic!(rt; "it is empty");
     };
-    assert!(rt; block.order() == 1);
+    holds!(rt; block.order() == 1);
     arena.put(rt, block);
     arena.put_all(rt, &mut magazine);
     magazine.end();
     let state = arena.into_state();
-    assert!(rt; state.free_pages() == state.pages(), "all pages are home");
+    holds!(rt; state.free_pages() == state.pages(), "all pages are home");
     Ok(())
 }
 

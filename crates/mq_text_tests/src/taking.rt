@@ -22,8 +22,8 @@ pub(crate) fn asked<L: Ledger>(
     let before = (arena.lent_pages(), arena.largest());
     match arena.take(order) {
         Err(TakeError::Memory) => {
-            assert!(rt; order > INLINE_ORDER, "a small block is refused");
-            assert!(rt; (arena.lent_pages(), arena.largest()) == before);
+            holds!(rt; order > INLINE_ORDER, "a small block is refused");
+            holds!(rt; (arena.lent_pages(), arena.largest()) == before);
             arena.take(order)
         }
         answer => answer,
@@ -56,8 +56,8 @@ pub(crate) fn taken_filled<L: Ledger>(
     let before = (arena.lent_pages(), arena.largest());
     let answer = match arena.take_filled(order, bytes) {
         Err(TakeError::Memory) => {
-            assert!(rt; order > INLINE_ORDER, "a small block is refused");
-            assert!(rt; (arena.lent_pages(), arena.largest()) == before);
+            holds!(rt; order > INLINE_ORDER, "a small block is refused");
+            holds!(rt; (arena.lent_pages(), arena.largest()) == before);
             arena.take_filled(order, bytes)
         }
         answer => answer,
@@ -89,8 +89,8 @@ pub(crate) fn text_of<L: Ledger>(
     let before = (arena.lent_pages(), arena.largest());
     let answer = match Text::of_bytes(arena, bytes) {
         Err(TakeError::Memory) => {
-            assert!(rt; bytes.len() > INLINE_LEN, "a short text is refused");
-            assert!(rt; (arena.lent_pages(), arena.largest()) == before);
+            holds!(rt; bytes.len() > INLINE_LEN, "a short text is refused");
+            holds!(rt; (arena.lent_pages(), arena.largest()) == before);
             Text::of_bytes(arena, bytes)
         }
         answer => answer,

@@ -13,16 +13,16 @@ use std::thread::Threads;
 
 pub(crate) fn home<L: Ledger>(rt: &impl Abort, arena: &mut ArenaState<L>, text: Text<L>) {
     match text.into_block() {
-        Some(block) => assert!(rt; arena.put(block) == Homecoming::Home),
+        Some(block) => holds!(rt; arena.put(block) == Homecoming::Home),
         None => panic!(rt; "no block"),
     }
-    assert!(rt; arena.lent_pages() == 0);
+    holds!(rt; arena.lent_pages() == 0);
 }
 
 pub(crate) fn holds(rt: &impl Abort, part: &[u8], len: usize, letter: u8) {
-    assert!(rt; part.len() == len);
+    holds!(rt; part.len() == len);
     for byte in part {
-        assert!(rt; *byte == letter);
+        holds!(rt; *byte == letter);
     }
 }
 
@@ -30,16 +30,16 @@ fn shows<L: Ledger>(rt: &impl Abort, text: &Text<L>, bytes: &[u8]) {
     let mut rest = bytes;
     let mut i: usize = 0;
     for part in text.parts() {
-        assert!(rt; part.len() <= rest.len());
+        holds!(rt; part.len() <= rest.len());
         let (now, later) = rest.split_at(part.len());
-        assert!(rt; part == now);
-        assert!(rt; i < text.count());
-        assert!(rt; part == text.part(i));
+        holds!(rt; part == now);
+        holds!(rt; i < text.count());
+        holds!(rt; part == text.part(i));
         rest = later;
         i = i.saturating_add(1);
     }
-    assert!(rt; rest.is_empty());
-    assert!(rt; i == text.count());
+    holds!(rt; rest.is_empty());
+    holds!(rt; i == text.count());
 }
 
 fn filled_at<L: Ledger, R: Abort + Threads>(rt: &R, text: &mut Text<L>, i: usize, bytes: &[u8])
@@ -79,8 +79,8 @@ fn two_threads<L: Ledger, R: Abort + Threads>(
     let block = taken(rt, &mut arena, 2);
     let mut text = Text::of(block, 2050);
     arena.put(before);
-    assert!(rt; text.len() == 2050);
-    assert!(rt; text.start() == Some(4));
+    holds!(rt; text.len() == 2050);
+    holds!(rt; text.start() == Some(4));
     shows(rt, &text, &[0; 2050]);
     filled_at(rt, &mut text, 1, letters);
     holds(rt, text.part(0), 1024, b'A');
@@ -94,7 +94,7 @@ fn two_threads<L: Ledger, R: Abort + Threads>(
     part_filled(&mut text, 0, b'D');
     holds(rt, text.part(0), 1024, b'D');
     holds(rt, text.part(1), 1024, b'B');
-    assert!(rt; text.start() == Some(4));
+    holds!(rt; text.start() == Some(4));
     home(rt, &mut arena, text);
 }
 
@@ -149,13 +149,13 @@ fn longest_filled<L: Ledger, R: Abort + Threads>(
     let before = taken(rt, &mut arena, 6);
     let mut text = drafted(rt, &mut arena, TEXT_LEN);
     arena.put(before);
-    assert!(rt; text.count() == 64);
-    assert!(rt; text.start() == Some(64));
+    holds!(rt; text.count() == 64);
+    holds!(rt; text.start() == Some(64));
     is_zero(rt, &text);
     most_filled(rt, &mut text, letters);
     ends_filled(rt, &mut text);
-    assert!(rt; text.start() == Some(64));
-    assert!(rt; arena.lent_pages() == 64);
+    holds!(rt; text.start() == Some(64));
+    holds!(rt; arena.lent_pages() == 64);
     home(rt, &mut arena, text);
 }
 
@@ -176,14 +176,14 @@ fn pages_lent<L: Ledger, R: Abort + Threads>(rt: &R, unopened: Unopened, ledger:
     let mut arena = unopened.open::<L>(ledger);
     let block = taken(rt, &mut arena, 1);
     let mut text = Text::of(block, 1030);
-    assert!(rt; text.len() == 1030);
+    holds!(rt; text.len() == 1030);
     text.write_halves(
         rt,
         1,
         |pages: &mut [Page]| fill(pages, &[b'A'; 1024]),
         |pages: &mut [Page]| fill(pages, &[b'B'; 1024]),
     );
-    assert!(rt; text.len() == 1030);
+    holds!(rt; text.len() == 1030);
     holds(rt, text.part(0), 1024, b'A');
     holds(rt, text.part(1), 6, b'B');
     home(rt, &mut arena, text);
@@ -239,7 +239,7 @@ fn two_threads_write_the_pages_of_a_text_of_64_parts(rt: HostRuntime) -> Result<
 fn is_zero<L: Ledger>(rt: &impl Abort, text: &Text<L>) {
     for part in text.parts() {
         for byte in part {
-            assert!(rt; *byte == 0);
+            holds!(rt; *byte == 0);
         }
     }
 }
@@ -250,9 +250,9 @@ fn filled<L: Ledger>(rt: &impl Abort, arena: &mut ArenaState<L>, letters: &[u8],
     requires most { length letters.now ≤ TEXT_LEN }
 {
     let mut text = drafted(rt, arena, letters.len());
-    assert!(rt; text.count() == count);
+    holds!(rt; text.count() == count);
     is_zero(rt, &text);
-    assert!(rt; text.len() == letters.len() as u64);
+    holds!(rt; text.len() == letters.len() as u64);
     text.fill(letters);
     shows(rt, &text, letters);
     home(rt, arena, text);
@@ -264,7 +264,7 @@ fn made<L: Ledger>(rt: &impl Abort, arena: &mut ArenaState<L>, letters: &[u8], o
     requires most { length letters.now ≤ TEXT_LEN }
 {
     let text = text_of(rt, arena, letters);
-    assert!(rt; text.order() == Some(order));
+    holds!(rt; text.order() == Some(order));
     shows(rt, &text, letters);
     home(rt, arena, text);
 }
@@ -283,7 +283,7 @@ fn size_drafted<L: Ledger>(
     requires most { len ≤ TEXT_LEN }
 {
     let letters = &letters[..len];
-    assert!(rt; order_for(len) == order);
+    holds!(rt; order_for(len) == order);
     filled(rt, arena, letters, count);
     made(rt, arena, letters, order);
 }
@@ -322,7 +322,7 @@ fn a_drafted_text_is_zero_and_can_be_filled(rt: HostRuntime) -> Result<(), Fail>
 fn cut_to<B: Body>(rt: &impl Abort, body: &mut B, n: u64) {
     let len = body.len();
     body.cut(n);
-    assert!(rt; body.len() == len.min(n));
+    holds!(rt; body.len() == len.min(n));
 }
 
 fn cut_and_spent<L: Ledger>(rt: &impl Abort, unopened: Unopened, ledger: Blank)
@@ -334,13 +334,13 @@ fn cut_and_spent<L: Ledger>(rt: &impl Abort, unopened: Unopened, ledger: Blank)
     let block = taken(rt, &mut arena, 2);
     let mut text = Text::of(block, 2050);
     cut_to(rt, &mut text, 3000);
-    assert!(rt; text.count() == 3);
+    holds!(rt; text.count() == 3);
     cut_to(rt, &mut text, 2048);
-    assert!(rt; text.count() == 2);
+    holds!(rt; text.count() == 2);
     cut_to(rt, &mut text, 0);
     shows(rt, &text, &[]);
-    assert!(rt; text.start() == Some(0));
-    assert!(rt; arena.lent_pages() == 4);
+    holds!(rt; text.start() == Some(0));
+    holds!(rt; arena.lent_pages() == 4);
     home(rt, &mut arena, text);
 }
 
@@ -369,12 +369,12 @@ fn longest_cut<L: Ledger>(rt: &impl Abort, unopened: Unopened, ledger: Blank)
         (0, 0),
     ] {
         cut_to(rt, &mut text, len);
-        assert!(rt; text.count() == count);
-        assert!(rt; text.order() == Some(6));
+        holds!(rt; text.count() == count);
+        holds!(rt; text.order() == Some(6));
     }
     shows(rt, &text, &[]);
-    assert!(rt; text.start() == Some(0));
-    assert!(rt; arena.lent_pages() == 64);
+    holds!(rt; text.start() == Some(0));
+    holds!(rt; arena.lent_pages() == 64);
     home(rt, &mut arena, text);
 }
 
@@ -395,8 +395,8 @@ fn has_nothing<L: Ledger, R: Abort + Threads>(rt: &R, unopened: Unopened, ledger
     filled_at(rt, &mut text, 0, &[]);
     text.fill(&[]);
     cut_to(rt, &mut text, 5);
-    assert!(rt; text.count() == 0);
-    assert!(rt; text.start() == None);
+    holds!(rt; text.count() == 0);
+    holds!(rt; text.start() == None);
     if let Some(block) = text.into_block() {
         arena.put(block);
         panic!(rt; "a block");
@@ -414,8 +414,8 @@ fn the_empty_text_has_no_block_and_no_part(rt: HostRuntime) -> Result<(), Fail> 
 fn a_vector_is_a_body(rt: HostRuntime) -> Result<(), Fail> {
     let mut body = VecBody::from_slice(rt.alloc(), b"hello")?;
     cut_to(&rt, &mut body, 4);
-    assert!(rt; body.bytes() == b"hell".as_slice());
+    holds!(rt; body.bytes() == b"hell".as_slice());
     let body = VecBody::from_vec(vec![in rt.alloc(); b'x'; 3]?);
-    assert!(rt; body.bytes() == b"xxx".as_slice());
+    holds!(rt; body.bytes() == b"xxx".as_slice());
     Ok(())
 }

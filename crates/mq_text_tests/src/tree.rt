@@ -7,7 +7,7 @@ fn tree_of(rt: &impl Abort, alloc: Global, height: u8) -> OrderTree {
     match OrderTree::new(alloc, height) {
         Ok(tree) => tree,
         Err(e) => {
-            assert!(rt; e == TreeError::Memory);
+            holds!(rt; e == TreeError::Memory);
             OrderTree::new(alloc, height).expect(rt, "memory is refused once at most")
         }
     }
@@ -126,41 +126,41 @@ impl Plain {
 fn step(rt: &impl Abort, tree: &mut OrderTree, plain: &mut Plain, choice: u32) {
     if choice <= plain.height as u32 {
         let order = choice as u8;
-        assert!(rt; tree.lend(order) == plain.lend(order));
+        holds!(rt; tree.lend(order) == plain.lend(order));
     } else {
         let start = plain.lent_start(choice - plain.height as u32 - 1);
         let order = plain.orders[start as usize % 8].unwrap_or(0);
-        assert!(rt; !tree.give(start, order ^ 1), "another order at that start");
-        assert!(rt; !tree.give(start ^ 8, order), "another start of that order");
-        assert!(rt; tree.give(start, order) == plain.give(start, order));
-        assert!(rt; !tree.give(start, order), "given twice");
+        holds!(rt; !tree.give(start, order ^ 1), "another order at that start");
+        holds!(rt; !tree.give(start ^ 8, order), "another start of that order");
+        holds!(rt; tree.give(start, order) == plain.give(start, order));
+        holds!(rt; !tree.give(start, order), "given twice");
     }
-    assert!(rt; tree.largest() == plain.largest());
-    assert!(rt; tree.free_pages() == plain.free_pages());
+    holds!(rt; tree.largest() == plain.largest());
+    holds!(rt; tree.free_pages() == plain.free_pages());
 }
 
 #[test]
 fn a_height_over_ten_is_refused(rt: HostRuntime) {
     for height in [MAX_HEIGHT + 1, 12, 32, 255] {
-        assert!(rt; matches!(OrderTree::new(rt.alloc(), height), Err(TreeError::Height)));
+        holds!(rt; matches!(OrderTree::new(rt.alloc(), height), Err(TreeError::Height)));
     }
     let said = format!(in rt.alloc(); "{}", TreeError::Height).expect(&rt, "memory");
-    assert!(rt; said.as_str() == "the height is over 10");
+    holds!(rt; said.as_str() == "the height is over 10");
 }
 
 #[test]
 fn blocks_are_lent_at_the_least_start_and_buddies_merge(rt: HostRuntime) {
     let mut tree = tree_of(&rt, rt.alloc(), 3);
     for (order, start) in [(0, 0), (1, 2), (2, 4), (0, 1)] {
-        assert!(rt; tree.lend(order) == Some(start));
+        holds!(rt; tree.lend(order) == Some(start));
     }
-    assert!(rt; tree.lend(0) == None);
-    assert!(rt; tree.largest() == None);
+    holds!(rt; tree.lend(0) == None);
+    holds!(rt; tree.largest() == None);
     for (start, order) in [(0, 0), (1, 0), (2, 1)] {
-        assert!(rt; tree.give(start, order));
+        holds!(rt; tree.give(start, order));
     }
-    assert!(rt; tree.lend(2) == Some(0));
-    assert!(rt; !tree.give(1, 0));
+    holds!(rt; tree.lend(2) == Some(0));
+    holds!(rt; !tree.give(1, 0));
 }
 
 // Six steps, by the digits of `run`, whose first is worth `first`. Answers how many runs from this
@@ -213,14 +213,14 @@ fn each_short_run_answers_as_a_plain_set_of_pages(rt: HostRuntime) {
 #[test]
 fn the_largest_arena_lends_each_page_once(rt: HostRuntime) {
     let mut tree = tree_of(&rt, rt.alloc(), MAX_HEIGHT);
-    assert!(rt; tree.pages() == 1024);
+    holds!(rt; tree.pages() == 1024);
     for page in 0..1024u32 {
-        assert!(rt; tree.lend(0) == Some(page));
+        holds!(rt; tree.lend(0) == Some(page));
     }
-    assert!(rt; tree.lend(0) == None);
-    assert!(rt; tree.free_pages() == 0);
+    holds!(rt; tree.lend(0) == None);
+    holds!(rt; tree.free_pages() == 0);
     for page in 0..1024u32 {
-        assert!(rt; tree.give(page ^ 0b1010101010, 0));
+        holds!(rt; tree.give(page ^ 0b1010101010, 0));
     }
-    assert!(rt; tree.lend(MAX_HEIGHT) == Some(0));
+    holds!(rt; tree.lend(MAX_HEIGHT) == Some(0));
 }

@@ -5,7 +5,7 @@ use Rattle.std.proofs.lemmas.Bool.{cases_eq, ne_eqb}
 use Rattle.std.proofs.lemmas.List.{length-set, get_or-set_same, get_or-set_other}
 use Rattle.mq_tree.specs.Blocks.{block, moved_up}
 use Rattle.mq_tree.specs.Nodes.{node_at, parent, IsRight}
-use Rattle.mq_tree.specs.Trees.{blocks_under, Place, IsTree, IsTreeBut, IsClear}
+use Rattle.mq_tree.specs.Trees.{blocks_under, HasHeight, IsTree, IsTreeBut, IsClear}
 use Rattle.mq_tree.proofs.Heap.{up_last, halves_apart, over_differs, place_pos, place_below, place_height}
 use Rattle.mq_tree.proofs.Trees.{parent_free, free_halves}
 
@@ -54,14 +54,14 @@ right_same (suc half) i old new e l r h = elim h [
 ]
 
 -- the node of a place keeps to the rule at whatever height it is said to have
-right_at : (height k m p i : ℕ) (nodes : List ℕ) → Place height k p → IsRight k p nodes → Place height m i → i ≡ p → IsRight m i nodes
+right_at : (height k m p i : ℕ) (nodes : List ℕ) → HasHeight height k p → IsRight k p nodes → HasHeight height m i → i ≡ p → IsRight m i nodes
 right_at height k m p i nodes place new q e =
     let P : ℕ → Type 0 = λ x. IsRight x i nodes in
     let Q : ℕ → Type 0 = λ x. IsRight k x nodes in
-    subst P (place_height (subst (λ x. Place height k x) (sym e) place) q) (subst Q (sym e) new)
+    subst P (place_height (subst (λ x. HasHeight height k x) (sym e) place) q) (subst Q (sym e) new)
 
 -- where node p is written and keeps to the rule, just the one over it may not
-pub tree_set : (height k p but v : ℕ) (nodes : List ℕ) → IsTreeBut height but nodes → Place height k p → ((i : ℕ) → 0 < i → i ≢ p → i ≢ but)
+pub tree_set : (height k p but v : ℕ) (nodes : List ℕ) → IsTreeBut height but nodes → HasHeight height k p → ((i : ℕ) → 0 < i → i ≢ p → i ≢ but)
     → IsRight k p (set nodes p v) → IsTreeBut height (p / 2) (set nodes p v)
 tree_set height k p but v nodes tree place others new = record {
   low = tree.low;
@@ -78,7 +78,7 @@ tree_set height k p but v nodes tree place others new = record {
 }
 
 -- where that node keeps to the rule, all do
-pub tree_whole : (height k p : ℕ) (nodes : List ℕ) → IsTreeBut height p nodes → Place height k p → IsRight k p nodes → IsTree height nodes
+pub tree_whole : (height k p : ℕ) (nodes : List ℕ) → IsTreeBut height p nodes → HasHeight height k p → IsRight k p nodes → IsTree height nodes
 tree_whole height k p nodes tree place new = record {
   low = tree.low;
   len = tree.len;
@@ -86,7 +86,7 @@ tree_whole height k p nodes tree place new = record {
 }
 
 -- ---- a run is marked as lent, or as free again
-module _ (height k p : ℕ) (nodes : List ℕ) (tree : IsTree height nodes) (place : Place height k p) where
+module _ (height k p : ℕ) (nodes : List ℕ) (tree : IsTree height nodes) (place : HasHeight height k p) where
   written : (v : ℕ) → node_at (set nodes p v) p ≡ v
   written v = get_or-set_same nodes p v 0 (omega (arith, tree.len, place_below place))
 
@@ -99,7 +99,8 @@ module _ (height k p : ℕ) (nodes : List ℕ) (tree : IsTree height nodes) (pla
   marked : (v : ℕ) → IsRight k p (set nodes p v) → IsTreeBut height (p / 2) (set nodes p v)
   marked v new = tree_set height k p 0 v nodes tree place (λ i some n e. omega (arith, some, e)) new
 
-  lent_is_right : (h : ℕ) → Place height h p → node_at nodes p ≡ h + 2 → IsRight h p (set nodes p 0)
+  lent_is_right : (h : ℕ) → HasHeight height h p → node_at nodes p ≡ h + 2
+      → IsRight h p (set nodes p 0)
   lent_is_right zero q e = inl (written 0)
   lent_is_right (suc half) q e =
       let f = free_halves height nodes tree half p q (inl e) in
@@ -108,7 +109,7 @@ module _ (height k p : ℕ) (nodes : List ℕ) (tree : IsTree height nodes) (pla
   pub marked_lent : node_at nodes p ≡ k + 2 → IsTreeBut height (p / 2) (set nodes p 0)
   marked_lent e = marked 0 (lent_is_right k place e)
 
-  free_is_right : (h : ℕ) → Place height h p → node_at nodes p ≡ 0 → IsRight h p (set nodes p (h + 2))
+  free_is_right : (h : ℕ) → HasHeight height h p → node_at nodes p ≡ 0 → IsRight h p (set nodes p (h + 2))
   free_is_right zero q e = inr (written (0 + 2))
   free_is_right (suc half) q e =
       let f = free_halves height nodes tree half p q (inr e) in

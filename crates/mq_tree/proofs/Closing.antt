@@ -2,14 +2,14 @@
 use Rattle.std.proofs.Common.{◌≡◌, ℕ, ◌+◌, ◌*◌, ◌/◌, ◌^◌, ◌<◌, suc, refl, sym, ap, ◌∙◌, arith, inr, List, length, set, subst}
 use Rattle.std.proofs.lemmas.List.{get_or-set_same, get_or-set_other}
 use Rattle.mq_tree.specs.Nodes.{node_at, parent}
-use Rattle.mq_tree.specs.Trees.{lent_blocks, Place, IsTree, IsTreeBut, IsOpen}
+use Rattle.mq_tree.specs.Trees.{lent_blocks, HasHeight, IsTree, IsTreeBut, IsOpen}
 use Rattle.mq_tree.proofs.Heap.{up_first, up_none, to_parent, to_right, place_pos, place_below, root_alone, over_differs}
 use Rattle.mq_tree.proofs.Trees.{parent_pos}
 use Rattle.mq_tree.proofs.Changes.{blocks_kept, tree_set, tree_whole}
 
 -- the nodes are closed but for node `at`, over those of height k, and those over it
 pub record Closes (height k at : ℕ) (old nodes : List ℕ) : Type 0 where
-  pub place : k < height → Place height (suc k) at
+  pub place : k < height → HasHeight height (suc k) at
   pub root : k ≡ height → at ≡ 0
   pub clear : (n : ℕ) → 0 < at / 2 ^ n → 0 < node_at nodes (at / 2 ^ n)
   pub tree : IsTreeBut height at nodes
@@ -18,7 +18,7 @@ pub record Closes (height k at : ℕ) (old nodes : List ℕ) : Type 0 where
 pub closes_first : {height k i : ℕ} {nodes : List ℕ} → IsOpen height k i nodes → Closes height k (i / 2) nodes nodes
 closes_first {height = height} {i = i} {nodes = nodes} o = record {
   place = to_parent o.place;
-  root = λ e. omega (arith, root_alone (subst (λ h. Place height h i) e o.place));
+  root = λ e. omega (arith, root_alone (subst (λ h. HasHeight height h i) e o.place));
   clear = λ n l. let up = up_first n i in omega (arith, ap (λ x. node_at nodes x) up, o.clear n (omega (arith, up, l)));
   tree = o.tree;
   lent_is = refl;
@@ -46,8 +46,8 @@ module _ {height k at : ℕ} {old nodes : List ℕ} (c : Closes height k at old 
         let left : node_at (set nodes at v) (2 * at) ≡ node_at nodes (2 * at) = get_or-set_other nodes at (2 * at) v 0 (λ f. omega (arith, f, place_pos p)) in
         let right : node_at (set nodes at v) (2 * at + 1) ≡ node_at nodes (2 * at + 1) = get_or-set_other nodes at (2 * at + 1) v 0 (λ f. omega (arith, f)) in
         record {
-          place = λ l. let next : suc (suc k) ≡ suc (k + 1) = omega arith in subst (λ h. Place height h (at / 2)) next (to_parent p (omega (arith, l)));
-          root = λ l. let whole : suc k ≡ height = omega (arith, l) in omega (arith, root_alone (subst (λ h. Place height h at) whole p));
+          place = λ l. let next : suc (suc k) ≡ suc (k + 1) = omega arith in subst (λ h. HasHeight height h (at / 2)) next (to_parent p (omega (arith, l)));
+          root = λ l. let whole : suc k ≡ height = omega (arith, l) in omega (arith, root_alone (subst (λ h. HasHeight height h at) whole p));
           clear = λ n l.
               let up = up_first n at in
               let still : node_at (set nodes at v) (at / 2 / 2 ^ n) ≡ node_at nodes (at / 2 / 2 ^ n) = get_or-set_other nodes at (at / 2 / 2 ^ n) v 0 (over_differs at n (at / 2 / 2 ^ n) up l) in

@@ -5,56 +5,56 @@ use Rattle.std.specs.List.{All, list_all}
 use Rattle.std.proofs.lemmas.Bool.{and_parts, and_from, leb-true, le-leb, eqb-true, eq-eqb, both_ways}
 use Rattle.std.proofs.lemmas.Nat.{pow_pos, pow_below}
 use Rattle.std.proofs.lemmas.List.Elements.{All-nil, All-head}
-use Rattle.mq_tree.specs.Blocks.{Block, block, HasPage, IsInArena, are_apart}
+use Rattle.mq_tree.specs.Blocks.{PlainBlock, block, HasPage, IsInArena, are_apart}
 use Rattle.mq_tree.specs.Fit.{fits_at, fit, Fits, IsFit, HasNoFit}
 use Rattle.mq_tree.proofs.Powers.{order_le}
 use Rattle.mq_tree.proofs.Ranges.{IsFirst, find_some, find_nowhere}
 use Rattle.mq_tree.proofs.Apart.{free_from_test, test_from_free}
 
 -- the three tests at a start, as facts
-pub record Passes (height : ℕ) (lent : List Block) (order start : ℕ) : Type 0 where
+pub record Passes (height : ℕ) (lent : List PlainBlock) (order start : ℕ) : Type 0 where
   pub aligned : start % 2 ^ order ≡ 0
   pub in_arena : start + 2 ^ order ≤ 2 ^ height
   pub apart : list_all (are_apart (block start order)) lent ≡ true
 
-pub passes : (height : ℕ) (lent : List Block) (order start : ℕ) → fits_at height lent order start ≡ true → Passes height lent order start
+pub passes : (height : ℕ) (lent : List PlainBlock) (order start : ℕ) → fits_at height lent order start ≡ true → Passes height lent order start
 passes height lent order start t =
     let p = and_parts (eqb (start % 2 ^ order) 0 && leb (start + 2 ^ order) (2 ^ height)) (list_all (are_apart (block start order)) lent) t in
     let q = and_parts (eqb (start % 2 ^ order) 0) (leb (start + 2 ^ order) (2 ^ height)) p.0 in
     record { aligned = eqb-true (start % 2 ^ order) 0 q.0; in_arena = leb-true (start + 2 ^ order) (2 ^ height) q.1; apart = p.1 }
 
-pub fits_from_passes : (height : ℕ) (lent : List Block) (order start : ℕ) → Passes height lent order start → fits_at height lent order start ≡ true
+pub fits_from_passes : (height : ℕ) (lent : List PlainBlock) (order start : ℕ) → Passes height lent order start → fits_at height lent order start ≡ true
 fits_from_passes height lent order start p =
     and_from (eqb (start % 2 ^ order) 0 && leb (start + 2 ^ order) (2 ^ height)) (list_all (are_apart (block start order)) lent)
     (and_from (eqb (start % 2 ^ order) 0) (leb (start + 2 ^ order) (2 ^ height)) (eq-eqb (start % 2 ^ order) 0 p.aligned) (le-leb (start + 2 ^ order) (2 ^ height) p.in_arena))
     p.apart
 
-pub fits_test : (height : ℕ) (lent : List Block) (order start : ℕ) → Fits height lent order start → fits_at height lent order start ≡ true
+pub fits_test : (height : ℕ) (lent : List PlainBlock) (order start : ℕ) → Fits height lent order start → fits_at height lent order start ≡ true
 fits_test height lent order start f =
     fits_from_passes height lent order start (record { aligned = f.aligned; in_arena = f.in_arena; apart = test_from_free (block start order) lent f.free })
 
-pub test_fits : (height : ℕ) (lent : List Block) (order start : ℕ) → fits_at height lent order start ≡ true → Fits height lent order start
+pub test_fits : (height : ℕ) (lent : List PlainBlock) (order start : ℕ) → fits_at height lent order start ≡ true → Fits height lent order start
 test_fits height lent order start t =
     let p = passes height lent order start t in
     record { aligned = p.aligned; in_arena = p.in_arena; free = free_from_test (block start order) lent p.apart }
 
-fit_first : (height : ℕ) (lent : List Block) (order start : ℕ) → fit height lent order ≡ Some start → IsFirst (fits_at height lent order) 0 (2 ^ height) start
+fit_first : (height : ℕ) (lent : List PlainBlock) (order start : ℕ) → fit height lent order ≡ Some start → IsFirst (fits_at height lent order) 0 (2 ^ height) start
 unfolding fit
 fit_first height lent order start e = find_some (fits_at height lent order) 0 (2 ^ height) start e
 
-fit_nowhere : (height : ℕ) (lent : List Block) (order : ℕ) → fit height lent order ≡ None → (x : ℕ) → 0 ≤ x → x < 0 + 2 ^ height → fits_at height lent order x ≡ false
+fit_nowhere : (height : ℕ) (lent : List PlainBlock) (order : ℕ) → fit height lent order ≡ None → (x : ℕ) → 0 ≤ x → x < 0 + 2 ^ height → fits_at height lent order x ≡ false
 unfolding fit
 fit_nowhere height lent order e = find_nowhere (fits_at height lent order) 0 (2 ^ height) e
 
 -- a start at which a block fits is a page of the arena
-fits_below : (height : ℕ) (lent : List Block) (order start : ℕ) → Fits height lent order start → start < 2 ^ height
+fits_below : (height : ℕ) (lent : List PlainBlock) (order start : ℕ) → Fits height lent order start → start < 2 ^ height
 fits_below height lent order start f = omega (arith, f.in_arena, pow_pos order)
 
-pub fit_passes : (height : ℕ) (lent : List Block) (order start : ℕ) → fit height lent order ≡ Some start → Passes height lent order start
+pub fit_passes : (height : ℕ) (lent : List PlainBlock) (order start : ℕ) → fit height lent order ≡ Some start → Passes height lent order start
 fit_passes height lent order start e = passes height lent order start (fit_first height lent order start e).passes
 
 -- the answer of `fit` fits, and no smaller start does
-pub fit_is : (height : ℕ) (lent : List Block) (order start : ℕ) → fit height lent order ≡ Some start → IsFit height lent order start
+pub fit_is : (height : ℕ) (lent : List PlainBlock) (order start : ℕ) → fit height lent order ≡ Some start → IsFit height lent order start
 fit_is height lent order start e =
     let first = fit_first height lent order start e in
     record {
@@ -63,13 +63,13 @@ fit_is height lent order start e =
     }
 
 -- where `fit` answers none, no start fits
-pub no_fit_is : (height : ℕ) (lent : List Block) (order : ℕ) → fit height lent order ≡ None → HasNoFit height lent order
+pub no_fit_is : (height : ℕ) (lent : List PlainBlock) (order : ℕ) → fit height lent order ≡ None → HasNoFit height lent order
 no_fit_is height lent order e start f =
     both_ways (fits_at height lent order start)
     (fit_nowhere height lent order e start (omega arith) (omega (arith, fits_below height lent order start f)))
     (fits_test height lent order start f)
 
-fit_of_answer : (height : ℕ) (lent : List Block) (order start : ℕ) (answer : Option ℕ) → fit height lent order ≡ answer → IsFit height lent order start → answer ≡ Some start
+fit_of_answer : (height : ℕ) (lent : List PlainBlock) (order start : ℕ) (answer : Option ℕ) → fit height lent order ≡ answer → IsFit height lent order start → answer ≡ Some start
 fit_of_answer height lent order start None e i = absurd (no_fit_is height lent order e start i.fits)
 fit_of_answer height lent order start (Some other) e i =
     let j = fit_is height lent order other e in
@@ -77,14 +77,14 @@ fit_of_answer height lent order start (Some other) e i =
     ap (λ x. Some x) same
 
 -- the least start that fits is what `fit` answers
-pub fit_from : (height : ℕ) (lent : List Block) (order start : ℕ) → IsFit height lent order start → fit height lent order ≡ Some start
+pub fit_from : (height : ℕ) (lent : List PlainBlock) (order start : ℕ) → IsFit height lent order start → fit height lent order ≡ Some start
 fit_from height lent order start i = fit_of_answer height lent order start (fit height lent order) refl i
 
-none_of_answer : (height : ℕ) (lent : List Block) (order : ℕ) (answer : Option ℕ) → fit height lent order ≡ answer → HasNoFit height lent order → answer ≡ None
+none_of_answer : (height : ℕ) (lent : List PlainBlock) (order : ℕ) (answer : Option ℕ) → fit height lent order ≡ answer → HasNoFit height lent order → answer ≡ None
 none_of_answer height lent order None e n = refl
 none_of_answer height lent order (Some start) e n = absurd (n start (fit_is height lent order start e).fits)
 
-pub no_fit_from : (height : ℕ) (lent : List Block) (order : ℕ) → HasNoFit height lent order → fit height lent order ≡ None
+pub no_fit_from : (height : ℕ) (lent : List PlainBlock) (order : ℕ) → HasNoFit height lent order → fit height lent order ≡ None
 no_fit_from height lent order n = none_of_answer height lent order (fit height lent order) refl n
 
 -- in an arena with nothing lent each order up to the height fits at 0
@@ -96,11 +96,11 @@ fit_empty height order l =
     })
 
 -- an order over the height fits nowhere
-pub fit_over : (height : ℕ) (lent : List Block) (order : ℕ) → height < order → fit height lent order ≡ None
+pub fit_over : (height : ℕ) (lent : List PlainBlock) (order : ℕ) → height < order → fit height lent order ≡ None
 fit_over height lent order l = no_fit_from height lent order (λ start f. omega (arith, f.in_arena, pow_below height order l))
 
 -- what fits has at most the height as its order
-pub fit_order : (height : ℕ) (lent : List Block) (order start : ℕ) → fit height lent order ≡ Some start → order ≤ height
+pub fit_order : (height : ℕ) (lent : List PlainBlock) (order start : ℕ) → fit height lent order ≡ Some start → order ≤ height
 fit_order height lent order start e =
     let p = fit_passes height lent order start e in
     order_le order height (omega (arith, p.in_arena))
@@ -114,7 +114,7 @@ fit_lent height order =
     All-head (λ b. ¬ HasPage b start) (block 0 height) [] free (record { from = omega arith; below = omega arith }))
 
 -- where the whole arena fits, nothing is lent
-pub fit_whole : (height : ℕ) (lent : List Block) (start : ℕ) → All (IsInArena height) lent → fit height lent height ≡ Some start → lent ≡ []
+pub fit_whole : (height : ℕ) (lent : List PlainBlock) (start : ℕ) → All (IsInArena height) lent → fit height lent height ≡ Some start → lent ≡ []
 fit_whole height [] start inside e = refl
 fit_whole height (c ∷ cs) start inside e =
     let f = (fit_is height (c ∷ cs) height start e).fits in

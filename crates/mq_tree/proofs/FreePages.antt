@@ -4,30 +4,30 @@ use Rattle.std.specs.List.{All, AllPairs, sum_by}
 use Rattle.std.proofs.lemmas.Bool.{cases_Bool, cases_lt, or_cases, both_ways, and_from, and_left, and_right, and_parts, le-leb, lt-leb, lt-ltb, le-ltb, leb-true, ltb-true, false_from_ne_true, not_from_false, cond-true, cond-false}
 use Rattle.std.proofs.lemmas.List.Elements.{All-cons, All-filter, All-contains}
 use Rattle.std.proofs.lemmas.List.Sums.{list_all-from_AllPass, sum_by-cons}
-use Rattle.mq_tree.specs.Blocks.{Block, block, HasPage, has_page, page_count, IsInArena, AreApart, is_block}
-use Rattle.mq_tree.specs.LentSet.{IsLentSet, joined, left, is_lent, is_free_page, free_pages}
+use Rattle.mq_tree.specs.Blocks.{PlainBlock, block, HasPage, has_page, page_count, IsInArena, AreApart, is_block}
+use Rattle.mq_tree.specs.LentSet.{IsLentSet, inserted, left, is_lent, is_free_page, free_pages}
 use Rattle.mq_tree.specs.Fit.{fit}
 use Rattle.mq_tree.proofs.Ranges.{count_more, count_all}
 use Rattle.mq_tree.proofs.LentSets.{AllPairs-head, AllPairs-tail, is_block-true}
 use Rattle.mq_tree.proofs.Kept.{AreApart-sym, IsLentSet-head, IsLentSet-tail, fit_apart, lent_member}
 use Rattle.mq_tree.proofs.Fits.{fit_passes}
 
-page_in : (b : Block) (page : ℕ) → b.start ≤ page → page < b.start + 2 ^ b.order → has_page b page ≡ true
+page_in : (b : PlainBlock) (page : ℕ) → b.start ≤ page → page < b.start + 2 ^ b.order → has_page b page ≡ true
 page_in b page l u = and_from (leb b.start page) (ltb page (b.start + 2 ^ b.order)) (le-leb b.start page l) (lt-ltb page (b.start + 2 ^ b.order) u)
 
-page_before : (b : Block) (page : ℕ) → page < b.start → has_page b page ≡ false
+page_before : (b : PlainBlock) (page : ℕ) → page < b.start → has_page b page ≡ false
 page_before b page l = and_left (leb b.start page) (ltb page (b.start + 2 ^ b.order)) (lt-leb b.start page l)
 
-page_after : (b : Block) (page : ℕ) → b.start + 2 ^ b.order ≤ page → has_page b page ≡ false
+page_after : (b : PlainBlock) (page : ℕ) → b.start + 2 ^ b.order ≤ page → has_page b page ≡ false
 page_after b page l = and_right (leb b.start page) (ltb page (b.start + 2 ^ b.order)) (le-ltb page (b.start + 2 ^ b.order) l)
 
-pub page_of : (b : Block) (page : ℕ) → has_page b page ≡ true → HasPage b page
+pub page_of : (b : PlainBlock) (page : ℕ) → has_page b page ≡ true → HasPage b page
 page_of b page t =
     let p = and_parts (leb b.start page) (ltb page (b.start + 2 ^ b.order)) t in
     record { from = leb-true b.start page p.0; below = ltb-true page (b.start + 2 ^ b.order) p.1 }
 
 -- a page that is not in a block lies beside it
-pub page_beside : (b : Block) (page : ℕ) → has_page b page ≡ false → (page < b.start) ⊎ (b.start + 2 ^ b.order ≤ page)
+pub page_beside : (b : PlainBlock) (page : ℕ) → has_page b page ≡ false → (page < b.start) ⊎ (b.start + 2 ^ b.order ≤ page)
 page_beside b page out = elim (cases_lt page b.start) [
   | inl before ↦ inl before
   | inr from ↦ elim (cases_lt page (b.start + 2 ^ b.order)) [
@@ -37,13 +37,13 @@ page_beside b page out = elim (cases_lt page b.start) [
 ]
 
 -- a block apart from each lent one has free pages alone
-pub free_when_apart : (b : Block) (lent : List Block) → All (AreApart b) lent → (page : ℕ) → HasPage b page → is_free_page lent page ≡ true
+pub free_when_apart : (b : PlainBlock) (lent : List PlainBlock) → All (AreApart b) lent → (page : ℕ) → HasPage b page → is_free_page lent page ≡ true
 free_when_apart b lent apart page h =
     list_all-from_AllPass (λ c. not (has_page c page)) lent
     (λ k d u. not_from_false (has_page _ page) (false_from_ne_true (has_page _ page) (λ t. apart k d u page h (page_of _ page t))))
 
 -- where the free pages of the one lent set are those of the other without the pages of a block, which are all free there
-free_less : (height : ℕ) (b : Block) (small big : List Block) → IsInArena height b
+free_less : (height : ℕ) (b : PlainBlock) (small big : List PlainBlock) → IsInArena height b
     → ((page : ℕ) → is_free_page big page ≡ (not (has_page b page) && is_free_page small page))
     → ((page : ℕ) → HasPage b page → is_free_page small page ≡ true)
     → free_pages height small ≡ free_pages height big + 2 ^ b.order
@@ -65,10 +65,10 @@ and_swap true b c = refl
 and_swap false true c = refl
 and_swap false false c = refl
 
-pub is_free_page-joined : (b : Block) (lent : List Block) (page : ℕ) → is_free_page (joined b lent) page ≡ (not (has_page b page) && is_free_page lent page)
+pub is_free_page-joined : (b : PlainBlock) (lent : List PlainBlock) (page : ℕ) → is_free_page (inserted b lent) page ≡ (not (has_page b page) && is_free_page lent page)
 is_free_page-joined b [] page = refl
 is_free_page-joined b (c ∷ cs) page =
-    elim (ltb b.start c.start) as (λ t. is_free_page (cond t (b ∷ c ∷ cs) (c ∷ joined b cs)) page ≡ (not (has_page b page) && is_free_page (c ∷ cs) page)) [
+    elim (ltb b.start c.start) as (λ t. is_free_page (cond t (b ∷ c ∷ cs) (c ∷ inserted b cs)) page ≡ (not (has_page b page) && is_free_page (c ∷ cs) page)) [
       | true ↦ refl
       | false ↦
           ap (λ t. not (has_page c page) && t) (is_free_page-joined b cs page)
@@ -76,10 +76,10 @@ is_free_page-joined b (c ∷ cs) page =
     ]
 
 -- a block that is lent takes its pages
-pub free_joined : (height : ℕ) (lent : List Block) (order start : ℕ) → fit height lent order ≡ Some start
-    → free_pages height lent ≡ free_pages height (joined (block start order) lent) + 2 ^ order
+pub free_joined : (height : ℕ) (lent : List PlainBlock) (order start : ℕ) → fit height lent order ≡ Some start
+    → free_pages height lent ≡ free_pages height (inserted (block start order) lent) + 2 ^ order
 free_joined height lent order start found =
-    free_less height (block start order) lent (joined (block start order) lent) (fit_passes height lent order start found).in_arena
+    free_less height (block start order) lent (inserted (block start order) lent) (fit_passes height lent order start found).in_arena
     (is_free_page-joined (block start order) lent)
     (free_when_apart (block start order) lent (fit_apart height lent order start found))
 
@@ -88,7 +88,7 @@ and_idem true b = refl
 and_idem false b = refl
 
 -- a block that is lent has no free page
-is_free_page-lent : (b : Block) (lent : List Block) (page : ℕ) → is_lent b lent ≡ true → is_free_page lent page ≡ (not (has_page b page) && is_free_page lent page)
+is_free_page-lent : (b : PlainBlock) (lent : List PlainBlock) (page : ℕ) → is_lent b lent ≡ true → is_free_page lent page ≡ (not (has_page b page) && is_free_page lent page)
 is_free_page-lent b [] page t = absurd (cc)
 is_free_page-lent b (c ∷ cs) page t = elim (or_cases (is_block b c) (is_lent b cs) t) [
   | inl e ↦
@@ -105,7 +105,7 @@ and_agree : (a b x y : Bool) → (a && x) ≡ (a && y) → (a && (b && x)) ≡ (
 and_agree true b x y e = ap (λ t. b && t) e
 and_agree false b x y e = refl
 
-pub is_free_page-left : (b : Block) (lent : List Block) (page : ℕ) → (not (has_page b page) && is_free_page lent page) ≡ (not (has_page b page) && is_free_page (left b lent) page)
+pub is_free_page-left : (b : PlainBlock) (lent : List PlainBlock) (page : ℕ) → (not (has_page b page) && is_free_page lent page) ≡ (not (has_page b page) && is_free_page (left b lent) page)
 is_free_page-left b [] page = refl
 is_free_page-left b (c ∷ cs) page = elim (cases_Bool (is_block b c)) [
   | inl e ↦
@@ -120,7 +120,7 @@ is_free_page-left b (c ∷ cs) page = elim (cases_Bool (is_block b c)) [
 ]
 
 -- the other lent blocks are apart from it
-others_apart : (b : Block) (lent : List Block) → AllPairs AreApart lent → is_lent b lent ≡ true → All (AreApart b) (left b lent)
+others_apart : (b : PlainBlock) (lent : List PlainBlock) → AllPairs AreApart lent → is_lent b lent ≡ true → All (AreApart b) (left b lent)
 others_apart b [] apart t = absurd (cc)
 others_apart b (c ∷ cs) apart t = elim (cases_Bool (is_block b c)) [
   | inl e ↦
@@ -133,7 +133,7 @@ others_apart b (c ∷ cs) apart t = elim (cases_Bool (is_block b c)) [
 ]
 
 -- a block that is given back leaves its pages free
-pub free_left : (height : ℕ) (lent : List Block) (b : Block) → IsLentSet height lent → is_lent b lent ≡ true
+pub free_left : (height : ℕ) (lent : List PlainBlock) (b : PlainBlock) → IsLentSet height lent → is_lent b lent ≡ true
     → free_pages height (left b lent) ≡ free_pages height lent + 2 ^ b.order
 free_left height lent b s t =
     free_less height b (left b lent) lent (All-contains (IsInArena height) lent b s.in_arena (lent_member b lent t))
@@ -141,7 +141,7 @@ free_left height lent b s t =
     (free_when_apart b (left b lent) (others_apart b lent s.apart t))
 
 -- the free pages and the lent ones are all the pages
-pub free_sum : (height : ℕ) (lent : List Block) → IsLentSet height lent → free_pages height lent + sum_by page_count lent ≡ 2 ^ height
+pub free_sum : (height : ℕ) (lent : List PlainBlock) → IsLentSet height lent → free_pages height lent + sum_by page_count lent ≡ 2 ^ height
 free_sum height [] s = omega (arith, new_free height)
 free_sum height (b ∷ lent) s =
     let head = IsLentSet-head height b lent s in

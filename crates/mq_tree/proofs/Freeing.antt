@@ -4,7 +4,7 @@ use Rattle.std.proofs.lemmas.Bool.{cases_eq}
 use Rattle.std.proofs.lemmas.Nat.{pow_pos}
 use Rattle.std.proofs.lemmas.List.{length-set, get_or-set_same, get_or-set_other}
 use Rattle.mq_tree.specs.Nodes.{node_at, IsRight}
-use Rattle.mq_tree.specs.Trees.{Place, IsTree, IsTreeOf, ArePagesFree}
+use Rattle.mq_tree.specs.Trees.{HasHeight, IsTree, IsTreeOf, ArePagesFree}
 use Rattle.mq_tree.specs.declared.limits.TheConstants.{MAX_HEIGHT}
 use Rattle.mq_tree.proofs.Heap.{to_left, to_right, place_pos, place_below, at_root, page_nodes, no_page_nodes, place_of}
 use Rattle.mq_tree.proofs.Trees.{parent_free, free_blocks}
@@ -13,10 +13,10 @@ pub record AreFreeFrom (height at : ℕ) (nodes : List ℕ) : Type 0 where
   pub low : height ≤ MAX_HEIGHT
   pub len : length nodes ≡ 2 * 2 ^ height
   pub some : 0 < at
-  pub free : (k i : ℕ) → Place height k i → at ≤ i → node_at nodes i ≡ k + 2
+  pub free : (k i : ℕ) → HasHeight height k i → at ≤ i → node_at nodes i ≡ k + 2
 
 module _ {height at : ℕ} {nodes : List ℕ} (f : AreFreeFrom height at nodes) (first : at ≤ 1) where
-  all_right : (k i : ℕ) → Place height k i → IsRight k i nodes
+  all_right : (k i : ℕ) → HasHeight height k i → IsRight k i nodes
   all_right zero i p = inr (f.free zero i p (omega (arith, first, place_pos p)))
   all_right (suc half) i p =
       inr (f.free (suc half) i p (omega (arith, first, place_pos p))
@@ -43,7 +43,7 @@ pages_free height pages nodes e a = record {
 
 -- one more, from its left half
 module _ {height next : ℕ} {nodes : List ℕ} (f : AreFreeFrom height next nodes) (at : ℕ) (next_is : at + 1 ≡ next) (some : 0 < at) (below : at < 2 ^ height) where
-  left_free : (k : ℕ) → Place height k at → node_at nodes (2 * at) + 1 ≡ k + 2
+  left_free : (k : ℕ) → HasHeight height k at → node_at nodes (2 * at) + 1 ≡ k + 2
   left_free zero p = absurd (omega (arith, no_page_nodes p below))
   left_free (suc half) p = omega (arith, f.free half (2 * at) (to_left height half at p) (omega (arith, next_is, some)))
 
@@ -60,7 +60,7 @@ module _ {height next : ℕ} {nodes : List ℕ} (f : AreFreeFrom height next nod
         λ k i p l. elim (cases_eq i at) [
           | inl e ↦
               ap (λ x. node_at (set nodes at (node_at nodes (2 * at) + 1)) x) e ∙ get_or-set_same nodes at (node_at nodes (2 * at) + 1) 0 (omega (arith, f.len, below))
-              ∙ left_free k (subst (λ x. Place height k x) e p)
+              ∙ left_free k (subst (λ x. HasHeight height k x) e p)
           | inr n ↦ get_or-set_other nodes at i (node_at nodes (2 * at) + 1) 0 n ∙ f.free k i p (omega (arith, n, l, next_is))
         ];
   }

@@ -4,10 +4,11 @@ use Rattle.std.specs.List.{All}
 use Rattle.std.proofs.lemmas.Bool.{cases_eq, eq-eqb, ne_eqb, false_from_ne_true}
 use Rattle.std.proofs.lemmas.List.{get_or-set_same, get_or-set_other}
 use Rattle.std.proofs.lemmas.List.Elements.{All-nil, All-cons, All-contains}
-use Rattle.mq_tree.specs.Blocks.{Block, block, is_block, IsInArena, IsAligned, moved_up}
+use Rattle.mq_tree.specs.Blocks.{PlainBlock, block, is_block, IsInArena, IsAligned, moved_up}
 use Rattle.mq_tree.specs.LentSet.{IsLentSet, left, is_lent}
 use Rattle.mq_tree.specs.Nodes.{node_at}
-use Rattle.mq_tree.specs.Trees.{blocks_under, lent_blocks, Place, IsTree, IsClear, IsOpen, IsRunOf}
+use Rattle.mq_tree.specs.Trees.{blocks_under, lent_blocks, HasHeight, IsTree, IsClear, IsOpen}
+use Rattle.mq_tree.specs.Trees.{IsRunOf}
 use Rattle.mq_tree.proofs.Heap.{up_last, up_none, one_of_halves, over_root, over_differs, to_left, to_right, place_pos, place_below}
 use Rattle.mq_tree.proofs.LentSets.{is_block_itself, is_block_order}
 use Rattle.mq_tree.proofs.Trees.{free_halves, free_blocks, free_under_lent, blocks_lent, blocks_leaf, blocks_halves, blocks_lent_set}
@@ -16,7 +17,7 @@ use Rattle.mq_tree.proofs.Kept.{lent_member}
 use Rattle.mq_tree.proofs.Changes.{other_half, later_kept, clear_marked, marked_free}
 use Rattle.mq_tree.proofs.Starts.{start_in, start_none, start_left, start_right, start_whole, start_below, pow_sum}
 
-module _ (height order j : ℕ) (nodes : List ℕ) (tree : IsTree height nodes) (place : Place height order j) where
+module _ (height order j : ℕ) (nodes : List ℕ) (tree : IsTree height nodes) (place : HasHeight height order j) where
   -- the nodes once node j is free
   abbrev pub freed : List ℕ
   freed = set nodes j (order + 2)
@@ -31,7 +32,7 @@ module _ (height order j : ℕ) (nodes : List ℕ) (tree : IsTree height nodes) 
 
   -- ---- the node itself
   -- a run with no block of its order is not lent as one
-  none_lent : (k s : ℕ) → Place height k j → (node_at nodes j ≡ 0 → ⊥) → is_lent (block s k) (blocks_under k j nodes) ≡ false
+  none_lent : (k s : ℕ) → HasHeight height k j → (node_at nodes j ≡ 0 → ⊥) → is_lent (block s k) (blocks_under k j nodes) ≡ false
   none_lent zero s p n = ap (λ x. is_lent (block s 0) x) (blocks_leaf 0 j nodes n)
   none_lent (suc half) s p n =
       ap (λ x. is_lent (block s (suc half)) x) (blocks_halves half j nodes n)
@@ -40,7 +41,7 @@ module _ (height order j : ℕ) (nodes : List ℕ) (tree : IsTree height nodes) 
       (blocks_lent_set half (2 * j) nodes).in_arena (blocks_lent_set half (2 * j + 1) nodes).in_arena)
 
   -- under a run that was lent as one block nothing else is lent
-  freed_blocks : (k : ℕ) → Place height k j → node_at nodes j ≡ 0 → blocks_under k j freed ≡ []
+  freed_blocks : (k : ℕ) → HasHeight height k j → node_at nodes j ≡ 0 → blocks_under k j freed ≡ []
   freed_blocks zero p z = blocks_leaf 0 j freed (λ e. omega (arith, e, freed_at))
   freed_blocks (suc half) p z =
       let h = free_halves height nodes tree half j p (inr z) in
@@ -69,10 +70,10 @@ module _ (height order j : ℕ) (nodes : List ℕ) (tree : IsTree height nodes) 
 
   -- ---- a node over it
   module _ (d half i : ℕ) (over : j / 2 ^ suc d ≡ i) (sum : d + order ≡ half) (low : suc half ≤ height) where
-    abbrev xs : List Block
+    abbrev xs : List PlainBlock
     xs = blocks_under half (2 * i) nodes
 
-    abbrev ys : List Block
+    abbrev ys : List PlainBlock
     ys = blocks_under half (2 * i + 1) nodes
 
     inside : All (IsInArena half) xs
@@ -191,7 +192,7 @@ module _ {height order start j : ℕ} {nodes : List ℕ} (tree : IsTree height n
   }
 
 -- a block that is lent is aligned, and in the arena
-pub not_lent : (height : ℕ) (lent : List Block) (b : Block) → IsLentSet height lent → (IsAligned b → IsInArena height b → ⊥) → is_lent b lent ≡ false
+pub not_lent : (height : ℕ) (lent : List PlainBlock) (b : PlainBlock) → IsLentSet height lent → (IsAligned b → IsInArena height b → ⊥) → is_lent b lent ≡ false
 not_lent height lent b s n = false_from_ne_true (is_lent b lent) (λ t.
     let there = lent_member b lent t in
     n (All-contains IsAligned lent b s.aligned there) (All-contains (IsInArena height) lent b s.in_arena there))

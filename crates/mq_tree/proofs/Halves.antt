@@ -5,8 +5,8 @@ use Rattle.std.specs.Option.{is_some, option_or, option_map}
 use Rattle.std.proofs.lemmas.List.Elements.{All-map, All-weaker, All-append, filter-append}
 use Rattle.std.proofs.lemmas.List.Folds.{list_any-append, list_any_none}
 use Rattle.std.proofs.lemmas.Nat.{pow_pos}
-use Rattle.mq_tree.specs.Blocks.{Block, block, IsInArena, is_block, moved_up}
-use Rattle.mq_tree.specs.LentSet.{joined, left, is_lent}
+use Rattle.mq_tree.specs.Blocks.{PlainBlock, block, IsInArena, is_block, moved_up}
+use Rattle.mq_tree.specs.LentSet.{inserted, left, is_lent}
 use Rattle.mq_tree.specs.Fit.{fit}
 use Rattle.mq_tree.proofs.Powers.{order_le}
 use Rattle.mq_tree.proofs.Fits.{fit_passes}
@@ -18,7 +18,7 @@ none_is None t = refl
 none_is (Some s) t = absurd (cc)
 
 -- ---- lending in a half
-module _ (half : ℕ) (xs ys : List Block) (order : ℕ) (low : order ≤ half) (inside : All (IsInArena half) xs) where
+module _ (half : ℕ) (xs ys : List PlainBlock) (order : ℕ) (low : order ≤ half) (inside : All (IsInArena half) xs) where
   first_is : fit (suc half) (xs ++ moved_up (2 ^ half) ys) order ≡ option_or (fit half xs order) (option_map (λ s. 2 ^ half + s) (fit half ys order))
   first_is = fit_split half xs ys order low inside
 
@@ -31,13 +31,13 @@ module _ (half : ℕ) (xs ys : List Block) (order : ℕ) (low : order ≤ half) 
       ∙ ap (λ o. option_or o (option_map (λ s. 2 ^ half + s) (fit half ys order))) (none_is (fit half xs order) n)
       ∙ ap (λ o. option_map (λ s. 2 ^ half + s) o) e
 
-  pub lent_left : (s : ℕ) → fit half xs order ≡ Some s → joined (block s order) xs ++ moved_up (2 ^ half) ys ≡ joined (block s order) (xs ++ moved_up (2 ^ half) ys)
+  pub lent_left : (s : ℕ) → fit half xs order ≡ Some s → inserted (block s order) xs ++ moved_up (2 ^ half) ys ≡ inserted (block s order) (xs ++ moved_up (2 ^ half) ys)
   lent_left s e =
       let l = (fit_passes half xs order s e).in_arena in
       sym (joined_left (block s order) xs (moved_up (2 ^ half) ys)
       (All-map (λ c. s < c.start) (λ y. block (2 ^ half + y.start) y.order) ys (λ k d u. omega (arith, l, pow_pos order))))
 
-  pub lent_right : (s : ℕ) → xs ++ moved_up (2 ^ half) (joined (block s order) ys) ≡ joined (block (2 ^ half + s) order) (xs ++ moved_up (2 ^ half) ys)
+  pub lent_right : (s : ℕ) → xs ++ moved_up (2 ^ half) (inserted (block s order) ys) ≡ inserted (block (2 ^ half + s) order) (xs ++ moved_up (2 ^ half) ys)
   lent_right s =
       sym (joined_right (block (2 ^ half + s) order) xs (moved_up (2 ^ half) ys) (λ k d u. omega (arith, inside k d u))
       ∙ ap (λ z. xs ++ z) (joined_moved (2 ^ half) (block s order) ys))
@@ -47,7 +47,7 @@ or_false : (t : Bool) → (t || false) ≡ t
 or_false true = refl
 or_false false = refl
 
-module _ (half : ℕ) (xs ys : List Block) (order : ℕ) (inside : All (IsInArena half) xs) where
+module _ (half : ℕ) (xs ys : List PlainBlock) (order : ℕ) (inside : All (IsInArena half) xs) where
   up_absent : (s : ℕ) → s < 2 ^ half → All (λ c. is_block (block s order) c ≡ false) (moved_up (2 ^ half) ys)
   up_absent s l =
       All-map (λ c. is_block (block s order) c ≡ false) (λ y. block (2 ^ half + y.start) y.order) ys
@@ -80,15 +80,15 @@ module _ (half : ℕ) (xs ys : List Block) (order : ℕ) (inside : All (IsInAren
       ∙ ap (λ z. xs ++ z) (left_moved (2 ^ half) (block s order) ys)
 
 -- ---- blocks that are not lent
-pub is_lent_absent : (b : Block) (lent : List Block) → All (λ c. is_block b c ≡ false) lent → is_lent b lent ≡ false
+pub is_lent_absent : (b : PlainBlock) (lent : List PlainBlock) → All (λ c. is_block b c ≡ false) lent → is_lent b lent ≡ false
 is_lent_absent b lent h = list_any_none (is_block b) lent h
 
 -- the blocks of two halves are of lower orders than the whole
-pub whole_absent : (half : ℕ) (xs ys : List Block) (start : ℕ) → All (IsInArena half) xs → All (IsInArena half) ys
+pub whole_absent : (half : ℕ) (xs ys : List PlainBlock) (start : ℕ) → All (IsInArena half) xs → All (IsInArena half) ys
     → All (λ c. is_block (block start (suc half)) c ≡ false) (xs ++ moved_up (2 ^ half) ys)
 whole_absent half xs ys start low high =
-    let P : Block → Type 0 = λ c. is_block (block start (suc half)) c ≡ false in
-    let lower : (c : Block) (s : ℕ) → IsInArena half c → P (block s c.order) =
+    let P : PlainBlock → Type 0 = λ c. is_block (block start (suc half)) c ≡ false in
+    let lower : (c : PlainBlock) (s : ℕ) → IsInArena half c → P (block s c.order) =
     λ c s within. is_block_order (block start (suc half)) (block s c.order) (λ e. omega (arith, e, order_le c.order half (omega (arith, within)))) in
     All-append P xs (moved_up (2 ^ half) ys) (All-weaker (IsInArena half) P (λ c within. lower c c.start within) xs low)
     (All-map P (λ y. block (2 ^ half + y.start) y.order) ys (All-weaker (IsInArena half) (λ c. P (block (2 ^ half + c.start) c.order)) (λ c within. lower c (2 ^ half + c.start) within) ys high))

@@ -5,7 +5,7 @@ use Rattle.std.specs.Option.{option_map, option_or}
 use Rattle.std.proofs.lemmas.Bool.{and_parts, and_from, le-leb, lt-leb, or_left, or_right, cases_lt}
 use Rattle.std.proofs.lemmas.List.Sums.{list_all-from_AllPass}
 use Rattle.std.proofs.lemmas.List.Folds.{find-append, list_all-append, list_all-map}
-use Rattle.mq_tree.specs.Blocks.{Block, block, IsInArena, are_apart, moved_up}
+use Rattle.mq_tree.specs.Blocks.{PlainBlock, block, IsInArena, are_apart, moved_up}
 use Rattle.mq_tree.specs.Fit.{fits_at, fit}
 use Rattle.mq_tree.proofs.Powers.{pow_suc, mod_up, aligned_inside}
 use Rattle.mq_tree.proofs.Ranges.{range-add, find_same, find_moved}
@@ -24,7 +24,7 @@ leb_moved c m n = elim (cases_lt n m) [
 ]
 
 -- two blocks are apart where they are after a move
-pub apart_moved : (c : ℕ) (a b : Block) → are_apart (block (c + a.start) a.order) (block (c + b.start) b.order) ≡ are_apart a b
+pub apart_moved : (c : ℕ) (a b : PlainBlock) → are_apart (block (c + a.start) a.order) (block (c + b.start) b.order) ≡ are_apart a b
 apart_moved c a b =
     let e : (c + a.start) + 2 ^ a.order ≡ c + (a.start + 2 ^ a.order) = omega arith in
     let f : (c + b.start) + 2 ^ b.order ≡ c + (b.start + 2 ^ b.order) = omega arith in
@@ -33,22 +33,22 @@ apart_moved c a b =
     ∙ ap (λ t. t || leb (c + (b.start + 2 ^ b.order)) (c + a.start)) (leb_moved c (a.start + 2 ^ a.order) b.start)
     ∙ ap (λ t. leb (a.start + 2 ^ a.order) b.start || t) (leb_moved c (b.start + 2 ^ b.order) a.start)
 
-pub list_all_agree : (p q : Block → Bool) → ((x : Block) → p x ≡ q x) → (xs : List Block) → list_all p xs ≡ list_all q xs
+pub list_all_agree : (p q : PlainBlock → Bool) → ((x : PlainBlock) → p x ≡ q x) → (xs : List PlainBlock) → list_all p xs ≡ list_all q xs
 list_all_agree p q agree [] = refl
 list_all_agree p q agree (x ∷ xs) = ap (λ t. t && list_all p xs) (agree x) ∙ ap (λ t. q x && t) (list_all_agree p q agree xs)
 
 -- each block of the right half is apart from one that ends in the left half
-right_apart : (c : ℕ) (b : Block) (ys : List Block) → b.start + 2 ^ b.order ≤ c → list_all (are_apart b) (moved_up c ys) ≡ true
+right_apart : (c : ℕ) (b : PlainBlock) (ys : List PlainBlock) → b.start + 2 ^ b.order ≤ c → list_all (are_apart b) (moved_up c ys) ≡ true
 right_apart c b ys l =
     list_all-map (are_apart b) (λ y. block (c + y.start) y.order) ys
     ∙ list_all-from_AllPass (λ y. are_apart b (block (c + y.start) y.order)) ys (λ k d _. or_left _ _ (le-leb (b.start + 2 ^ b.order) _ (omega arith)))
 
 -- each block of the left half is apart from one that starts in the right half
-left_apart : (c : ℕ) (b : Block) (xs : List Block) → c ≤ b.start → All (λ x. x.start + 2 ^ x.order ≤ c) xs → list_all (are_apart b) xs ≡ true
+left_apart : (c : ℕ) (b : PlainBlock) (xs : List PlainBlock) → c ≤ b.start → All (λ x. x.start + 2 ^ x.order ≤ c) xs → list_all (are_apart b) xs ≡ true
 left_apart c b xs l inside =
     list_all-from_AllPass (are_apart b) xs (λ k d u. or_right _ _ (le-leb _ b.start (omega (arith, inside k d u))))
 
-module _ (half : ℕ) (xs ys : List Block) (order : ℕ) (low : order ≤ half) where
+module _ (half : ℕ) (xs ys : List PlainBlock) (order : ℕ) (low : order ≤ half) where
   fits_left : (start : ℕ) → start < 2 ^ half → fits_at (suc half) (xs ++ moved_up (2 ^ half) ys) order start ≡ fits_at half xs order start
   fits_left start l =
       same_tests (fits_at (suc half) (xs ++ moved_up (2 ^ half) ys) order start) (fits_at half xs order start)

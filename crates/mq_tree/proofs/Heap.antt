@@ -3,7 +3,7 @@ use Rattle.std.proofs.Common.{◌≡◌, ◌≢◌, ℕ, ◌+◌, ◌-◌, ◌*�
 use Rattle.std.proofs.Math.Nat.{div-le_self}
 use Rattle.std.proofs.lemmas.Bool.{cases_lt, cases_order}
 use Rattle.std.proofs.lemmas.Nat.{pow_pos, shr-shr, shr_split}
-use Rattle.mq_tree.specs.Trees.{Place}
+use Rattle.mq_tree.specs.Trees.{HasHeight}
 use Rattle.mq_tree.proofs.Powers.{pow_suc, pow_le}
 
 pub up_last : (n i : ℕ) → i / 2 ^ suc n ≡ i / 2 ^ n / 2
@@ -20,37 +20,38 @@ pub one_of_halves : (i : ℕ) → (i ≡ 2 * (i / 2)) ⊎ (i ≡ 2 * (i / 2) + 1
 one_of_halves i = elim (cases_lt (2 * (i / 2)) i) [ inl l ↦ inr (omega arith) | inr l ↦ inl (omega arith) ]
 
 -- ---- places
-pub at_root : (height : ℕ) → Place height height 1
+pub at_root : (height : ℕ) → HasHeight height height 1
 at_root height = record { depth = 0; depth_is = omega arith; root_is = refl }
 
-pub to_left : (height k i : ℕ) → Place height (suc k) i → Place height k (2 * i)
+pub to_left : (height k i : ℕ) → HasHeight height (suc k) i → HasHeight height k (2 * i)
 to_left height k i p =
     let e : 2 * i / 2 ≡ i = omega arith in
     record { depth = suc p.depth; depth_is = omega (arith, p.depth_is); root_is = up_first p.depth (2 * i) ∙ ap (λ x. x / 2 ^ p.depth) e ∙ p.root_is }
 
-pub to_right : (height k i : ℕ) → Place height (suc k) i → Place height k (2 * i + 1)
+pub to_right : (height k i : ℕ) → HasHeight height (suc k) i → HasHeight height k (2 * i + 1)
 to_right height k i p =
     let e : (2 * i + 1) / 2 ≡ i = omega arith in
     record { depth = suc p.depth; depth_is = omega (arith, p.depth_is); root_is = up_first p.depth (2 * i + 1) ∙ ap (λ x. x / 2 ^ p.depth) e ∙ p.root_is }
 
 -- n steps up
-pub to_over : (height k i n : ℕ) → Place height k i → n + k ≤ height → Place height (n + k) (i / 2 ^ n)
+pub to_over : (height k i n : ℕ) → HasHeight height k i → n + k ≤ height → HasHeight height (n + k) (i / 2 ^ n)
 to_over height k i n p l =
     let e : n + (p.depth - n) ≡ p.depth = omega (arith, p.depth_is) in
     record { depth = p.depth - n; depth_is = omega (arith, p.depth_is); root_is = shr-shr i n (p.depth - n) ∙ ap (λ x. i / 2 ^ x) e ∙ p.root_is }
 
 -- one step up
-pub to_parent : {height k i : ℕ} → Place height k i → k < height → Place height (suc k) (i / 2)
+pub to_parent : {height k i : ℕ} → HasHeight height k i → k < height
+    → HasHeight height (suc k) (i / 2)
 to_parent {height = height} {k = k} {i = i} p l =
     let e : 1 + k ≡ suc k = omega arith in
-    subst (λ h. Place height h (i / 2)) e (to_over height k i 1 p (omega arith))
+    subst (λ h. HasHeight height h (i / 2)) e (to_over height k i 1 p (omega arith))
 
-within : {height k i : ℕ} (p : Place height k i) → (2 ^ p.depth ≤ i) × (i < 2 ^ suc p.depth)
+within : {height k i : ℕ} (p : HasHeight height k i) → (2 ^ p.depth ≤ i) × (i < 2 ^ suc p.depth)
 within {i = i} p =
     let s : 1 * 2 ^ p.depth + i % 2 ^ p.depth ≡ i = ap (λ x. x * 2 ^ p.depth + i % 2 ^ p.depth) (sym p.root_is) ∙ shr_split i p.depth in
     (omega (arith, s), omega (arith, s, pow_suc p.depth, pow_pos p.depth))
 
-module _ {height k i : ℕ} (p : Place height k i) where
+module _ {height k i : ℕ} (p : HasHeight height k i) where
   pub place_pos : 0 < i
   place_pos = omega (arith, (within p).0, pow_pos p.depth)
 
@@ -58,7 +59,7 @@ module _ {height k i : ℕ} (p : Place height k i) where
   place_below = omega (arith, (within p).1, pow_le (suc p.depth) (suc height) (omega (arith, p.depth_is)), pow_suc height)
 
   -- a node has one height
-  pub place_height : {m : ℕ} (q : Place height m i) → k ≡ m
+  pub place_height : {m : ℕ} (q : HasHeight height m i) → k ≡ m
   place_height q = elim (cases_order p.depth q.depth) [
     | inl e ↦ omega (arith, p.depth_is, q.depth_is)
     | inr o ↦ elim o [
@@ -79,18 +80,18 @@ module _ {height k i : ℕ} (p : Place height k i) where
   ]
 
 -- the node at the full height is the root, and those of single pages come last
-pub root_alone : {height i : ℕ} → Place height height i → i ≡ 1
+pub root_alone : {height i : ℕ} → HasHeight height height i → i ≡ 1
 root_alone {i = i} p =
     let none : p.depth ≡ 0 = omega (arith, p.depth_is) in
     sym (up_none i) ∙ ap (λ d. i / 2 ^ d) (sym none) ∙ p.root_is
 
-pub page_nodes : {height k i : ℕ} → Place height k i → 2 ^ height ≤ i → k ≡ 0
+pub page_nodes : {height k i : ℕ} → HasHeight height k i → 2 ^ height ≤ i → k ≡ 0
 page_nodes {height = height} {k = k} p l = elim (cases_lt 0 k) [
   | inl some ↦ absurd (omega (arith, l, (within p).1, pow_le (suc p.depth) height (omega (arith, some, p.depth_is))))
   | inr none ↦ omega arith
 ]
 
-pub no_page_nodes : {height k i : ℕ} → Place height k i → i < 2 ^ height → 0 < k
+pub no_page_nodes : {height k i : ℕ} → HasHeight height k i → i < 2 ^ height → 0 < k
 no_page_nodes {height = height} {k = k} p l = elim (cases_lt 0 k) [
   | inl some ↦ some
   | inr none ↦ absurd (omega (arith, l, (within p).0, pow_le height p.depth (omega (arith, none, p.depth_is))))
@@ -121,11 +122,11 @@ over_differs j n i e l f =
     omega (arith, h, e, f, l, up_first n j)
 
 -- each node but node 0 has its place
-pub place_of : (height i : ℕ) → 0 < i → i < 2 * 2 ^ height → (k : ℕ) × Place height k i
-place_of zero i l u = let e : 1 ≡ i = omega arith in (0, subst (λ x. Place 0 0 x) e (at_root 0))
+pub place_of : (height i : ℕ) → 0 < i → i < 2 * 2 ^ height → (k : ℕ) × HasHeight height k i
+place_of zero i l u = let e : 1 ≡ i = omega arith in (0, subst (λ x. HasHeight 0 0 x) e (at_root 0))
 place_of (suc h) i l u = elim (cases_lt 1 i) [
   | inl more ↦
       let q = place_of h (i / 2) (omega arith) (omega (arith, pow_suc h)) in
       (q.0, record { depth = suc q.1.depth; depth_is = omega (arith, q.1.depth_is); root_is = up_first q.1.depth i ∙ q.1.root_is })
-  | inr one ↦ let e : 1 ≡ i = omega arith in (suc h, subst (λ x. Place (suc h) (suc h) x) e (at_root (suc h)))
+  | inr one ↦ let e : 1 ≡ i = omega arith in (suc h, subst (λ x. HasHeight (suc h) (suc h) x) e (at_root (suc h)))
 ]

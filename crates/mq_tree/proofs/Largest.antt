@@ -2,11 +2,11 @@
 use Rattle.std.proofs.Common.{◌≡◌, ℕ, ◌+◌, ◌-◌, ◌<◌, ◌≤◌, zero, suc, refl, sym, ap, ◌∙◌, arith, inl, inr, List, Some, None, leb, ltb}
 use Rattle.std.specs.Option.{is_some}
 use Rattle.std.proofs.lemmas.Bool.{cases_lt, cases_eq, cond-true, cond-false, le-leb, lt-leb, lt-ltb, le-ltb}
-use Rattle.mq_tree.specs.Blocks.{Block}
+use Rattle.mq_tree.specs.Blocks.{PlainBlock}
 use Rattle.mq_tree.specs.Fit.{fit, largest, largest_below}
 use Rattle.mq_tree.specs.Nodes.{largest_under}
 
-module _ (height : ℕ) (lent : List Block) (node : ℕ) (fits : (k : ℕ) → is_some (fit height lent k) ≡ leb (k + 2) node) where
+module _ (height : ℕ) (lent : List PlainBlock) (node : ℕ) (fits : (k : ℕ) → is_some (fit height lent k) ≡ leb (k + 2) node) where
   nothing_fits : (n : ℕ) → node ≤ 1 → largest_below n height lent ≡ None
   nothing_fits zero l = refl
   nothing_fits (suc n) l =

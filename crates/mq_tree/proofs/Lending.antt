@@ -4,11 +4,12 @@ use Rattle.std.specs.List.{All}
 use Rattle.std.specs.Option.{is_some}
 use Rattle.std.proofs.lemmas.Bool.{cases_lt, lt-leb}
 use Rattle.std.proofs.lemmas.List.{get_or-set_same, get_or-set_other}
-use Rattle.mq_tree.specs.Blocks.{Block, block, IsInArena, moved_up}
-use Rattle.mq_tree.specs.LentSet.{joined}
+use Rattle.mq_tree.specs.Blocks.{PlainBlock, block, IsInArena, moved_up}
+use Rattle.mq_tree.specs.LentSet.{inserted}
 use Rattle.mq_tree.specs.Fit.{fit}
 use Rattle.mq_tree.specs.Nodes.{node_at}
-use Rattle.mq_tree.specs.Trees.{blocks_under, lent_blocks, start_of, Place, IsTree, HasRoom, Found}
+use Rattle.mq_tree.specs.Trees.{blocks_under, lent_blocks, start_of, HasHeight, IsTree, HasRoom}
+use Rattle.mq_tree.specs.Trees.{Found}
 use Rattle.mq_tree.proofs.Fits.{fit_empty}
 use Rattle.mq_tree.proofs.Heap.{up_last, up_none, at_root, over_root, over_differs, to_left, to_right, place_pos, place_below}
 use Rattle.mq_tree.proofs.Trees.{bounded, room_is, free_blocks, blocks_lent, blocks_halves, blocks_lent_set, right_room}
@@ -23,9 +24,9 @@ module _ (height order : ℕ) (nodes : List ℕ) (tree : IsTree height nodes) wh
     pub free : node_at nodes j ≡ order + 2
     pub clear : (n : ℕ) → n < d → 0 < node_at nodes (j / 2 ^ suc n)
     pub fit_is : fit k (blocks_under k i nodes) order ≡ Some (start_in d order j)
-    pub lent_is : blocks_under k i (set nodes j 0) ≡ joined (block (start_in d order j) order) (blocks_under k i nodes)
+    pub lent_is : blocks_under k i (set nodes j 0) ≡ inserted (block (start_in d order j) order) (blocks_under k i nodes)
 
-  pub picked_here : (i : ℕ) → Place height order i → order + 2 ≤ node_at nodes i → IsPicked 0 order i i
+  pub picked_here : (i : ℕ) → HasHeight height order i → order + 2 ≤ node_at nodes i → IsPicked 0 order i i
   picked_here i p room =
       let e : node_at nodes i ≡ order + 2 = omega (arith, bounded height nodes tree order i p) in
       let none = free_blocks height nodes tree order i p e in
@@ -37,14 +38,14 @@ module _ (height order : ℕ) (nodes : List ℕ) (tree : IsTree height nodes) wh
         fit_is = ap (λ x. fit order x order) none ∙ fit_empty order order (omega arith) ∙ ap (λ s. Some s) (sym (start_none order i));
         lent_is =
             blocks_lent order i (set nodes i 0) (get_or-set_same nodes i 0 0 l)
-            ∙ ap (λ s. block s order ∷ []) (sym (start_none order i)) ∙ ap (λ x. joined (block (start_in 0 order i) order) x) (sym none);
+            ∙ ap (λ s. block s order ∷ []) (sym (start_none order i)) ∙ ap (λ x. inserted (block (start_in 0 order i) order) x) (sym none);
       }
 
-  module _ (d half i j : ℕ) (p : Place height (suc half) i) (room : order + 2 ≤ node_at nodes i) (sum : d + order ≡ half) where
-    abbrev xs : List Block
+  module _ (d half i j : ℕ) (p : HasHeight height (suc half) i) (room : order + 2 ≤ node_at nodes i) (sum : d + order ≡ half) where
+    abbrev xs : List PlainBlock
     xs = blocks_under half (2 * i) nodes
 
-    abbrev ys : List Block
+    abbrev ys : List PlainBlock
     ys = blocks_under half (2 * i + 1) nodes
 
     inside : All (IsInArena half) xs
@@ -77,11 +78,11 @@ module _ (height order : ℕ) (nodes : List ℕ) (tree : IsTree height nodes) wh
           lent_is =
               split_new over
               ∙ ap (λ x. x ++ moved_up (2 ^ half) (blocks_under half (2 * i + 1) (set nodes j 0))) q.lent_is
-              ∙ ap (λ y. joined (block (start_in d order j) order) xs ++ moved_up (2 ^ half) y)
+              ∙ ap (λ y. inserted (block (start_in d order j) order) xs ++ moved_up (2 ^ half) y)
               (other_half half (2 * i + 1) nodes j d (2 * i) 0 q.over (omega arith) (omega (arith, place_pos p)) (omega arith) (λ e. omega (arith, e)))
               ∙ lent_left half xs ys order (omega arith) inside (start_in d order j) q.fit_is
-              ∙ ap (λ x. joined (block x order) (xs ++ moved_up (2 ^ half) ys)) (sym s)
-              ∙ ap (λ x. joined (block (start_in (suc d) order j) order) x) (sym split);
+              ∙ ap (λ x. inserted (block x order) (xs ++ moved_up (2 ^ half) ys)) (sym s)
+              ∙ ap (λ x. inserted (block (start_in (suc d) order j) order) x) (sym split);
         }
 
     pub picked_right : leb (order + 2) (node_at nodes (2 * i)) ≡ false → IsPicked d half (2 * i + 1) j → IsPicked (suc d) (suc half) i j
@@ -100,15 +101,15 @@ module _ (height order : ℕ) (nodes : List ℕ) (tree : IsTree height nodes) wh
               (other_half half (2 * i) nodes j d (2 * i + 1) 0 q.over (omega arith) (omega arith) (omega (arith, place_pos p)) (λ e. omega (arith, e)))
               ∙ ap (λ y. xs ++ moved_up (2 ^ half) y) q.lent_is
               ∙ lent_right half xs ys order (omega arith) inside (start_in d order j)
-              ∙ ap (λ x. joined (block x order) (xs ++ moved_up (2 ^ half) ys)) (sym s)
-              ∙ ap (λ x. joined (block (start_in (suc d) order j) order) x) (sym split);
+              ∙ ap (λ x. inserted (block x order) (xs ++ moved_up (2 ^ half) ys)) (sym s)
+              ∙ ap (λ x. inserted (block (start_in (suc d) order j) order) x) (sym split);
         }
 
 -- the way down: the first free run under node i, of height k, is the first one in the arena
 pub record Down (height order k i : ℕ) (nodes : List ℕ) : Type 0 where
   pub has : HasRoom height order nodes
   pub low : order ≤ k
-  pub place : Place height k i
+  pub place : HasHeight height k i
   pub room : order + 2 ≤ node_at nodes i
   pub picked : (j : ℕ) → IsPicked height order nodes has.tree (k - order) k i j → IsPicked height order nodes has.tree (height - order) height 1 j
 
@@ -121,21 +122,21 @@ module _ {height order k i : ℕ} {nodes : List ℕ} (down : Down height order k
       let d = height - order in
       let at : k ≡ order = omega (arith, down.low, l) in
       let none : 0 ≡ k - order = omega (arith, l) in
-      let here = picked_here height order nodes down.has.tree i (subst (λ h. Place height h i) at down.place) down.room in
+      let here = picked_here height order nodes down.has.tree i (subst (λ h. HasHeight height h i) at down.place) down.room in
       let q = down.picked i (subst (λ n. IsPicked height order nodes down.has.tree n k i i) none (subst (λ h. IsPicked height order nodes down.has.tree 0 h i i) (sym at) here)) in
-      let place : Place height order i = record { depth = d; depth_is = omega (arith, down.has.low); root_is = q.over } in
+      let place : HasHeight height order i = record { depth = d; depth_is = omega (arith, down.has.low); root_is = q.over } in
       let s : start_in d order i ≡ start_of height order i = start_whole height order i place in
       record {
         place = place;
         free = q.free;
         clear = λ n l. q.clear n (omega (arith, down.has.low, over_root place (suc n) l));
         fit_is = q.fit_is ∙ ap (λ x. Some x) s;
-        lent_is = q.lent_is ∙ ap (λ x. joined (block x order) (lent_blocks height nodes)) s;
+        lent_is = q.lent_is ∙ ap (λ x. inserted (block x order) (lent_blocks height nodes)) s;
       }
 
   module _ (below : order < k) where
-    half_place : Place height (suc (k - 1)) i
-    half_place = let e : k ≡ suc (k - 1) = omega (arith, below) in subst (λ h. Place height h i) e down.place
+    half_place : HasHeight height (suc (k - 1)) i
+    half_place = let e : k ≡ suc (k - 1) = omega (arith, below) in subst (λ h. HasHeight height h i) e down.place
 
     pub halves_in : 2 * i + 1 < length nodes
     halves_in = omega (arith, down.has.tree.len, place_below (to_right height (k - 1) i half_place))

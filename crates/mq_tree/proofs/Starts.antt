@@ -3,7 +3,7 @@ use Rattle.std.proofs.Common.{◌≡◌, ℕ, ◌+◌, ◌-◌, ◌*◌, ◌/◌
 use Rattle.std.proofs.Math.Nat.{add-mul, add-div_left}
 use Rattle.std.proofs.lemmas.Nat.{pow_pos, pow-add, mod-pow-add, row_fits, shr_split, shr-shr, div_below}
 use Rattle.mq_tree.proofs.Powers.{mod_up}
-use Rattle.mq_tree.specs.Trees.{Place, start_of}
+use Rattle.mq_tree.specs.Trees.{HasHeight, start_of}
 
 -- the first page of the run of node j, of that height, within that of the node d steps over it
 abbrev pub start_in : ℕ → ℕ → ℕ → ℕ
@@ -35,7 +35,7 @@ start_below d order k j e =
     omega (arith, row_fits (j % 2 ^ d) (2 ^ order) (2 ^ d) (2 ^ order) l (omega arith), pow_sum d order k e, pow_pos order)
 
 -- within the whole arena
-module _ (height order j : ℕ) (p : Place height order j) where
+module _ (height order j : ℕ) (p : HasHeight height order j) where
   starts_after : j * 2 ^ order ≡ 2 ^ height + start_in p.depth order j
   starts_after =
       let a : 1 * 2 ^ p.depth + j % 2 ^ p.depth ≡ j = ap (λ x. x * 2 ^ p.depth + j % 2 ^ p.depth) (sym p.root_is) ∙ shr_split j p.depth in
@@ -50,7 +50,7 @@ module _ (height order j : ℕ) (p : Place height order j) where
 
 -- ---- the node of a block
 module _ (height order start : ℕ) (low : order ≤ height) (below : start < 2 ^ height) (aligned : start % 2 ^ order ≡ 0) where
-  pub run_place : Place height order ((2 ^ height + start) / 2 ^ order)
+  pub run_place : HasHeight height order ((2 ^ height + start) / 2 ^ order)
   run_place =
       let e : order + (height - order) ≡ height = omega arith in
       let none : start / 2 ^ height ≡ 0 = omega (arith, div_below start (2 ^ height) 1 (pow_pos height) (omega (arith, below))) in

@@ -2,11 +2,11 @@
 use Rattle.std.proofs.Common.{◌≡◌, ℕ, ◌+◌, ◌^◌, ◌≤◌, ◌<◌, sym, ap, ◌∙◌, arith, true, List, [], ◌++◌, length, take, drop, Some, None}
 use Rattle.std.proofs.lemmas.Bool.{lt-leb}
 use Rattle.std.proofs.lemmas.List.{take_at}
-use Rattle.mq_tree.specs.Blocks.{Block, block}
-use Rattle.mq_tree.specs.LentSet.{joined, left, is_lent, free_pages}
+use Rattle.mq_tree.specs.Blocks.{PlainBlock, block}
+use Rattle.mq_tree.specs.LentSet.{inserted, left, is_lent, free_pages}
 use Rattle.mq_tree.specs.Fit.{fit, largest}
 use Rattle.mq_tree.specs.Nodes.{node_at, largest_under}
-use Rattle.mq_tree.specs.Trees.{lent_blocks, IsTree, IsTreeOf, IsWhole}
+use Rattle.mq_tree.specs.Trees.{lent_blocks, IsTree, IsTreeOf, IsOrderTree}
 use Rattle.mq_tree.proofs.Powers.{pow_le}
 use Rattle.mq_tree.proofs.FreePages.{free_joined, free_left, free_sum, new_free}
 use Rattle.mq_tree.proofs.Heap.{at_root}
@@ -18,7 +18,7 @@ use Rattle.mq_tree.proofs.Trees.{bounded, room_is, blocks_lent_set}
 pub refilled : {height len : ℕ} {items new : List ℕ} → IsTree height items → len ≡ length items → IsTree height new → take len (new ++ drop (length new) items) ≡ new
 refilled {len = len} {items = items} {new = new} t l u = take_at new (drop (length new) items) len (omega (arith, l, t.len, u.len))
 
-pub seen : {height len : ℕ} {items new : List ℕ} {lent : List Block} → IsTree height items → len ≡ length items → IsTreeOf height new lent → lent_blocks height (take len (new ++ drop (length new) items)) ≡ lent
+pub seen : {height len : ℕ} {items new : List ℕ} {lent : List PlainBlock} → IsTree height items → len ≡ length items → IsTreeOf height new lent → lent_blocks height (take len (new ++ drop (length new) items)) ≡ lent
 seen {height = height} t l u = ap (lent_blocks height) (refilled t l u.tree) ∙ u.lent_is
 
 -- ---- what the root tells
@@ -31,8 +31,9 @@ root_full {height = height} {nodes = nodes} t order l =
     none_is (fit height (lent_blocks height nodes) order) (room_is height nodes t height 1 (at_root height) order ∙ lt-leb (order + 2) (node_at nodes 1) l)
 
 -- ---- how many pages are free
-module _ {height free : ℕ} {old new : List ℕ} (w : IsWhole height free old) (order start : ℕ) where
-  pub lent_free : fit height (lent_blocks height old) order ≡ Some start → IsTreeOf height new (joined (block start order) (lent_blocks height old))
+module _ {height free : ℕ} {old new : List ℕ} (w : IsOrderTree height free old)
+    (order start : ℕ) where
+  pub lent_free : fit height (lent_blocks height old) order ≡ Some start → IsTreeOf height new (inserted (block start order) (lent_blocks height old))
       → free ≡ free_pages height (lent_blocks height new) + 2 ^ order
   lent_free found t = w.free_is ∙ free_joined height (lent_blocks height old) order start found ∙ ap (λ l. free_pages height l + 2 ^ order) (sym t.lent_is)
 
@@ -47,7 +48,7 @@ free_bound height nodes l = omega (arith, free_sum height (lent_blocks height no
 
 -- ---- a new tree
 pub new_whole : (height pages len : ℕ) (items new : List ℕ) → pages ≡ 2 ^ height → len ≡ length items → length new ≡ length items → IsTreeOf height new []
-    → IsWhole height pages (take len (new ++ drop (length new) items))
+    → IsOrderTree height pages (take len (new ++ drop (length new) items))
 new_whole height pages len items new e l same t =
     rw (take_at new (drop (length new) items) len (omega (arith, l, same)))
     (record { tree = t.tree; free_is = e ∙ sym (new_free height) ∙ ap (free_pages height) (sym t.lent_is) })

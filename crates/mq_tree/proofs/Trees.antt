@@ -3,11 +3,11 @@ use Rattle.std.proofs.Common.{◌≡◌, ℕ, ◌+◌, ◌*◌, ◌/◌, ◌^◌
 use Rattle.std.specs.Option.{is_some, option_or, option_map}
 use Rattle.std.proofs.lemmas.Bool.{cases_lt, cases_eq, cond-true, cond-false, le-leb, lt-leb, eq-eqb, ne_eqb}
 use Rattle.std.proofs.lemmas.Bool.Decides.{nat_tests}
-use Rattle.mq_tree.specs.Blocks.{Block, block, moved_up}
+use Rattle.mq_tree.specs.Blocks.{PlainBlock, block, moved_up}
 use Rattle.mq_tree.specs.LentSet.{IsLentSet}
 use Rattle.mq_tree.specs.Fit.{fit}
 use Rattle.mq_tree.specs.Nodes.{node_at, parent, IsRight}
-use Rattle.mq_tree.specs.Trees.{blocks_under, Place, IsTree}
+use Rattle.mq_tree.specs.Trees.{blocks_under, HasHeight, IsTree}
 use Rattle.mq_tree.proofs.Powers.{pow_le}
 use Rattle.mq_tree.proofs.Fits.{fit_empty, fit_over, fit_lent, fit_whole}
 use Rattle.mq_tree.proofs.Halving.{fit_split}
@@ -78,21 +78,21 @@ free_fits height k = elim (cases_lt height k) [
   | inr l ↦ ap (λ o. is_some o) (fit_empty height k (pow_le k height l)) ∙ sym (le-leb (k + 2) (height + 2) (omega arith))
 ]
 
-append_empty : (xs ys : List Block) → xs ++ ys ≡ [] → (xs ≡ []) × (ys ≡ [])
+append_empty : (xs ys : List PlainBlock) → xs ++ ys ≡ [] → (xs ≡ []) × (ys ≡ [])
 append_empty [] ys e = (refl, e)
 append_empty (x ∷ xs) ys e = absurd (cc)
 
-moved_empty : (c : ℕ) (ys : List Block) → moved_up c ys ≡ [] → ys ≡ []
+moved_empty : (c : ℕ) (ys : List PlainBlock) → moved_up c ys ≡ [] → ys ≡ []
 moved_empty c [] e = refl
 moved_empty c (y ∷ ys) e = absurd (cc)
 
 -- ---- a tree
 module _ (height : ℕ) (nodes : List ℕ) (tree : IsTree height nodes) where
-  pub rule : (k i : ℕ) → Place height k i → IsRight k i nodes
+  pub rule : (k i : ℕ) → HasHeight height k i → IsRight k i nodes
   rule k i p = tree.right k i p (λ e. omega (arith, e, place_pos p))
 
   -- a node is free at most
-  pub bounded : (k i : ℕ) → Place height k i → node_at nodes i ≤ k + 2
+  pub bounded : (k i : ℕ) → HasHeight height k i → node_at nodes i ≤ k + 2
   bounded zero i p = elim (rule zero i p) [ inl e ↦ omega arith | inr e ↦ omega arith ]
   bounded (suc half) i p = elim (rule (suc half) i p) [
     | inl e ↦ omega (arith, e.lent)
@@ -105,7 +105,7 @@ module _ (height : ℕ) (nodes : List ℕ) (tree : IsTree height nodes) where
   ]
 
   -- the halves of a node that is free, or lent as one block, are free
-  pub free_halves : (half i : ℕ) → Place height (suc half) i → (node_at nodes i ≡ suc half + 2) ⊎ (node_at nodes i ≡ 0)
+  pub free_halves : (half i : ℕ) → HasHeight height (suc half) i → (node_at nodes i ≡ suc half + 2) ⊎ (node_at nodes i ≡ 0)
       → (node_at nodes (2 * i) ≡ half + 2) × (node_at nodes (2 * i + 1) ≡ half + 2)
   free_halves half i p is = elim (rule (suc half) i p) [
     | inl e ↦ (e.left_free, e.right_free)
@@ -116,7 +116,7 @@ module _ (height : ℕ) (nodes : List ℕ) (tree : IsTree height nodes) where
   ]
 
   -- nothing is lent under a free node
-  pub free_blocks : (k i : ℕ) → Place height k i → node_at nodes i ≡ k + 2 → blocks_under k i nodes ≡ []
+  pub free_blocks : (k i : ℕ) → HasHeight height k i → node_at nodes i ≡ k + 2 → blocks_under k i nodes ≡ []
   free_blocks zero i p e = blocks_leaf zero i nodes (λ z. omega (arith, z, e))
   free_blocks (suc half) i p e =
       let h = free_halves half i p (inl e) in
@@ -125,7 +125,7 @@ module _ (height : ℕ) (nodes : List ℕ) (tree : IsTree height nodes) where
       ∙ ap (λ y. moved_up (2 ^ half) y) (free_blocks half (2 * i + 1) (to_right height half i p) h.1)
 
   -- a half of a node that is free, or lent as one block
-  half_of : (half i : ℕ) → Place height (suc half) (i / 2) → (node_at nodes (i / 2) ≡ suc half + 2) ⊎ (node_at nodes (i / 2) ≡ 0) → node_at nodes i ≡ half + 2
+  half_of : (half i : ℕ) → HasHeight height (suc half) (i / 2) → (node_at nodes (i / 2) ≡ suc half + 2) ⊎ (node_at nodes (i / 2) ≡ 0) → node_at nodes i ≡ half + 2
   half_of half i p is =
       let h = free_halves half (i / 2) p is in
       elim (one_of_halves i) [
@@ -134,19 +134,19 @@ module _ (height : ℕ) (nodes : List ℕ) (tree : IsTree height nodes) where
       ]
 
   -- each node under a free one is free
-  free_below : (k i n : ℕ) → Place height k i → n + k ≤ height → node_at nodes (i / 2 ^ n) ≡ n + k + 2 → node_at nodes i ≡ k + 2
+  free_below : (k i n : ℕ) → HasHeight height k i → n + k ≤ height → node_at nodes (i / 2 ^ n) ≡ n + k + 2 → node_at nodes i ≡ k + 2
   free_below k i zero p l e = ap (λ x. node_at nodes x) (sym (up_none i)) ∙ e ∙ omega arith
   free_below k i (suc n) p l e =
       free_below k i n p (omega arith) (half_of (n + k) (i / 2 ^ n) (to_parent (to_over height k i n p (omega arith)) (omega arith))
       (inl (ap (λ x. node_at nodes x) (sym (up_last n i)) ∙ e ∙ omega arith)))
 
   -- and so is each node under one that is lent as one block
-  pub free_under_lent : (k i n : ℕ) → Place height k i → suc n + k ≤ height → node_at nodes (i / 2 ^ suc n) ≡ 0 → node_at nodes i ≡ k + 2
+  pub free_under_lent : (k i n : ℕ) → HasHeight height k i → suc n + k ≤ height → node_at nodes (i / 2 ^ suc n) ≡ 0 → node_at nodes i ≡ k + 2
   free_under_lent k i n p l e =
       free_below k i n p (omega arith) (half_of (n + k) (i / 2 ^ n) (to_parent (to_over height k i n p (omega arith)) (omega arith)) (inr (ap (λ x. node_at nodes x) (sym (up_last n i)) ∙ e)))
 
   -- where nothing is lent the node is free
-  empty_is_free : (k i : ℕ) → Place height k i → blocks_under k i nodes ≡ [] → node_at nodes i ≡ k + 2
+  empty_is_free : (k i : ℕ) → HasHeight height k i → blocks_under k i nodes ≡ [] → node_at nodes i ≡ k + 2
   empty_is_free zero i p none = elim (rule zero i p) [
     | inl e ↦ let f : block 0 0 ∷ [] ≡ [] = sym (blocks_lent zero i nodes e) ∙ none in absurd (cc)
     | inr e ↦ e
@@ -161,7 +161,7 @@ module _ (height : ℕ) (nodes : List ℕ) (tree : IsTree height nodes) where
   ]
 
   -- where the whole run is not free, no order from its height on fits
-  no_whole : (k i : ℕ) → Place height k i → (o : ℕ) → k ≤ o → (node_at nodes i ≡ k + 2 → ⊥) → is_some (fit k (blocks_under k i nodes) o) ≡ leb (o + 2) (node_at nodes i)
+  no_whole : (k i : ℕ) → HasHeight height k i → (o : ℕ) → k ≤ o → (node_at nodes i ≡ k + 2 → ⊥) → is_some (fit k (blocks_under k i nodes) o) ≡ leb (o + 2) (node_at nodes i)
   no_whole k i p o l n =
       not_some (fit k (blocks_under k i nodes) o) (λ s found. elim (cases_eq o k) [
         | inl e ↦
@@ -171,7 +171,7 @@ module _ (height : ℕ) (nodes : List ℕ) (tree : IsTree height nodes) where
       ])
       ∙ sym (lt-leb (o + 2) (node_at nodes i) (omega (arith, n, bounded k i p)))
 
-  room_free : (k i : ℕ) → Place height k i → (o : ℕ) → node_at nodes i ≡ k + 2 → is_some (fit k (blocks_under k i nodes) o) ≡ leb (o + 2) (node_at nodes i)
+  room_free : (k i : ℕ) → HasHeight height k i → (o : ℕ) → node_at nodes i ≡ k + 2 → is_some (fit k (blocks_under k i nodes) o) ≡ leb (o + 2) (node_at nodes i)
   room_free k i p o e = ap (λ x. is_some (fit k x o)) (free_blocks k i p e) ∙ free_fits k o ∙ ap (λ x. leb (o + 2) x) (sym e)
 
   room_lent : (k i o : ℕ) → node_at nodes i ≡ 0 → is_some (fit k (blocks_under k i nodes) o) ≡ leb (o + 2) (node_at nodes i)
@@ -179,7 +179,7 @@ module _ (height : ℕ) (nodes : List ℕ) (tree : IsTree height nodes) where
       ap (λ x. is_some (fit k x o)) (blocks_lent k i nodes e) ∙ ap (λ x. is_some x) (fit_lent k o) ∙ sym (lt-leb (o + 2) (node_at nodes i) (omega arith))
 
   -- what fits is what is at most the node's order
-  pub room_is : (k i : ℕ) → Place height k i → (o : ℕ) → is_some (fit k (blocks_under k i nodes) o) ≡ leb (o + 2) (node_at nodes i)
+  pub room_is : (k i : ℕ) → HasHeight height k i → (o : ℕ) → is_some (fit k (blocks_under k i nodes) o) ≡ leb (o + 2) (node_at nodes i)
   room_is zero i p o = elim (rule zero i p) [ inl e ↦ room_lent zero i o e | inr e ↦ room_free zero i p o e ]
   room_is (suc half) i p o = elim (rule (suc half) i p) [
     | inl e ↦ room_lent (suc half) i o e.lent
@@ -204,7 +204,7 @@ module _ (height : ℕ) (nodes : List ℕ) (tree : IsTree height nodes) where
   ]
 
   -- where the left half has no room for an order, the right one has
-  pub right_room : (half i : ℕ) → Place height (suc half) i → (o : ℕ) → o ≤ half → o + 2 ≤ node_at nodes i → leb (o + 2) (node_at nodes (2 * i)) ≡ false → o + 2 ≤ node_at nodes (2 * i + 1)
+  pub right_room : (half i : ℕ) → HasHeight height (suc half) i → (o : ℕ) → o ≤ half → o + 2 ≤ node_at nodes i → leb (o + 2) (node_at nodes (2 * i)) ≡ false → o + 2 ≤ node_at nodes (2 * i + 1)
   right_room half i p o low room full = elim (rule (suc half) i p) [
     | inl e ↦ absurd (omega (arith, e.lent, room))
     | inr e ↦ parent_right half (node_at nodes (2 * i)) (node_at nodes (2 * i + 1)) o low (bounded half (2 * i) (to_left height half i p)) (bounded half (2 * i + 1) (to_right height half i p)) (omega (arith, e, room)) full

@@ -1,21 +1,21 @@
 -- The laws of lending, each a clause of the function of `laws`.
 use Rattle.std.specs.Prelude.{◌≡◌, ℕ, ◌+◌, ◌^◌, ◌≤◌, ◌↔◌, true, List, Some, None, IsSome, IsSomeAnd, Contains, sum_by}
-use Rattle.mq_tree.specs.Blocks.{Block, block, HasPage, page_count}
-use Rattle.mq_tree.specs.LentSet.{IsLentSet, joined, left, is_lent, free_pages}
+use Rattle.mq_tree.specs.Blocks.{PlainBlock, block, HasPage, page_count}
+use Rattle.mq_tree.specs.LentSet.{IsLentSet, inserted, left, is_lent, free_pages}
 use Rattle.mq_tree.specs.Fit.{fit, largest, IsFit, HasNoFit}
 
 -- `fit` answers the least start that is aligned, in the arena and free, and just that one; `None`
 -- just where no start is
 abbrev pub FitIsLeast : Type 0
 FitIsLeast =
-    (height : ℕ) (lent : List Block) (order : ℕ)
+    (height : ℕ) (lent : List PlainBlock) (order : ℕ)
     → ((start : ℕ) → (fit height lent order ≡ Some start) ↔ IsFit height lent order start)
     × ((fit height lent order ≡ None) ↔ HasNoFit height lent order)
 
 -- the largest order fits, and each order that fits is at most that
 abbrev pub LargestFits : Type 0
 LargestFits =
-    (height : ℕ) (lent : List Block)
+    (height : ℕ) (lent : List PlainBlock)
     → ((most : ℕ) → largest height lent ≡ Some most → IsSome (fit height lent most))
     × ((order : ℕ)
     → IsSome (fit height lent order) → IsSomeAnd (largest height lent) (λ most. order ≤ most))
@@ -23,7 +23,7 @@ LargestFits =
 -- a page of a lent block is in no other lent block
 abbrev pub LentSetIsApart : Type 0
 LentSetIsApart =
-    (height : ℕ) (lent : List Block) (a b : Block) (page : ℕ)
+    (height : ℕ) (lent : List PlainBlock) (a b : PlainBlock) (page : ℕ)
     → IsLentSet height lent → Contains lent a → Contains lent b
     → HasPage a page → HasPage b page → a ≡ b
 
@@ -31,19 +31,19 @@ LentSetIsApart =
 -- that fits, or with one less, is a lent set
 abbrev pub StaysLentSet : Type 0
 StaysLentSet =
-    (height : ℕ) (lent : List Block)
+    (height : ℕ) (lent : List PlainBlock)
     → ((order start : ℕ) → fit height lent order ≡ Some start
-    → (left (block start order) (joined (block start order) lent) ≡ lent)
-    × (IsLentSet height lent → IsLentSet height (joined (block start order) lent)))
-    × ((b : Block) → IsLentSet height lent → IsLentSet height (left b lent))
+    → (left (block start order) (inserted (block start order) lent) ≡ lent)
+    × (IsLentSet height lent → IsLentSet height (inserted (block start order) lent)))
+    × ((b : PlainBlock) → IsLentSet height lent → IsLentSet height (left b lent))
 
 -- the free pages and the lengths of the lent blocks add up to the arena; a block that is lent takes
 -- its pages, and a lent block that is given back leaves them free
 abbrev pub FreePagesAddUp : Type 0
 FreePagesAddUp =
-    (height : ℕ) (lent : List Block)
+    (height : ℕ) (lent : List PlainBlock)
     → (IsLentSet height lent → free_pages height lent + sum_by page_count lent ≡ 2 ^ height)
     × ((order start : ℕ) → fit height lent order ≡ Some start
-    → free_pages height lent ≡ free_pages height (joined (block start order) lent) + 2 ^ order)
-    × ((b : Block) → IsLentSet height lent → is_lent b lent ≡ true
+    → free_pages height lent ≡ free_pages height (inserted (block start order) lent) + 2 ^ order)
+    × ((b : PlainBlock) → IsLentSet height lent → is_lent b lent ≡ true
     → free_pages height (left b lent) ≡ free_pages height lent + 2 ^ b.order)

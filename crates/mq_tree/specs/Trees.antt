@@ -1,13 +1,13 @@
 -- A tree as a list of nodes: what is lent in it, and when a list is a tree.
 use Rattle.std.specs.Prelude.{◌≡◌, ◌≢◌, ℕ, ◌+◌, ◌-◌, ◌*◌, ◌/◌, ◌^◌, ◌<◌, ◌≤◌, zero, suc, false, ◌==◌, List, [], ◌∷◌, ◌++◌, length, slice_set, Some, if◌then◌else◌}
-use Rattle.mq_tree.specs.Blocks.{Block, block, moved_up}
-use Rattle.mq_tree.specs.LentSet.{IsLentSet, joined, is_lent, free_pages}
+use Rattle.mq_tree.specs.Blocks.{PlainBlock, block, moved_up}
+use Rattle.mq_tree.specs.LentSet.{IsLentSet, inserted, is_lent, free_pages}
 use Rattle.mq_tree.specs.Fit.{fit}
 use Rattle.mq_tree.specs.declared.limits.TheConstants.{MAX_HEIGHT}
 use Rattle.mq_tree.specs.Nodes.{node_at, whole_free, IsRight}
 
 -- the blocks that are lent in the run of node i, of that height: the whole, or those of its halves
-unfoldable pub blocks_under : ℕ → ℕ → List ℕ → List Block
+unfoldable pub blocks_under : ℕ → ℕ → List ℕ → List PlainBlock
 blocks_under zero i nodes = if node_at nodes i == 0 then block 0 0 ∷ [] else []
 blocks_under (suc half) i nodes =
     if node_at nodes i == 0 then block 0 (suc half) ∷ []
@@ -15,11 +15,11 @@ blocks_under (suc half) i nodes =
     ++ moved_up (2 ^ half) (blocks_under half (2 * i + 1) nodes)
 
 -- the blocks that are lent in a tree of that height
-abbrev pub lent_blocks : ℕ → List ℕ → List Block
+abbrev pub lent_blocks : ℕ → List ℕ → List PlainBlock
 lent_blocks height nodes = blocks_under height 1 nodes
 
 -- in a tree of that height, the run of node i has height k: so many steps up is the root
-pub record Place (height k i : ℕ) : Type 0 where
+pub record HasHeight (height k i : ℕ) : Type 0 where
   pub depth : ℕ
   pub depth_is : depth + k ≡ height
   pub root_is : i / 2 ^ depth ≡ 1
@@ -29,14 +29,14 @@ pub record Place (height k i : ℕ) : Type 0 where
 pub record IsTreeBut (height but : ℕ) (nodes : List ℕ) : Type 0 where
   pub low : height ≤ MAX_HEIGHT
   pub len : length nodes ≡ 2 * 2 ^ height
-  pub right : (k i : ℕ) → Place height k i → i ≢ but → IsRight k i nodes
+  pub right : (k i : ℕ) → HasHeight height k i → i ≢ but → IsRight k i nodes
 
 -- the nodes are those of a tree of that height; there is no node 0
 abbrev pub IsTree : ℕ → List ℕ → Type 0
 IsTree height nodes = IsTreeBut height 0 nodes
 
 -- the nodes are a tree in which just these blocks are lent
-pub record IsTreeOf (height : ℕ) (nodes : List ℕ) (lent : List Block) : Type 0 where
+pub record IsTreeOf (height : ℕ) (nodes : List ℕ) (lent : List PlainBlock) : Type 0 where
   pub tree : IsTree height nodes
   pub lent_is : lent_blocks height nodes ≡ lent
 
@@ -46,7 +46,7 @@ IsClear i nodes = (n : ℕ) → 0 < i / 2 ^ suc n → 0 < node_at nodes (i / 2 ^
 
 -- just the node over node i, of height k, may break the rule, and none over it is lent as one block
 pub record IsOpen (height k i : ℕ) (nodes : List ℕ) : Type 0 where
-  pub place : Place height k i
+  pub place : HasHeight height k i
   pub clear : IsClear i nodes
   pub tree : IsTreeBut height (i / 2) nodes
 
@@ -62,23 +62,23 @@ start_of height k i = i * 2 ^ k - 2 ^ height
 
 -- the run of node i, of that order, starts at that page
 pub record IsRunOf (height order start i : ℕ) : Type 0 where
-  pub place : Place height order i
+  pub place : HasHeight height order i
   pub start_is : start_of height order i ≡ start
 
 -- no run of that order starts at that page, so no block that is lent does
 abbrev pub IsNoRun : ℕ → ℕ → ℕ → Type 0
 IsNoRun height order start =
-    (lent : List Block) → IsLentSet height lent → is_lent (block start order) lent ≡ false
+    (lent : List PlainBlock) → IsLentSet height lent → is_lent (block start order) lent ≡ false
 
 -- node i is free, and its run is the first one of that order that is
 pub record Found (height order i : ℕ) (nodes : List ℕ) : Type 0 where
-  pub place : Place height order i
+  pub place : HasHeight height order i
   pub free : node_at nodes i ≡ whole_free order
   pub clear : IsClear i nodes
   pub fit_is : fit height (lent_blocks height nodes) order ≡ Some (start_of height order i)
   pub lent_is :
       lent_blocks height (slice_set nodes i 0)
-      ≡ joined (block (start_of height order i) order) (lent_blocks height nodes)
+      ≡ inserted (block (start_of height order i) order) (lent_blocks height nodes)
 
 -- all pages of a tree to be are free
 pub record ArePagesFree (height : ℕ) (nodes : List ℕ) : Type 0 where
@@ -87,6 +87,6 @@ pub record ArePagesFree (height : ℕ) (nodes : List ℕ) : Type 0 where
   pub pages : (i : ℕ) → i < length nodes → node_at nodes i ≡ whole_free 0
 
 -- what an `OrderTree` keeps: a tree, and how many pages of it are free
-pub record IsWhole (height free : ℕ) (nodes : List ℕ) : Type 0 where
+pub record IsOrderTree (height free : ℕ) (nodes : List ℕ) : Type 0 where
   pub tree : IsTree height nodes
   pub free_is : free ≡ free_pages height (lent_blocks height nodes)

@@ -1,6 +1,6 @@
 ghost use Rattle.std.specs.Prelude.{◌≡◌, Some};
 ghost use Rattle.mq_tree.specs.Blocks.{block};
-ghost use Rattle.mq_tree.specs.LentSet.{joined};
+ghost use Rattle.mq_tree.specs.LentSet.{inserted};
 ghost use Rattle.mq_tree.specs.Fit.{fit};
 ghost use Rattle.mq_tree.specs.Trees.{HasRoom, IsTreeOf, Found, lent_blocks};
 
@@ -28,7 +28,7 @@ pub(crate) fn lend_in(nodes: &mut [Node], height: u8, order: u8) -> u32
     requires { HasRoom height order nodes.old }
     ensures fit { fit height (lent_blocks height nodes.old) order ≡ Some result }
     ensures lent { IsTreeOf height nodes.new
-        (joined (block result order) (lent_blocks height nodes.old)) }
+        (inserted (block result order) (lent_blocks height nodes.old)) }
 {
     let at = first_free(nodes, height, order);
     nodes[at] = LENT;

@@ -1,7 +1,7 @@
 ghost use Rattle.std.specs.Prelude.{◌≡◌, ◌^◌, ◌<◌, ◌↔◌, [], IfOk, IsErrOf, IfSome, IfNone};
 ghost use Rattle.std.specs.Bool.{OnFalse};
 ghost use Rattle.mq_tree.specs.Blocks.{block};
-ghost use Rattle.mq_tree.specs.LentSet.{IsLentSet, joined, left, is_lent, free_pages, with_lent};
+ghost use Rattle.mq_tree.specs.LentSet.{IsLentSet, inserted, left, is_lent, free_pages, with_lent};
 ghost use Rattle.mq_tree.specs.Fit.{fit, largest};
 
 use crate::error::TreeError;
@@ -26,13 +26,13 @@ pub struct OrderTree {
 
 impl Model for OrderTree {
     ghost use Rattle.mq_tree.specs.LentSet.{Lending};
-    ghost use Rattle.mq_tree.specs.Trees.{IsWhole, lent_blocks};
+    ghost use Rattle.mq_tree.specs.Trees.{IsOrderTree, lent_blocks};
 
     ghost Value = { Lending };
 
     ghost view = { λ t. record { height = t.height; lent = lent_blocks t.height t.nodes.items } };
 
-    ghost invariant = { λ t. IsWhole t.height t.free t.nodes.items };
+    ghost invariant = { λ t. IsOrderTree t.height t.free t.nodes.items };
 }
 
 impl OrderTree {
@@ -62,7 +62,7 @@ impl OrderTree {
     pub fn lend(&mut self, order: u8) -> Option<u32>
         ensures fit { result ≡ fit self.old.height self.old.lent order }
         ensures lent { IfSome result
-            (λ start. self.new ≡ with_lent self.old (joined (block start order) self.old.lent)) }
+            (λ start. self.new ≡ with_lent self.old (inserted (block start order) self.old.lent)) }
         ensures unchanged { IfNone result (self.new ≡ self.old) }
         ensures lent_set { IsLentSet self.new.height self.new.lent }
     {

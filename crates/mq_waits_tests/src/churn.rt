@@ -259,7 +259,7 @@ fn ten_queues_come_and_go_under_three_senders(rt: HostRuntime) {
         seat = seat.wrapping_add(1);
     }
     assert_eq!(rt; slot.past.len() as u64, all);
-    assert!(rt; slot.last.is_empty() && slot.left == 0 && ended.free_pages == 4);
+    holds!(rt; slot.last.is_empty() && slot.left == 0 && ended.free_pages == 4);
 }
 
 #[test]
@@ -268,23 +268,23 @@ fn who_waits_in_a_removed_queue_does_not_get_the_next_ones_message(rt: HostRunti
     let parts = [Part::Waits(&ready), Part::MakesAgain(&ready)];
     let ended = ended(&rt, rt.alloc(), "a removal wakes a receiver", &parts);
     let answers = [Err(Errno::EIDRM), Ok((1, 3))];
-    assert!(rt; ended.answer.as_slice() == answers.as_slice());
+    holds!(rt; ended.answer.as_slice() == answers.as_slice());
     let Some(slot) = ended.slots.first() else {
         panic!(rt; "no slot");
     };
-    assert!(rt; slot.left == 1 && slot.past.len() == 2 && ended.free_pages == 4);
+    holds!(rt; slot.left == 1 && slot.past.len() == 2 && ended.free_pages == 4);
 }
 
 #[test]
 fn plenty_passes_through_a_queue_between_four_threads(rt: HostRuntime) {
     let parts = [Part::Passes, Part::Takes, Part::Passes, Part::Takes];
     let ended = ended(&rt, rt.alloc(), "all are sent and received", &parts);
-    assert!(rt; ended.answer.iter().all(|done| *done == Ok((0, 0))));
+    holds!(rt; ended.answer.iter().all(|done| *done == Ok((0, 0))));
     let Some(slot) = ended.slots.first() else {
         panic!(rt; "no slot");
     };
-    assert!(rt; slot.left == 0 && slot.past.is_empty() && ended.free_pages == 4);
-    assert!(rt;
+    holds!(rt; slot.left == 0 && slot.past.is_empty() && ended.free_pages == 4);
+    holds!(rt;
         slot.last.len() == 1 + 4 * PASSED as usize,
         "each is sent and received once"
     );

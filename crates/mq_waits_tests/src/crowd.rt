@@ -213,22 +213,22 @@ fn calls_whose_waits_end_lose_no_message(rt: HostRuntime) {
         }
     }
     // The sums of the numbers up to 50,000, and of their squares.
-    assert!(rt; sums.received.load(Ordering::SeqCst) == ALL, "other sums");
-    assert!(rt;
+    holds!(rt; sums.received.load(Ordering::SeqCst) == ALL, "other sums");
+    holds!(rt;
         sums.tags.load(Ordering::SeqCst) == 1_250_025_000,
         "other sums"
     );
-    assert!(rt;
+    holds!(rt;
         sums.squares.load(Ordering::SeqCst) == 41_667_916_675_000,
         "other sums"
     );
-    assert!(rt;
+    holds!(rt;
         sums.ended.load(Ordering::SeqCst) > 0,
         "no wait has ended by its time"
     );
     match ended.slots.get(0) {
         // The making, a quota of each worker, and a sending and a receipt of each message.
-        Some(slot) => assert!(rt; slot.last.len() as u64 == 100_009, "other events"),
+        Some(slot) => holds!(rt; slot.last.len() as u64 == 100_009, "other events"),
         None => panic!(rt; "no slot"),
     }
 }

@@ -143,7 +143,7 @@ fn ended_of<T: Drop, R: Abort>(
 ) -> Ended<T> {
     match ended {
         Ok(ended) => {
-            assert!(rt; ended.free_pages == pages, "a page is out");
+            holds!(rt; ended.free_pages == pages, "a page is out");
             ended
         }
         Err(WorkersError::Memory | WorkersError::Thread) => panic!(rt; "out of memory"),
@@ -169,7 +169,7 @@ fn in_turn<R: Abort + Threads + Wait + Sync>(rt: &R, alloc: Global, way: Way) {
     );
     let ended = ended_of(rt, ended, 1);
     let (one, other) = ended.answer;
-    assert!(rt;
+    holds!(rt;
         one == Ok(TURNS) && other == Ok(TURNS),
         "a draft is refused"
     );
@@ -218,7 +218,7 @@ fn all_draft<R: Abort + Threads + Wait + Sync>(rt: &R, alloc: Global, lens: &[u6
         },
     );
     for done in ended_of(rt, ended, 2).answer.iter() {
-        assert!(rt; *done == Ok(()), "a draft is refused");
+        holds!(rt; *done == Ok(()), "a draft is refused");
     }
 }
 

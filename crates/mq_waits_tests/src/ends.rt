@@ -446,7 +446,7 @@ impl<'a> Worker<Nothing> for Stirs<'a> {
 fn ended_of<T: Drop, R: Abort>(rt: &R, ended: Result<Ended<T>, WorkersError>) -> Ended<T> {
     match ended {
         Ok(ended) => {
-            assert!(rt; ended.free_pages == 8, "a page is out");
+            holds!(rt; ended.free_pages == 8, "a page is out");
             ended
         }
         Err(WorkersError::Memory | WorkersError::Thread) => panic!(rt; "out of memory"),
@@ -545,20 +545,20 @@ fn ended_by<R: Abort + Clock + Threads + Wait + Sync>(
     );
     let ended = ended_of(rt, ended);
     let (answer, done) = ended.answer;
-    assert!(rt; done.is_ok(), "out of memory");
+    holds!(rt; done.is_ok(), "out of memory");
     answer
 }
 
 #[test]
 fn a_removal_ends_a_wait_before_its_time(rt: HostRuntime) {
     let answer = ended_by(&rt, rt.alloc(), "a removal wakes", true);
-    assert!(rt; answer == Err(Errno::EIDRM), "another answer");
+    holds!(rt; answer == Err(Errno::EIDRM), "another answer");
 }
 
 #[test]
 fn a_message_ends_a_wait_before_its_time(rt: HostRuntime) {
     let answer = ended_by(&rt, rt.alloc(), "a message wakes", false);
-    assert!(rt; answer == Ok(5), "another answer");
+    holds!(rt; answer == Ok(5), "another answer");
 }
 
 #[test]
@@ -590,7 +590,7 @@ fn a_hundred_waits_end_beside_other_messages(rt: HostRuntime) {
     match ended.slots.get(0) {
         Some(slot) => {
             let kept = slot.past.len() as u64 + slot.last.len() as u64;
-            assert!(rt; kept == events && slot.left == 0, "other events");
+            holds!(rt; kept == events && slot.left == 0, "other events");
         }
         None => panic!(rt; "no slot"),
     }

@@ -109,7 +109,7 @@ fn who_waits_takes_no_processor(rt: HostRuntime) {
     match ended {
         Ok(ended) => {
             let answers = [Ok(()), Ok(())];
-            assert!(rt;
+            holds!(rt;
                 ended.answer.as_slice() == answers.as_slice(),
                 "other answers"
             );

@@ -177,7 +177,7 @@ fn wakes<R: Abort + Threads + Wait + Sync>(
     );
     match ended {
         Ok(ended) => {
-            assert!(rt; ended.answer.as_slice() == answers, "other answers");
+            holds!(rt; ended.answer.as_slice() == answers, "other answers");
             let is_left = matches!(ended.slots.get(1), Some(slot) if slot.left == left);
             assert!(rt; is_left, "other than {left} messages are left");
             assert_eq!(rt; ended.free_pages, 256);

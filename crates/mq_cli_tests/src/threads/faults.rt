@@ -16,7 +16,7 @@ fn a_reader_that_fails_leaves_nothing_written(rt: HostRuntime) -> Result<(), Fai
         };
         let mut written = Vec::new(rt.alloc());
         let ended = run_threads(&rt, rt.alloc(), &mut reader, &mut written, SCRIPT_DEFAULTS);
-        assert!(rt; ended != Err(RunFault::Memory), "out of memory");
+        holds!(rt; ended != Err(RunFault::Memory), "out of memory");
         assert!(rt; ended == Err(RunFault::Read), "at {fails_at}");
         assert!(rt; written.is_empty(), "at {fails_at}");
     }
@@ -46,7 +46,7 @@ fn a_writer_that_fails_has_the_first_bytes(rt: HostRuntime) -> Result<(), Fail> 
             } else {
                 Ok(())
             };
-            assert!(rt; !writer.lacked_memory(ended), "out of memory");
+            holds!(rt; !writer.lacked_memory(ended), "out of memory");
             assert!(rt; ended == expected, "with room for {room}");
             assert!(rt;
                 writer.narrow.taken.as_slice() == &OWN_TOLD.as_bytes()[..room],
@@ -79,8 +79,8 @@ fn a_flush_that_fails_is_a_failed_write(rt: HostRuntime) -> Result<(), Fail> {
             SCRIPT_DEFAULTS,
         );
         // A flush that fails hides a want of memory, of which only a shorter text tells.
-        assert!(rt; writer.narrow.taken.len() >= told.len(), "out of memory");
-        assert!(rt; !writer.lacked_memory(ended), "out of memory");
+        holds!(rt; writer.narrow.taken.len() >= told.len(), "out of memory");
+        holds!(rt; !writer.lacked_memory(ended), "out of memory");
         assert!(rt; ended == end, "at {fails_at_flush}");
         assert!(rt;
             writer.narrow.taken.as_slice() == told.as_bytes(),
@@ -101,8 +101,8 @@ fn a_script_over_the_limit_is_not_run(rt: HostRuntime) -> Result<(), Fail> {
         &mut written,
         SCRIPT_DEFAULTS,
     );
-    assert!(rt; ended != Err(RunFault::Memory), "out of memory");
-    assert!(rt; ended == Err(RunFault::Size));
-    assert!(rt; written.is_empty());
+    holds!(rt; ended != Err(RunFault::Memory), "out of memory");
+    holds!(rt; ended == Err(RunFault::Size));
+    holds!(rt; written.is_empty());
     Ok(())
 }

@@ -23,7 +23,7 @@ fn is_told<R: AllocGlobal + Abort + Threads + Wait + Clock + Sync>(
         &mut written,
         SCRIPT_DEFAULTS,
     );
-    assert!(rt; !lacks_memory(ended, &written), "out of memory");
+    holds!(rt; !lacks_memory(ended, &written), "out of memory");
     assert!(rt; ended == end, "{script}");
     assert!(rt; written.as_slice() == told.as_bytes(), "{script}");
     Ok(())
@@ -289,10 +289,10 @@ fn a_sixteenth_worker_is_words(rt: HostRuntime) -> Result<(), Fail> {
         &mut written,
         SCRIPT_DEFAULTS,
     );
-    assert!(rt; !lacks_memory(ended, &written), "out of memory");
-    assert!(rt; ended == Ok(()));
+    holds!(rt; !lacks_memory(ended, &written), "out of memory");
+    holds!(rt; ended == Ok(()));
     let last = b"worker 16 sent 0 received 0 order yes end done\npages 64 free 64\n";
-    assert!(rt; written.ends_with(last.as_slice()));
+    holds!(rt; written.ends_with(last.as_slice()));
     Ok(())
 }
 
@@ -334,7 +334,7 @@ fn causes_come_in_their_order(rt: HostRuntime) -> Result<(), Fail> {
             &mut written,
             SCRIPT_DEFAULTS,
         );
-        assert!(rt; ended != Err(RunFault::Memory), "out of memory");
+        holds!(rt; ended != Err(RunFault::Memory), "out of memory");
         assert!(rt; ended == at(2, cause), "{line}");
         assert!(rt; written.is_empty(), "{line}");
     }

@@ -2,7 +2,7 @@
 ghost use Rattle.std.specs.Prelude.{◌≡◌, ◌<◌};
 
 use mq_arena::Homecoming;
-use mq_face::{Call, Done, Kind, Received, Refusal, control, draft, get, receive, send};
+use mq_face::{Call, CallKind, Done, ReceivedMessage, Refusal, control, draft, get, receive, send};
 use mq_message::{Body, Text};
 use mq_one_thread::{Closed, Config, Errno, OneThread, SysError};
 use std::alloc::Global;
@@ -13,7 +13,7 @@ use std::sync::ledger::{Blank, Ledger};
 pub(crate) const PARTS: u64 = 1025;
 
 /// A call with a buffer, at moment 3, of which all else is 0.
-pub(crate) fn call(kind: Kind, number: i32, flags: u32) -> Call {
+pub(crate) fn call(kind: CallKind, number: i32, flags: u32) -> Call {
     Call {
         kind,
         number,
@@ -31,7 +31,7 @@ pub(crate) fn sending(id: i32, flags: u32, mtype: i64, size: u64) -> Call {
     Call {
         mtype,
         size,
-        ..call(Kind::Send, id, flags)
+        ..call(CallKind::Send, id, flags)
     }
 }
 
@@ -39,7 +39,7 @@ pub(crate) fn sending(id: i32, flags: u32, mtype: i64, size: u64) -> Call {
 pub(crate) fn receiving(id: i32, flags: u32, size: u64) -> Call {
     Call {
         size,
-        ..call(Kind::Receive, id, flags)
+        ..call(CallKind::Receive, id, flags)
     }
 }
 
@@ -63,7 +63,7 @@ pub(crate) fn made<L: Ledger>(
     match OneThread::new(alloc, config, ledger) {
         Ok(queues) => queues,
         Err(refusal) => {
-            assert!(rt; refusal != SysError::Memory, "out of memory");
+            holds!(rt; refusal != SysError::Memory, "out of memory");
             panic!(rt; "no queues");
         }
     }
@@ -122,7 +122,7 @@ pub(crate) fn send_again<L: Ledger>(
 pub(crate) fn receive_again<L: Ledger>(
     queues: &mut OneThread<L>,
     call: Call,
-) -> Result<Received<Text<L>>, Refusal> {
+) -> Result<ReceivedMessage<Text<L>>, Refusal> {
     match receive(queues, call) {
         Err(refusal) if is_memory(refusal) => receive(queues, call),
         answer => answer,
@@ -133,10 +133,10 @@ pub(crate) fn receive_again<L: Ledger>(
 pub(crate) fn spent<L: Ledger>(
     rt: &impl Abort,
     queues: &mut OneThread<L>,
-    message: Received<Text<L>>,
+    message: ReceivedMessage<Text<L>>,
     wanted: &[u8],
 ) {
     let text = message.text;
-    assert!(rt; text.parts().next() == Some(wanted), "other bytes");
-    assert!(rt; queues.spend(text) == Homecoming::Home);
+    holds!(rt; text.parts().next() == Some(wanted), "other bytes");
+    holds!(rt; queues.spend(text) == Homecoming::Home);
 }

@@ -1,16 +1,16 @@
 //! The numbers of calls and answers, as the structs of face/civdrax.c have them.
 
 use mq_face::{
-    Call, Command, Done, IPC_CREAT, IPC_EXCL, IPC_INFO, IPC_NOWAIT, IPC_RMID, IPC_SET, IPC_STAT,
-    Kind, MSG_COPY, MSG_EXCEPT, MSG_INFO, MSG_NOERROR, MSG_STAT, MSG_STAT_ANY, Refusal, Shown,
-    Wait, from_bytes, to_bytes, unknown,
+    Call, CallKind, ControlCommand, Done, IPC_CREAT, IPC_EXCL, IPC_INFO, IPC_NOWAIT, IPC_RMID,
+    IPC_SET, IPC_STAT, MSG_COPY, MSG_EXCEPT, MSG_INFO, MSG_NOERROR, MSG_STAT, MSG_STAT_ANY,
+    Refusal, Shown, Wait, from_bytes, to_bytes, unknown,
 };
 use mq_queue::Figures;
 
 #[test]
 fn a_call_has_the_numbers_of_the_struct(rt: HostRuntime) {
     let call = Call {
-        kind: Kind::Receive,
+        kind: CallKind::Receive,
         number: -2,
         flags: 0o24000,
         mtype: -5,
@@ -29,23 +29,23 @@ fn a_call_has_the_numbers_of_the_struct(rt: HostRuntime) {
         1,
         0,
     ];
-    assert!(rt; call.numbers() == numbers);
-    assert!(rt; Call::read(numbers) == call);
+    holds!(rt; call.numbers() == numbers);
+    holds!(rt; Call::read(numbers) == call);
     let bytes = to_bytes(numbers);
-    assert!(rt; bytes[..9] == [3, 0, 0, 0, 0, 0, 0, 0, 0xfe] && bytes[32..34] == [9, 0]);
-    assert!(rt; from_bytes(&bytes) == numbers);
+    holds!(rt; bytes[..9] == [3, 0, 0, 0, 0, 0, 0, 0, 0xfe] && bytes[32..34] == [9, 0]);
+    holds!(rt; from_bytes(&bytes) == numbers);
     let filled = [u64::MAX; 8];
     let read = Call::read(filled);
-    assert!(rt; read.kind == Kind::Unknown && read.number == -1 && read.flags == u32::MAX);
-    assert!(rt; read.mtype == -1 && read.size == u64::MAX && read.waited && read.buffer);
+    holds!(rt; read.kind == CallKind::Unknown && read.number == -1 && read.flags == u32::MAX);
+    holds!(rt; read.mtype == -1 && read.size == u64::MAX && read.waited && read.buffer);
     for kind in [
-        Kind::Get,
-        Kind::Send,
-        Kind::Receive,
-        Kind::Control,
-        Kind::Unknown,
+        CallKind::Get,
+        CallKind::Send,
+        CallKind::Receive,
+        CallKind::Control,
+        CallKind::Unknown,
     ] {
-        assert!(rt; Kind::of(kind.number()) == kind);
+        holds!(rt; CallKind::of(kind.number()) == kind);
     }
 }
 
@@ -59,7 +59,7 @@ fn the_flags_and_commands_are_those_of_linux(rt: HostRuntime) {
         MSG_EXCEPT,
         MSG_COPY,
     ];
-    assert!(rt; flags == [0x200, 0x400, 0x800, 0x1000, 0x2000, 0x4000]);
+    holds!(rt; flags == [0x200, 0x400, 0x800, 0x1000, 0x2000, 0x4000]);
     let commands = [
         IPC_RMID,
         IPC_SET,
@@ -69,18 +69,24 @@ fn the_flags_and_commands_are_those_of_linux(rt: HostRuntime) {
         MSG_INFO,
         MSG_STAT_ANY,
     ];
-    assert!(rt; commands == [0, 1, 2, 3, 11, 12, 13]);
-    assert!(rt; Command::of(0) == Some(Command::Remove));
-    assert!(rt; Command::of(1) == Some(Command::Set));
-    assert!(rt; Command::of(2) == Some(Command::Stat));
+    holds!(rt; commands == [0, 1, 2, 3, 11, 12, 13]);
+    holds!(rt; ControlCommand::of(0) == Some(ControlCommand::Remove));
+    holds!(rt; ControlCommand::of(1) == Some(ControlCommand::Set));
+    holds!(rt; ControlCommand::of(2) == Some(ControlCommand::Stat));
     for number in [3, 12] {
-        assert!(rt; Command::of(number) == Some(Command::Info), "{number}");
+        assert!(rt;
+            ControlCommand::of(number) == Some(ControlCommand::Info),
+            "{number}"
+        );
     }
     for number in [11, 13] {
-        assert!(rt; Command::of(number) == Some(Command::StatSlot), "{number}");
+        assert!(rt;
+            ControlCommand::of(number) == Some(ControlCommand::StatSlot),
+            "{number}"
+        );
     }
     for number in [4, 10, 14, 258, u32::MAX] {
-        assert!(rt; Command::of(number).is_none(), "{number}");
+        assert!(rt; ControlCommand::of(number).is_none(), "{number}");
     }
 }
 
@@ -102,13 +108,13 @@ fn an_answer_has_the_numbers_of_the_struct(rt: HostRuntime) {
         entry: None,
         shown: Shown::Queue(figures),
     };
-    assert!(rt; done.numbers() == [130, 0, 0, 2, 0, 0, 0, 1]);
-    assert!(rt; done.shown.numbers() == [1, 2, 3, 4, 5, 6, 7, 8]);
-    assert!(rt; Shown::Nothing.numbers() == [0; 8]);
+    holds!(rt; done.numbers() == [130, 0, 0, 2, 0, 0, 0, 1]);
+    holds!(rt; done.shown.numbers() == [1, 2, 3, 4, 5, 6, 7, 8]);
+    holds!(rt; Shown::Nothing.numbers() == [0; 8]);
     let waits = Refusal {
         errno: 11,
         wait: Wait::Change(63),
     };
-    assert!(rt; waits.numbers() == [u64::MAX, 11, 1, 63, 0, 0, 0, 0]);
-    assert!(rt; unknown().numbers() == [u64::MAX, 38, 0, 0, 0, 0, 0, 0]);
+    holds!(rt; waits.numbers() == [u64::MAX, 11, 1, 63, 0, 0, 0, 0]);
+    holds!(rt; unknown().numbers() == [u64::MAX, 38, 0, 0, 0, 0, 0, 0]);
 }

@@ -6,8 +6,8 @@ use crate::face::calls::{
     sending, spent,
 };
 use mq_face::{
-    Call, Done, IPC_CREAT, IPC_INFO, IPC_RMID, IPC_SET, IPC_STAT, Kind, MSG_EXCEPT, MSG_NOERROR,
-    MSG_STAT, Shown, Usage,
+    Call, CallKind, Done, IPC_CREAT, IPC_INFO, IPC_RMID, IPC_SET, IPC_STAT, MSG_EXCEPT,
+    MSG_NOERROR, MSG_STAT, Shown, Usage,
 };
 use mq_one_thread::OneThread;
 use mq_queue::Figures;
@@ -27,8 +27,8 @@ fn changed(entry: u64) -> Done {
 }
 
 fn sends<L: Ledger>(rt: &impl Abort, queues: &mut OneThread<L>) {
-    assert!(rt; send_again(queues, sending(1, 0, 7, 5), b"hello") == Ok(changed(1)));
-    assert!(rt; send_again(queues, sending(1, 0, 2, 3), b"abc") == Ok(changed(2)));
+    holds!(rt; send_again(queues, sending(1, 0, 7, 5), b"hello") == Ok(changed(1)));
+    holds!(rt; send_again(queues, sending(1, 0, 2, 3), b"abc") == Ok(changed(2)));
 }
 
 /// The queue in slot 1, once both messages wait.
@@ -49,9 +49,9 @@ fn shows<L: Ledger>(rt: &impl Abort, queues: &mut OneThread<L>) {
         entry: None,
         shown: Shown::Queue(figures),
     };
-    assert!(rt; control_again(queues, call(Kind::Control, 1, IPC_STAT)) == Ok(shown));
+    holds!(rt; control_again(queues, call(CallKind::Control, 1, IPC_STAT)) == Ok(shown));
     let by_slot = Done { value: 1, ..shown };
-    assert!(rt; control_again(queues, call(Kind::Control, 1, MSG_STAT)) == Ok(by_slot));
+    holds!(rt; control_again(queues, call(CallKind::Control, 1, MSG_STAT)) == Ok(by_slot));
     let usage = Usage {
         queues: 2,
         messages: 2,
@@ -66,8 +66,8 @@ fn shows<L: Ledger>(rt: &impl Abort, queues: &mut OneThread<L>) {
         entry: None,
         shown: Shown::Usage(usage),
     };
-    assert!(rt; control_again(queues, call(Kind::Control, 0, IPC_INFO)) == Ok(all));
-    assert!(rt; all.shown.numbers() == [2, 2, 8, 4, 4, 65536, 131072, 1024]);
+    holds!(rt; control_again(queues, call(CallKind::Control, 0, IPC_INFO)) == Ok(all));
+    holds!(rt; all.shown.numbers() == [2, 2, 8, 4, 4, 65536, 131072, 1024]);
 }
 
 fn receives<L: Ledger>(
@@ -79,7 +79,7 @@ fn receives<L: Ledger>(
 ) {
     match receive_again(queues, call) {
         Ok(message) => {
-            assert!(rt; message.numbers() == numbers);
+            holds!(rt; message.numbers() == numbers);
             spent(rt, queues, message, wanted);
         }
         Err(refusal) => panic!(rt; "not received: {}", refusal.errno),
@@ -92,20 +92,20 @@ fn lived<L: Ledger>(rt: &impl Abort, alloc: Global, ledger: Blank)
     requires enough { 1024 < ledger.parts }
 {
     let mut queues = made::<L>(rt, alloc, 2, 4, ledger);
-    let making = call(Kind::Get, 9, IPC_CREAT | 0o600);
-    assert!(rt;
+    let making = call(CallKind::Get, 9, IPC_CREAT | 0o600);
+    holds!(rt;
         get_again(&mut queues, making)
             == Ok(Done {
                 slot: 0,
                 ..changed(0)
             })
     );
-    let private = call(Kind::Get, 0, IPC_CREAT);
+    let private = call(CallKind::Get, 0, IPC_CREAT);
     let second = Done {
         value: 1,
         ..changed(0)
     };
-    assert!(rt; get_again(&mut queues, private) == Ok(second));
+    holds!(rt; get_again(&mut queues, private) == Ok(second));
     sends(rt, &mut queues);
     shows(rt, &mut queues);
     let other_than_7 = Call {
@@ -123,10 +123,10 @@ fn lived<L: Ledger>(rt: &impl Abort, alloc: Global, ledger: Blank)
     receives(rt, &mut queues, cut, [4, 0, 0, 1, 1, 7, 4, 0], b"hell");
     let quota = Call {
         size: 10,
-        ..call(Kind::Control, 1, IPC_SET)
+        ..call(CallKind::Control, 1, IPC_SET)
     };
-    assert!(rt; control_again(&mut queues, quota) == Ok(changed(5)));
-    assert!(rt; control_again(&mut queues, call(Kind::Control, 1, IPC_RMID)) == Ok(changed(6)));
+    holds!(rt; control_again(&mut queues, quota) == Ok(changed(5)));
+    holds!(rt; control_again(&mut queues, call(CallKind::Control, 1, IPC_RMID)) == Ok(changed(6)));
     ended(queues);
 }
 

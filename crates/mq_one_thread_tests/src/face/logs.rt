@@ -4,7 +4,7 @@ ghost use Rattle.std.specs.Prelude.{◌≡◌, ◌<◌};
 use crate::face::calls::{
     PARTS, call, ended, get_again, made, receive_again, receiving, send_again, sending, spent,
 };
-use mq_face::{IPC_CREAT, Kind, LOG_BOUND, cut_where_due};
+use mq_face::{CallKind, IPC_CREAT, LOG_BOUND, cut_where_due};
 use mq_one_thread::OneThread;
 use std::alloc::Global;
 use std::marker::Brand;
@@ -54,14 +54,14 @@ fn cut<L: Ledger>(rt: &impl Abort, alloc: Global, ledger: Blank)
     requires enough { 1024 < ledger.parts }
 {
     let mut queues = made::<L>(rt, alloc, 0, 1, ledger);
-    assert!(rt; get_again(&mut queues, call(Kind::Get, 0, IPC_CREAT)).is_ok());
+    holds!(rt; get_again(&mut queues, call(CallKind::Get, 0, IPC_CREAT)).is_ok());
     let mut off = 0;
     for _ in 0..LOG_BOUND {
         off = goes_round(rt, &mut queues, off);
     }
     assert!(rt; off == 2 * LOG_BOUND || off == LOG_BOUND, "{off}");
-    assert!(rt; !cut_where_due(&mut queues, 0, None));
-    assert!(rt; !cut_where_due(&mut queues, 7, Some(LOG_BOUND - 1)));
+    holds!(rt; !cut_where_due(&mut queues, 0, None));
+    holds!(rt; !cut_where_due(&mut queues, 7, Some(LOG_BOUND - 1)));
     assert!(rt; cut_off(rt, &mut queues) == off, "{off}");
     ended(queues);
 }

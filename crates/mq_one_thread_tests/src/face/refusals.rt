@@ -6,8 +6,8 @@ use crate::face::calls::{
     sending,
 };
 use mq_face::{
-    Call, IPC_CREAT, IPC_EXCL, IPC_INFO, IPC_NOWAIT, IPC_RMID, IPC_SET, IPC_STAT, Kind, MSG_COPY,
-    MSG_EXCEPT, MSG_STAT, Received, Refusal, Wait,
+    Call, CallKind, IPC_CREAT, IPC_EXCL, IPC_INFO, IPC_NOWAIT, IPC_RMID, IPC_SET, IPC_STAT,
+    MSG_COPY, MSG_EXCEPT, MSG_STAT, ReceivedMessage, Refusal, Wait,
 };
 use mq_one_thread::OneThread;
 use std::alloc::Global;
@@ -57,7 +57,7 @@ fn without_buffer(call: Call) -> Call {
 /// The number of queue 0's refusals of a receipt; a message that is received is lost.
 fn refusal_of<L: Ledger>(rt: &impl Abort, queues: &mut OneThread<L>, call: Call) -> Refusal {
     match receive_again(queues, call) {
-        Ok(Received { text, .. }) => {
+        Ok(ReceivedMessage { text, .. }) => {
             queues.spend(text);
             panic!(rt; "received");
         }
@@ -66,11 +66,11 @@ fn refusal_of<L: Ledger>(rt: &impl Abort, queues: &mut OneThread<L>, call: Call)
 }
 
 fn gets<L: Ledger>(rt: &impl Abort, queues: &mut OneThread<L>) {
-    let key = |flags| call(Kind::Get, 9, flags);
-    assert!(rt; get_again(queues, key(0)) == Err(by(ENOENT)));
-    assert!(rt; get_again(queues, key(IPC_CREAT)).is_ok());
-    assert!(rt; get_again(queues, key(IPC_CREAT | IPC_EXCL)) == Err(by(EEXIST)));
-    assert!(rt; get_again(queues, call(Kind::Get, 0, 0)) == Err(by(ENOSPC)));
+    let key = |flags| call(CallKind::Get, 9, flags);
+    holds!(rt; get_again(queues, key(0)) == Err(by(ENOENT)));
+    holds!(rt; get_again(queues, key(IPC_CREAT)).is_ok());
+    holds!(rt; get_again(queues, key(IPC_CREAT | IPC_EXCL)) == Err(by(EEXIST)));
+    holds!(rt; get_again(queues, call(CallKind::Get, 0, 0)) == Err(by(ENOSPC)));
 }
 
 /// Of queue 0 with no message, in an arena of one page.
@@ -85,14 +85,14 @@ fn sends<L: Ledger>(rt: &impl Abort, queues: &mut OneThread<L>) {
     ] {
         assert!(rt; send_again(queues, call, b"") == Err(by(errno)), "{errno}");
     }
-    assert!(rt; send_again(queues, sending(0, 0, 1, 10), b"").is_ok());
+    holds!(rt; send_again(queues, sending(0, 0, 1, 10), b"").is_ok());
     let pages = Refusal {
         errno: ENOMEM,
         wait: Wait::Pages,
     };
-    assert!(rt; send_again(queues, sending(0, 0, 1, 10), b"") == Err(pages));
-    assert!(rt; send_again(queues, sending(0, IPC_NOWAIT, 1, 10), b"") == Err(by(ENOMEM)));
-    assert!(rt; send_again(queues, sending(1, 0, 1, 10), b"") == Err(by(EINVAL)));
+    holds!(rt; send_again(queues, sending(0, 0, 1, 10), b"") == Err(pages));
+    holds!(rt; send_again(queues, sending(0, IPC_NOWAIT, 1, 10), b"") == Err(by(ENOMEM)));
+    holds!(rt; send_again(queues, sending(1, 0, 1, 10), b"") == Err(by(EINVAL)));
 }
 
 /// Of queue 0 with a message of ten bytes.
@@ -124,11 +124,11 @@ fn receives<L: Ledger>(rt: &impl Abort, queues: &mut OneThread<L>) {
         mtype: 2,
         ..receiving(0, 0, 9)
     };
-    assert!(rt; refusal_of(rt, queues, other) == waits);
+    holds!(rt; refusal_of(rt, queues, other) == waits);
 }
 
 fn controls<L: Ledger>(rt: &impl Abort, queues: &mut OneThread<L>) {
-    let command = |number, flags| call(Kind::Control, number, flags);
+    let command = |number, flags| call(CallKind::Control, number, flags);
     for (call, errno) in [
         (command(-1, IPC_STAT), EINVAL),
         (command(1, IPC_RMID), EINVAL),
@@ -153,27 +153,27 @@ fn controls<L: Ledger>(rt: &impl Abort, queues: &mut OneThread<L>) {
 
 /// A full queue, which is then removed: told apart is whether the call has waited.
 fn is_full_and_gone<L: Ledger>(rt: &impl Abort, queues: &mut OneThread<L>) {
-    let quota = call(Kind::Control, 0, IPC_SET);
-    assert!(rt; control_again(queues, quota).is_ok());
+    let quota = call(CallKind::Control, 0, IPC_SET);
+    holds!(rt; control_again(queues, quota).is_ok());
     let empty = sending(0, 0, 1, 0);
     let waits = Refusal {
         errno: EAGAIN,
         wait: Wait::Change(0),
     };
-    assert!(rt; send_again(queues, empty, b"") == Err(waits));
+    holds!(rt; send_again(queues, empty, b"") == Err(waits));
     let at_once = Call {
         flags: IPC_NOWAIT,
         ..empty
     };
-    assert!(rt; send_again(queues, at_once, b"") == Err(by(EAGAIN)));
-    assert!(rt; control_again(queues, call(Kind::Control, 0, IPC_RMID)).is_ok());
-    assert!(rt; send_again(queues, empty, b"") == Err(by(EINVAL)));
-    assert!(rt; refusal_of(rt, queues, receiving(0, 0, 1)) == by(EINVAL));
+    holds!(rt; send_again(queues, at_once, b"") == Err(by(EAGAIN)));
+    holds!(rt; control_again(queues, call(CallKind::Control, 0, IPC_RMID)).is_ok());
+    holds!(rt; send_again(queues, empty, b"") == Err(by(EINVAL)));
+    holds!(rt; refusal_of(rt, queues, receiving(0, 0, 1)) == by(EINVAL));
     let waited = Call {
         waited: true,
         ..empty
     };
-    assert!(rt; send_again(queues, waited, b"") == Err(by(EIDRM)));
+    holds!(rt; send_again(queues, waited, b"") == Err(by(EIDRM)));
 }
 
 fn refused<L: Ledger>(rt: &impl Abort, alloc: Global, ledger: Blank)

@@ -3,7 +3,7 @@ use Rattle.std.proofs.lemmas.Int.{to_z-of_z}
 use mir.Val.{SFits}
 use Rattle.mq_message.specs.Text.{PlainText}
 use Rattle.mq_one_thread.proofs.DraftLemmas.{spent_after}
-use Rattle.mq_one_thread.specs.State.{State}
+use Rattle.mq_one_thread.specs.State.{QueuesState}
 use Rattle.mq_one_thread.specs.declared.results.Refused.{Refused}
 use Rattle.mq.proofs.SendLemmas.{refused_whole, spent}
 use Rattle.mq.proofs.bytes.send_bytes.Goals as goal
@@ -23,7 +23,7 @@ returns-in-Err-msgsnd g c =
         unchanged =
             c.spend.ensures.back
             ∙ ap (λ (t : PlainText). spent t c.msgsnd.new.self) back.handed_back
-            ∙ ap (λ (s : State). spent c.in-Ok.text s) back.unchanged
+            ∙ ap (λ (s : QueuesState). spent c.in-Ok.text s) back.unchanged
             ∙ spent_after c.args.queues.now c.draft_of.new.self c.args.bytes.now c.in-Ok.text
             c.in-Ok.ensures.answer;
       };

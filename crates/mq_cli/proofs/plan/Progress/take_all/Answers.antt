@@ -2,7 +2,7 @@ use Rattle.std.proofs.Common.{rules, ◌≡◌, ◌+◌, ◌++◌, replicate, le
 use Rattle.std.proofs.lemmas.Int.{to_z-of_z}
 use Rattle.mq_one_thread.specs.declared.errno.Errno.TheVariants.{ENOMEM}
 use Rattle.mq_cli.specs.declared.notes.Stream.{Stream}
-use Rattle.mq_cli.specs.Calls.{Receipt, receive, same_stream, stream_of}
+use Rattle.mq_cli.specs.Calls.{TakenMessage, receive, same_stream, stream_of}
 use Rattle.mq_cli.specs.contracts.notes.StreamPartialEq.TheImpl.{eq-value}
 use Rattle.mq_cli.proofs.FarLemmas.{come_more, goes_receiving, noted_same}
 use Rattle.mq_cli.proofs.WorkLemmas.{received_until}
@@ -85,7 +85,7 @@ loop-preserved g c =
     let p = g.Q.Port in
     let has = simp (to_z-of_z, c.ranges.msgtyp) at c.loop.invariant.4 in
     let done = simp (to_z-of_z, c.ranges.msgtyp) at c.in-Ok-take.ensures.done in
-    let one : Receipt = record { id = c.args.id; taken = c.in-Ok-take.taken } in
+    let one : TakenMessage = record { id = c.args.id; taken = c.in-Ok-take.taken } in
     let is : c.of.result ≡ stream_of one = c.of.ensures in
     let told = come_more eq-value.it p.puts p.takes p.removes stream_eq c.args.id c.args.msgtyp c.loop.counter g.T.Patience.ends c.args.moment c.in-Ok-take.taken
     c.args.port.now c.loop.port c.take.new.self c.args.self.now.notes c.loop.self.notes c.reserve.new.self c.note.new.self c.of.result has

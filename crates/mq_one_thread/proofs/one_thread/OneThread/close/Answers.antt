@@ -3,7 +3,7 @@ use Rattle.std.proofs.lemmas.List.{nil_from_length}
 use Rattle.mq_tree.specs.LentSet.{Lending}
 use Rattle.mq_one_thread.specs.Closed.{all_home, ends}
 use Rattle.mq_table.specs.KeptPart.{IsLawfulSlot, WaitsNow}
-use Rattle.mq_one_thread.specs.State.{State}
+use Rattle.mq_one_thread.specs.State.{QueuesState}
 use Rattle.mq_one_thread.specs.Texts.{bytes_of}
 use Rattle.mq_one_thread.proofs.CloseLemmas.{all_closed}
 use Rattle.mq_one_thread.proofs.HomeLemmas.{last_home, endings_kept, none_home, reversed}
@@ -29,18 +29,19 @@ pub returns-clause-slots : goal.returns-clause-slots
 returns-clause-slots g c =
     let none = nil_from_length c.loop-slot.slots.items (omega (arith, c.in_default.ensures.cases, c.loop-slot.slots.ok)) in
     rw c.reverse.ensures.items (reversed c.loop-slot.closed.items ∙ rw none at c.loop-slot.invariant.0
-    ∙ ap (λ (s : State). map ends s.slots) c.self.view_is)
+    ∙ ap (λ (s : QueuesState). map ends s.slots) c.self.view_is)
 
 pub returns-clause-arena : goal.returns-clause-arena
 returns-clause-arena g c =
     let none = nil_from_length c.loop-slot.slots.items (omega (arith, c.in_default.ensures.cases, c.loop-slot.slots.ok)) in
     sym (none_home c.loop-slot.arena) ∙ rw none at c.loop-slot.invariant.1
-    ∙ ap (λ (s : State). all_home s.slots s.arena) c.self.view_is
+    ∙ ap (λ (s : QueuesState). all_home s.slots s.arena) c.self.view_is
 
 pub returns-clause-closed : goal.returns-clause-closed
 returns-clause-closed g c =
     all_closed c.args.self.last_seq c.args.self.slots c.reverse.new.self.items
     (returns-clause-slots g c)
-    (subst (λ (s : State). All (IsLawfulSlot s.last_seq) s.slots)
+    (subst (λ (s : QueuesState). All (IsLawfulSlot s.last_seq) s.slots)
     c.self.view_is c.self.invariant.lawful)
-    (subst (λ (s : State). All (WaitsNow bytes_of) s.slots) c.self.view_is c.self.invariant.waits)
+    (subst (λ (s : QueuesState). All (WaitsNow bytes_of) s.slots) c.self.view_is
+    c.self.invariant.waits)

@@ -7,7 +7,7 @@ use Rattle.mq_table.specs.KeptShown.{next_id_now}
 use Rattle.mq_table.specs.Keys.{entered}
 use Rattle.mq_one_thread.specs.Memory.{or_memory}
 use Rattle.mq_one_thread.specs.Outcome.{Answers}
-use Rattle.mq_one_thread.specs.State.{State}
+use Rattle.mq_one_thread.specs.State.{QueuesState}
 use Rattle.mq_one_thread.proofs.KeptLemmas.{kept_made, kept_same}
 use Rattle.mq_one_thread.proofs.one_thread.OneThread.make.Goals.{in-Ok, in-Err}
 use Rattle.mq_one_thread.proofs.one_thread.OneThread.make.Goals as goal
@@ -34,7 +34,8 @@ invariant_of-self g c =
     ]
 
 -- a call answers so by what is known where it is done, and where it is refused
-answers_by : {T E : Type 0} (answer : Result (T × State) E) (memory : E) (before after : State)
+answers_by : {T E : Type 0} (answer : Result (T × QueuesState) E) (memory : E)
+    (before after : QueuesState)
     (result : Result T E) → IfOk result (λ told. answer ≡ Ok (told, after))
     → IfErr result (λ e. e ≡ or_memory memory answer) → OnErr result (after ≡ before)
     → Answers answer memory before after result

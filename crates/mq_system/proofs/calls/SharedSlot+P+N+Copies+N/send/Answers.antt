@@ -11,7 +11,8 @@ use Rattle.mq_table.proofs.Whole.{send_refused}
 use Rattle.mq_one_thread.specs.Look.{errno_of, refused_early}
 use Rattle.mq_one_thread.specs.Texts.{bytes_of}
 use Rattle.mq_one_thread.specs.declared.errno.Errno.TheVariants.{EINVAL}
-use Rattle.mq_system.specs.Answer.{SlotAnswer, in_queue, refused_here, refused_or_memory}
+use Rattle.mq_system.specs.Answer.{SlotAnswer, in_slot_queue, refused_here}
+use Rattle.mq_system.specs.Answer.{refused_or_memory_in_slot}
 use Rattle.mq_system.proofs.AnswerLemmas.{answered_by, refused_by}
 use Rattle.mq_system.proofs.RefusalLemmas.{if_false}
 use Rattle.mq_system.proofs.SharedLemmas.{has_changed, send_changes}
@@ -100,12 +101,12 @@ returns-in-Err-send-clause-answer g c =
     let is : c.refused.result ≡ refused_here s (errno_of c.in-Err-send.refusal) = search rules in
     let queue = refused_by (whole c.self.inside.writer.events c.self.inside.slot) _ there (sends bytes_of s message c.args.moment) _ _ why is in
     let asked : SlotAnswer ℕ =
-    in_queue s c.args.id (sends bytes_of s message c.args.moment) in
+    in_slot_queue s c.args.id (sends bytes_of s message c.args.moment) in
     rw (← c.self.view_is, ← c.number.ensures)
     (record {
       why =
           queue
-          ∙ ap (λ a. refused_or_memory s a)
+          ∙ ap (λ a. refused_or_memory_in_slot s a)
           (sym (if_false (int_lt c.args.mtype (pos 1)) (Err (refused_early EINVAL)) asked sent));
       unchanged = search rules;
       same = refl;

@@ -5,7 +5,7 @@ use Rattle.std.specs.Sync.Mutex.{mutex_guard_value}
 use Rattle.std.proofs.lemmas.Int.{to_z-of_z}
 use Rattle.mq_system.specs.Seat.{front_of}
 use Rattle.mq_system.proofs.EndLemmas.{with_key_at}
-use Rattle.mq_system.proofs.making.Place+P+N+Copies+N.with_key.Goals as goal
+use Rattle.mq_system.proofs.making.SlotMonitor+P+N+Copies+N.with_key.Goals as goal
 
 pub returns-clause-answer : goal.returns-clause-answer
 returns-clause-answer g c =

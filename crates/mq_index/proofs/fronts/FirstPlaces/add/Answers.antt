@@ -4,7 +4,7 @@ use Rattle.std.proofs.lemmas.Int.{to_z-of_z}
 use Rattle.indexmap.specs.IndexMap.{get}
 use Rattle.indexmap.proofs.CallerLemmas.{insert_entry-new}
 use Rattle.mq_index.proofs.Entries.{grown}
-use Rattle.mq_index.proofs.fronts.Fronts.add.Goals as goal
+use Rattle.mq_index.proofs.fronts.FirstPlaces.add.Goals as goal
 
 pub invariant_of-self : goal.invariant_of-self
 invariant_of-self c =

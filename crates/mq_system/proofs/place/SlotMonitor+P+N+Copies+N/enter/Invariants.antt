@@ -1,5 +1,5 @@
 use Rattle.mq_system.specs.Outcome.{IsLook}
-use Rattle.mq_system.proofs.place.Place+P+N+Copies+N.enter.Given as goal
+use Rattle.mq_system.proofs.place.SlotMonitor+P+N+Copies+N.enter.Given as goal
 
 -- the seat has learned at most
 abbrev pub invariant-loop-try : goal.invariant-loop-try

@@ -1,7 +1,7 @@
 use Rattle.std.proofs.Common.{◌∙◌, sym}
 use Rattle.std.proofs.lemmas.Int.{to_z-of_z}
 use Rattle.mq_index.proofs.Entries.{written, written_at, index_is, is_there, later_is}
-use Rattle.mq_index.proofs.fronts.Fronts.move_on.Goals as goal
+use Rattle.mq_index.proofs.fronts.FirstPlaces.move_on.Goals as goal
 
 pub unwrap-i-requires : goal.unwrap-i-requires
 unwrap-i-requires c =

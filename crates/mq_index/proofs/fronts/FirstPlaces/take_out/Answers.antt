@@ -1,7 +1,7 @@
 use Rattle.std.proofs.Common.{◌∙◌, sym}
 use Rattle.std.proofs.lemmas.Int.{to_z-of_z}
 use Rattle.mq_index.proofs.Entries.{taken_out}
-use Rattle.mq_index.proofs.fronts.Fronts.take_out.Goals as goal
+use Rattle.mq_index.proofs.fronts.FirstPlaces.take_out.Goals as goal
 
 pub returns-then-i-len-clause-at : goal.returns-then-i-len-clause-at
 returns-then-i-len-clause-at c t =

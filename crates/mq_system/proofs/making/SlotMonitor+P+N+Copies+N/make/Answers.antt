@@ -7,7 +7,7 @@ use Rattle.mq_table.specs.declared.limits.TheConstants.{MAX_SLOTS}
 use Rattle.mq_system.specs.Seat.{front_of}
 use Rattle.mq_system.proofs.LaterLemmas.{look_self}
 use Rattle.mq_system.proofs.SeenLemmas.{done_make, enters}
-use Rattle.mq_system.proofs.making.Place+P+N+Copies+N.make.Goals as goal
+use Rattle.mq_system.proofs.making.SlotMonitor+P+N+Copies+N.make.Goals as goal
 
 pub returns-in-Ok-clause-answer : goal.returns-in-Ok-clause-answer
 returns-in-Ok-clause-answer g c =

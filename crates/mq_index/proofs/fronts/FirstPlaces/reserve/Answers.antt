@@ -1,5 +1,5 @@
 use Rattle.std.proofs.Common.{rules, ◌≡◌, ℕ, zero, suc, ◌≤◌, true, false, Result, Ok, Err, IsOk, OnErr, refl, arith}
-use Rattle.mq_index.proofs.fronts.Fronts.reserve.Goals as goal
+use Rattle.mq_index.proofs.fronts.FirstPlaces.reserve.Goals as goal
 
 -- where one more fits nothing is refused
 no_room : {T E : Type 0} (r : Result T E) (spare : ℕ) → (1 ≤ spare → IsOk r) → OnErr r (spare ≡ 0)

@@ -1,6 +1,6 @@
 use Rattle.std.proofs.Common.{sym}
 use Rattle.mq_index.proofs.Nodes.{found_in, found_full, found_there}
-use Rattle.mq_index.proofs.queue.Queue.length_of.Goals as goal
+use Rattle.mq_index.proofs.queue.TypeQueue.length_of.Goals as goal
 
 pub unreachable-requires : goal.unreachable-requires
 unreachable-requires g c =

@@ -1,6 +1,6 @@
 use Rattle.mq_select.proofs.Places.{rising_push}
 use Rattle.mq_index.proofs.Nodes.{all_filled, filled_is, pushed}
-use Rattle.mq_index.proofs.queue.Queue.put.Goals as goal
+use Rattle.mq_index.proofs.queue.TypeQueue.put.Goals as goal
 
 pub invariant_of-self : goal.invariant_of-self
 invariant_of-self g c =
