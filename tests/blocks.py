@@ -34,8 +34,8 @@ CLIENTS = {"perl": ["perl", "-MIPC::SysV", "-MIPC::Msg", "-e", "1"],
            "php": ["php", "-r", "exit(function_exists('msg_get_queue') ? 0 : 1);"],
            "python3": [PYTHON, "-c", "import sysv_ipc"]}
 # The first words of a script's lines, and how its answers begin.
-COMMANDS = "seat get arena snd set rm stat cut ipcs rcv worker put take".split()
-ANSWER = re.compile(r"(id|at|msg|qnum|cut from|pages|slot|worker) .*\d|E[A-Z0-9]+$")
+COMMANDS = "seat get arena snd set rm stat cut ipcs info rcv worker put take".split()
+ANSWER = re.compile(r"(id|at|msg|qnum|queues|cut from|pages|slot|worker) .*\d|E[A-Z0-9]+$")
 # What the gate runs itself, or is a part of it: a crate, a folder to make, or a script.
 PART = re.compile(r"\(?(?:cd (crates/\w+) && )?(?:rt\b|make -C (\w+)|((?:\.ci|bench|tests)/[\w.]+))")
 

@@ -63,7 +63,8 @@ def random_line(dice):
         f"snd {ident} {abs(mtype) + 1} *{dice.randrange(3000)}",
         f"snd {ident} {abs(mtype) + 1} =text", f"rcv {ident} 9 {mtype}", f"rcv {ident} 9 0 n",
         f"rcv {ident} 5000 {mtype} e", f"set {ident} {dice.randrange(20000)}",
-        f"seat {dice.randrange(1, 17)}", "ipcs", "arena", "# nothing said"))
+        f"seat {dice.randrange(1, 17)}", "ipcs", "info", "arena",
+        "# nothing said"))
 
 
 def random_script(dice):

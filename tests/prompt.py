@@ -109,6 +109,21 @@ def threads_at_a_terminal():
     os.close(ours)
 
 
+def progress():
+    """What shows how long threads have run: standard error where it is a terminal, and nothing else;
+    at the end it is taken away."""
+    script = b"get 7 c\nworker\ntake 0 9 1 within 2500\n"
+    ours, theirs = pty.openpty()
+    run = start(["threads"], prompts=theirs)
+    os.close(theirs)
+    said, _ = run.communicate(script, timeout=PATIENCE)
+    shown = read_until(ours, b"\r\r").replace(" " * 40, "")
+    check(shown == "mqsim: running for 1 s\rmqsim: running for 2 s\r\r", f"progress: {shown!r}")
+    os.close(ours)
+    piped = subprocess.run([PROGRAM, "threads"], input=script, capture_output=True)
+    check((said, piped.stderr) == (piped.stdout, b""), f"progress over a pipe: {piped}")
+
+
 def ends():
     """How runs end that do not come to the end of what is typed."""
     file = subprocess.run([PROGRAM, "-i", "script"], capture_output=True, text=True)
@@ -138,6 +153,7 @@ def main():
     at_a_terminal([])
     at_a_terminal(["serial"])
     threads_at_a_terminal()
+    progress()
     ends()
     print(f"prompt: {passed} passed, {failed} failed")
     return 1 if failed else 0

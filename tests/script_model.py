@@ -62,7 +62,8 @@ FORMS = {
     b"snd": ((id_of, type_of, text_of), ()),
     b"rcv": ((id_of, size_of, type_of), (b"e", b"n", b"en")),
     b"set": ((id_of, size_of), ()), b"rm": ((id_of,), ()), b"stat": ((id_of,), ()),
-    b"cut": ((slot_of,), ()), b"ipcs": ((), ()), b"arena": ((), ()),
+    b"cut": ((slot_of,), ()), b"ipcs": ((), ()), b"info": ((), ()),
+    b"arena": ((), ()),
 }
 
 
@@ -230,6 +231,14 @@ class Run:
                              queue.lrpid])
         return "\n".join("".join(str(value).rjust(width) for value, (_, width)
                                  in zip(row, COLUMNS)) for row in rows)
+
+    def do_info(self, _moment, _flags):
+        there = [queue for queue in self.live if queue is not None]
+        messages, size = (sum(counts) for counts in
+                          ([len(queue.waiting) for queue in there],
+                           [queue.cbytes() for queue in there]))
+        return (f"queues {len(there)} messages {messages} bytes {size} slots {SLOTS} pages {PAGES} "
+                f"msgmax {MSGMAX} msgmnb {MSGMNB}")
 
     def do_arena(self, _moment, _flags):
         free = self.page_used.count(False)

@@ -205,6 +205,10 @@ case_of 'serial --slots 2 --last-seq 0' \
 case_of 'serial --slots 2 --last-seq 32767' \
     'ipcs\nget 7 c\nget 8 c\nrm 0\nipcs\nrm 1\nipcs\n' \
     'slot      id         key   qnum  cbytes  qbytes lspid lrpid\nid 0\nid 1\nat 1 events 2\nslot      id         key   qnum  cbytes  qbytes lspid lrpid\n   1       1           8      0       0  131072     0     0\nat 1 events 2\nslot      id         key   qnum  cbytes  qbytes lspid lrpid\n'
+# What is in use, of all queues together: what waits in those that are there, and none of another.
+case_of 'serial --slots 3 --height 2' \
+    'info\nget 7 c\nget 8 c\nget 9 c\nsnd 0 1 =abc\nsnd 2 1 =de\nsnd 2 1 =\nsnd 1 1 =x\nrm 1\ninfo\nrcv 2 9 0\nrm 0\ninfo\ninfo 0\n' \
+    'queues 0 messages 0 bytes 0 slots 3 pages 4 msgmax 65536 msgmnb 131072\nid 0\nid 1\nid 2\nat 1\nat 1\nat 2\nat 1\nat 2 events 3\nqueues 2 messages 3 bytes 5 slots 3 pages 4 msgmax 65536 msgmnb 131072\nmsg 1 seat 1 tag 6 len 2 =de\nat 2 events 3\nqueues 1 messages 1 bytes 0 slots 3 pages 4 msgmax 65536 msgmnb 131072\n' 'mqsim: line 14: words\n'
 # The least slot that is free is taken; key 0 never finds a queue.
 case_of 'serial --slots 3 --last-seq 32767' \
     'get 0 c\nget 0 cx\nget 0 c\nget 0 c\nget 0\nrm 1\nrm 0\nget 0\nget 0 x\n' \

@@ -7,11 +7,12 @@ ghost use Rattle.mq_system.specs.Outcome.{IsLook, IsRefusal, IsRemoved, IsSent};
 ghost use Rattle.mq_system.specs.Refusals.{MayRemove, MaySend, never_sent, out_of_slots};
 ghost use Rattle.mq_system.specs.Seat.{front_of};
 ghost use Rattle.mq_system.specs.Seen.{remove_verdict, send_verdict};
+ghost use Rattle.mq_system.specs.Shown.{known_usage};
 ghost use Rattle.mq_system.specs.Get.{IsNotGot};
 ghost use Rattle.mq.specs.Caller.{creating, IsAsked, IsGotId, IsNotDrafted, IsNotDraftedWithin, IsNotReceivedInto, IsNotSentFrom, IsReceivedInto, IsTurnedBack};
 
 use crate::bytes::copy_out;
-use mq_one_thread::{Delivered, Errno, GetFlags, Removal, SendRefused};
+use mq_one_thread::{Delivered, Errno, GetFlags, Removal, SendRefused, Usage};
 use mq_system::{Forever, Names, Patience, Pledge, RecvFlags, Seat, SendFlags, System, TextOf};
 use mq_table::{Cut, Id};
 use std::alloc::Global;
@@ -105,6 +106,16 @@ impl<'a, N: Names, R: Wait> Caller<'a, N, R> {
             Ok(cut) => Ok(cut),
             Err(refusal) => Err(refusal.errno),
         }
+    }
+
+    /// What is in use, of all slots together (msgctl(2), IPC_INFO and MSG_INFO). It waits for
+    /// nobody.
+    pub fn info<P: Pledge>(&mut self, system: &System<P, N>) -> Usage
+        ensures answer { result ≡ known_usage N.slots N.height self.new.seat.now N.slots }
+        ensures look { IsLook self.old.seat.now self.new.seat.now }
+        ensures moment { self.new.moment ≡ self.old.moment }
+    {
+        system.info(self.seat)
     }
 
     /// Sends these bytes, and waits where the queue is full.

@@ -26,7 +26,7 @@ pub use mq_arena::{
 pub use mq_message::{Body, INLINE_LEN, Text};
 pub use mq_one_thread::{
     Closed, ClosedSlot, Config, DEFAULTS, Delivered, DraftError, Errno, GetFlags, Got, MAX_SEATS,
-    OneThread, Refused, Removal, SendRefused, SysError,
+    OneThread, Refused, Removal, SendRefused, SysError, Usage,
 };
 pub use mq_queue::{
     Base, BaseEntries, BaseEntry, BoardRow, Event, Figures, Log, MSGMAX, MSGMNB, Received,

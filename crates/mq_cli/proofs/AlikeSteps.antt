@@ -32,7 +32,7 @@ use Rattle.mq_one_thread.specs.declared.results.Refused.{Refused}
 use Rattle.mq_one_thread.specs.declared.results.GetFlags.{GetFlags}
 use Rattle.mq_one_thread.specs.Calls.{cut_log, delivers, msgrcv, msgsnd, removed}
 use Rattle.mq_one_thread.specs.Calls.{set as set_answer, figures_shown, stat as stat_answer}
-use Rattle.mq_cli.specs.Commands.{AskedCall, sit, show, get, snd, rcv, set, rm, stat, cut, ipcs}
+use Rattle.mq_cli.specs.Commands.{AskedCall, sit, show, get, snd, rcv, set, rm, stat, cut, ipcs, info}
 use Rattle.mq_cli.specs.Commands.{AskedText}
 use Rattle.mq_cli.specs.Drafts.{by_draft_errno, bytes_of_text, draft}
 use Rattle.mq_cli.specs.Cuts.{is_cut}
@@ -41,11 +41,13 @@ use Rattle.mq_cli.specs.Reports.{line_of_row, table_of}
 use Rattle.mq_cli.specs.Session.{SessionState, by_errno}
 use Rattle.mq_one_thread.specs.State.{QueuesState as System, slot_at}
 use Rattle.mq_one_thread.specs.Texts.{bytes_of, drafts, in_block, spends, spends_all}
+use Rattle.mq_one_thread.specs.Usages.{no_usage, usage_of}
+use Rattle.mq_one_thread.proofs.UsageLemmas.{usage_same}
 use Rattle.mq_one_thread.specs.Texts.{filled_with}
 use Rattle.mq_cli.specs.Transcript.{Reply, refused, at, gone, cut_off}
 use Rattle.mq_cli.specs.Transcript.{cut_step, arena as arena_told, figures_reply, by_seat, get_step}
 use Rattle.mq_cli.specs.Transcript.{output, receive_step, remove_step, send_step, set_step, step}
-use Rattle.mq_cli.specs.Transcript.{replied}
+use Rattle.mq_cli.specs.Transcript.{replied, usage}
 use Rattle.mq_cli.proofs.AlikeSlots.{AreAlike, TurnAlike, cut_alike, entries_alike, figures_alike}
 use Rattle.mq_cli.proofs.AlikeSlots.{last_id_alike, places_alike, receives_alike, removes_alike}
 use Rattle.mq_cli.proofs.AlikeSlots.{row_alike, sends_alike, sets_alike}
@@ -237,6 +239,13 @@ module _ (last_seq : ℕ) (s t : System) (k : AreLike last_seq s t) where
   table_like : table_of s ≡ table_of t
   table_like = rw (slots_like last_seq s t k, rows_like (range_with_len 0 (length t.slots))) refl
 
+  -- what is in use
+  usage_like : usage_of s ≡ usage_of t
+  usage_like = rw (slots_like last_seq s t k, k.arena)
+      (usage_same (no_usage (length t.slots) (2 ^ t.arena.height)) (λ i. row_now (slot_at s i))
+      (λ i. row_now (slot_at t i)) (length t.slots)
+      (λ i less. row_alike last_seq _ _ (slot_like last_seq s t k i)))
+
   -- IPC_STAT
   stat_like : (id : ℕ) → stat_answer s id ≡ stat_answer t id
   stat_like id =
@@ -377,6 +386,11 @@ module _ (last_seq n : ℕ) (s t : SessionState) (k : RunsAlike last_seq s t) wh
   step_like ipcs e =
       record {
         line = ap (λ text. text ++ 10 ∷ []) (table_like last_seq s.queues t.queues k.queues);
+        left = k;
+      }
+  step_like info e =
+      record {
+        line = ap (λ u. output (usage u)) (usage_like last_seq s.queues t.queues k.queues);
         left = k;
       }
 

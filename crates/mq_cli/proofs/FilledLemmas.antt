@@ -5,7 +5,7 @@ use Rattle.mq_table.specs.declared.limits.TheConstants.{MAX_SLOTS}
 use Rattle.mq_one_thread.specs.declared.limits.TheConstants.{MAX_SEATS}
 use Rattle.mq_cli.specs.declared.fault.Cause.{Cause}
 use Rattle.mq_cli.specs.declared.fault.Cause.TheVariants.{Words}
-use Rattle.mq_cli.specs.Commands.{AskedCall, sit, get, rcv, set, rm, stat, cut, is_filled, flags_asked, seat_asked, arena_asked, get_flags_asked, get_asked, set_asked, remove_asked, stat_asked, cutting_asked, ipcs_asked, receive_asked, command_asked, command_named}
+use Rattle.mq_cli.specs.Commands.{AskedCall, sit, get, rcv, set, rm, stat, cut, is_filled, flags_asked, seat_asked, arena_asked, get_flags_asked, get_asked, set_asked, remove_asked, stat_asked, cutting_asked, ipcs_asked, info_asked, receive_asked, command_asked, command_named}
 use Rattle.mq_cli.specs.Laws.{flag_words, get_flag_words}
 use Rattle.mq_cli.specs.Numbers.{number_of, integer_of, key_of, under, above_zero}
 use Rattle.mq_cli.proofs.NumberLemmas.{number_of-Some}
@@ -99,6 +99,10 @@ ipcs_filled : (words : List (List ℕ)) (call : AskedCall) → ipcs_asked words 
 ipcs_filled [] call e = refl
 ipcs_filled (word ∷ words) call e = absurd (cc e)
 
+info_filled : (words : List (List ℕ)) (call : AskedCall) → info_asked words ≡ Ok call → list_all is_filled words ≡ true
+info_filled [] call e = refl
+info_filled (word ∷ words) call e = absurd (cc e)
+
 either : {P : Type 0} (b : Bool) {x y z : Result AskedCall Cause} → (x ≡ z → P) → (y ≡ z → P) → cond b x y ≡ z → P
 either true one other e = one e
 either false one other e = other e
@@ -114,7 +118,8 @@ named_filled name words call e =
     (either (bytes_eq name (codes "stat")) (stat_filled words call)
     (either (bytes_eq name (codes "cut")) (cut_filled words call)
     (either (bytes_eq name (codes "ipcs")) (ipcs_filled words call)
-    (λ (none : Err Words ≡ Ok call). absurd (cc none))))))))))
+    (either (bytes_eq name (codes "info")) (info_filled words call)
+    (λ (none : Err Words ≡ Ok call). absurd (cc none)))))))))))
     e
 
 -- a command without a text that is read is the line's

@@ -20,7 +20,7 @@ use Rattle.mq_one_thread.specs.declared.results.GetFlags.{GetFlags}
 use Rattle.mq_cli.specs.declared.limits.TheConstants.{LINE_LIMIT}
 use Rattle.mq_cli.specs.declared.fault.Cause.{Cause}
 use Rattle.mq_cli.specs.declared.fault.Cause.TheVariants.{Words}
-use Rattle.mq_cli.specs.Commands.{AskedCall, sit, show, get, snd, rcv, set, rm, stat, cut, ipcs, AskedText, plain, letters, Flags, ok_map, ◌>>=◌, worded, is_filled, is_plain, is_text, text_asked, flags_asked, seat_asked, arena_asked, get_flags_asked, get_asked, set_asked, remove_asked, stat_asked, cutting_asked, ipcs_asked, send_asked, receive_asked, command_asked, is_skipped, speaks, spoken, reading_by, reading}
+use Rattle.mq_cli.specs.Commands.{AskedCall, sit, show, get, snd, rcv, set, rm, stat, cut, ipcs, info, AskedText, plain, letters, Flags, ok_map, ◌>>=◌, worded, is_filled, is_plain, is_text, text_asked, flags_asked, seat_asked, arena_asked, get_flags_asked, get_asked, set_asked, remove_asked, stat_asked, cutting_asked, ipcs_asked, info_asked, send_asked, receive_asked, command_asked, is_skipped, speaks, spoken, reading_by, reading}
 use Rattle.mq_cli.specs.Laws.{flag_words, get_flag_words, spelling, text_spelling, CanBeSpelled, Spells, ReadsBack, SpelledOneWay}
 use Rattle.mq_cli.specs.Lines.{is_printable, line_of, words_of}
 use Rattle.mq_cli.specs.Numbers.{number_of, integer_of, is_key, key_of, under, above_zero, below_zero}
@@ -399,6 +399,13 @@ reported line [] call is e =
     subst (Spells line) same (is, tt)
 reported line (word ∷ words) call is e = absurd (cc e)
 
+-- and info
+informed : (line : List ℕ) (words : List (List ℕ)) (call : AskedCall) → line ≡ line_of (codes "info" ∷ words) → info_asked words ≡ Ok call → Spells line call
+informed line [] call is e =
+    let same : info ≡ call = cc e in
+    subst (Spells line) same (is, tt)
+informed line (word ∷ words) call is e = absurd (cc e)
+
 -- and rcv
 received : (line : List ℕ) (words : List (List ℕ)) (call : AskedCall) → line ≡ line_of (codes "rcv" ∷ words) → receive_asked words ≡ Ok call → Spells line call
 received line (id ∷ size ∷ mtype ∷ words) call is e =
@@ -506,9 +513,11 @@ commanded line (name ∷ words) call are short printable e =
     (λ is_stat asks. asked line words call (rejoined line name (codes "stat") words are is_stat) asks)
     (λ not_stat rest. chosen _ _ _ _ rest
     (λ is_cut cuts. severed line words call (rejoined line name (codes "cut") words are is_cut) cuts)
-    (λ not_cut others.
+    (λ not_cut rest. chosen _ _ _ _ rest
+    (λ is_ipcs reports. reported line words call (rejoined line name (codes "ipcs") words are is_ipcs) reports)
+    (λ not_ipcs others.
     let last = needed _ _ _ _ others in
-    reported line words call (rejoined line name (codes "ipcs") words are last.0) last.1)))))))))
+    informed line words call (rejoined line name (codes "info") words are last.0) last.1))))))))))
 
 -- a call is read from its spelling alone
 pub spelled_one_way : SpelledOneWay
@@ -694,3 +703,4 @@ reads_back (stat id) can =
 reads_back (cut slot) can =
     reads_words command_asked (codes "cut" ∷ []) (decimal slot) (cut slot) (name_word (codes "cut") refl, tt) (decimal_word slot (omega (arith, can))) (lit≤ tt) refl (cut_again slot can)
 reads_back ipcs can = refl
+reads_back info can = refl

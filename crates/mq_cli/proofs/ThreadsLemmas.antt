@@ -13,7 +13,7 @@ use Rattle.mq_cli.specs.declared.step.Step.TheVariants.{Put, Take, Remove}
 use Rattle.mq_cli.specs.declared.threads_script.MainCall.TheVariants.{Get, Set}
 use Rattle.mq_cli.specs.declared.threads_script.ThreadsLine.{ThreadsLine}
 use Rattle.mq_cli.specs.declared.threads_script.ThreadsLine.TheVariants.{Worker, Main, Section}
-use Rattle.mq_cli.specs.Commands.{AskedCall, sit, show, get, snd, rcv, set, rm, stat, cut, ipcs, get_asked, set_asked, is_filled, ok_map}
+use Rattle.mq_cli.specs.Commands.{AskedCall, sit, show, get, snd, rcv, set, rm, stat, cut, ipcs, info, get_asked, set_asked, is_filled, ok_map}
 use Rattle.mq_cli.specs.Laws.{Spells}
 use Rattle.mq_cli.specs.Lines.{line_of, words_of}
 use Rattle.mq_cli.specs.Numbers.{number_of, under}
@@ -156,6 +156,7 @@ called n text (rm id) line spelled e = absurd (cc e)
 called n text (stat id) line spelled e = absurd (cc e)
 called n text (cut slot) line spelled e = absurd (cc e)
 called n text ipcs line spelled e = absurd (cc e)
+called n text info line spelled e = absurd (cc e)
 
 -- what was asked, before it was a call of the main part
 asked_ok : (n : ℕ) (text : List ℕ) (r : Result AskedCall Cause) (line : ThreadsLine) → ((call : AskedCall) → r ≡ Ok call → Spells text call) → asked n r ≡ Ok line → Says 0 n text line

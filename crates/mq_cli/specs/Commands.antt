@@ -31,6 +31,7 @@ pub data AskedCall : Type 0 where
   stat : (id : ℕ) → AskedCall
   cut : (slot : ℕ) → AskedCall
   ipcs : AskedCall
+  info : AskedCall
 
 -- what was read, seen by f
 abbrev pub ok_map : {A B : Type 0} → (A → B) → Result A Cause → Result B Cause
@@ -81,6 +82,11 @@ get_asked _ = Err Words
 abbrev pub ipcs_asked : List (List ℕ) → Result AskedCall Cause
 ipcs_asked [] = Ok ipcs
 ipcs_asked _ = Err Words
+
+-- what is in use, and the limits
+abbrev pub info_asked : List (List ℕ) → Result AskedCall Cause
+info_asked [] = Ok info
+info_asked _ = Err Words
 
 -- a text is `=` and the rest of the line, spaces and all, or one word that begins with `*`
 abbrev pub is_plain : List ℕ → Bool
@@ -160,7 +166,8 @@ command_named name words =
     else (if bytes_eq name (codes "stat") then stat_asked words
     else (if bytes_eq name (codes "cut") then cutting_asked words
     else (if bytes_eq name (codes "ipcs") then ipcs_asked words
-    else Err Words))))))))
+    else (if bytes_eq name (codes "info") then info_asked words
+    else Err Words)))))))))
 
 -- a command; the words of all but a text are filled
 abbrev pub command_asked : List (List ℕ) → Result AskedCall Cause

@@ -8,7 +8,7 @@ use Rattle.mq_table.specs.declared.limits.TheConstants.{MAX_SLOTS}
 use Rattle.mq_one_thread.specs.declared.config.Config.{Config}
 use Rattle.mq_one_thread.specs.declared.limits.TheConstants.{MAX_SEATS}
 use Rattle.mq_cli.specs.declared.limits.TheConstants.{LINE_LIMIT}
-use Rattle.mq_cli.specs.Commands.{AskedCall, sit, show, get, snd, rcv, set, rm, stat, cut, ipcs}
+use Rattle.mq_cli.specs.Commands.{AskedCall, sit, show, get, snd, rcv, set, rm, stat, cut, ipcs, info}
 use Rattle.mq_cli.specs.Commands.{AskedText, plain, letters, reading}
 use Rattle.mq_cli.specs.Cuts.{texts_from, texts_of_others, without_cuts}
 use Rattle.mq_cli.specs.Lines.{line_of, is_printable}
@@ -49,6 +49,7 @@ spelling (rm id) = line_of (codes "rm" ∷ decimal id ∷ [])
 spelling (stat id) = line_of (codes "stat" ∷ decimal id ∷ [])
 spelling (cut slot) = line_of (codes "cut" ∷ decimal slot ∷ [])
 spelling ipcs = codes "ipcs"
+spelling info = codes "info"
 
 -- the calls that a line can ask for: each number is in its range, and a text is printable and
 -- leaves the line short enough
@@ -68,6 +69,7 @@ CanBeSpelled (rm id) = id < 2 ^ 32
 CanBeSpelled (stat id) = id < 2 ^ 32
 CanBeSpelled (cut slot) = slot < MAX_SLOTS
 CanBeSpelled ipcs = Unit {0}
+CanBeSpelled info = Unit {0}
 
 -- the line asks for the call, in the one way
 abbrev pub Spells : List ℕ → AskedCall → Type 0

@@ -4,10 +4,10 @@ use Rattle.std.specs.Option.{option_map}
 use Rattle.mq_cli.specs.declared.fault.Cause.{Cause}
 use Rattle.mq_cli.specs.declared.command.Command.{Command}
 use Rattle.mq_cli.specs.declared.command.Command.TheVariants.{Seat, Arena, Get, Send, Receive, Set}
-use Rattle.mq_cli.specs.declared.command.Command.TheVariants.{Remove, Stat, Cut, Report}
+use Rattle.mq_cli.specs.declared.command.Command.TheVariants.{Remove, Stat, Cut, Report, Info}
 use Rattle.mq_cli.specs.declared.command.TextForm.{TextForm}
 use Rattle.mq_cli.specs.declared.command.TextForm.TheVariants.{Plain, Letters}
-use Rattle.mq_cli.specs.Commands.{AskedCall, sit, show, get, snd, rcv, set, rm, stat, cut, ipcs}
+use Rattle.mq_cli.specs.Commands.{AskedCall, sit, show, get, snd, rcv, set, rm, stat, cut, ipcs, info}
 use Rattle.mq_cli.specs.Commands.{AskedText, plain, letters, Flags, ok_map}
 use Rattle.mq_cli.specs.declared.command.ReceiveFlags.{ReceiveFlags}
 use Rattle.mq_cli.specs.declared.reply.ArenaFigures.{ArenaFigures}
@@ -32,6 +32,7 @@ asked_by (Remove id) = rm id
 asked_by (Stat id) = stat id
 asked_by (Cut slot) = cut slot
 asked_by Report = ipcs
+asked_by Info = info
 
 abbrev pub seen : Result Command Cause → Result AskedCall Cause
 seen read = ok_map asked_by read

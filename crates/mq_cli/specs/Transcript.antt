@@ -6,20 +6,23 @@ use Rattle.mq_tree.specs.Fit.{largest}
 use Rattle.mq_tree.specs.LentSet.{free_pages}
 use Rattle.mq_message.specs.Text.{PlainText}
 use Rattle.mq_queue.specs.declared.figures.Figures.{Figures}
+use Rattle.mq_queue.specs.declared.limits.TheConstants.{MSGMAX, MSGMNB}
 use Rattle.mq_table.specs.Kept.{entries_of}
 use Rattle.mq_one_thread.specs.Calls.{msgsnd, msgrcv, rmid, cut_log}
 use Rattle.mq_one_thread.specs.Calls.{set as set_answer, stat as stat_answer}
 use Rattle.mq_one_thread.specs.Get.{msgget}
 use Rattle.mq_one_thread.specs.Names.{errno_name}
 use Rattle.mq_one_thread.specs.State.{QueuesState as System, slot_at}
+use Rattle.mq_one_thread.specs.Usages.{usage_of}
 use Rattle.mq_one_thread.specs.declared.config.Config.{Config}
 use Rattle.mq_one_thread.specs.declared.errno.Errno.{Errno}
 use Rattle.mq_one_thread.specs.declared.errno.Errno.TheVariants.{EINVAL}
 use Rattle.mq_one_thread.specs.declared.results.Delivered.{Delivered}
 use Rattle.mq_one_thread.specs.declared.results.GetFlags.{GetFlags}
+use Rattle.mq_one_thread.specs.declared.usage.Usage.{Usage}
 use Rattle.mq_cli.specs.declared.fault.Cause.{Cause}
 use Rattle.mq_cli.specs.Lines.{lines_of}
-use Rattle.mq_cli.specs.Commands.{AskedCall, sit, show, get, snd, rcv, set, rm, stat, cut, ipcs}
+use Rattle.mq_cli.specs.Commands.{AskedCall, sit, show, get, snd, rcv, set, rm, stat, cut, ipcs, info}
 use Rattle.mq_cli.specs.Commands.{AskedText, reading}
 use Rattle.mq_cli.specs.Drafts.{draft, spent}
 use Rattle.mq_cli.specs.Reports.{table_of}
@@ -37,6 +40,7 @@ pub data Reply : Type 0 where
   figures : (queue : Figures) → Reply
   cut_off : (first end : ℕ) → Reply
   table : (queues : System) → Reply
+  usage : (all : Usage) → Reply
 
 -- the answer of msgrcv, up to the text
 unfoldable pub message_head : ℤ → ℕ → ℕ → ℕ → List ℕ
@@ -67,6 +71,17 @@ moments_of f =
     codes " stime " ++ decimal f.stime ++ codes " rtime " ++ decimal f.rtime ++ codes " ctime "
     ++ decimal f.ctime
 
+-- the answer of `info`: what is in use, and the limits
+unfoldable pub in_use : Usage → List ℕ
+in_use u =
+    codes "queues " ++ decimal u.queues ++ codes " messages " ++ decimal u.messages
+    ++ codes " bytes " ++ decimal u.bytes
+
+unfoldable pub limits_of : Usage → List ℕ
+limits_of u =
+    codes " slots " ++ decimal u.slots ++ codes " pages " ++ decimal u.pages ++ codes " msgmax "
+    ++ decimal MSGMAX ++ codes " msgmnb " ++ decimal MSGMNB
+
 -- a reply as it is written
 abbrev pub reply_text : Reply → List ℕ
 reply_text silent = []
@@ -78,6 +93,7 @@ reply_text (gone entry events) = codes "at " ++ decimal entry ++ codes " events 
 reply_text (figures queue) = counts_of queue ++ callers_of queue ++ moments_of queue
 reply_text (cut_off first end) = codes "cut from " ++ decimal first ++ codes " to " ++ decimal end
 reply_text (table queues) = table_of queues
+reply_text (usage all) = in_use all ++ limits_of all
 reply_text (message m) = message_head m.mtype m.sender m.tag m.length ++ m.text.bytes
 
 -- its line, where there is one
@@ -152,6 +168,7 @@ step n s (rm id) = by_seat s (remove_step n s.seat s.queues id)
 step n s (stat id) = (figures_reply (stat_answer s.queues id), s)
 step n s (cut slot) = by_seat s (cut_step s.queues slot)
 step n s ipcs = (table s.queues, s)
+step n s info = (usage (usage_of s.queues), s)
 
 -- what a line writes and the state after it, or why it is not well formed
 abbrev pub said : ℕ → SessionState → Result (Option AskedCall) Cause

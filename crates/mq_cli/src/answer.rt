@@ -13,7 +13,7 @@ use crate::command::{Command, GetCall, ReceiveCall, ReceiveFlags, SendCall};
 use crate::draft::draft;
 use crate::reply::{
     ArenaFigures, write_arena, write_cut, write_entry, write_errno, write_figures, write_id,
-    write_message, write_refused, write_removal,
+    write_message, write_refused, write_removal, write_usage,
 };
 use crate::report::write_report;
 use crate::session::Session;
@@ -49,6 +49,7 @@ pub(crate) fn answer<L: Ledger>(
         Command::Stat { id } => stat(&session.queues, id, out),
         Command::Cut { slot } => cut(&mut session.queues, slot, out),
         Command::Report => write_report(out, &session.queues),
+        Command::Info => write_usage(out, session.queues.info()),
     }
 }
 

@@ -2,7 +2,7 @@ ghost use Rattle.std.specs.Prelude.{◌≡◌, ◌+◌, ◌^◌, ◌==◌, lengt
 ghost use Rattle.std.specs.List.{list_any};
 ghost use Rattle.std.specs.Option.{option_map};
 ghost use Rattle.mq_cli.specs.Commands.{arena_asked, command_asked, flags_asked, get_flags_asked};
-ghost use Rattle.mq_cli.specs.Commands.{get_asked, cutting_asked, ipcs_asked, command_named};
+ghost use Rattle.mq_cli.specs.Commands.{get_asked, cutting_asked, info_asked, ipcs_asked, command_named};
 ghost use Rattle.mq_cli.specs.Commands.{receive_asked, reading, remove_asked, seat_asked};
 ghost use Rattle.mq_cli.specs.Commands.{send_asked, set_asked, stat_asked, text_asked};
 ghost use Rattle.mq_cli.specs.Commands.{is_text as is_text_form};
@@ -79,6 +79,8 @@ pub enum Command<'a> {
     Cut { slot: u8 },
     /// A row for each live queue.
     Report,
+    /// IPC_INFO.
+    Info,
 }
 
 impl TextForm<'_> {
@@ -153,6 +155,9 @@ fn read_named<'a>(name: &[u8], words: Words<'a>) -> Result<Command<'a>, Cause>
     if name == b"ipcs".as_slice() {
         return read_report(words);
     }
+    if name == b"info".as_slice() {
+        return read_info(words);
+    }
     Err(Cause::Words)
 }
 
@@ -189,6 +194,15 @@ fn read_report(mut words: Words<'_>) -> Result<Command<'_>, Cause>
 {
     match words.next() {
         None => Ok(Command::Report),
+        Some(_) => Err(Cause::Words),
+    }
+}
+
+fn read_info(mut words: Words<'_>) -> Result<Command<'_>, Cause>
+    ensures { seen result ≡ info_asked (parts_left 32 words.entry.rest) }
+{
+    match words.next() {
+        None => Ok(Command::Info),
         Some(_) => Err(Cause::Words),
     }
 }

@@ -3,12 +3,12 @@ ghost use Rattle.mq_cli.specs.Seen.{arena_shown};
 ghost use Rattle.mq_cli.specs.Transcript.{callers_of, counts_of, message_head, moments_of};
 ghost use Rattle.mq_cli.specs.Transcript.{order_name, arena_head};
 ghost use Rattle.mq_cli.specs.Transcript.{output, refused, given, at, message, gone, figures};
-ghost use Rattle.mq_cli.specs.Transcript.{cut_off};
+ghost use Rattle.mq_cli.specs.Transcript.{cut_off, in_use, limits_of, usage};
 
 use itoa::{Buffer, Integer};
 use mq_message::Text;
-use mq_one_thread::{Delivered, Errno};
-use mq_queue::Figures;
+use mq_one_thread::{Delivered, Errno, Usage};
+use mq_queue::{Figures, MSGMAX, MSGMNB};
 use std::alloc::AllocError;
 use std::sync::ledger::Ledger;
 
@@ -144,6 +144,35 @@ fn write_moments(out: &mut Vec<u8>, f: Figures) -> Result<(), AllocError>
     write_field(out, b" stime ", f.stime)?;
     write_field(out, b" rtime ", f.rtime)?;
     write_field(out, b" ctime ", f.ctime)
+}
+
+/// `queues Q messages M bytes B slots S pages P msgmax X msgmnb Y`
+pub(crate) fn write_usage(out: &mut Vec<u8>, u: Usage) -> Result<(), AllocError>
+    ensures { OnOk result (out.new.items ≡ out.old.items ++ output (usage u)) }
+{
+    write_in_use(out, u)?;
+    write_limits(out, u)?;
+    out.push(b'\n')?;
+    Ok(())
+}
+
+#[tactic(auto, unfolding(crate::specs::Transcript::in_use))]
+fn write_in_use(out: &mut Vec<u8>, u: Usage) -> Result<(), AllocError>
+    ensures { OnOk result (out.new.items ≡ out.old.items ++ in_use u) }
+{
+    write_field(out, b"queues ", u.queues)?;
+    write_field(out, b" messages ", u.messages)?;
+    write_field(out, b" bytes ", u.bytes)
+}
+
+#[tactic(auto, unfolding(crate::specs::Transcript::limits_of))]
+fn write_limits(out: &mut Vec<u8>, u: Usage) -> Result<(), AllocError>
+    ensures { OnOk result (out.new.items ≡ out.old.items ++ limits_of u) }
+{
+    write_field(out, b" slots ", u.slots)?;
+    write_field(out, b" pages ", u.pages)?;
+    write_field(out, b" msgmax ", MSGMAX)?;
+    write_field(out, b" msgmnb ", MSGMNB)
 }
 
 /// `msg TYPE seat S tag T len L =BYTES`

@@ -1,3 +1,2 @@
 pub mod BytesLemmas
 pub mod TurnLemmas
-pub mod UsageLemmas

@@ -2,13 +2,16 @@
 -- whether it changed something, the type and the length of a message, and what is shown.
 use Rattle.std.specs.Prelude.{ℕ, ◌-◌, ◌^◌, List, [], ◌∷◌, length, is_some, Some}
 use Rattle.std.specs.Int.{cast_unsigned, from_bool, w32, w64}
+use Rattle.mq_arena.specs.declared.page.TheConstants.{PAGE_LEN}
 use Rattle.mq_message.specs.Text.{PlainText}
 use Rattle.mq_queue.specs.declared.figures.Figures.{Figures}
-use Rattle.mq_face.specs.Usages.{usage_numbers}
+use Rattle.mq_queue.specs.declared.limits.TheConstants.{MSGMAX, MSGMNB}
+use Rattle.mq_one_thread.specs.declared.usage.Usage.{Usage}
 use Rattle.mq_face.specs.declared.answer.Done.{Done}
 use Rattle.mq_face.specs.declared.answer.ReceivedMessage.{ReceivedMessage}
 use Rattle.mq_face.specs.declared.answer.Shown.{Shown}
-use Rattle.mq_face.specs.declared.answer.Shown.TheVariants.{Nothing, Queue, Usage}
+use Rattle.mq_face.specs.declared.answer.Shown.TheVariants as shown
+use Rattle.mq_face.specs.declared.answer.Shown.TheVariants.{Nothing, Queue}
 use Rattle.mq_face.specs.declared.refusal.Refusal.{Refusal}
 use Rattle.mq_face.specs.declared.refusal.Wait.{Wait}
 use Rattle.mq_face.specs.declared.refusal.Wait.TheVariants.{No, Change, Pages}
@@ -20,18 +23,23 @@ changed slot entry = record { value = 0; slot = slot; entry = Some entry; shown 
 abbrev pub shown_kind : Shown → ℕ
 shown_kind Nothing = 0
 shown_kind (Queue figures) = 1
-shown_kind (Usage usage) = 2
+shown_kind (shown.Usage usage) = 2
 
 -- the figures of a queue (msgctl(2), IPC_STAT)
 abbrev pub figure_numbers : Figures → List ℕ
 figure_numbers f =
     f.qnum ∷ f.cbytes ∷ f.qbytes ∷ f.stime ∷ f.rtime ∷ f.ctime ∷ f.lspid ∷ f.lrpid ∷ []
 
+-- what is in use, then the limits (msgctl(2), IPC_INFO)
+abbrev pub usage_numbers : Usage → List ℕ
+usage_numbers u =
+    u.queues ∷ u.messages ∷ u.bytes ∷ u.slots ∷ u.pages ∷ MSGMAX ∷ MSGMNB ∷ PAGE_LEN ∷ []
+
 -- what is shown
 abbrev pub shown_numbers : Shown → List ℕ
 shown_numbers Nothing = 0 ∷ 0 ∷ 0 ∷ 0 ∷ 0 ∷ 0 ∷ 0 ∷ 0 ∷ []
 shown_numbers (Queue figures) = figure_numbers figures
-shown_numbers (Usage usage) = usage_numbers usage
+shown_numbers (shown.Usage usage) = usage_numbers usage
 
 -- a call that is done
 abbrev pub done_numbers : Done → List ℕ

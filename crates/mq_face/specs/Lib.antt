@@ -6,4 +6,3 @@ pub mod Layout
 pub mod Logs
 pub mod Refusals
 pub mod Turns
-pub mod Usages

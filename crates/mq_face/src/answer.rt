@@ -2,9 +2,11 @@ ghost use Rattle.std.specs.Prelude.{◌≡◌};
 ghost use Rattle.mq_face.specs.Answers.{changed, done_numbers, received_numbers};
 ghost use Rattle.mq_face.specs.Answers.{refusal_numbers, shown_kind, shown_numbers};
 
-use crate::{Refusal, Usage, Wait};
+use crate::{Refusal, Wait};
+use mq_arena::PAGE_LEN;
 use mq_message::{Body, Text};
-use mq_queue::Figures;
+use mq_one_thread::Usage;
+use mq_queue::{Figures, MSGMAX, MSGMNB};
 use std::sync::ledger::Ledger;
 
 /// How many numbers an answer has, before what is shown and the bytes of a text.
@@ -71,7 +73,16 @@ impl Shown {
                 u64::from(figures.lspid),
                 u64::from(figures.lrpid),
             ],
-            Shown::Usage(usage) => usage.numbers(),
+            Shown::Usage(usage) => [
+                usage.queues,
+                usage.messages,
+                usage.bytes,
+                u64::from(usage.slots),
+                u64::from(usage.pages),
+                MSGMAX,
+                MSGMNB,
+                PAGE_LEN as u64,
+            ],
         }
     }
 }

@@ -6,7 +6,6 @@ ghost use Rattle.mq_face.specs.Commands.{info_reply, row_reply, show, slot_reply
 
 use crate::manual::{EFAULT, SEAT};
 use crate::refusal::{gone, id_of};
-use crate::usage::usage_of;
 use crate::{Call, ControlCommand, Done, Refusal, Shown};
 use mq_one_thread::{Errno, OneThread, Removal};
 use mq_queue::BoardRow;
@@ -107,6 +106,6 @@ fn stat_row(call: Call, slot: u8, row: BoardRow) -> Result<Done, Refusal>
 fn info<L: Ledger>(queues: &OneThread<L>, call: Call) -> Result<Done, Refusal>
     ensures { result ≡ info_reply queues.now call }
 {
-    let usage = usage_of(queues);
+    let usage = queues.info();
     show(call, u64::from(usage.greatest), 0, Shown::Usage(usage))
 }

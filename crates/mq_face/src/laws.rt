@@ -1,11 +1,12 @@
 //! The layout of calls and answers.
 ghost use Rattle.std.specs.Prelude.{◌≡◌};
 ghost use Rattle.mq_face.specs.Answers.{done_numbers, figure_numbers, refusal_numbers};
+ghost use Rattle.mq_face.specs.Answers.{usage_numbers};
 ghost use Rattle.mq_face.specs.Bytes.{bytes_of_numbers, numbers_in};
 ghost use Rattle.mq_face.specs.Layout.{call_of, numbers_of};
-ghost use Rattle.mq_face.specs.Usages.{usage_numbers};
 
-use crate::{Call, Done, Refusal, Usage};
+use crate::{Call, Done, Refusal};
+use mq_one_thread::Usage;
 use mq_queue::Figures;
 
 /// Each call is read back from its numbers, and these from their bytes.

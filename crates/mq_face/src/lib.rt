@@ -16,7 +16,6 @@ mod manual;
 mod receive_call;
 mod refusal;
 mod send_call;
-mod usage;
 pub mod worked;
 
 pub use answer::{ANSWER_NUMBERS, Done, ReceivedMessage, SHOWN_NUMBERS, Shown};
@@ -33,4 +32,3 @@ pub use manual::{
 pub use receive_call::receive;
 pub use refusal::{Refusal, Wait, unknown};
 pub use send_call::{draft, send};
-pub use usage::Usage;

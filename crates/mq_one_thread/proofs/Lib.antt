@@ -4,3 +4,4 @@ pub mod KeptLemmas
 pub mod NewLemmas
 pub mod SlotLemmas
 pub mod DraftLemmas
+pub mod UsageLemmas

@@ -11,3 +11,4 @@ pub mod Names
 pub mod Outcome
 pub mod State
 pub mod Texts
+pub mod Usages

@@ -3,9 +3,10 @@ ghost use Rattle.mq_one_thread.specs.Calls.{set as set_answer, rmid as rmid_answ
 ghost use Rattle.mq_one_thread.specs.Calls.{stat as stat_answer};
 ghost use Rattle.mq_one_thread.specs.Look.{refused_at};
 ghost use Rattle.mq_one_thread.specs.Outcome.{Answers};
+ghost use Rattle.mq_one_thread.specs.Usages.{usage_of};
 
 use crate::home::take_home;
-use crate::{Errno, OneThread, Refused, Removal};
+use crate::{Errno, OneThread, Refused, Removal, Usage};
 use mq_queue::{Figures, NoNotice};
 use mq_table::{Id, remove_under};
 use std::sync::ledger::Ledger;
@@ -55,5 +56,17 @@ impl<L: Ledger> OneThread<L> {
             Ok(k) => Ok(self.slots[k].figures()),
             Err(refused) => Err(refused.errno),
         }
+    }
+
+    /// What is in use, of all slots together (msgctl(2), IPC_INFO and MSG_INFO).
+    #[tactic(auto, using(crate::proofs::UsageLemmas::usages))]
+    pub fn info(&self) -> Usage
+        ensures { result ≡ usage_of self.now }
+    {
+        let mut usage = Usage::none(self.slots(), self.pages());
+        for slot in 0..self.slots() {
+            usage = usage.with_slot(slot, self.row(slot));
+        }
+        usage
     }
 }

@@ -15,6 +15,7 @@ mod messages;
 mod one_thread;
 mod results;
 mod shown;
+mod usage;
 pub mod worked;
 
 pub use close::{Closed, ClosedSlot, end_slot};
@@ -26,3 +27,4 @@ pub use mq_table::{Cut, MAX_SEQ, MAX_SLOTS};
 pub use mq_tree::MAX_HEIGHT;
 pub use one_thread::{OneThread, TextSlot};
 pub use results::{Delivered, GetFlags, Got, Refused, Removal, SendRefused};
+pub use usage::Usage;

@@ -84,7 +84,7 @@ fn ended<L: Ledger>(rt: &impl Abort, queue: Queue<L>) {
     }
 }
 
-fn holds(part: &[u8], len: usize, letter: u8) -> bool {
+fn repeats(part: &[u8], len: usize, letter: u8) -> bool {
     for byte in part {
         if *byte != letter {
             return false;
@@ -96,9 +96,9 @@ fn holds(part: &[u8], len: usize, letter: u8) -> bool {
 /// Whether the text has the one letter in its first part, and the other in the rest.
 fn has_letters<L: Ledger>(text: &Text<L>, first: u8, rest: u8) -> bool {
     text.count() == 3
-        && holds(text.part(0), PAGE_LEN, first)
-        && holds(text.part(1), PAGE_LEN, rest)
-        && holds(text.part(2), 2, rest)
+        && repeats(text.part(0), PAGE_LEN, first)
+        && repeats(text.part(1), PAGE_LEN, rest)
+        && repeats(text.part(2), 2, rest)
 }
 
 /// Whether the text has the letters that were filled in, and is in the block where it was.

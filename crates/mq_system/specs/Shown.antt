@@ -1,9 +1,9 @@
 -- What is shown of a slot's queue, and what a removal tells: it is of some slot list.
-use Rattle.std.specs.Prelude.{◌≡◌, ℕ, ◌+◌, if◌then◌else◌, true, List, length, Result, Ok, Err}
+use Rattle.std.specs.Prelude.{◌≡◌, ℕ, ◌+◌, ◌^◌, if◌then◌else◌, true, List, length, Result, Ok, Err}
 use Rattle.mq_queue.specs.Figures.{figures}
 use Rattle.mq_queue.specs.Log.{ends_with_removed}
 use Rattle.mq_queue.specs.Queue.{rest_of}
-use Rattle.mq_queue.specs.Row.{last_log}
+use Rattle.mq_queue.specs.Row.{last_log, row}
 use Rattle.mq_queue.specs.declared.event.Event.{Event}
 use Rattle.mq_queue.specs.declared.figures.Figures.{Figures}
 use Rattle.mq_table.specs.Ids.{seq_of}
@@ -11,10 +11,13 @@ use Rattle.mq_table.specs.SlotList.{IsSlotList, Standing, Never, Live, Removed, 
 use Rattle.mq_table.specs.declared.refusal.IdRefusal.TheVariants as refusal
 use Rattle.mq_table.specs.declared.refusal.IdRefusal.{IdRefusal}
 use Rattle.mq_one_thread.specs.Look.{errno_of_id}
+use Rattle.mq_one_thread.specs.Usages.{no_usage, usage_to}
 use Rattle.mq_one_thread.specs.declared.errno.Errno.TheVariants.{EINVAL}
 use Rattle.mq_one_thread.specs.declared.errno.Errno.{Errno}
 use Rattle.mq_one_thread.specs.declared.results.Removal.{Removal}
+use Rattle.mq_one_thread.specs.declared.usage.Usage.{Usage}
 use Rattle.mq_system.specs.Refusals.{out_of_slots}
+use Rattle.mq_system.specs.Seat.{SeatState, front_of}
 
 -- the figures of the queue that an id names, or why there are none (msgctl(2), IPC_STAT)
 abbrev pub figures_by : Standing → Figures → Result Figures IdRefusal
@@ -43,3 +46,9 @@ figures_or_errno (Err refusal) = Err (errno_of_id refusal)
 abbrev pub stat_of : ℕ → List Event → ℕ → Result Figures Errno
 stat_of slots events id =
     if out_of_slots slots id then Err EINVAL else figures_or_errno (stat_answer events (seq_of id))
+
+-- what is in use in the first slots, of so many slots and pages, as a seat knows them (msgctl(2),
+-- IPC_INFO)
+abbrev pub known_usage : ℕ → ℕ → SeatState → ℕ → Usage
+known_usage slots height seat =
+    usage_to (no_usage slots (2 ^ height)) (λ slot. row (front_of seat slot))

@@ -1,5 +1,5 @@
 -- The sizes of a system, and how its names are those of its parts.
-use Rattle.std.specs.Prelude.{◌≡◌, ℕ, ◌+◌, ◌*◌, ◌<◌, ◌≤◌, List, [], vec_len}
+use Rattle.std.specs.Prelude.{◌≡◌, ℕ, ◌+◌, ◌*◌, ◌^◌, ◌<◌, ◌≤◌, List, [], vec_len}
 use Rattle.mq_board.specs.declared.history.Naming as naming
 use Rattle.mq_board.specs.Named as boards
 use Rattle.mq_table.specs.declared.limits.TheConstants.{MAX_SLOTS, MAX_SEQ}
@@ -30,13 +30,14 @@ all_changes slots seats = seats * (slots * MAX_COUNT)
 -- a place for each slot, of which there is one at least, and as many as ids have numbers for at
 -- most; room for what the end answers; and what all parts of the ledger of entries have together is
 -- all that the seats can make
-pub record IsSystem {C : Type 0} (slots seats last_seq places stored_seq : ℕ) (closed : List C)
-    (room parts amount : ℕ) : Type 0 where
+pub record IsSystem {C : Type 0} (slots seats last_seq height places stored_seq pages : ℕ)
+    (closed : List C) (room parts amount : ℕ) : Type 0 where
   pub placed : places ≡ slots
   pub some : 0 < slots
   pub few : slots ≤ MAX_SLOTS
   pub last : stored_seq ≡ last_seq
   pub bounded : last_seq ≤ MAX_SEQ
+  pub sized : pages ≡ 2 ^ height
   pub none_closed : closed ≡ []
   pub reserved : slots ≤ room
   pub parted : parts ≡ slots + seats

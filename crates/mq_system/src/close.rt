@@ -60,6 +60,7 @@ impl<P: Pledge, N: Names> System<P, N, Copies<N>> {
             arena,
             magazines,
             last_seq: _,
+            pages: _,
             mut closed,
         } = self;
         let Rest {

@@ -4,11 +4,12 @@ ghost use Rattle.mq_queue.specs.Row.{row};
 ghost use Rattle.mq_table.specs.Ids.{slot_of};
 ghost use Rattle.mq_system.specs.Outcome.{IsLook, IsNotRemoved, IsNotSet, IsRemoved, IsSet};
 ghost use Rattle.mq_system.specs.Seat.{front_of};
-ghost use Rattle.mq_system.specs.Shown.{stat_of};
+ghost use Rattle.mq_system.specs.Shown.{known_usage, stat_of};
 
 use crate::messages::too_early;
 use crate::{Errno, Names, Pledge, Refused, Removal, Seat, System, WaitingOf};
 use mq_board::Copies;
+use mq_one_thread::Usage;
 use mq_queue::{BoardRow, Figures};
 use mq_select::Waiting;
 use mq_table::Id;
@@ -115,5 +116,19 @@ impl<P: Pledge, N: Names> System<P, N, Copies<N>> {
         for number in 0..self.slots() {
             rows[number as usize] = seat.row(number);
         }
+    }
+
+    /// What is in use, of all slots together (msgctl(2), IPC_INFO and MSG_INFO), each as its board
+    /// has it. It waits for nobody, and takes no lock and no memory.
+    pub fn info(&self, seat: &mut Seat<N>) -> Usage
+        ensures answer { result ≡ known_usage N.slots N.height seat.new N.slots }
+        ensures look { IsLook seat.old seat.new }
+    {
+        seat.holds();
+        let mut usage = Usage::none(self.slots(), self.pages);
+        for number in 0..self.slots() {
+            usage = usage.with_slot(number, seat.row(number));
+        }
+        usage
     }
 }

@@ -34,6 +34,8 @@ pub struct System<P: Pledge, N: Names, C = Copies<N>> {
     pub(crate) arena: Arena<Pages<N>>,
     pub(crate) magazines: Magazines<N>,
     pub(crate) last_seq: u32,
+    /// How many pages the arena has.
+    pub(crate) pages: u32,
     /// Room for what `close` answers.
     pub(crate) closed: Vec<ClosedSlot>,
 }
@@ -46,8 +48,8 @@ impl<P: Pledge, N: Names, C> Model for System<P, N, C> {
 
     ghost view = { λ s. s.last_seq };
 
-    ghost invariant = { λ s. IsSystem N.slots N.seats N.last_seq (vec_len s.places) s.last_seq
-        s.closed.items (vec_capacity s.closed) s.total.parts s.total.amount };
+    ghost invariant = { λ s. IsSystem N.slots N.seats N.last_seq N.height (vec_len s.places)
+        s.last_seq s.pages s.closed.items (vec_capacity s.closed) s.total.parts s.total.amount };
 }
 
 impl<P: Pledge, N: Names> System<P, N, Copies<N>> {
@@ -79,11 +81,11 @@ impl<P: Pledge, N: Names> System<P, N, Copies<N>> {
             return Err(SysError::Memory);
         };
         let Blanks {
-            pages,
+            pages: ledger,
             entries,
             boards,
         } = blanks;
-        let mut arena = arena.open::<Pages<N>>(pages);
+        let mut arena = arena.open::<Pages<N>>(ledger);
         let mut tally = Tally::new(entries);
         let Ok((slots, mut rows)) = make_slots::<P, N, R>(
             alloc,
@@ -105,6 +107,7 @@ impl<P: Pledge, N: Names> System<P, N, Copies<N>> {
             leave(seats);
             return Err(SysError::Memory);
         };
+        let pages = arena.pages();
         let arena = Arena::new(arena);
         let Ok(magazines) = Magazines::new(alloc, rt, &arena, config.seats, config.height) else {
             give_up(rt, &mut arena.into_state(), slots);
@@ -122,6 +125,7 @@ impl<P: Pledge, N: Names> System<P, N, Copies<N>> {
             arena,
             magazines,
             last_seq: config.last_seq,
+            pages,
             closed,
         };
         Ok((system, seats))

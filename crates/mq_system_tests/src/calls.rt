@@ -3,6 +3,7 @@
 ghost use Rattle.std.specs.Prelude.{◌≡◌, IfOk, replicate};
 
 use crate::day::Anything;
+use crate::holds;
 use mq_system::{
     Delivered, DraftError, Errno, GetFlags, Got, Names, RecvFlags, Refused, Removal, Seat,
     SendFlags, SendRefused, System, TextOf,
@@ -226,12 +227,5 @@ pub(crate) fn has<N: Names>(text: &TextOf<N>, bytes: &[u8]) -> bool {
         0 => bytes.is_empty(),
         1 => text.part(0) == bytes,
         _ => false,
-    }
-}
-
-/// Checks what must be so.
-pub(crate) fn holds(rt: &impl Abort, is: bool, what: &str) {
-    if !is {
-        panic!(rt; "{what}");
     }
 }

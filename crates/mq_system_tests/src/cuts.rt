@@ -1,10 +1,9 @@
 //! Cuts of a slot's list, after which all calls answer as before.
 ghost use Rattle.std.specs.Prelude.{◌≡◌};
 
-use crate::calls::{
-    CREATE, NEW, NO_FLAG, TAG, cut, first, get, has, holds, receive, remove, seat, send,
-};
+use crate::calls::{CREATE, NEW, NO_FLAG, TAG, cut, first, get, has, receive, remove, seat, send};
 use crate::day::{Anything, Day, config, left_by};
+use crate::holds;
 use crate::table::{Answer, Step, plays};
 use mq_queue::{Base, BaseEntry, BoardRow, Event, Figures};
 use mq_select::Selection;

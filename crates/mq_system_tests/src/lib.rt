@@ -3,6 +3,21 @@
 
 #![tactic(auto)]
 
+ghost use Rattle.std.specs.Prelude.{◌≡◌, true};
+
+#[cfg(test)]
+use std::process::Abort;
+
+/// Ends the test with this text where something does not hold.
+#[cfg(test)]
+fn holds(rt: &impl Abort, is: bool, what: &str)
+    ensures { is ≡ true }
+{
+    if !is {
+        panic!(rt; "{what}");
+    }
+}
+
 #[cfg(test)]
 mod calls;
 #[cfg(test)]

@@ -2,8 +2,9 @@
 //! run with each allocation refused in turn, and must answer as if none had been.
 ghost use Rattle.std.specs.Prelude.{◌≡◌};
 
-use crate::calls::{CREATE, TAG, Wanted, cut, draft, get, holds, receive, remove, seat, send, set};
+use crate::calls::{CREATE, TAG, Wanted, cut, draft, get, receive, remove, seat, send, set};
 use crate::day::{Anything, Day, config, left_by};
+use crate::holds;
 use mq_arena::Homecoming;
 use mq_system::{Config, Delivered, Got, Names, Seat, SendRefused, System};
 use mq_table::Id;

@@ -1,8 +1,9 @@
 //! Texts that a seat has spent: it keeps their pages back for its next drafts, and withholds them
 //! from nobody.
 
-use crate::calls::{holds, seat};
+use crate::calls::seat;
 use crate::day::{Anything, Day, config, left_by};
+use crate::holds;
 use mq_system::{Config, DraftError, Names, Seat, System, TextOf};
 use std::alloc::Global;
 use std::process::Abort;

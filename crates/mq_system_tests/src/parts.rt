@@ -3,6 +3,7 @@ ghost use Rattle.std.specs.Prelude.{◌≡◌, ◌+◌, ◌-◌, ◌<◌, ◌≤
 ghost use Rattle.mq_board.specs.Readers.{seats};
 ghost use Rattle.mq_system.specs.Fronts.{AreRows};
 
+use crate::holds;
 use mq_arena::{ArenaState, Homecoming};
 use mq_board::{BoardReader, BoardWriter, Copies};
 use mq_message::Text;
@@ -17,13 +18,6 @@ pub(crate) struct Anything;
 
 impl Pledge for Anything {
     ghost kept = { λ seat tag mtype bytes. Unit {0} };
-}
-
-/// Checks what must be so.
-pub(crate) fn holds(rt: &impl Abort, is: bool, what: &str) {
-    if !is {
-        panic!(rt; "{what}");
-    }
 }
 
 /// Whether a text has these bytes, at most a page of them.

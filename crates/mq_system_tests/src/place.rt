@@ -1,6 +1,7 @@
 //! A day of a system's only slot. Seat 1 makes, sends, sets and removes, and seat 2 receives.
-use crate::calls::{CREATE, NEW, NO_FLAG, TAG, cut, get, has, holds, remove, seat, set};
+use crate::calls::{CREATE, NEW, NO_FLAG, TAG, cut, get, has, remove, seat, set};
 use crate::day::{Anything, Day, config, left_by};
+use crate::holds;
 use mq_one_thread::{Delivered, Errno, Refused, Removal, SendRefused};
 use mq_system::{Config, Names, RecvFlags, Seat, SendFlags, System, TextOf};
 use mq_table::Id;

@@ -2,7 +2,8 @@
 //! makes them or another does. Seat 1 makes, sends, sets and removes, and seat 2 receives.
 ghost use Rattle.std.specs.Prelude.{◌≡◌, ◌≤◌};
 
-use crate::parts::{Anything, drafted, holds, spent};
+use crate::holds;
+use crate::parts::{Anything, drafted, spent};
 use crate::shared::{Day, apart_once};
 use crate::slot_calls::{cut, entered, made, received, removed, sent};
 use mq_arena::ArenaState;

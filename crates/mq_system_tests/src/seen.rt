@@ -1,8 +1,9 @@
 //! What one seat sees of what another did.
 ghost use Rattle.std.specs.Prelude.{◌≡◌};
 
-use crate::calls::{CREATE, NO_FLAG, first, get, holds, receive, remove, seat, send};
+use crate::calls::{CREATE, NO_FLAG, first, get, receive, remove, seat, send};
 use crate::day::{Anything, Day, config, left_by};
+use crate::holds;
 use mq_queue::BoardRow;
 use mq_system::{Config, Errno, Got, Names, Seat, System};
 use mq_table::Id;

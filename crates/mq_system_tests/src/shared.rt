@@ -2,7 +2,8 @@
 ghost use Rattle.std.specs.Prelude.{◌≡◌, ◌≤◌};
 ghost use Rattle.mq_system.specs.Sizes.{AreNames};
 
-use crate::parts::{Anything, come_home, drafted, holds, seated, spent, told};
+use crate::holds;
+use crate::parts::{Anything, come_home, drafted, seated, spent, told};
 use crate::seats::followed;
 use crate::slot_calls::{changed, cut, made, nothing_shown, received, removed, sent, shown};
 use mq_arena::{ArenaState, LEDGER_PARTS, Unopened};

@@ -1,8 +1,10 @@
-//! A report shows each slot's row.
+//! A report shows each slot's row, and what is in use in all of them.
 ghost use Rattle.std.specs.Prelude.{◌≡◌};
 
-use crate::calls::{CREATE, get, holds, remove, seat};
+use crate::calls::{CREATE, get, remove, seat};
 use crate::day::{Anything, Day, config, left_by};
+use crate::holds;
+use mq_one_thread::Usage;
 use mq_queue::{BoardRow, Figures};
 use mq_system::{Config, Names, Seat, System};
 use std::alloc::Global;
@@ -100,6 +102,15 @@ impl Day<Anything> for Report {
         holds(rt, rows[1] == row_of_new(1, -8, 2), "the queue of slot 1");
         holds(rt, rows[2] == was, "none in slot 2");
         holds(rt, rows[3] == NO_QUEUE, "none was in slot 3");
+        let usage = Usage {
+            queues: 2,
+            messages: 0,
+            bytes: 0,
+            greatest: 1,
+            slots: 4,
+            pages: 1,
+        };
+        holds(rt, system.info(seat) == usage, "two queues are there");
     }
 }
 

@@ -2,7 +2,8 @@
 ghost use Rattle.std.specs.Prelude.{◌≡◌, ◌≤◌};
 ghost use Rattle.mq_system.specs.Seat.{front_of};
 
-use crate::parts::{Anything, emptied, has, holds};
+use crate::holds;
+use crate::parts::{Anything, emptied, has};
 use mq_one_thread::{Delivered, Errno, Refused, Removal};
 use mq_select::Selection;
 use mq_system::{Keys, Names, Seat, SharedSlot, TextOf};

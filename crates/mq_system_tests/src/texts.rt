@@ -2,8 +2,9 @@
 ghost use Rattle.std.specs.Prelude.{◌≡◌, ◌≤◌, IfOk, length};
 ghost use Rattle.mq_message.specs.Text.{count_of};
 
-use crate::calls::{CREATE, draft, first, get, holds, receive, remove, send};
+use crate::calls::{CREATE, draft, first, get, receive, remove, send};
 use crate::day::{Anything, Day, config, left_by};
+use crate::holds;
 use mq_arena::{Homecoming, PAGE_LEN};
 use mq_message::Body;
 use mq_system::{ClosedSlot, Config, Delivered, DraftError, Names, Seat, System, TextOf};

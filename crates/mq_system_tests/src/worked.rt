@@ -1,8 +1,9 @@
 //! One queue from its making to its end, on one page and in one slot.
 ghost use Rattle.std.specs.Prelude.{◌≡◌};
 
-use crate::calls::{CREATE, first, get, has, holds, receive, remove, seat, send};
+use crate::calls::{CREATE, first, get, has, receive, remove, seat, send};
 use crate::day::{Anything, Day, config, left_by, lives};
+use crate::holds;
 use mq_queue::{Event, Figures};
 use mq_system::{
     Config, Errno, Got, Names, Refused, Removal, Seat, SendRefused, SysError, System, TextOf,

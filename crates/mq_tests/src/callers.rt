@@ -213,6 +213,10 @@ fn full<N: Names, R: Wait>(
             Ok(65_536),
         )?;
     }
+    let usage = caller.info(system);
+    is(HERE, 2, Ok(usage.messages), Ok(2))?;
+    is(HERE, 131_072, Ok(usage.bytes), Ok(131_072))?;
+    is(HERE, 256, Ok(u64::from(usage.pages)), Ok(256))?;
     for len in [1, 4_001, 8_193] {
         is(
             HERE,

@@ -19,7 +19,7 @@ pub(crate) fn home<L: Ledger>(rt: &impl Abort, arena: &mut ArenaState<L>, text: 
     holds!(rt; arena.lent_pages() == 0);
 }
 
-pub(crate) fn holds(rt: &impl Abort, part: &[u8], len: usize, letter: u8) {
+pub(crate) fn repeats(rt: &impl Abort, part: &[u8], len: usize, letter: u8) {
     holds!(rt; part.len() == len);
     for byte in part {
         holds!(rt; *byte == letter);
@@ -83,17 +83,17 @@ fn two_threads<L: Ledger, R: Abort + Threads>(
     holds!(rt; text.start() == Some(4));
     shows(rt, &text, &[0; 2050]);
     filled_at(rt, &mut text, 1, letters);
-    holds(rt, text.part(0), 1024, b'A');
-    holds(rt, text.part(1), 1024, b'B');
-    holds(rt, text.part(2), 2, b'B');
+    repeats(rt, text.part(0), 1024, b'A');
+    repeats(rt, text.part(1), 1024, b'B');
+    repeats(rt, text.part(2), 2, b'B');
     filled_at(rt, &mut text, 0, &[b'C'; 2050]);
     filled_at(rt, &mut text, 3, letters);
     part_filled(&mut text, 2, b'D');
-    holds(rt, text.part(2), 2, b'D');
-    holds(rt, text.part(1), 1024, b'B');
+    repeats(rt, text.part(2), 2, b'D');
+    repeats(rt, text.part(1), 1024, b'B');
     part_filled(&mut text, 0, b'D');
-    holds(rt, text.part(0), 1024, b'D');
-    holds(rt, text.part(1), 1024, b'B');
+    repeats(rt, text.part(0), 1024, b'D');
+    repeats(rt, text.part(1), 1024, b'B');
     holds!(rt; text.start() == Some(4));
     home(rt, &mut arena, text);
 }
@@ -114,8 +114,8 @@ fn most_filled<L: Ledger, R: Abort + Threads>(rt: &R, text: &mut Text<L>, letter
     ensures { length text.new.bytes ≡ TEXT_LEN }
 {
     filled_at(rt, text, 32, letters);
-    holds(rt, text.part(31), 1024, b'A');
-    holds(rt, text.part(32), 1024, b'B');
+    repeats(rt, text.part(31), 1024, b'A');
+    repeats(rt, text.part(32), 1024, b'B');
     filled_at(rt, text, 0, letters);
     filled_at(rt, text, 63, letters);
     filled_at(rt, text, 64, letters);
@@ -128,10 +128,10 @@ fn ends_filled<L: Ledger>(rt: &impl Abort, text: &mut Text<L>)
 {
     part_filled(text, 0, b'D');
     part_filled(text, 63, b'D');
-    holds(rt, text.part(0), 1024, b'D');
-    holds(rt, text.part(1), 1024, b'A');
-    holds(rt, text.part(62), 1024, b'B');
-    holds(rt, text.part(63), 1024, b'D');
+    repeats(rt, text.part(0), 1024, b'D');
+    repeats(rt, text.part(1), 1024, b'A');
+    repeats(rt, text.part(62), 1024, b'B');
+    repeats(rt, text.part(63), 1024, b'D');
 }
 
 fn longest_filled<L: Ledger, R: Abort + Threads>(
@@ -184,8 +184,8 @@ fn pages_lent<L: Ledger, R: Abort + Threads>(rt: &R, unopened: Unopened, ledger:
         |pages: &mut [Page]| fill(pages, &[b'B'; 1024]),
     );
     holds!(rt; text.len() == 1030);
-    holds(rt, text.part(0), 1024, b'A');
-    holds(rt, text.part(1), 6, b'B');
+    repeats(rt, text.part(0), 1024, b'A');
+    repeats(rt, text.part(1), 6, b'B');
     home(rt, &mut arena, text);
 }
 
@@ -220,10 +220,10 @@ fn longest_lent<L: Ledger, R: Abort + Threads>(
         |pages: &mut [Page]| fill(pages, back),
     );
     assert!(rt; text.len() == 65_530);
-    holds(rt, text.part(0), 1024, b'A');
-    holds(rt, text.part(31), 1024, b'A');
-    holds(rt, text.part(32), 1024, b'B');
-    holds(rt, text.part(63), 1018, b'B');
+    repeats(rt, text.part(0), 1024, b'A');
+    repeats(rt, text.part(31), 1024, b'A');
+    repeats(rt, text.part(32), 1024, b'B');
+    repeats(rt, text.part(63), 1018, b'B');
     home(rt, &mut arena, text);
 }
 

@@ -3,7 +3,7 @@ ghost use Rattle.std.specs.Prelude.{◌≡◌, ◌*◌, ◌^◌, ◌<◌, ◌≤
 ghost use Rattle.mq_arena.specs.Bytes.{AreWhole};
 
 use crate::taking::drafted;
-use crate::texts::{holds, home};
+use crate::texts::{home, repeats};
 use mq_arena::{LEDGER_PARTS, PAGE_LEN, Page, Unopened, fill};
 use mq_message::Text;
 use std::fs;
@@ -59,8 +59,8 @@ fn halves_meet<L: Ledger, R: Abort + Threads + Sync>(rt: &R, unopened: Unopened,
         |pages: &mut [Page]| written(rt, &front, &back, pages, b'A'),
         |pages: &mut [Page]| written(rt, &back, &front, pages, b'B'),
     );
-    holds(rt, text.part(0), PAGE_LEN, b'A');
-    holds(rt, text.part(1), PAGE_LEN, b'B');
+    repeats(rt, text.part(0), PAGE_LEN, b'A');
+    repeats(rt, text.part(1), PAGE_LEN, b'B');
     home(rt, &mut arena, text);
 }
 

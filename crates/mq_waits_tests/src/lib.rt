@@ -7,7 +7,7 @@ ghost use Rattle.std.specs.Prelude.{◌≡◌, true};
 #[cfg(test)]
 use std::process::Abort;
 
-/// Ends the test with `what` unless it holds.
+/// Ends the test with this text where something does not hold.
 #[cfg(test)]
 fn holds(rt: &impl Abort, is: bool, what: &str)
     ensures { is ≡ true }
@@ -17,7 +17,7 @@ fn holds(rt: &impl Abort, is: bool, what: &str)
     }
 }
 
-/// `assert!` as a call, so that each place is proved with few states.
+/// `assert!` as a call: a branch at each place would make the proof of a test grow.
 #[cfg(test)]
 macro_rules! holds {
     ($rt:expr; $is:expr $(,)?) => {

@@ -6,12 +6,13 @@ ghost use Rattle.mqsim.specs.Runs.{RanKind};
 use crate::command_line::Kind;
 use crate::serial::run;
 use crate::threads::run_in_threads;
+use crate::ticker::Ticker;
 use mq_cli::RunFault;
 use mq_one_thread::Config;
 use std::io;
 use std::io::Read;
 use std::sync::Wait;
-use std::thread::Threads;
+use std::thread::{Threads, join};
 use std::time::Clock;
 
 /// Runs the reader's script, which is of this kind, and prints what it answers.
@@ -29,4 +30,33 @@ pub fn run_kind<R: Read>(
         Kind::Serial => run(rt.alloc(), reader, writer, config),
         Kind::Threads => run_in_threads(rt, rt.alloc(), reader, writer, config),
     }
+}
+
+/// Runs the reader's script as `run_kind` does; where it asks for threads and standard error is a
+/// terminal, that shows how long they run.
+pub fn run_shown<R: Read>(
+    rt: &(impl AllocGlobal + Print + Eprint + Threads + Wait + Clock + Sync),
+    kind: Kind,
+    reader: &mut R,
+    config: Config,
+    is_shown: bool,
+) -> Result<(), RunFault>
+    requires { IsRunSize config }
+{
+    if !is_shown || matches!(kind, Kind::Serial) {
+        return run_kind(rt, kind, reader, config);
+    }
+    let ticker = Ticker::new();
+    let ((), ended) = join(
+        rt,
+        || ticker.shows(rt),
+        || -> Result<(), RunFault>
+            requires { IsRunSize config }
+        {
+            let ended = run_kind(rt, kind, reader, config);
+            ticker.ends(rt);
+            ended
+        },
+    );
+    ended
 }

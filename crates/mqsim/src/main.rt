@@ -14,10 +14,11 @@ mod kinds;
 mod script_file;
 mod serial;
 mod threads;
+mod ticker;
 
 use clap::Error;
 use command_line::{Kind, Request, request_of};
-use kinds::run_kind;
+use kinds::run_shown;
 use mq_cli::{RunFault, run_prompt};
 use script_file::open_script;
 use std::env::Env;
@@ -35,7 +36,7 @@ const COMMAND_LINE: u8 = 2;
 
 fn main(rt: HostRuntime) -> ExitCode {
     let status = match words(&rt) {
-        Ok(words) => answered(&rt, &words, is_typed(&rt), &mut rt.stderr()),
+        Ok(words) => answered(&rt, &words, terminals_of(&rt), &mut rt.stderr()),
         Err(fault) => {
             let _ = eprintln!(rt; "mqsim: command line: {fault}");
             COMMAND_LINE
@@ -49,17 +50,28 @@ fn words(rt: &(impl AllocGlobal + Env)) -> io::Result<Vec<String>> {
     Ok(env::args(rt)?.collect(rt.alloc())?)
 }
 
-/// Whether standard input is typed at a terminal, and standard error is shown at one.
-fn is_typed(rt: &HostRuntime) -> bool {
-    rt.stdin().is_terminal() && rt.stderr().is_terminal()
+/// Which of the program's files are terminals.
+struct Terminals {
+    /// Standard input, and standard error too.
+    is_typed: bool,
+    /// Standard error.
+    is_shown: bool,
+}
+
+fn terminals_of(rt: &HostRuntime) -> Terminals {
+    let is_shown = rt.stderr().is_terminal();
+    Terminals {
+        is_typed: is_shown && rt.stdin().is_terminal(),
+        is_shown,
+    }
 }
 
 /// Does what the words say, and gives the exit status. Who types is told how to end, and is answered
-/// line by line where the script is a serial one.
+/// line by line where the script is a serial one. At a terminal threads that run long are told of.
 fn answered(
     rt: &(impl AllocGlobal + Files + Input + Print + Eprint + Threads + Wait + Clock + Sync),
     words: &[String],
-    is_typed: bool,
+    Terminals { is_typed, is_shown }: Terminals,
     prompts: &mut impl Write,
 ) -> u8 {
     let Request {
@@ -87,10 +99,10 @@ fn answered(
             let ended = run_prompt(rt.alloc(), &mut reader, &mut writer, prompts, config);
             return told(rt, ended);
         }
-        return told(rt, run_kind(rt, kind, &mut reader, config));
+        return told(rt, run_shown(rt, kind, &mut reader, config, is_shown));
     };
     match open_script(rt, name) {
-        Ok(mut file) => told(rt, run_kind(rt, kind, &mut file, config)),
+        Ok(mut file) => told(rt, run_shown(rt, kind, &mut file, config, is_shown)),
         Err(fault) => unopened(rt, name, &fault),
     }
 }

@@ -7,9 +7,9 @@ use crate::face::calls::{
 };
 use mq_face::{
     Call, CallKind, Done, IPC_CREAT, IPC_INFO, IPC_RMID, IPC_SET, IPC_STAT, MSG_EXCEPT,
-    MSG_NOERROR, MSG_STAT, Shown, Usage,
+    MSG_NOERROR, MSG_STAT, Shown,
 };
-use mq_one_thread::OneThread;
+use mq_one_thread::{OneThread, Usage};
 use mq_queue::Figures;
 use std::alloc::Global;
 use std::marker::Brand;
