@@ -1,11 +1,12 @@
 -- Messages in the order of their places, parted and merged again.
-use Rattle.std.proofs.Common.{◌≡◌, ◌∙◌, refl, sym, ap, ℕ, ℤ, ◌<◌, nat_lt, Bool, true, false, not, cond, Option, List, [], ◌∷◌, ◌++◌, filter, get_or, arith, lt-ltb}
+use Rattle.std.proofs.Common.{◌≡◌, ◌∙◌, refl, sym, ap, ℕ, ℤ, ◌<◌, Bool, true, false, not, Option, List, [], ◌∷◌, ◌++◌, filter, arith}
 use Rattle.std.specs.List.{AllByRecursion}
 use Rattle.std.specs.List.Sorted.{IsStrictlySortedBy}
 use Rattle.std.specs.Map.{keys_of}
 use Rattle.std.specs.BTreeMap.{is_at}
 use Rattle.std.specs.Ordering.{int_cmp, int_eq}
 use Rattle.std.specs.Option.{unwrap_or}
+use Rattle.std.proofs.lemmas.Bool.{cond_both, not-true}
 use Rattle.std.proofs.lemmas.Bool.Decides.{Decides-int_eq, nat_tests}
 use Rattle.std.proofs.lemmas.Cmp.{eq_by_cmp_equiv, int_cmp_total}
 use Rattle.std.proofs.lemmas.Int.{ints}
@@ -25,9 +26,6 @@ int_eq-here a = (Decides-int_eq a a).1 refl
 pub at_is : (t k : ℤ) → is_at (int_cmp t) k ≡ int_eq t k
 at_is t k = grind (arith, ints)
 
-pub each : {X : Type 0} (P : X → Type 0) (xs : List X) → ((x : X) → P x) → AllByRecursion P xs
-each P xs h = recursion_from_All P xs (λ k d l. h (get_or xs k d))
-
 pub weaker : {X : Type 0} (P Q : X → Type 0) (xs : List X) → ((x : X) → P x → Q x) → AllByRecursion P xs → AllByRecursion Q xs
 weaker P Q xs f h = recursion_from_All Q xs (All-weaker P Q f xs (All-from_recursion P xs h))
 
@@ -39,67 +37,42 @@ all_append P xs y h here = recursion_from_All P (xs ++ y ∷ []) (All-push P xs 
 
 pub rising_filter : {X : Type 0} (p : ℕ × X → Bool) (xs : List (ℕ × X)) → IsRising xs → IsRising (filter p xs)
 rising_filter p [] h = tt
-rising_filter {X} p (x ∷ xs) h = by (p x) (rising_filter p xs h.1)
-  where
-    by : (b : Bool) → IsRising (filter p xs) → IsRising (cond b (x ∷ filter p xs) (filter p xs))
-    by true r = (all_filter (λ (y : ℕ × X). x.0 < y.0) p xs h.0, r)
-    by false r = r
+rising_filter {X} p (x ∷ xs) h =
+    let rest = rising_filter p xs h.1 in
+    cond_both (p x) _ _ IsRising (λ _. (all_filter (λ (y : ℕ × X). x.0 < y.0) p xs h.0, rest)) (λ _. rest)
 
 pub rising_append : {X : Type 0} (xs : List (ℕ × X)) (y : ℕ × X) → IsRising xs → AllByRecursion (λ x. x.0 < y.0) xs → IsRising (xs ++ y ∷ [])
 rising_append [] y h above = (tt, tt)
 rising_append {X} (x ∷ xs) y h above = (all_append (λ (z : ℕ × X). x.0 < z.0) xs y h.0 above.0, rising_append xs y h.1 above.1)
 
 -- what a weaker test keeps, a stronger one finds again
-pub filter_kept : {X : Type 0} (p q : X → Bool) (xs : List X) → AllByRecursion (λ x. q x ≡ true → p x ≡ true) xs → filter q (filter p xs) ≡ filter q xs
+pub filter_kept : {X : Type 0} (p q : X → Bool) (xs : List X) → ((x : X) → q x ≡ true → p x ≡ true) → filter q (filter p xs) ≡ filter q xs
 filter_kept p q [] h = refl
-filter_kept {X} p q (x ∷ xs) h = by (p x) refl (q x) refl (filter_kept p q xs h.1)
-  where
-    by : (a : Bool) → p x ≡ a → (b : Bool) → q x ≡ b → filter q (filter p xs) ≡ filter q xs → filter q (cond a (x ∷ filter p xs) (filter p xs)) ≡ cond b (x ∷ filter q xs) (filter q xs)
-    by true e b f r = rw f (ap (λ (ys : List X). cond b (x ∷ ys) ys) r)
-    by false e false f r = r
-    by false e true f r = let clash : false ≡ true = sym e ∙ h.0 f in cc
+filter_kept p q (x ∷ xs) h = grind (arith, h x, filter_kept p q xs h)
 
 pub filter_gone : {X : Type 0} (p q : X → Bool) (xs : List X) → ((x : X) → p x ≡ true → q x ≡ false) → filter q (filter p xs) ≡ []
 filter_gone p q [] h = refl
-filter_gone {X} p q (x ∷ xs) h = by (p x) refl (filter_gone p q xs h)
-  where
-    by : (a : Bool) → p x ≡ a → filter q (filter p xs) ≡ [] → filter q (cond a (x ∷ filter p xs) (filter p xs)) ≡ []
-    by true e r = rw (h x e) r
-    by false e r = r
+filter_gone p q (x ∷ xs) h = grind (arith, h x, filter_gone p q xs h)
 
 pub filter_swap : {X : Type 0} (p q : X → Bool) (xs : List X) → filter q (filter p xs) ≡ filter p (filter q xs)
 filter_swap p q [] = refl
-filter_swap {X} p q (x ∷ xs) = by (p x) refl (q x) refl (filter_swap p q xs)
-  where
-    by : (a : Bool) → p x ≡ a → (b : Bool) → q x ≡ b → filter q (filter p xs) ≡ filter p (filter q xs) → filter q (cond a (x ∷ filter p xs) (filter p xs)) ≡ filter p (cond b (x ∷ filter q xs) (filter q xs))
-    by true e true f r = rw (e, f) (ap (λ (ys : List X). x ∷ ys) r)
-    by true e false f r = rw f r
-    by false e true f r = rw e r
-    by false e false f r = r
-
-not_less : (a b : ℕ) → a < b → nat_lt b a ≡ false
-not_less a b l = grind (arith, nat_tests)
+filter_swap p q (x ∷ xs) = grind (arith, filter_swap p q xs)
 
 -- what is below all others comes first
 placed_first : {X : Type 0} (x : ℕ × X) (xs : List (ℕ × X)) → AllByRecursion (λ y. x.0 < y.0) xs → placed_in x xs ≡ x ∷ xs
 placed_first x [] h = refl
-placed_first x (y ∷ ys) h = rw (lt-ltb x.0 y.0 h.0) refl
+placed_first x (y ∷ ys) h = grind (arith, nat_tests, h.0)
 
 merge_first : {X : Type 0} (x : ℕ × X) (xs ys : List (ℕ × X)) → AllByRecursion (λ y. x.0 < y.0) xs → merge xs (x ∷ ys) ≡ x ∷ merge xs ys
 merge_first x [] ys h = refl
-merge_first {X} x (y ∷ xs) ys h = ap (placed_in y) (merge_first x xs ys h.1) ∙ rw (not_less x.0 y.0 h.0) refl
+merge_first x (y ∷ xs) ys h = rw (merge_first x xs ys h.1) (grind (arith, nat_tests, h.0))
 
 -- the two parts of a rising list are that list again
 merge_parts : {X : Type 0} (p : ℕ × X → Bool) (xs : List (ℕ × X)) → IsRising xs → merge (filter p xs) (filter (λ x. not (p x)) xs) ≡ xs
 merge_parts p [] h = refl
-merge_parts {X} p (x ∷ xs) h = by (p x) (merge_parts p xs h.1)
-  where
-    rest : List (ℕ × X)
-    rest = filter (λ y. not (p y)) xs
-
-    by : (b : Bool) → merge (filter p xs) rest ≡ xs → merge (cond b (x ∷ filter p xs) (filter p xs)) (cond (not b) (x ∷ rest) rest) ≡ x ∷ xs
-    by true r = ap (placed_in x) r ∙ placed_first x xs h.0
-    by false r = merge_first x (filter p xs) rest (all_filter (λ (y : ℕ × X). x.0 < y.0) p xs h.0) ∙ ap (λ (ys : List (ℕ × X)). x ∷ ys) r
+merge_parts {X} p (x ∷ xs) h =
+    let later = all_filter (λ (y : ℕ × X). x.0 < y.0) p xs h.0 in
+    grind (arith, merge_parts p xs h.1, placed_first x xs h.0, merge_first x (filter p xs) (filter (λ y. not (p y)) xs) later)
 
 none_left : {X : Type 0} (type_of : X → ℤ) (all : List (ℕ × X)) → ((t : ℤ) → [] ≡ of_type type_of all t) → [] ≡ all
 none_left type_of [] h = refl
@@ -127,13 +100,6 @@ merged_is {X} type_of (q ∷ qs) all rising sorted parted =
         let none = none_past_head (eq_by_cmp_equiv int_cmp_total) t q qs (IsDistinct-from_sorted int_cmp (keys_of (q ∷ qs)) sorted) (at_is t q.0 ∙ (Decides-int_eq t q.0).1 e) in
         ap (λ (o : Option (List (ℕ × X))). unwrap_or o []) (lookup-none (is_at (int_cmp t)) qs none)
 
-    gone : (m : ℕ × X) → other m ≡ true → int_eq (type_of m.1) q.0 ≡ false
-    gone m e = by (int_eq (type_of m.1) q.0) refl e
-      where
-        by : (b : Bool) → int_eq (type_of m.1) q.0 ≡ b → not b ≡ true → b ≡ false
-        by true f g = let clash : false ≡ true = g in cc
-        by false f g = refl
-
     stays : (t : ℤ) → int_eq t q.0 ≡ false → (m : ℕ × X) → int_eq (type_of m.1) t ≡ true → other m ≡ true
     stays t apart m e =
         let same : type_of m.1 ≡ t = int_eq-same _ _ e in
@@ -145,7 +111,7 @@ merged_is {X} type_of (q ∷ qs) all rising sorted parted =
         by : (b : Bool) → int_eq t q.0 ≡ b → queue_of qs t ≡ of_type type_of rest t
         by true e =
             let same : t ≡ q.0 = int_eq-same t q.0 e in
-            absent t same ∙ sym (rw same (filter_gone other (λ m. int_eq (type_of m.1) q.0) all gone))
+            absent t same ∙ sym (rw same (filter_gone other (λ m. int_eq (type_of m.1) q.0) all (λ m. not-true _)))
         by false e =
-            let whole : queue_of (q ∷ qs) t ≡ queue_of qs t = rw (at_is t q.0, e) refl in
-            sym whole ∙ parted t ∙ sym (filter_kept other (λ m. int_eq (type_of m.1) t) all (each _ all (stays t e)))
+            let whole = rw (at_is t q.0, e) at (parted t) in
+            whole ∙ sym (filter_kept other (λ m. int_eq (type_of m.1) t) all (stays t e))

@@ -1,5 +1,5 @@
 -- What a map's look-up finds is the id in the list of keys.
-use Rattle.std.proofs.Common.{◌≡◌, ℕ, ℤ, Bool, true, false, List, [], ◌∷◌, ◌++◌, filter, None, refl, ◌∙◌, ◌≢◌, pos, map}
+use Rattle.std.proofs.Common.{◌≡◌, ℕ, ℤ, Bool, List, [], ◌∷◌, ◌++◌, filter, None, refl, ◌∙◌, ◌≢◌, pos, map, arith}
 use Rattle.std.specs.Ordering.{int_eq}
 use Rattle.std.specs.List.{IsDistinct}
 use Rattle.std.proofs.lemmas.List.Elements.{All-push, All-filter}
@@ -13,12 +13,7 @@ use Rattle.mq_table.specs.Keys.{id_of_key, forget_key, AreKeys}
 -- the map's value at a key is what the list has for it
 pub lookup_is : (es : List (ℤ × ℕ)) (key : ℤ) → lookup (int_eq key) es ≡ id_of_key es key
 lookup_is [] key = refl
-lookup_is (e ∷ es) key = by (int_eq key e.0) refl (lookup_is es key)
-  where
-    by : (b : Bool) → int_eq key e.0 ≡ b → lookup (int_eq key) es ≡ id_of_key es key
-        → lookup (int_eq key) (e ∷ es) ≡ id_of_key (e ∷ es) key
-    by true same rest = rw (← int_eq_equiv.symm key e.0, same) refl
-    by false same rest = rw (← int_eq_equiv.symm key e.0, same) rest
+lookup_is (e ∷ es) key = grind (arith, lookup_is es key, int_eq_equiv.symm key e.0)
 
 -- a key that the list has not goes last
 pub entered : {S : Type 0} (m : HashMap ℤ ℕ S) (key : ℤ) (id : ℕ) → id_of_key m.entries key ≡ None
@@ -26,11 +21,15 @@ pub entered : {S : Type 0} (m : HashMap ℤ ℕ S) (key : ℤ) (id : ℕ) → id
 entered m key id absent = insert_entry-new int_eq m key id (lookup_is m.entries key ∙ absent)
 
 -- and the keys stay distinct, and none is 0
-pub keys_entered : (es es' : List (ℤ × ℕ)) (key : ℤ) (id : ℕ) → AreKeys es
-    → es' ≡ es ++ (key, id) ∷ [] → key ≢ pos 0 → IsDistinct int_eq (map (λ p. p.0) es') → AreKeys es'
-keys_entered es es' key id h grown named distinct = record {
+pub keys_entered : {S : Type 0} (m : HashMap ℤ ℕ S) (es : List (ℤ × ℕ)) (key : ℤ) (id : ℕ)
+    → AreKeys m.entries → id_of_key m.entries key ≡ None
+    → es ≡ insert_entry int_eq m.entries key id → key ≢ pos 0
+    → IsDistinct int_eq (map (λ p. p.0) es) → AreKeys es
+keys_entered m es key id h absent grown named distinct = record {
   distinct = distinct;
-  named = rw grown (All-push (λ p. p.0 ≢ pos 0) es (key, id) h.named named);
+  named =
+      rw (grown, entered m key id absent)
+      (All-push (λ p. p.0 ≢ pos 0) m.entries (key, id) h.named named);
 }
 
 -- as they do where some are left
@@ -44,9 +43,4 @@ keys_left passes es es' h left distinct = record {
 -- a key that was taken out is not found
 pub key_gone : (es : List (ℤ × ℕ)) (key : ℤ) → id_of_key (forget_key key es) key ≡ None
 key_gone [] key = refl
-key_gone (e ∷ es) key = by (int_eq e.0 key) refl (key_gone es key)
-  where
-    by : (b : Bool) → int_eq e.0 key ≡ b → id_of_key (forget_key key es) key ≡ None
-        → id_of_key (forget_key key (e ∷ es)) key ≡ None
-    by true same rest = rw same rest
-    by false same rest = rw (same, same) rest
+key_gone (e ∷ es) key = grind (arith, key_gone es key)

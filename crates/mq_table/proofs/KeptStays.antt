@@ -1,11 +1,11 @@
 -- What a call of a slot's queue leaves as it was, by the part that the slot keeps.
-use Rattle.std.proofs.Common.{◌≡◌, ℕ, ℤ, ◌+◌, List, [], ◌∷◌, ◌++◌, append_assoc, is_some, Bool, true, false, not, refl, ap, sym, ◌∙◌, arith}
+use Rattle.std.proofs.Common.{◌≡◌, ℕ, ℤ, ◌+◌, List, [], ◌∷◌, ◌++◌, append_assoc, true, false, refl, ap, arith}
 use Rattle.std.proofs.lemmas.List.Sums.{fold-append}
 use Rattle.mq_message.specs.declared.message.Message.{Message}
 use Rattle.mq_queue.specs.declared.event.Event.{Event}
 use Rattle.mq_queue.specs.declared.event.Event.TheVariants as event
 use Rattle.mq_queue.specs.Log.{is_made, is_removed}
-use Rattle.mq_queue.specs.Row.{is_live, made_count}
+use Rattle.mq_queue.specs.Row.{made_count}
 use Rattle.mq_table.specs.Kept.{KeptSlot, is_live_kept, kept_of, made_of}
 use Rattle.mq_table.specs.KeptCalls.{kept_goes_on, kept_makes, kept_removes}
 use Rattle.mq_table.specs.KeptPart.{IsKeptPart, IsLawfulSlot}
@@ -27,20 +27,10 @@ goes : {B : Type 0} (s : KeptSlot B) (e : Event) (messages : List (ℕ × Messag
     → KeptStays s (kept_goes_on s e messages)
 goes s e messages live unmade stays =
     let one : made_count (e ∷ []) ≡ 0 = rw unmade refl in
-    let parts : s.past ++ (s.last ++ e ∷ []) ≡ kept_of s ++ e ∷ [] =
-    sym (append_assoc s.past s.last (e ∷ [])) in
-    let more : made_count (s.past ++ (s.last ++ e ∷ [])) ≡ made_count (kept_of s) + made_count (e ∷ []) =
-    ap made_count parts ∙ counted (kept_of s) (e ∷ []) in
-    record {
+    let parts = append_assoc s.past s.last (e ∷ []) in record {
       number = refl;
-      made = omega (arith, more, one);
-      live =
-          rw (
-            parts,
-            fold-append (λ (_ : Bool) e. not (is_removed e)) (is_some s.base) (kept_of s) (e ∷ []),
-            stays,
-            live,
-          ) refl;
+      made = omega (arith, ap made_count parts, counted (kept_of s) (e ∷ []), one);
+      live = rw (← parts, fold-append _ _ (kept_of s), stays, live) refl;
       key = refl;
     }
 
@@ -52,13 +42,10 @@ more_stays bytes s t e live more =
 
 module _ {B : Type 0} (last_seq : ℕ) (s : KeptSlot B) (h : IsLawfulSlot last_seq s)
     (seat moment : ℕ) where
-  live_list : (b : Bool) → is_live_kept s ≡ b → is_live h.list ≡ b
-  live_list b there = sym (live_is h.list s h.part) ∙ there
-
   -- a making is counted, and its queue is there
   module _ (key : ℤ) (off : is_live_kept s ≡ false) where
     kept : IsKeptPart (h.list ++ event.Made seat moment key ∷ []) (kept_makes s key seat moment)
-    kept = makes_kept h.list s h.part key seat moment (live_list false off)
+    kept = makes_kept h.list s h.part key seat moment (rw (live_is h.list s h.part) at off)
 
     pub kept_makes_one_more : made_of (kept_makes s key seat moment) ≡ made_of s + 1
     kept_makes_one_more = made_more h.list s h.part (event.Made seat moment key) _ kept
@@ -71,4 +58,4 @@ module _ {B : Type 0} (last_seq : ℕ) (s : KeptSlot B) (h : IsLawfulSlot last_s
       → is_live_kept (kept_removes s seat moment) ≡ false
   kept_removes_live live =
       there_more h.list s h.part (event.Removed seat moment) _
-      (removes_kept h.list s h.part (live_list true live) seat moment)
+      (removes_kept h.list s h.part (rw (live_is h.list s h.part) at live) seat moment)

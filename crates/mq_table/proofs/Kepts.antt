@@ -1,12 +1,12 @@
 -- What a slot's kept part says is what its whole list says.
-use Rattle.std.proofs.Common.{◌≡◌, ℕ, suc, zero-add, ◌+◌, ◌-◌, ◌≤◌, nat_lt, List, [], ◌∷◌, ◌++◌, append_assoc, append-nil, length, length-append, None, Some, is_some, slice_get, Bool, true, false, if◌then◌else◌, not, refl, ap, sym, ◌∙◌, arith}
+use Rattle.std.proofs.Common.{◌≡◌, ℕ, suc, zero-add, ◌+◌, ◌-◌, ◌≤◌, nat_lt, List, [], ◌∷◌, ◌++◌, append_assoc, append-nil, length, length-append, is_some, slice_get, false, not, refl, ap, sym, ◌∙◌, arith}
 use Rattle.std.proofs.lemmas.Bool.{le-ltb}
 use Rattle.mq_queue.specs.declared.event.Event.{Event}
-use Rattle.mq_queue.specs.Base.{base_of, event_from}
+use Rattle.mq_queue.specs.Base.{event_from}
 use Rattle.mq_queue.specs.Figures.{figures}
 use Rattle.mq_queue.specs.Log.{is_removed}
 use Rattle.mq_queue.specs.Room.{quota}
-use Rattle.mq_queue.specs.Row.{is_live, last_log, made_count, row, slot_figures}
+use Rattle.mq_queue.specs.Row.{is_live, made_count, row, slot_figures}
 use Rattle.mq_queue.specs.Waiting.{waiting}
 use Rattle.mq_queue.proofs.Bases.{goes_on, quota_on}
 use Rattle.mq_table.specs.Kept.{KeptSlot, entries_of, is_live_kept, kept_figures, kept_of, live_from, made_of, places_now, quota_now, waiting_now}
@@ -28,19 +28,11 @@ live_from_is gone (e ∷ es) =
     ∙ ap is_live (append_assoc gone (e ∷ []) es)
 
 base_there : (gone : List Event) → is_some (base_at gone) ≡ is_live gone
-base_there gone = by (is_live gone)
-  where
-    by : (b : Bool) → is_some (if b then Some (base_of (last_log gone)) else None) ≡ b
-    by true = refl
-    by false = refl
+base_there gone = grind arith
 
 -- the figures of a slot are those of the log that is there
 figures_there : (list : List Event) → slot_figures list ≡ figures (live_log list)
-figures_there list = by (is_live list) refl
-  where
-    by : (b : Bool) → is_live list ≡ b → slot_figures list ≡ figures (live_log list)
-    by true live = rw live refl
-    by false off = rw off refl
+figures_there list = grind arith
 
 -- an element behind a list
 pub behind : {X : Type 0} (xs ys : List X) (i : ℕ)
@@ -64,8 +56,7 @@ module _ {B : Type 0} (list : List Event) (s : KeptSlot B) (k : IsKeptPart list 
   -- whether a queue is there
   pub live_is : is_live_kept s ≡ is_live list
   live_is =
-      ap (λ b. live_from b (kept_of s)) (ap is_some k.base ∙ base_there k.gone)
-      ∙ live_from_is k.gone (kept_of s) ∙ ap is_live (sym k.whole)
+      rw (k.base, base_there k.gone, live_from_is k.gone (kept_of s)) (ap is_live (sym k.whole))
 
   -- the whole list's length, and its number of Made
   pub entries_is : entries_of s ≡ length list
@@ -110,16 +101,6 @@ module _ {B : Type 0} (list : List Event) (s : KeptSlot B) (k : IsKeptPart list 
 -- a slot whose list has one event more
 module _ {B : Type 0} (list : List Event) (s : KeptSlot B) (k : IsKeptPart list s)
     (e : Event) (t : KeptSlot B) (k' : IsKeptPart (list ++ e ∷ []) t) where
-  -- one entry more
-  pub one_more : entries_of t ≡ entries_of s + 1
-  one_more =
-      omega (
-        arith,
-        entries_is list s k,
-        entries_is (list ++ e ∷ []) t k',
-        length-append list (e ∷ []),
-      )
-
   -- its makings, and whether a queue is there
   pub made_more : made_of t ≡ made_of s + made_count (e ∷ [])
   made_more =

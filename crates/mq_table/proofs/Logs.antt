@@ -1,18 +1,21 @@
 -- The log of the queue in a slot, behind the events of those that were removed.
-use Rattle.std.proofs.Common.{◌≡◌, ℕ, ◌+◌, true, false, List, [], ◌∷◌, ◌++◌, take, fold, Some, slice_get, append_assoc, refl, ap, sym, ◌∙◌, cond, true≢false}
-use Rattle.std.proofs.Math.Bool.{and-false}
+use Rattle.std.proofs.Common.{◌≡◌, ℕ, ◌+◌, false, List, [], ◌∷◌, ◌++◌, take, fold, Some, slice_get, append_assoc, refl, ap, sym, ◌∙◌, cond, true≢false, arith}
 use Rattle.std.proofs.lemmas.List.{append-nil, take_more}
 use Rattle.std.proofs.lemmas.Option.{slice_get_within, get_or_from_slice_get}
 use Rattle.std.proofs.lemmas.List.Sums.{fold-append, sum_by-append}
 use Rattle.mq_queue.specs.declared.event.Event.{Event}
 use Rattle.mq_queue.specs.Lawful.{Lawful, AllFollow}
 use Rattle.mq_queue.specs.Log.{is_empty, is_made, is_removed, ends_with_removed}
-use Rattle.mq_queue.specs.Row.{made_count, is_live, log_after, last_log}
+use Rattle.mq_queue.specs.Row.{made_count, log_after, last_log}
+
+-- events that end with some are not empty
+pub not_empty : (past log : List Event) → is_empty log ≡ false → is_empty (past ++ log) ≡ false
+not_empty [] log h = h
+not_empty (e ∷ es) log h = refl
 
 -- a list with one more event is not empty
 pub begun : (before : List Event) (event : Event) → is_empty (before ++ event ∷ []) ≡ false
-begun [] event = refl
-begun (e ∷ es) event = refl
+begun before event = not_empty before (event ∷ []) refl
 
 -- what follows in a log goes on with the last log
 appended : (log before rest : List Event) → is_empty before ≡ false → AllFollow before rest
@@ -32,55 +35,32 @@ unmade : (before rest : List Event) → is_empty before ≡ false → AllFollow 
     → made_count rest ≡ 0
 unmade before [] more each = refl
 unmade before (e ∷ es) more each =
-    let first : made_count (e ∷ []) ≡ 0 = rw (each.0.made_first, more) refl in
-    let others = unmade (before ++ e ∷ []) es (begun before e) each.1 in
-    counted (e ∷ []) es ∙ rw (first, others) refl
-
--- a log's last log is itself, whatever was before
-log_again : (before log : List Event) → Lawful log → fold log_after before log ≡ log
-log_again before [] h = absurd (true≢false h.begun)
-log_again before (e ∷ es) h =
-    rw h.each.0.made_first (appended (e ∷ []) (e ∷ []) es refl h.each.1)
+    counted (e ∷ []) es
+    ∙ rw (each.0.made_first, more, unmade (before ++ e ∷ []) es (begun before e) each.1) refl
 
 -- a log has one making
 pub made_once : (log : List Event) → Lawful log → made_count log ≡ 1
 made_once [] h = absurd (true≢false h.begun)
 made_once (e ∷ es) h =
-    let first : made_count (e ∷ []) ≡ 1 = rw h.each.0.made_first refl in
-    counted (e ∷ []) es ∙ rw (first, unmade (e ∷ []) es refl h.each.1) refl
+    counted (e ∷ []) es ∙ rw (h.each.0.made_first, unmade (e ∷ []) es refl h.each.1) refl
 
 -- a log is the last one of the events that end with it
 pub last_log_is : (past log : List Event) → Lawful log → last_log (past ++ log) ≡ log
-last_log_is past log h =
-    fold-append log_after [] past log ∙ log_again (fold log_after [] past) log h
+last_log_is past [] h = absurd (true≢false h.begun)
+last_log_is past (e ∷ es) h =
+    fold-append log_after [] past (e ∷ es)
+    ∙ rw h.each.0.made_first (appended (e ∷ []) (e ∷ []) es refl h.each.1)
 
 -- and has one making more than the events before it
 pub made_more : (past log : List Event) → Lawful log
     → made_count (past ++ log) ≡ made_count past + 1
-made_more past log h =
-    counted past log ∙ ap (λ n. made_count past + n) (made_once log h)
+made_more past log h = omega (arith, counted past log, made_once log h)
 
 -- whether the events end with a removal, their last log says
 pub ends_as : (past log : List Event) → is_empty log ≡ false
     → ends_with_removed (past ++ log) ≡ ends_with_removed log
 ends_as past [] h = absurd (true≢false h)
 ends_as past (e ∷ es) h = fold-append (λ _ event. is_removed event) false past (e ∷ es)
-
--- they are not empty
-pub not_empty : (past log : List Event) → is_empty log ≡ false → is_empty (past ++ log) ≡ false
-not_empty [] log h = h
-not_empty (e ∷ es) log h = refl
-
--- a queue that was not removed is there
-pub live_is : (past log : List Event) → Lawful log → ends_with_removed log ≡ false
-    → is_live (past ++ log) ≡ true
-live_is past log h live =
-    rw (not_empty past log h.begun, ends_as past log h.begun ∙ live) refl
-
--- none is there after a removal
-pub gone : (past log : List Event) → Lawful log → ends_with_removed log ≡ true
-    → is_live (past ++ log) ≡ false
-gone past log h removed = rw (ends_as past log h.begun ∙ removed) (and-false _)
 
 -- one more event of a log is added
 pub added : (log before taken : List Event) (i : ℕ) (e : Event) → slice_get log i ≡ Some e

@@ -1,5 +1,6 @@
 -- A call of the queue that is in a slot: it adds one event, which can happen.
-use Rattle.std.proofs.Common.{◌≡◌, ℕ, List, [], ◌∷◌, ◌++◌, length, Option, None, Some, Result, Ok, Err, Bool, false, refl, ap, sym, ◌∙◌}
+use Rattle.std.proofs.Common.{◌≡◌, ℕ, List, [], ◌∷◌, ◌++◌, length, Option, None, Some, Result, Ok, Err, Bool, false, refl, ap, ◌∙◌}
+use Rattle.std.proofs.lemmas.Result.{IfOk-at_ok}
 use Rattle.mq_message.specs.declared.message.Message.{Message}
 use Rattle.mq_select.specs.declared.header.Header.{Header}
 use Rattle.mq_select.specs.declared.selection.Selection.{Selection}
@@ -16,18 +17,9 @@ use Rattle.mq_queue.proofs.Found.{headers_without}
 use Rattle.mq_queue.proofs.Sends.{map_push}
 use Rattle.mq_table.specs.Calls.{Receipt}
 use Rattle.mq_table.specs.Kept.{KeptSlot, places_now, quota_now, waiting_now}
-use Rattle.mq_table.specs.KeptCalls.{KeptTurn, kept_goes_on, kept_received, kept_receives, kept_sends, kept_sets, kept_unless}
+use Rattle.mq_table.specs.KeptCalls.{kept_goes_on, kept_received, kept_receives, kept_sends, kept_sets, kept_unless}
 use Rattle.mq_table.specs.KeptPart.{WaitsNow}
 use Rattle.mq_table.proofs.Can.{received_can, sent_can, set_can}
-
--- what a turn answers, and the slot that it leaves
-abbrev pub entry_of : {B T : Type 0} → KeptTurn B T → T → T
-entry_of (Ok turn) n = turn.0
-entry_of (Err refusal) n = n
-
-abbrev pub slot_left : {B T : Type 0} → KeptTurn B T → KeptSlot B → KeptSlot B
-slot_left (Ok turn) s = turn.1
-slot_left (Err refusal) s = s
 
 -- the slot goes on with this event, which can happen and is neither a making nor a removal, and
 -- what waits then is what it leaves waiting
@@ -45,7 +37,7 @@ pub record IsOneMore {B : Type 0} (bytes : B → List ℕ) (s t : KeptSlot B) (e
 -- what a call leaves that answers an entry, and that it was not refused
 left_by : {B : Type 0} (o : Option QueueError) (s after t : KeptSlot B) (n : ℕ)
     → kept_unless o s after ≡ Ok (n, t) → (o ≡ None) × (t ≡ after)
-left_by None s after t n e = (refl, sym (ap (λ turn. slot_left turn s) e))
+left_by None s after t n e = (refl, IfOk-at_ok (λ turn. turn.1 ≡ after) e refl)
 left_by (Some refusal) s after t n e = cc
 
 -- the same of a receipt
@@ -53,12 +45,10 @@ taken_by : {B : Type 0} (s t : KeptSlot B) (e : Header → Event) (answer : Resu
     (r : Receipt) → kept_received s e answer ≡ Ok (r, t)
     → (answer ≡ Ok r.message)
     × (t ≡ kept_goes_on s (e r.message) (without r.message.place s.messages))
-taken_by {B} s t e (Ok m) r is =
-    let same : m ≡ r.message = ap (λ turn. (entry_of turn r).message) is in (
-      ap (λ x. Ok x) same,
-      sym (ap (λ turn. slot_left turn s) is)
-          ∙ ap (λ (x : Header). kept_goes_on s (e x) (without x.place s.messages)) same,
-    )
+taken_by s t e (Ok m) r is =
+    IfOk-at_ok (λ turn. (◌≡◌ {A = Result Header QueueError} (Ok m) (Ok turn.0.message))
+    × (turn.1 ≡ kept_goes_on s (e turn.0.message) (without turn.0.message.place s.messages)))
+    is (refl, refl)
 taken_by s t e (Err refusal) r is = cc
 
 module _ {B : Type 0} (bytes : B → List ℕ) (s t : KeptSlot B) where

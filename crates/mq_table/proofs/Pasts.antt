@@ -2,7 +2,7 @@
 use Rattle.std.proofs.Common.{◌≡◌, ℕ, ◌+◌, ◌-◌, ◌≤◌, true, List, [], ◌∷◌, ◌++◌, length, append_assoc, refl, ap, sym, ◌∙◌, true≢false, arith}
 use Rattle.std.specs.Prelude.{All}
 use Rattle.std.proofs.lemmas.List.{append-nil, length_push}
-use Rattle.std.proofs.lemmas.List.Elements.{All-push, All-take, All-tail}
+use Rattle.std.proofs.lemmas.List.Elements.{All-head, All-push, All-take, All-tail}
 use Rattle.std.proofs.Math.Seq.{take-append_seam}
 use Rattle.mq_queue.specs.declared.event.Event.{Event}
 use Rattle.mq_queue.specs.Lawful.{Lawful}
@@ -13,11 +13,11 @@ use Rattle.mq_table.specs.SlotList.{joined, IsSlotList}
 use Rattle.mq_table.proofs.Logs.{counted, made_once}
 
 -- one more log goes last
-joined_push : (logs : List (List Event)) (log : List Event)
+pub joined_push : (logs : List (List Event)) (log : List Event)
     → joined (logs ++ log ∷ []) ≡ joined logs ++ log
 joined_push [] log = append-nil log
 joined_push (l ∷ ls) log =
-    ap (λ rest. l ++ rest) (joined_push ls log) ∙ sym (append_assoc l (joined ls) log)
+    rw (joined_push ls log) (sym (append_assoc l (joined ls) log))
 
 -- one more queue was removed
 pub past_grows : (past log : List Event) → ArePast past → IsEndedLog log → ArePast (past ++ log)
@@ -32,13 +32,9 @@ pub logs_counted : (logs : List (List Event)) → All Lawful logs
     → made_count (joined logs) ≡ length logs
 logs_counted [] all = refl
 logs_counted (log ∷ logs) all =
-    let first : Lawful log = all 0 log (omega arith) in
-    omega (
-      arith,
-      counted log (joined logs),
-      made_once log first,
-      logs_counted logs (All-tail Lawful log logs all),
-    )
+    let once = made_once log (All-head Lawful log logs all) in
+    let rest = logs_counted logs (All-tail Lawful log logs all) in
+    omega (arith, counted log (joined logs), once, rest)
 
 -- a slot list has as many makings as logs
 pub list_counted : (last_seq : ℕ) (events : List Event) → (h : IsSlotList last_seq events)
@@ -68,7 +64,7 @@ list_of_past last_seq past h few = record {
   few =
       let count = logs_counted h.logs (all_lawful h.logs h.ended) in
       omega (arith, count, ap made_count h.whole);
-  lawful = λ k d within. (h.ended k d within).lawful;
+  lawful = all_lawful h.logs h.ended;
   ended =
       All-take (λ log. ends_with_removed log ≡ true) (length h.logs - 1) h.logs
       (λ k d within. (h.ended k d within).removed);

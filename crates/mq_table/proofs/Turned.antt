@@ -1,18 +1,18 @@
 -- A slot goes on with one more event: its whole list is a slot list again, of which it keeps its
 -- part.
-use Rattle.std.proofs.Common.{◌≡◌, ℕ, ℤ, ◌≤◌, List, [], ◌∷◌, ◌++◌, length, Ok, Bool, true, false, not, refl, ap, sym, ◌∙◌, arith}
+use Rattle.std.proofs.Common.{◌≡◌, ℕ, ℤ, ◌≤◌, List, [], ◌∷◌, ◌++◌, length, None, Ok, Bool, true, false, not, refl, ap, sym, ◌∙◌}
 use Rattle.mq_message.specs.declared.message.Message.{Message}
 use Rattle.mq_select.specs.declared.selection.Selection.{Selection}
-use Rattle.mq_select.specs.Waiting.{headers_of}
 use Rattle.mq_queue.specs.declared.event.Event.{Event}
 use Rattle.mq_queue.specs.declared.event.Event.TheVariants as event
+use Rattle.mq_queue.specs.Lawful.{CanHappen}
+use Rattle.mq_queue.specs.Log.{is_made, is_removed, key_told}
 use Rattle.mq_queue.specs.Row.{is_live, last_log, made_count}
-use Rattle.mq_queue.specs.Waiting.{waiting}
 use Rattle.mq_queue.proofs.Steps.{none_ahead, waits_after}
 use Rattle.mq_table.specs.Calls.{Receipt}
 use Rattle.mq_table.specs.Cut.{kept_cuts}
-use Rattle.mq_table.specs.Kept.{KeptSlot, is_live_kept, made_of, waiting_now}
-use Rattle.mq_table.specs.KeptCalls.{kept_makes, kept_receives, kept_removes, kept_sends, kept_sets}
+use Rattle.mq_table.specs.Kept.{KeptSlot, is_live_kept, made_of, quota_now, waiting_now}
+use Rattle.mq_table.specs.KeptCalls.{kept_goes_on, kept_makes, kept_receives, kept_removes, kept_sends, kept_sets}
 use Rattle.mq_table.specs.KeptPart.{IsKeptPart, IsLawfulSlot, WaitsNow}
 use Rattle.mq_table.specs.SlotList.{IsSlotList}
 use Rattle.mq_table.proofs.Cuts.{cut_kept}
@@ -43,33 +43,39 @@ module _ {B : Type 0} (last_seq : ℕ) (list : List Event) (s : KeptSlot B) (k :
   }
 
   module _ (live : is_live list ≡ true) where
+    -- one event more of the queue that is there, neither a making nor a removal
+    pub event_turned : (e : Event) (messages : List (ℕ × Message B)) → is_made e ≡ false
+        → is_removed e ≡ false → key_told e ≡ None → CanHappen (waiting_now s) (quota_now s) e
+        → IsTurned last_seq list e s (kept_goes_on s e messages)
+    event_turned e messages unmade stays untold allowed = record {
+      keeps = kept_more list s k live e messages unmade stays untold;
+      lawful =
+          list_more last_seq list lawful e live unmade
+          (rw (waits_last list s k live, quota_last list s k live) at allowed);
+      number = refl;
+      first = refl;
+    }
+
     -- the queue that is there goes on
     module _ (bytes : B → List ℕ) (t : KeptSlot B) (e : Event) (more : IsOneMore bytes s t e) where
       pub more_turned : IsTurned last_seq list e s t
-      more_turned = record {
-        keeps =
-            rw more.left
-            (kept_more list s k live e more.messages more.unmade more.stays more.untold);
-        lawful =
-            list_more last_seq list lawful e live more.unmade
-            (rw (waits_last list s k live, quota_last list s k live) at more.allowed);
-        number = ap (λ (x : KeptSlot B). x.number) more.left;
-        first = ap (λ (x : KeptSlot B). x.first) more.left;
-      }
+      more_turned =
+          rw more.left
+          (event_turned e more.messages more.unmade more.stays more.untold more.allowed)
 
       pub more_waits : WaitsNow bytes s → WaitsNow bytes t
       more_waits waits =
-          let log : List Event = last_log list in
           let follows = (log_there last_seq list lawful live).0 in
           let there : is_live (list ++ e ∷ []) ≡ true = live_more list e ∙ ap not more.stays in
-          let last : waiting_now t ≡ waiting (log ++ e ∷ []) =
-          waits_last (list ++ e ∷ []) t more_turned.keeps there
-          ∙ ap waiting (grows list e more.unmade) in
-          let after = more.waits waits in
-          ap (λ (x : KeptSlot B). headers_of bytes x.messages) more.left
-          ∙ (rw (waits_last list s k live, quota_last list s k live, places_last list s k live)
-          at after)
-          ∙ sym (waits_after log e (none_ahead log follows.each)) ∙ sym last
+          let after =
+          rw (waits_last list s k live, quota_last list s k live, places_last list s k live)
+          at (more.waits waits) in
+          rw (
+            waits_last (list ++ e ∷ []) t more_turned.keeps there,
+            grows list e more.unmade,
+            waits_after (last_log list) e (none_ahead (last_log list) follows.each),
+            more.left,
+          ) after
 
     -- msgsnd
     pub sent_turned : (bytes : B → List ℕ) (m : Message B) (moment entry : ℕ) (t : KeptSlot B)
@@ -119,16 +125,13 @@ module _ {B : Type 0} (last_seq : ℕ) (bytes : B → List ℕ) (s : KeptSlot B)
   abbrev part : IsKeptPart list s
   part = h.lawful.part
 
-  live_list : (b : Bool) → is_live_kept s ≡ b → is_live list ≡ b
-  live_list b there = sym (live_is list s part) ∙ there
-
   lawful_by : (e : Event) (t : KeptSlot B) → IsTurned last_seq list e s t → IsLawfulSlot last_seq t
   lawful_by e t turn = record { list = list ++ e ∷ []; part = turn.keeps; lawful = turn.lawful }
 
   pub more_held : (t : KeptSlot B) (e : Event) → is_live_kept s ≡ true → IsOneMore bytes s t e
       → IsHeld last_seq bytes t
   more_held t e there more =
-      let live = live_list true there in record {
+      let live = rw (live_is list s part) at there in record {
         lawful =
             lawful_by e t
             (more_turned last_seq list s part h.lawful.lawful live bytes t e more);
@@ -138,22 +141,23 @@ module _ {B : Type 0} (last_seq : ℕ) (bytes : B → List ℕ) (s : KeptSlot B)
   pub makes_held : (key : ℤ) (seat moment : ℕ) → is_live_kept s ≡ false → made_of s ≤ last_seq
       → IsHeld last_seq bytes (kept_makes s key seat moment)
   makes_held key seat moment none few =
-      let off = live_list false none in record {
+      let off = rw (live_is list s part) at none in record {
         lawful =
             lawful_by (event.Made seat moment key) (kept_makes s key seat moment)
             (made_turned last_seq list s part h.lawful.lawful key seat moment off
-            (omega (arith, few, made_is list s part)));
+            (rw (made_is list s part) at few));
         waits = rw (no_base list s part off) refl;
       }
 
   pub removes_held : (seat moment : ℕ) → is_live_kept s ≡ true
       → IsHeld last_seq bytes (kept_removes s seat moment)
-  removes_held seat moment there = record {
-    lawful =
-        lawful_by (event.Removed seat moment) (kept_removes s seat moment)
-        (removed_turned last_seq list s part h.lawful.lawful (live_list true there) seat moment);
-    waits = rw (base_behind s.base (s.past ++ s.last) (event.Removed seat moment)) refl;
-  }
+  removes_held seat moment there =
+      let live = rw (live_is list s part) at there in record {
+        lawful =
+            lawful_by (event.Removed seat moment) (kept_removes s seat moment)
+            (removed_turned last_seq list s part h.lawful.lawful live seat moment);
+        waits = rw (base_behind s.base (s.past ++ s.last) (event.Removed seat moment)) refl;
+      }
 
   pub cuts_held : IsHeld last_seq bytes (kept_cuts s)
   cuts_held =

@@ -1,5 +1,6 @@
 -- What the calls of a slot answer by its kept part is what they answer by the whole list.
-use Rattle.std.proofs.Common.{◌≡◌, ℕ, List, [], ◌∷◌, ◌++◌, length, Option, None, Some, Result, Ok, Err, Bool, true, refl, ap}
+use Rattle.std.proofs.Common.{◌≡◌, ℕ, List, [], ◌∷◌, ◌++◌, length, Option, None, Some, Result, Ok, Err, Bool, true, refl, arith}
+use Rattle.std.proofs.lemmas.Result.{IfOk-at_ok}
 use Rattle.mq_message.specs.declared.message.Message.{Message}
 use Rattle.mq_select.specs.declared.header.Header.{Header}
 use Rattle.mq_select.specs.declared.selection.Selection.{Selection}
@@ -12,19 +13,17 @@ use Rattle.mq_queue.specs.Room.{quota}
 use Rattle.mq_queue.specs.Row.{is_live, last_log}
 use Rattle.mq_queue.specs.Waiting.{waiting}
 use Rattle.mq_table.specs.Calls.{Receipt, SlotTurn, with_event, received, receives, sends, sets, changed_unless, refusal_of}
-use Rattle.mq_table.specs.Kept.{KeptSlot, entries_of}
+use Rattle.mq_table.specs.Kept.{KeptSlot}
 use Rattle.mq_table.specs.KeptCalls.{kept_goes_on, kept_received, kept_receives, kept_refusal_of, kept_sends, kept_sets, kept_unless}
 use Rattle.mq_table.specs.KeptPart.{IsKeptPart, whole}
 use Rattle.mq_table.specs.Slot.{SlotState}
 use Rattle.mq_table.proofs.Kepts.{entries_is}
 use Rattle.mq_table.proofs.KeptTurns.{places_last, quota_last, waits_last}
-use Rattle.mq_table.proofs.OneMore.{entry_of, slot_left}
 
 -- why a call is refused, where it answers an entry
 refused_same : {B : Type 0} (o : Option QueueError) (s after : KeptSlot B) (w other : SlotState B)
     → kept_refusal_of (kept_unless o s after) ≡ refusal_of (changed_unless o w other)
-refused_same None s after w other = refl
-refused_same (Some refusal) s after w other = refl
+refused_same o s after w other = grind arith
 
 -- the whole slot answers so too, and goes on with this event
 pub record IsWholeTurn {B T : Type 0} (list : List Event) (e : Event) (turn : SlotTurn B T) (r : T)
@@ -39,9 +38,8 @@ module _ {B : Type 0} (list : List Event) (s : KeptSlot B) (k : IsKeptPart list 
       → changed_unless o (whole list s) (with_event (whole list s) e messages)
       ≡ Ok (entry, whole (list ++ e ∷ []) t)
   unless_whole e messages entry t None is =
-      let its : entries_of s ≡ entry = ap (λ turn. entry_of turn 0) is in
-      let left : kept_goes_on s e messages ≡ t = ap (λ turn. slot_left turn s) is in
-      rw (← left, ← its, entries_is list s k) refl
+      IfOk-at_ok (λ turn. changed_unless None (whole list s) (with_event (whole list s) e messages)
+      ≡ Ok (turn.0, whole (list ++ e ∷ []) turn.1)) is (rw (entries_is list s k) refl)
   unless_whole e messages entry t (Some refusal) is = cc
 
   -- a receipt
@@ -49,39 +47,34 @@ module _ {B : Type 0} (list : List Event) (s : KeptSlot B) (k : IsKeptPart list 
       (a : Result Header QueueError) → kept_received s e a ≡ Ok (r, t)
       → received (whole list s) e a ≡ Ok (r, whole (list ++ e r.message ∷ []) t)
   received_whole e r t (Ok m) is =
-      let its : record { entry = entries_of s; message = m } ≡ r = ap (λ turn. entry_of turn r) is in
-      let left = ap (λ turn. slot_left turn s) is in
-      rw (← left, ← its, entries_is list s k) refl
+      IfOk-at_ok (λ turn. received (whole list s) e (Ok m)
+      ≡ Ok (turn.0, whole (list ++ e turn.0.message ∷ []) turn.1)) is
+      (rw (entries_is list s k) refl)
   received_whole e r t (Err refusal) is = cc
 
   received_refused : (e : Header → Event) (a : Result Header QueueError)
       → kept_refusal_of (kept_received s e a) ≡ refusal_of (received (whole list s) e a)
-  received_refused e (Ok m) = refl
-  received_refused e (Err refusal) = refl
+  received_refused e a = grind arith
 
   -- msgsnd
   module _ (bytes : B → List ℕ) (m : Message B) (moment : ℕ) where
-    abbrev refusal : Option QueueError
-    refusal =
-        let log = last_log list in
-        send_refusal (waiting log) (quota log) m.mtype (length (bytes m.body))
-
     pub sends_whole : (entry : ℕ) (t : KeptSlot B)
         → kept_sends bytes s m moment ≡ Ok (entry, t)
         → IsWholeTurn list (sending bytes m moment) (sends bytes (whole list s) m moment) entry t
-    sends_whole entry t is = record {
-      answers =
-          unless_whole (sending bytes m moment) (s.messages ++ (length (last_log list), m) ∷ [])
-          entry t refusal
-          (rw (waits_last list s k live, quota_last list s k live, places_last list s k live) at is);
-    }
+    sends_whole entry t is =
+        let log = last_log list in
+        let refusal = send_refusal (waiting log) (quota log) m.mtype (length (bytes m.body)) in
+        record {
+          answers =
+              unless_whole _ _ entry t refusal
+              (rw (waits_last list s k live, quota_last list s k live, places_last list s k live)
+              at is);
+        }
 
     -- why it is refused
     pub send_refused : kept_refusal_of (kept_sends bytes s m moment)
         ≡ refusal_of (sends bytes (whole list s) m moment)
-    send_refused =
-        rw (waits_last list s k live, quota_last list s k live)
-        (refused_same refusal _ _ _ _)
+    send_refused = rw (waits_last list s k live, quota_last list s k live) (search refused_same)
 
   -- msgrcv
   module _ (size : ℕ) (selection : Selection) (noerror : Bool) (seat moment : ℕ) where

@@ -1,7 +1,8 @@
 -- Blocks with no page in common.
-use Rattle.std.proofs.Common.{◌≡◌, ℕ, ◌+◌, ◌^◌, arith, inl, inr, true, List, leb}
+use Rattle.std.proofs.Common.{◌≡◌, ℕ, ◌+◌, ◌^◌, arith, true, List, leb, max}
 use Rattle.std.specs.List.{list_all}
-use Rattle.std.proofs.lemmas.Bool.{cases_lt, or_cases, or_left, or_right, leb-true, le-leb}
+use Rattle.std.proofs.lemmas.Bool.{or_parts, leb-false, true_from_ne_false}
+use Rattle.std.proofs.lemmas.Bool.Decides.{nat_tests}
 use Rattle.std.proofs.lemmas.Nat.{pow_pos}
 use Rattle.std.proofs.lemmas.List.Sums.{AllPass-from_list_all, list_all-from_AllPass}
 use Rattle.std.proofs.lemmas.List.Elements.{All-weaker}
@@ -9,23 +10,16 @@ use Rattle.mq_tree.specs.Blocks.{PlainBlock, HasPage, AreApart, are_apart}
 use Rattle.mq_tree.specs.Fit.{IsFreePage}
 
 pub apart_from_test : (a b : PlainBlock) → are_apart a b ≡ true → AreApart a b
-apart_from_test a b t page h k = elim (or_cases (leb (a.start + 2 ^ a.order) b.start) (leb (b.start + 2 ^ b.order) a.start) t) [
-  | inl e ↦ omega (arith, leb-true (a.start + 2 ^ a.order) b.start e, h.below, k.from)
-  | inr e ↦ omega (arith, leb-true (b.start + 2 ^ b.order) a.start e, h.from, k.below)
-]
+apart_from_test a b t page h k = grind (arith, nat_tests)
 
--- the blocks are apart: one ends before the other starts
+-- the blocks are apart: else the later of their first pages is in both
 pub test_from_apart : (a b : PlainBlock) → AreApart a b → are_apart a b ≡ true
-test_from_apart a b apart = elim (cases_lt b.start (a.start + 2 ^ a.order)) [
-  | inr e ↦ or_left (leb (a.start + 2 ^ a.order) b.start) (leb (b.start + 2 ^ b.order) a.start) (le-leb (a.start + 2 ^ a.order) b.start e)
-  | inl e ↦ elim (cases_lt a.start (b.start + 2 ^ b.order)) [
-    | inr f ↦ or_right (leb (a.start + 2 ^ a.order) b.start) (leb (b.start + 2 ^ b.order) a.start) (le-leb (b.start + 2 ^ b.order) a.start f)
-    | inl f ↦ elim (cases_lt a.start b.start) [
-      | inl g ↦ absurd (apart b.start (record { from = omega arith; below = e }) (record { from = omega arith; below = omega (arith, pow_pos b.order) }))
-      | inr g ↦ absurd (apart a.start (record { from = omega arith; below = omega (arith, pow_pos a.order) }) (record { from = g; below = f }))
-    ]
-  ]
-]
+test_from_apart a b apart = true_from_ne_false (are_apart a b) (λ f.
+    let p = or_parts (leb (a.start + 2 ^ a.order) b.start) (leb (b.start + 2 ^ b.order) a.start) f in
+    let below_a = leb-false (a.start + 2 ^ a.order) b.start p.0 in
+    let below_b = leb-false (b.start + 2 ^ b.order) a.start p.1 in
+    apart (max a.start b.start) (record { from = omega arith; below = omega (arith, below_a, pow_pos a.order) })
+    (record { from = omega arith; below = omega (arith, below_b, pow_pos b.order) }))
 
 -- a block apart from each lent one has free pages alone
 pub free_from_test : (b : PlainBlock) (lent : List PlainBlock) → list_all (are_apart b) lent ≡ true → (page : ℕ) → HasPage b page → IsFreePage lent page

@@ -1,14 +1,13 @@
 -- What `fit` answers is the least start at which a block fits, and that alone.
-use Rattle.std.proofs.Common.{◌≡◌, ℕ, ◌+◌, ◌%◌, ◌^◌, ◌<◌, ◌≤◌, refl, ap, arith, true, false, ◌&&◌, List, [], ◌∷◌, Option, Some, None, leb, eqb}
+use Rattle.std.proofs.Common.{◌≡◌, ℕ, ◌+◌, ◌%◌, ◌^◌, ◌<◌, ◌≤◌, refl, ap, arith, true, ◌&&◌, List, [], ◌∷◌, Option, Some, None, leb, eqb}
 use Rattle.std.proofs.Math.Nat.{zero-mod}
 use Rattle.std.specs.List.{All, list_all}
-use Rattle.std.proofs.lemmas.Bool.{and_parts, and_from, leb-true, le-leb, eqb-true, eq-eqb, both_ways}
+use Rattle.std.proofs.lemmas.Bool.{and_parts, leb-true, le-leb, eqb-true, eq-eqb, both_ways}
 use Rattle.std.proofs.lemmas.Nat.{pow_pos, pow_below}
 use Rattle.std.proofs.lemmas.List.Elements.{All-nil, All-head}
 use Rattle.mq_tree.specs.Blocks.{PlainBlock, block, HasPage, IsInArena, are_apart}
 use Rattle.mq_tree.specs.Fit.{fits_at, fit, Fits, IsFit, HasNoFit}
-use Rattle.mq_tree.proofs.Powers.{order_le}
-use Rattle.mq_tree.proofs.Ranges.{IsFirst, find_some, find_nowhere}
+use Rattle.mq_tree.proofs.Ranges.{find_some, find_nowhere}
 use Rattle.mq_tree.proofs.Apart.{free_from_test, test_from_free}
 
 -- the three tests at a start, as facts
@@ -23,50 +22,35 @@ passes height lent order start t =
     let q = and_parts (eqb (start % 2 ^ order) 0) (leb (start + 2 ^ order) (2 ^ height)) p.0 in
     record { aligned = eqb-true (start % 2 ^ order) 0 q.0; in_arena = leb-true (start + 2 ^ order) (2 ^ height) q.1; apart = p.1 }
 
-pub fits_from_passes : (height : ℕ) (lent : List PlainBlock) (order start : ℕ) → Passes height lent order start → fits_at height lent order start ≡ true
-fits_from_passes height lent order start p =
-    and_from (eqb (start % 2 ^ order) 0 && leb (start + 2 ^ order) (2 ^ height)) (list_all (are_apart (block start order)) lent)
-    (and_from (eqb (start % 2 ^ order) 0) (leb (start + 2 ^ order) (2 ^ height)) (eq-eqb (start % 2 ^ order) 0 p.aligned) (le-leb (start + 2 ^ order) (2 ^ height) p.in_arena))
-    p.apart
-
 pub fits_test : (height : ℕ) (lent : List PlainBlock) (order start : ℕ) → Fits height lent order start → fits_at height lent order start ≡ true
 fits_test height lent order start f =
-    fits_from_passes height lent order start (record { aligned = f.aligned; in_arena = f.in_arena; apart = test_from_free (block start order) lent f.free })
-
-pub test_fits : (height : ℕ) (lent : List PlainBlock) (order start : ℕ) → fits_at height lent order start ≡ true → Fits height lent order start
-test_fits height lent order start t =
-    let p = passes height lent order start t in
-    record { aligned = p.aligned; in_arena = p.in_arena; free = free_from_test (block start order) lent p.apart }
-
-fit_first : (height : ℕ) (lent : List PlainBlock) (order start : ℕ) → fit height lent order ≡ Some start → IsFirst (fits_at height lent order) 0 (2 ^ height) start
-unfolding fit
-fit_first height lent order start e = find_some (fits_at height lent order) 0 (2 ^ height) start e
-
-fit_nowhere : (height : ℕ) (lent : List PlainBlock) (order : ℕ) → fit height lent order ≡ None → (x : ℕ) → 0 ≤ x → x < 0 + 2 ^ height → fits_at height lent order x ≡ false
-unfolding fit
-fit_nowhere height lent order e = find_nowhere (fits_at height lent order) 0 (2 ^ height) e
+    let apart = test_from_free (block start order) lent f.free in
+    rw (eq-eqb (start % 2 ^ order) 0 f.aligned, le-leb (start + 2 ^ order) (2 ^ height) f.in_arena) apart
 
 -- a start at which a block fits is a page of the arena
 fits_below : (height : ℕ) (lent : List PlainBlock) (order start : ℕ) → Fits height lent order start → start < 2 ^ height
 fits_below height lent order start f = omega (arith, f.in_arena, pow_pos order)
 
 pub fit_passes : (height : ℕ) (lent : List PlainBlock) (order start : ℕ) → fit height lent order ≡ Some start → Passes height lent order start
-fit_passes height lent order start e = passes height lent order start (fit_first height lent order start e).passes
+unfolding fit
+fit_passes height lent order start e = passes height lent order start (find_some (fits_at height lent order) 0 (2 ^ height) start e).passes
 
 -- the answer of `fit` fits, and no smaller start does
 pub fit_is : (height : ℕ) (lent : List PlainBlock) (order start : ℕ) → fit height lent order ≡ Some start → IsFit height lent order start
+unfolding fit
 fit_is height lent order start e =
-    let first = fit_first height lent order start e in
+    let p = fit_passes height lent order start e in
+    let before = (find_some (fits_at height lent order) 0 (2 ^ height) start e).first in
     record {
-      fits = test_fits height lent order start first.passes;
-      least = λ other f. omega (arith, λ (l : other < start). both_ways (fits_at height lent order other) (first.first other (omega arith) l) (fits_test height lent order other f));
+      fits = record { aligned = p.aligned; in_arena = p.in_arena; free = free_from_test (block start order) lent p.apart };
+      least = λ other f. omega (arith, λ (l : other < start). both_ways (fits_at height lent order other) (before other (omega arith) l) (fits_test height lent order other f));
     }
 
 -- where `fit` answers none, no start fits
 pub no_fit_is : (height : ℕ) (lent : List PlainBlock) (order : ℕ) → fit height lent order ≡ None → HasNoFit height lent order
+unfolding fit
 no_fit_is height lent order e start f =
-    both_ways (fits_at height lent order start)
-    (fit_nowhere height lent order e start (omega arith) (omega (arith, fits_below height lent order start f)))
+    both_ways (fits_at height lent order start) (find_nowhere (fits_at height lent order) 0 (2 ^ height) e start (omega arith) (omega (arith, fits_below height lent order start f)))
     (fits_test height lent order start f)
 
 fit_of_answer : (height : ℕ) (lent : List PlainBlock) (order start : ℕ) (answer : Option ℕ) → fit height lent order ≡ answer → IsFit height lent order start → answer ≡ Some start
@@ -98,12 +82,6 @@ fit_empty height order l =
 -- an order over the height fits nowhere
 pub fit_over : (height : ℕ) (lent : List PlainBlock) (order : ℕ) → height < order → fit height lent order ≡ None
 fit_over height lent order l = no_fit_from height lent order (λ start f. omega (arith, f.in_arena, pow_below height order l))
-
--- what fits has at most the height as its order
-pub fit_order : (height : ℕ) (lent : List PlainBlock) (order start : ℕ) → fit height lent order ≡ Some start → order ≤ height
-fit_order height lent order start e =
-    let p = fit_passes height lent order start e in
-    order_le order height (omega (arith, p.in_arena))
 
 -- an arena lent as one block has room for nothing
 pub fit_lent : (height order : ℕ) → fit height (block 0 height ∷ []) order ≡ None

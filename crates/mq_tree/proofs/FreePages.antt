@@ -1,25 +1,19 @@
 -- How many pages are free: a block takes as many as it has, and gives as many back.
-use Rattle.std.proofs.Common.{◌≡◌, ℕ, ◌+◌, ◌^◌, ◌<◌, ◌≤◌, ◌⊎◌, refl, sym, ap, ◌∙◌, arith, inl, inr, Bool, true, false, not, cond, ◌&&◌, List, [], ◌∷◌, Some, leb, ltb}
-use Rattle.std.specs.List.{All, AllPairs, sum_by}
-use Rattle.std.proofs.lemmas.Bool.{cases_Bool, cases_lt, or_cases, both_ways, and_from, and_left, and_right, and_parts, le-leb, lt-leb, lt-ltb, le-ltb, leb-true, ltb-true, false_from_ne_true, not_from_false, cond-true, cond-false}
-use Rattle.std.proofs.lemmas.List.Elements.{All-cons, All-filter, All-contains}
+use Rattle.std.proofs.Common.{◌≡◌, ℕ, ◌+◌, ◌^◌, ◌<◌, ◌≤◌, ◌⊎◌, refl, ◌∙◌, arith, inl, inr, get_or, true, false, not, cond, ◌&&◌, List, [], ◌∷◌, Some, leb, ltb}
+use Rattle.std.specs.List.{All, AllPairs, Contains, sum_by}
+use Rattle.std.proofs.lemmas.Bool.{cases_Bool, cond_both, both_ways, and_parts, leb-true, ltb-true, false_from_ne_true, not_from_false, not-true}
+use Rattle.std.proofs.lemmas.Bool.Decides.{nat_tests}
+use Rattle.std.proofs.lemmas.List.Elements.{All-head, All-tail, All-filter, All-contains, All-contains_itself, filter_passes}
+use Rattle.std.proofs.lemmas.List.Folds.{list_all_at}
 use Rattle.std.proofs.lemmas.List.Sums.{list_all-from_AllPass, sum_by-cons}
 use Rattle.mq_tree.specs.Blocks.{PlainBlock, block, HasPage, has_page, page_count, IsInArena, AreApart, is_block}
 use Rattle.mq_tree.specs.LentSet.{IsLentSet, inserted, left, is_lent, is_free_page, free_pages}
 use Rattle.mq_tree.specs.Fit.{fit}
-use Rattle.mq_tree.proofs.Ranges.{count_more, count_all}
-use Rattle.mq_tree.proofs.LentSets.{AllPairs-head, AllPairs-tail, is_block-true}
-use Rattle.mq_tree.proofs.Kept.{AreApart-sym, IsLentSet-head, IsLentSet-tail, fit_apart, lent_member}
+use Rattle.mq_tree.proofs.Ranges.{count_sum, count_between, count_all}
+use Rattle.mq_tree.proofs.LentSets.{AllPairs-head, AllPairs-tail, is_block-true, is_block_itself}
+use Rattle.mq_tree.proofs.LawLemmas.{lent_apart}
+use Rattle.mq_tree.proofs.Kept.{fit_apart, lent_member}
 use Rattle.mq_tree.proofs.Fits.{fit_passes}
-
-page_in : (b : PlainBlock) (page : ℕ) → b.start ≤ page → page < b.start + 2 ^ b.order → has_page b page ≡ true
-page_in b page l u = and_from (leb b.start page) (ltb page (b.start + 2 ^ b.order)) (le-leb b.start page l) (lt-ltb page (b.start + 2 ^ b.order) u)
-
-page_before : (b : PlainBlock) (page : ℕ) → page < b.start → has_page b page ≡ false
-page_before b page l = and_left (leb b.start page) (ltb page (b.start + 2 ^ b.order)) (lt-leb b.start page l)
-
-page_after : (b : PlainBlock) (page : ℕ) → b.start + 2 ^ b.order ≤ page → has_page b page ≡ false
-page_after b page l = and_right (leb b.start page) (ltb page (b.start + 2 ^ b.order)) (le-ltb page (b.start + 2 ^ b.order) l)
 
 pub page_of : (b : PlainBlock) (page : ℕ) → has_page b page ≡ true → HasPage b page
 page_of b page t =
@@ -28,13 +22,7 @@ page_of b page t =
 
 -- a page that is not in a block lies beside it
 pub page_beside : (b : PlainBlock) (page : ℕ) → has_page b page ≡ false → (page < b.start) ⊎ (b.start + 2 ^ b.order ≤ page)
-page_beside b page out = elim (cases_lt page b.start) [
-  | inl before ↦ inl before
-  | inr from ↦ elim (cases_lt page (b.start + 2 ^ b.order)) [
-    | inl below ↦ absurd (both_ways (has_page b page) out (page_in b page from below))
-    | inr past ↦ inr past
-  ]
-]
+page_beside b page out = grind (arith, nat_tests)
 
 -- a block apart from each lent one has free pages alone
 pub free_when_apart : (b : PlainBlock) (lent : List PlainBlock) → All (AreApart b) lent → (page : ℕ) → HasPage b page → is_free_page lent page ≡ true
@@ -49,31 +37,20 @@ free_less : (height : ℕ) (b : PlainBlock) (small big : List PlainBlock) → Is
     → free_pages height small ≡ free_pages height big + 2 ^ b.order
 unfolding free_pages
 free_less height b small big within split free =
-    count_more (is_free_page small) (is_free_page big) b.start (2 ^ b.order) (2 ^ height) within
-    (λ x l u. free x (record { from = l; below = u }))
-    (λ x l u. split x ∙ ap (λ t. not t && is_free_page small x) (page_in b x l u))
-    (λ x l. sym (split x ∙ ap (λ t. not t && is_free_page small x) (page_before b x l)))
-    (λ x l. sym (split x ∙ ap (λ t. not t && is_free_page small x) (page_after b x l)))
+    let each : (x : ℕ) → cond (is_free_page small x) 1 0 ≡ cond (is_free_page big x) 1 0 + cond (has_page b x) 1 0 =
+    λ x. elim (cases_Bool (has_page b x)) [ inl e ↦ rw (split x, e, free x (page_of b x e)) refl | inr e ↦ rw (split x, e) (omega arith) ] in
+    omega (arith, count_sum (is_free_page small) (is_free_page big) (has_page b) 0 (2 ^ height) each, count_between b.start (b.start + 2 ^ b.order) 0 (2 ^ height), within)
 
 -- with nothing lent each page is free
 pub new_free : (height : ℕ) → free_pages height [] ≡ 2 ^ height
 unfolding free_pages
 new_free height = count_all 0 (2 ^ height)
 
-and_swap : (a b c : Bool) → (a && (b && c)) ≡ (b && (a && c))
-and_swap true b c = refl
-and_swap false true c = refl
-and_swap false false c = refl
-
 pub is_free_page-joined : (b : PlainBlock) (lent : List PlainBlock) (page : ℕ) → is_free_page (inserted b lent) page ≡ (not (has_page b page) && is_free_page lent page)
 is_free_page-joined b [] page = refl
 is_free_page-joined b (c ∷ cs) page =
-    elim (ltb b.start c.start) as (λ t. is_free_page (cond t (b ∷ c ∷ cs) (c ∷ inserted b cs)) page ≡ (not (has_page b page) && is_free_page (c ∷ cs) page)) [
-      | true ↦ refl
-      | false ↦
-          ap (λ t. not (has_page c page) && t) (is_free_page-joined b cs page)
-          ∙ and_swap (not (has_page c page)) (not (has_page b page)) (is_free_page cs page)
-    ]
+    cond_both (ltb b.start c.start) (b ∷ c ∷ cs) (c ∷ inserted b cs) (λ l. is_free_page l page ≡ (not (has_page b page) && is_free_page (c ∷ cs) page)) (λ _. refl)
+    (λ _. rw (is_free_page-joined b cs page) (grind (arith, nat_tests)))
 
 -- a block that is lent takes its pages
 pub free_joined : (height : ℕ) (lent : List PlainBlock) (order start : ℕ) → fit height lent order ≡ Some start
@@ -83,54 +60,32 @@ free_joined height lent order start found =
     (is_free_page-joined (block start order) lent)
     (free_when_apart (block start order) lent (fit_apart height lent order start found))
 
-and_idem : (a b : Bool) → (a && (a && b)) ≡ (a && b)
-and_idem true b = refl
-and_idem false b = refl
-
 -- a block that is lent has no free page
 is_free_page-lent : (b : PlainBlock) (lent : List PlainBlock) (page : ℕ) → is_lent b lent ≡ true → is_free_page lent page ≡ (not (has_page b page) && is_free_page lent page)
-is_free_page-lent b [] page t = absurd (cc)
-is_free_page-lent b (c ∷ cs) page t = elim (or_cases (is_block b c) (is_lent b cs) t) [
-  | inl e ↦
-      let same : has_page c page ≡ has_page b page = ap (λ x. has_page x page) (sym (is_block-true b c e)) in
-      ap (λ x. not x && is_free_page cs page) same
-      ∙ sym (and_idem (not (has_page b page)) (is_free_page cs page))
-      ∙ ap (λ x. not (has_page b page) && (not x && is_free_page cs page)) (sym same)
-  | inr e ↦
-      ap (λ x. not (has_page c page) && x) (is_free_page-lent b cs page e)
-      ∙ and_swap (not (has_page c page)) (not (has_page b page)) (is_free_page cs page)
+is_free_page-lent b lent page t = elim (cases_Bool (has_page b page)) [
+  | inl e ↦ let m = lent_member b lent t in rw e (list_all_at (λ c. not (has_page c page)) lent m.0 b m.1 (rw (m.2, e) refl))
+  | inr e ↦ rw e refl
 ]
 
-and_agree : (a b x y : Bool) → (a && x) ≡ (a && y) → (a && (b && x)) ≡ (a && (b && y))
-and_agree true b x y e = ap (λ t. b && t) e
-and_agree false b x y e = refl
+-- a page beside a block is as free as without the block
+free_beside : (b : PlainBlock) (lent : List PlainBlock) (page : ℕ) → has_page b page ≡ false → is_free_page lent page ≡ is_free_page (left b lent) page
+free_beside b [] page e = refl
+free_beside b (c ∷ cs) page e = elim (cases_Bool (is_block b c)) [
+  | inl t ↦ rw (t, ← is_block-true b c t, e) (free_beside b cs page e)
+  | inr t ↦ rw (t, free_beside b cs page e) refl
+]
 
 pub is_free_page-left : (b : PlainBlock) (lent : List PlainBlock) (page : ℕ) → (not (has_page b page) && is_free_page lent page) ≡ (not (has_page b page) && is_free_page (left b lent) page)
-is_free_page-left b [] page = refl
-is_free_page-left b (c ∷ cs) page = elim (cases_Bool (is_block b c)) [
-  | inl e ↦
-      let same : has_page c page ≡ has_page b page = ap (λ x. has_page x page) (sym (is_block-true b c e)) in
-      ap (λ x. not (has_page b page) && (not x && is_free_page cs page)) same
-      ∙ and_idem (not (has_page b page)) (is_free_page cs page)
-      ∙ is_free_page-left b cs page
-      ∙ ap (λ l. not (has_page b page) && is_free_page l page) (sym (cond-false (not (is_block b c)) (c ∷ left b cs) (left b cs) (ap not e)))
-  | inr e ↦
-      and_agree (not (has_page b page)) (not (has_page c page)) (is_free_page cs page) (is_free_page (left b cs) page) (is_free_page-left b cs page)
-      ∙ ap (λ l. not (has_page b page) && is_free_page l page) (sym (cond-true (not (is_block b c)) (c ∷ left b cs) (left b cs) (ap not e)))
-]
+is_free_page-left b lent page = elim (cases_Bool (has_page b page)) [ inl e ↦ rw e refl | inr e ↦ rw e (free_beside b lent page e) ]
 
 -- the other lent blocks are apart from it
-others_apart : (b : PlainBlock) (lent : List PlainBlock) → AllPairs AreApart lent → is_lent b lent ≡ true → All (AreApart b) (left b lent)
-others_apart b [] apart t = absurd (cc)
-others_apart b (c ∷ cs) apart t = elim (cases_Bool (is_block b c)) [
-  | inl e ↦
-      let all : All (AreApart b) cs = rw (is_block-true b c e) (AllPairs-head AreApart c cs apart) in
-      rw e (All-filter (λ x. not (is_block b x)) (AreApart b) cs all)
-  | inr e ↦
-      let there : is_lent b cs ≡ true = rw e at t in
-      let first : AreApart b c = AreApart-sym c b (All-contains (AreApart c) cs b (AllPairs-head AreApart c cs apart) (lent_member b cs there)) in
-      rw e (All-cons (AreApart b) c (left b cs) first (others_apart b cs (AllPairs-tail AreApart c cs apart) there))
-]
+others_apart : (height : ℕ) (b : PlainBlock) (lent : List PlainBlock) → IsLentSet height lent → is_lent b lent ≡ true → All (AreApart b) (left b lent)
+others_apart height b lent s t k d u page h g =
+    let c = get_or (left b lent) k d in
+    let there : Contains lent c = All-filter (λ x. not (is_block b x)) (Contains lent) lent (All-contains_itself lent) k d u in
+    let other : not (is_block b c) ≡ true = filter_passes (λ x. not (is_block b x)) lent k d u in
+    let same : b ≡ c = lent_apart height lent b c page s (lent_member b lent t) there h g in
+    both_ways (is_block b c) (not-true (is_block b c) other) (rw (← same) (is_block_itself b))
 
 -- a block that is given back leaves its pages free
 pub free_left : (height : ℕ) (lent : List PlainBlock) (b : PlainBlock) → IsLentSet height lent → is_lent b lent ≡ true
@@ -138,15 +93,16 @@ pub free_left : (height : ℕ) (lent : List PlainBlock) (b : PlainBlock) → IsL
 free_left height lent b s t =
     free_less height b (left b lent) lent (All-contains (IsInArena height) lent b s.in_arena (lent_member b lent t))
     (λ page. is_free_page-lent b lent page t ∙ is_free_page-left b lent page)
-    (free_when_apart b (left b lent) (others_apart b lent s.apart t))
+    (free_when_apart b (left b lent) (others_apart height b lent s t))
 
 -- the free pages and the lent ones are all the pages
+blocks_sum : (height : ℕ) (lent : List PlainBlock) → All (IsInArena height) lent → AllPairs AreApart lent → free_pages height lent + sum_by page_count lent ≡ 2 ^ height
+blocks_sum height [] inside apart = omega (arith, new_free height)
+blocks_sum height (b ∷ lent) inside apart =
+    let free = free_when_apart b lent (AllPairs-head AreApart b lent apart) in
+    let less = free_less height b lent (b ∷ lent) (All-head (IsInArena height) b lent inside) (λ page. refl) free in
+    let rest = blocks_sum height lent (All-tail (IsInArena height) b lent inside) (AllPairs-tail AreApart b lent apart) in
+    omega (arith, less, rest, sum_by-cons page_count b lent)
+
 pub free_sum : (height : ℕ) (lent : List PlainBlock) → IsLentSet height lent → free_pages height lent + sum_by page_count lent ≡ 2 ^ height
-free_sum height [] s = omega (arith, new_free height)
-free_sum height (b ∷ lent) s =
-    let head = IsLentSet-head height b lent s in
-    let less : free_pages height lent ≡ free_pages height (b ∷ lent) + 2 ^ b.order =
-    free_less height b lent (b ∷ lent) head.0 (λ page. refl) (free_when_apart b lent head.1) in
-    let rest : free_pages height lent + sum_by page_count lent ≡ 2 ^ height = free_sum height lent (IsLentSet-tail height b lent s) in
-    let sum : sum_by page_count (b ∷ lent) ≡ 2 ^ b.order + sum_by page_count lent = sum_by-cons page_count b lent in
-    omega (arith, less, rest, sum)
+free_sum height lent s = blocks_sum height lent s.in_arena s.apart

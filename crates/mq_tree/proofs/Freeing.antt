@@ -1,5 +1,5 @@
 -- A tree to be, of which the nodes from one on are those of free runs.
-use Rattle.std.proofs.Common.{◌≡◌, ℕ, ◌+◌, ◌*◌, ◌^◌, ◌<◌, ◌≤◌, zero, suc, sym, ap, ◌∙◌, arith, inl, inr, List, [], length, set, subst}
+use Rattle.std.proofs.Common.{◌≡◌, ℕ, ◌+◌, ◌*◌, ◌^◌, ◌<◌, ◌≤◌, zero, suc, sym, ◌∙◌, arith, inl, inr, List, [], length, set}
 use Rattle.std.proofs.lemmas.Bool.{cases_eq}
 use Rattle.std.proofs.lemmas.Nat.{pow_pos}
 use Rattle.std.proofs.lemmas.List.{length-set, get_or-set_same, get_or-set_other}
@@ -58,9 +58,7 @@ module _ {height next : ℕ} {nodes : List ℕ} (f : AreFreeFrom height next nod
     some = some;
     free =
         λ k i p l. elim (cases_eq i at) [
-          | inl e ↦
-              ap (λ x. node_at (set nodes at (node_at nodes (2 * at) + 1)) x) e ∙ get_or-set_same nodes at (node_at nodes (2 * at) + 1) 0 (omega (arith, f.len, below))
-              ∙ left_free k (subst (λ x. HasHeight height k x) e p)
+          | inl e ↦ rw (e, get_or-set_same nodes at (node_at nodes (2 * at) + 1) 0 (omega (arith, f.len, below))) (left_free k (rw e at p))
           | inr n ↦ get_or-set_other nodes at i (node_at nodes (2 * at) + 1) 0 n ∙ f.free k i p (omega (arith, n, l, next_is))
         ];
   }

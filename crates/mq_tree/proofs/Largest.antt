@@ -1,32 +1,24 @@
 -- The largest order that fits, from how the orders that fit lie.
-use Rattle.std.proofs.Common.{◌≡◌, ℕ, ◌+◌, ◌-◌, ◌<◌, ◌≤◌, zero, suc, refl, sym, ap, ◌∙◌, arith, inl, inr, List, Some, None, leb, ltb}
+use Rattle.std.proofs.Common.{◌≡◌, ℕ, ◌+◌, ◌-◌, ◌<◌, ◌≤◌, refl, sym, ◌∙◌, arith, inl, inr, true, List, Option, Some, None, leb}
 use Rattle.std.specs.Option.{is_some}
-use Rattle.std.proofs.lemmas.Bool.{cases_lt, cases_eq, cond-true, cond-false, le-leb, lt-leb, lt-ltb, le-ltb}
+use Rattle.std.proofs.lemmas.Bool.{cases_lt, leb-true, le-leb, lt-ltb, le-ltb}
 use Rattle.mq_tree.specs.Blocks.{PlainBlock}
-use Rattle.mq_tree.specs.Fit.{fit, largest, largest_below}
+use Rattle.mq_tree.specs.Fit.{fit, largest}
 use Rattle.mq_tree.specs.Nodes.{largest_under}
+use Rattle.mq_tree.proofs.LawLemmas.{largest_fits, largest_most}
 
 module _ (height : ℕ) (lent : List PlainBlock) (node : ℕ) (fits : (k : ℕ) → is_some (fit height lent k) ≡ leb (k + 2) node) where
-  nothing_fits : (n : ℕ) → node ≤ 1 → largest_below n height lent ≡ None
-  nothing_fits zero l = refl
-  nothing_fits (suc n) l =
-      cond-false (is_some (fit height lent n)) (Some n) (largest_below n height lent) (fits n ∙ lt-leb (n + 2) node (omega arith)) ∙ nothing_fits n l
-
-  most_fits : (n most : ℕ) → node ≡ most + 2 → most < n → largest_below n height lent ≡ Some most
-  most_fits zero most e l = absurd (omega arith)
-  most_fits (suc n) most e l = elim (cases_eq n most) [
-    | inl f ↦
-        cond-true (is_some (fit height lent n)) (Some n) (largest_below n height lent) (fits n ∙ le-leb (n + 2) node (omega arith))
-        ∙ ap (λ x. Some x) f
-    | inr f ↦
-        cond-false (is_some (fit height lent n)) (Some n) (largest_below n height lent) (fits n ∙ lt-leb (n + 2) node (omega (arith, f)))
-        ∙ most_fits n most e (omega (arith, f))
-  ]
+  top_fits : 1 < node → is_some (fit height lent (node - 2)) ≡ true
+  top_fits l = fits (node - 2) ∙ le-leb (node - 2 + 2) node (omega arith)
 
   -- where just the orders fit that the node tells, its order is the largest
-  pub largest_is : node ≤ height + 2 → largest height lent ≡ largest_under node
-  unfolding largest
-  largest_is b = elim (cases_lt 1 node) [
-    | inl l ↦ most_fits (suc height) (node - 2) (omega arith) (omega arith) ∙ sym (cond-true (ltb 1 node) (Some (node - 2)) None (lt-ltb 1 node l))
-    | inr l ↦ nothing_fits (suc height) l ∙ sym (cond-false (ltb 1 node) (Some (node - 2)) None (le-ltb 1 node l))
+  pub largest_is : (o : Option ℕ) → largest height lent ≡ o → o ≡ largest_under node
+  largest_is None e = elim (cases_lt 1 node) [
+    | inl l ↦ absurd (rw e at (largest_most height lent (node - 2) (top_fits l)))
+    | inr l ↦ rw (le-ltb 1 node l) refl
   ]
+  largest_is (Some m) e =
+      let low : m + 2 ≤ node = leb-true (m + 2) node (sym (fits m) ∙ largest_fits height lent m e) in
+      let high : node - 2 ≤ m = rw e at (largest_most height lent (node - 2) (top_fits (omega arith))) in
+      let same : m ≡ node - 2 = omega arith in
+      rw (lt-ltb 1 node (omega arith), ← same) refl

@@ -25,8 +25,5 @@ mod_up k h s p = ap (λ x. (x + s) % 2 ^ k) (pow_split k h p) ∙ mul-add-mod_se
 pub aligned_inside : (k h s : ℕ) → k ≤ h → s < 2 ^ h → s % 2 ^ k ≡ 0 → s + 2 ^ k ≤ 2 ^ h
 aligned_inside k h s p l a =
     let e : 2 ^ h ≡ 2 ^ (h - k) * 2 ^ k = pow_split k h p in
-    let l' : s < 2 ^ (h - k) * 2 ^ k = rw e at l in
-    let d : s / 2 ^ k < 2 ^ (h - k) = div_below s (2 ^ k) (2 ^ (h - k)) (pow_pos k) l' in
-    let f : s / 2 ^ k * 2 ^ k + 2 ^ k ≤ 2 ^ (h - k) * 2 ^ k = row_fits (s / 2 ^ k) (2 ^ k) (2 ^ (h - k)) (2 ^ k) d (omega arith) in
-    let g : s / 2 ^ k * 2 ^ k + s % 2 ^ k ≡ s = shr_split s k in
-    omega (arith, e, f, g, a)
+    let d : s / 2 ^ k < 2 ^ (h - k) = div_below s (2 ^ k) (2 ^ (h - k)) (pow_pos k) (rw e at l) in
+    omega (arith, e, row_fits (s / 2 ^ k) (2 ^ k) (2 ^ (h - k)) (2 ^ k) d (omega arith), shr_split s k, a)

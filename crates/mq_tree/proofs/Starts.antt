@@ -1,9 +1,9 @@
 -- Where the run of a node starts within that of a node over it.
-use Rattle.std.proofs.Common.{◌≡◌, ℕ, ◌+◌, ◌-◌, ◌*◌, ◌/◌, ◌%◌, ◌^◌, ◌<◌, ◌≤◌, suc, sym, ap, ◌∙◌, arith}
+use Rattle.std.proofs.Common.{◌≡◌, ℕ, ◌+◌, ◌-◌, ◌*◌, ◌/◌, ◌%◌, ◌^◌, ◌<◌, ◌≤◌, suc, refl, sym, ap, ◌∙◌, arith}
 use Rattle.std.proofs.Math.Nat.{add-mul, add-div_left}
 use Rattle.std.proofs.lemmas.Nat.{pow_pos, pow-add, mod-pow-add, row_fits, shr_split, shr-shr, div_below}
 use Rattle.mq_tree.proofs.Powers.{mod_up}
-use Rattle.mq_tree.specs.Trees.{HasHeight, start_of}
+use Rattle.mq_tree.specs.Trees.{HasHeight, IsRunOf, start_of}
 
 -- the first page of the run of node j, of that height, within that of the node d steps over it
 abbrev pub start_in : ℕ → ℕ → ℕ → ℕ
@@ -38,8 +38,7 @@ start_below d order k j e =
 module _ (height order j : ℕ) (p : HasHeight height order j) where
   starts_after : j * 2 ^ order ≡ 2 ^ height + start_in p.depth order j
   starts_after =
-      let a : 1 * 2 ^ p.depth + j % 2 ^ p.depth ≡ j = ap (λ x. x * 2 ^ p.depth + j % 2 ^ p.depth) (sym p.root_is) ∙ shr_split j p.depth in
-      let b : j ≡ 2 ^ p.depth + j % 2 ^ p.depth = omega (arith, a) in
+      let b : j ≡ 2 ^ p.depth + j % 2 ^ p.depth = omega (arith, rw p.root_is at (shr_split j p.depth)) in
       ap (λ x. x * 2 ^ order) b ∙ add-mul (2 ^ p.depth) (j % 2 ^ p.depth) (2 ^ order) ∙ ap (λ x. x + start_in p.depth order j) (sym (pow_sum p.depth order height p.depth_is))
 
   pub start_whole : start_in p.depth order j ≡ start_of height order j
@@ -49,20 +48,16 @@ module _ (height order j : ℕ) (p : HasHeight height order j) where
   start_known = omega (arith, starts_after)
 
 -- ---- the node of a block
-module _ (height order start : ℕ) (low : order ≤ height) (below : start < 2 ^ height) (aligned : start % 2 ^ order ≡ 0) where
-  pub run_place : HasHeight height order ((2 ^ height + start) / 2 ^ order)
-  run_place =
-      let e : order + (height - order) ≡ height = omega arith in
-      let none : start / 2 ^ height ≡ 0 = omega (arith, div_below start (2 ^ height) 1 (pow_pos height) (omega (arith, below))) in
-      record {
+pub run_of : (height order start : ℕ) → order ≤ height → start < 2 ^ height → start % 2 ^ order ≡ 0 → IsRunOf height order start ((2 ^ height + start) / 2 ^ order)
+run_of height order start low below aligned =
+    let e : order + (height - order) ≡ height = omega arith in
+    let none : start / 2 ^ height ≡ 0 = omega (arith, div_below start (2 ^ height) 1 (pow_pos height) (omega (arith, below))) in
+    let whole : (2 ^ height + start) % 2 ^ order ≡ 0 = mod_up order height start low ∙ aligned in
+    record {
+      place = record {
         depth = height - order;
         depth_is = omega arith;
-        root_is =
-            shr-shr (2 ^ height + start) order (height - order) ∙ ap (λ x. (2 ^ height + start) / 2 ^ x) e
-            ∙ add-div_left start {k = 2 ^ height} (pow_pos height) ∙ ap (λ x. x + 1) none;
-      }
-
-  pub run_start : start_of height order ((2 ^ height + start) / 2 ^ order) ≡ start
-  run_start =
-      let whole : (2 ^ height + start) % 2 ^ order ≡ 0 = mod_up order height start low ∙ aligned in
-      omega (arith, shr_split (2 ^ height + start) order, whole)
+        root_is = rw (shr-shr (2 ^ height + start) order (height - order), e, add-div_left start {k = 2 ^ height} (pow_pos height), none) refl;
+      };
+      start_is = omega (arith, shr_split (2 ^ height + start) order, whole);
+    }

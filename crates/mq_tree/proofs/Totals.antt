@@ -1,5 +1,5 @@
 -- What a whole tree keeps beside its nodes: how many pages are free.
-use Rattle.std.proofs.Common.{◌≡◌, ℕ, ◌+◌, ◌^◌, ◌≤◌, ◌<◌, sym, ap, ◌∙◌, arith, true, List, [], ◌++◌, length, take, drop, Some, None}
+use Rattle.std.proofs.Common.{◌≡◌, ℕ, ◌+◌, ◌^◌, ◌≤◌, ◌<◌, refl, sym, ap, ◌∙◌, arith, true, List, [], ◌++◌, length, take, drop, Some, None}
 use Rattle.std.proofs.lemmas.Bool.{lt-leb}
 use Rattle.std.proofs.lemmas.List.{take_at}
 use Rattle.mq_tree.specs.Blocks.{PlainBlock, block}
@@ -12,7 +12,7 @@ use Rattle.mq_tree.proofs.FreePages.{free_joined, free_left, free_sum, new_free}
 use Rattle.mq_tree.proofs.Heap.{at_root}
 use Rattle.mq_tree.proofs.Largest.{largest_is}
 use Rattle.mq_tree.proofs.Halves.{none_is}
-use Rattle.mq_tree.proofs.Trees.{bounded, room_is, blocks_lent_set}
+use Rattle.mq_tree.proofs.Trees.{room_is, blocks_lent_set}
 
 -- the nodes of a vector whose slice was rewritten
 pub refilled : {height len : ℕ} {items new : List ℕ} → IsTree height items → len ≡ length items → IsTree height new → take len (new ++ drop (length new) items) ≡ new
@@ -24,7 +24,7 @@ seen {height = height} t l u = ap (lent_blocks height) (refilled t l u.tree) ∙
 -- ---- what the root tells
 pub root_largest : {height : ℕ} {nodes : List ℕ} → IsTree height nodes → largest_under (node_at nodes 1) ≡ largest height (lent_blocks height nodes)
 root_largest {height = height} {nodes = nodes} t =
-    sym (largest_is height (lent_blocks height nodes) (node_at nodes 1) (room_is height nodes t height 1 (at_root height)) (bounded height nodes t height 1 (at_root height)))
+    sym (largest_is height (lent_blocks height nodes) (node_at nodes 1) (room_is height nodes t height 1 (at_root height)) (largest height (lent_blocks height nodes)) refl)
 
 pub root_full : {height : ℕ} {nodes : List ℕ} → IsTree height nodes → (order : ℕ) → node_at nodes 1 < order + 2 → fit height (lent_blocks height nodes) order ≡ None
 root_full {height = height} {nodes = nodes} t order l =
@@ -35,12 +35,11 @@ module _ {height free : ℕ} {old new : List ℕ} (w : IsOrderTree height free o
     (order start : ℕ) where
   pub lent_free : fit height (lent_blocks height old) order ≡ Some start → IsTreeOf height new (inserted (block start order) (lent_blocks height old))
       → free ≡ free_pages height (lent_blocks height new) + 2 ^ order
-  lent_free found t = w.free_is ∙ free_joined height (lent_blocks height old) order start found ∙ ap (λ l. free_pages height l + 2 ^ order) (sym t.lent_is)
+  lent_free found t = rw (t.lent_is, w.free_is) (free_joined height (lent_blocks height old) order start found)
 
   pub given_free : is_lent (block start order) (lent_blocks height old) ≡ true → IsTreeOf height new (left (block start order) (lent_blocks height old))
       → free_pages height (lent_blocks height new) ≡ free + 2 ^ order
-  given_free lent t =
-      ap (free_pages height) t.lent_is ∙ free_left height (lent_blocks height old) (block start order) (blocks_lent_set height 1 old) lent ∙ ap (λ n. n + 2 ^ order) (sym w.free_is)
+  given_free lent t = rw (t.lent_is, w.free_is) (free_left height (lent_blocks height old) (block start order) (blocks_lent_set height 1 old) lent)
 
 -- no more pages are free than there are
 pub free_bound : (height : ℕ) (nodes : List ℕ) → height ≤ 10 → free_pages height (lent_blocks height nodes) ≤ 2 ^ 10

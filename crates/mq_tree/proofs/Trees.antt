@@ -1,7 +1,7 @@
 -- A tree of nodes: the blocks that are lent in it, and what its root tells of them.
-use Rattle.std.proofs.Common.{◌≡◌, ℕ, ◌+◌, ◌*◌, ◌/◌, ◌^◌, ◌<◌, ◌≤◌, zero, suc, refl, sym, ap, ◌∙◌, arith, inl, inr, ◌⊎◌, false, ◌||◌, List, [], ◌∷◌, ◌++◌, Option, Some, None, leb, eqb}
+use Rattle.std.proofs.Common.{◌≡◌, ℕ, ◌+◌, ◌*◌, ◌/◌, ◌^◌, ◌<◌, ◌≤◌, zero, suc, refl, sym, ◌∙◌, arith, inl, inr, ◌⊎◌, true, false, ◌||◌, List, [], ◌∷◌, ◌++◌, Option, Some, None, leb, eqb, zero-add}
 use Rattle.std.specs.Option.{is_some, option_or, option_map}
-use Rattle.std.proofs.lemmas.Bool.{cases_lt, cases_eq, cond-true, cond-false, le-leb, lt-leb, eq-eqb, ne_eqb}
+use Rattle.std.proofs.lemmas.Bool.{cases_lt, cases_eq, cond-true, cond-false, cond_both, cases_order, leb-true, le-leb, lt-leb, eq-eqb, ne_eqb}
 use Rattle.std.proofs.lemmas.Bool.Decides.{nat_tests}
 use Rattle.mq_tree.specs.Blocks.{PlainBlock, block, moved_up}
 use Rattle.mq_tree.specs.LentSet.{IsLentSet}
@@ -10,9 +10,9 @@ use Rattle.mq_tree.specs.Nodes.{node_at, parent, IsRight}
 use Rattle.mq_tree.specs.Trees.{blocks_under, HasHeight, IsTree}
 use Rattle.mq_tree.proofs.Powers.{pow_le}
 use Rattle.mq_tree.proofs.Fits.{fit_empty, fit_over, fit_lent, fit_whole}
-use Rattle.mq_tree.proofs.Halving.{fit_split}
+use Rattle.mq_tree.proofs.Halving.{fit_halves}
 use Rattle.mq_tree.proofs.Kept.{IsLentSet-nil, IsLentSet-whole, IsLentSet-halves}
-use Rattle.mq_tree.proofs.Heap.{up_last, up_none, one_of_halves, to_left, to_right, to_over, to_parent, place_pos}
+use Rattle.mq_tree.proofs.Heap.{up_first, up_last, up_none, one_of_halves, to_left, to_right, to_parent, place_pos}
 
 -- ---- the node over two halves
 pub parent_pos : (half l r : ℕ) → 0 < parent half l r
@@ -52,15 +52,11 @@ module _ (half i : ℕ) (nodes : List ℕ) where
 
 -- the blocks under a node are a lent set
 pub blocks_lent_set : (k i : ℕ) (nodes : List ℕ) → IsLentSet k (blocks_under k i nodes)
-blocks_lent_set zero i nodes = elim (cases_eq (node_at nodes i) 0) [
-  | inl e ↦ rw (blocks_lent zero i nodes e) (IsLentSet-whole zero)
-  | inr n ↦ rw (blocks_leaf zero i nodes n) (IsLentSet-nil zero)
-]
-blocks_lent_set (suc half) i nodes = elim (cases_eq (node_at nodes i) 0) [
-  | inl e ↦ rw (blocks_lent (suc half) i nodes e) (IsLentSet-whole (suc half))
-  | inr n ↦ rw (blocks_halves half i nodes n) (IsLentSet-halves half (blocks_under half (2 * i) nodes) (blocks_under half (2 * i + 1) nodes)
-      (blocks_lent_set half (2 * i) nodes) (blocks_lent_set half (2 * i + 1) nodes))
-]
+unfolding blocks_under
+blocks_lent_set zero i nodes = cond_both (eqb (node_at nodes i) 0) _ _ (IsLentSet 0) (λ _. IsLentSet-whole 0) (λ _. IsLentSet-nil 0)
+blocks_lent_set (suc half) i nodes =
+    cond_both (eqb (node_at nodes i) 0) _ _ (IsLentSet (suc half)) (λ _. IsLentSet-whole (suc half))
+    (λ _. IsLentSet-halves half (blocks_under half (2 * i) nodes) (blocks_under half (2 * i + 1) nodes) (blocks_lent_set half (2 * i) nodes) (blocks_lent_set half (2 * i + 1) nodes))
 
 -- ---- what fits
 is_some-or : (a b : Option ℕ) (c : ℕ) → is_some (option_or a (option_map (λ s. c + s) b)) ≡ (is_some a || is_some b)
@@ -74,17 +70,14 @@ not_some (Some s) h = absurd (h s refl)
 
 free_fits : (height k : ℕ) → is_some (fit height [] k) ≡ leb (k + 2) (height + 2)
 free_fits height k = elim (cases_lt height k) [
-  | inl l ↦ ap (λ o. is_some o) (fit_over height [] k l) ∙ sym (lt-leb (k + 2) (height + 2) (omega arith))
-  | inr l ↦ ap (λ o. is_some o) (fit_empty height k (pow_le k height l)) ∙ sym (le-leb (k + 2) (height + 2) (omega arith))
+  | inl l ↦ rw (fit_over height [] k l, lt-leb (k + 2) (height + 2) (omega arith)) refl
+  | inr l ↦ rw (fit_empty height k (pow_le k height l), le-leb (k + 2) (height + 2) (omega arith)) refl
 ]
 
-append_empty : (xs ys : List PlainBlock) → xs ++ ys ≡ [] → (xs ≡ []) × (ys ≡ [])
-append_empty [] ys e = (refl, e)
-append_empty (x ∷ xs) ys e = absurd (cc)
-
-moved_empty : (c : ℕ) (ys : List PlainBlock) → moved_up c ys ≡ [] → ys ≡ []
-moved_empty c [] e = refl
-moved_empty c (y ∷ ys) e = absurd (cc)
+halves_empty : (c : ℕ) (xs ys : List PlainBlock) → xs ++ moved_up c ys ≡ [] → (xs ≡ []) × (ys ≡ [])
+halves_empty c [] [] e = (refl, refl)
+halves_empty c [] (y ∷ ys) e = absurd (cc)
+halves_empty c (x ∷ xs) ys e = absurd (cc)
 
 -- ---- a tree
 module _ (height : ℕ) (nodes : List ℕ) (tree : IsTree height nodes) where
@@ -96,12 +89,9 @@ module _ (height : ℕ) (nodes : List ℕ) (tree : IsTree height nodes) where
   bounded zero i p = elim (rule zero i p) [ inl e ↦ omega arith | inr e ↦ omega arith ]
   bounded (suc half) i p = elim (rule (suc half) i p) [
     | inl e ↦ omega (arith, e.lent)
-    | inr e ↦ omega (
-      arith,
-      e,
-      parent_bounded half (node_at nodes (2 * i)) (node_at nodes (2 * i + 1))
-          (bounded half (2 * i) (to_left height half i p)) (bounded half (2 * i + 1) (to_right height half i p)),
-    )
+    | inr e ↦
+        rw e (parent_bounded half (node_at nodes (2 * i)) (node_at nodes (2 * i + 1)) (bounded half (2 * i) (to_left height half i p))
+        (bounded half (2 * i + 1) (to_right height half i p)))
   ]
 
   -- the halves of a node that is free, or lent as one block, are free
@@ -120,88 +110,79 @@ module _ (height : ℕ) (nodes : List ℕ) (tree : IsTree height nodes) where
   free_blocks zero i p e = blocks_leaf zero i nodes (λ z. omega (arith, z, e))
   free_blocks (suc half) i p e =
       let h = free_halves half i p (inl e) in
-      blocks_halves half i nodes (λ z. omega (arith, z, e))
-      ∙ ap (λ x. x ++ moved_up (2 ^ half) (blocks_under half (2 * i + 1) nodes)) (free_blocks half (2 * i) (to_left height half i p) h.0)
-      ∙ ap (λ y. moved_up (2 ^ half) y) (free_blocks half (2 * i + 1) (to_right height half i p) h.1)
+      rw (
+        blocks_halves half i nodes (λ z. omega (arith, z, e)),
+        free_blocks half (2 * i) (to_left height half i p) h.0,
+        free_blocks half (2 * i + 1) (to_right height half i p) h.1,
+      ) refl
 
   -- a half of a node that is free, or lent as one block
   half_of : (half i : ℕ) → HasHeight height (suc half) (i / 2) → (node_at nodes (i / 2) ≡ suc half + 2) ⊎ (node_at nodes (i / 2) ≡ 0) → node_at nodes i ≡ half + 2
   half_of half i p is =
-      let h = free_halves half (i / 2) p is in
-      elim (one_of_halves i) [
-        | inl e ↦ ap (λ x. node_at nodes x) e ∙ h.0
-        | inr e ↦ ap (λ x. node_at nodes x) e ∙ h.1
-      ]
+      let h = free_halves half (i / 2) p is in elim (one_of_halves i) [ inl e ↦ rw e h.0 | inr e ↦ rw e h.1 ]
 
-  -- each node under a free one is free
-  free_below : (k i n : ℕ) → HasHeight height k i → n + k ≤ height → node_at nodes (i / 2 ^ n) ≡ n + k + 2 → node_at nodes i ≡ k + 2
-  free_below k i zero p l e = ap (λ x. node_at nodes x) (sym (up_none i)) ∙ e ∙ omega arith
-  free_below k i (suc n) p l e =
-      free_below k i n p (omega arith) (half_of (n + k) (i / 2 ^ n) (to_parent (to_over height k i n p (omega arith)) (omega arith))
-      (inl (ap (λ x. node_at nodes x) (sym (up_last n i)) ∙ e ∙ omega arith)))
+  -- each node under a free one, or under one that is lent as one block, is free
+  free_under : (k i n h : ℕ) → h ≡ suc (n + k) → HasHeight height k i → h ≤ height → (node_at nodes (i / 2 ^ suc n) ≡ h + 2) ⊎ (node_at nodes (i / 2 ^ suc n) ≡ 0) → node_at nodes i ≡ k + 2
+  free_under k i zero h e p l is = half_of k i (to_parent p (omega arith)) (rw (e, zero-add k, up_last 0 i, up_none i) at is)
+  free_under k i (suc n) h e p l is =
+      let over = to_parent p (omega arith) in
+      half_of k i over (inl (free_under (suc k) (i / 2) n h (omega arith) over l (rw (up_first (suc n) i) at is)))
 
-  -- and so is each node under one that is lent as one block
   pub free_under_lent : (k i n : ℕ) → HasHeight height k i → suc n + k ≤ height → node_at nodes (i / 2 ^ suc n) ≡ 0 → node_at nodes i ≡ k + 2
-  free_under_lent k i n p l e =
-      free_below k i n p (omega arith) (half_of (n + k) (i / 2 ^ n) (to_parent (to_over height k i n p (omega arith)) (omega arith)) (inr (ap (λ x. node_at nodes x) (sym (up_last n i)) ∙ e)))
-
-  -- where nothing is lent the node is free
-  empty_is_free : (k i : ℕ) → HasHeight height k i → blocks_under k i nodes ≡ [] → node_at nodes i ≡ k + 2
-  empty_is_free zero i p none = elim (rule zero i p) [
-    | inl e ↦ let f : block 0 0 ∷ [] ≡ [] = sym (blocks_lent zero i nodes e) ∙ none in absurd (cc)
-    | inr e ↦ e
-  ]
-  empty_is_free (suc half) i p none = elim (rule (suc half) i p) [
-    | inl e ↦ let f : block 0 (suc half) ∷ [] ≡ [] = sym (blocks_lent (suc half) i nodes e.lent) ∙ none in absurd (cc)
-    | inr e ↦
-        let split : node_at nodes i ≡ 0 → ⊥ = λ z. omega (arith, e, z, parent_pos half (node_at nodes (2 * i)) (node_at nodes (2 * i + 1))) in
-        let q = append_empty (blocks_under half (2 * i) nodes) (moved_up (2 ^ half) (blocks_under half (2 * i + 1) nodes)) (sym (blocks_halves half i nodes split) ∙ none) in
-        e ∙ parent_free half (node_at nodes (2 * i)) (node_at nodes (2 * i + 1)) (empty_is_free half (2 * i) (to_left height half i p) q.0)
-        (empty_is_free half (2 * i + 1) (to_right height half i p) (moved_empty (2 ^ half) (blocks_under half (2 * i + 1) nodes) q.1))
-  ]
-
-  -- where the whole run is not free, no order from its height on fits
-  no_whole : (k i : ℕ) → HasHeight height k i → (o : ℕ) → k ≤ o → (node_at nodes i ≡ k + 2 → ⊥) → is_some (fit k (blocks_under k i nodes) o) ≡ leb (o + 2) (node_at nodes i)
-  no_whole k i p o l n =
-      not_some (fit k (blocks_under k i nodes) o) (λ s found. elim (cases_eq o k) [
-        | inl e ↦
-            let whole : fit k (blocks_under k i nodes) k ≡ Some s = ap (λ x. fit k (blocks_under k i nodes) x) (sym e) ∙ found in
-            n (empty_is_free k i p (fit_whole k (blocks_under k i nodes) s (blocks_lent_set k i nodes).in_arena whole))
-        | inr e ↦ let none : fit k (blocks_under k i nodes) o ≡ None = fit_over k (blocks_under k i nodes) o (omega (arith, e)) in cc
-      ])
-      ∙ sym (lt-leb (o + 2) (node_at nodes i) (omega (arith, n, bounded k i p)))
+  free_under_lent k i n p l e = free_under k i n (suc (n + k)) refl p (omega arith) (inr e)
 
   room_free : (k i : ℕ) → HasHeight height k i → (o : ℕ) → node_at nodes i ≡ k + 2 → is_some (fit k (blocks_under k i nodes) o) ≡ leb (o + 2) (node_at nodes i)
-  room_free k i p o e = ap (λ x. is_some (fit k x o)) (free_blocks k i p e) ∙ free_fits k o ∙ ap (λ x. leb (o + 2) x) (sym e)
+  room_free k i p o e = rw (free_blocks k i p e, e) (free_fits k o)
 
   room_lent : (k i o : ℕ) → node_at nodes i ≡ 0 → is_some (fit k (blocks_under k i nodes) o) ≡ leb (o + 2) (node_at nodes i)
-  room_lent k i o e =
-      ap (λ x. is_some (fit k x o)) (blocks_lent k i nodes e) ∙ ap (λ x. is_some x) (fit_lent k o) ∙ sym (lt-leb (o + 2) (node_at nodes i) (omega arith))
+  room_lent k i o e = rw (blocks_lent k i nodes e, fit_lent k o, lt-leb (o + 2) (node_at nodes i) (omega arith)) refl
+
+  -- where nothing is lent the node is free
+  empty_is_free : (k i : ℕ) → HasHeight height k i → blocks_under k i nodes ≡ [] → is_some (fit k (blocks_under k i nodes) k) ≡ leb (k + 2) (node_at nodes i) → node_at nodes i ≡ k + 2
+  empty_is_free k i p none room =
+      let fits : leb (k + 2) (node_at nodes i) ≡ true = rw (← room, none, fit_empty k k (omega arith)) refl in
+      omega (arith, bounded k i p, leb-true (k + 2) (node_at nodes i) fits)
 
   -- what fits is what is at most the node's order
   pub room_is : (k i : ℕ) → HasHeight height k i → (o : ℕ) → is_some (fit k (blocks_under k i nodes) o) ≡ leb (o + 2) (node_at nodes i)
   room_is zero i p o = elim (rule zero i p) [ inl e ↦ room_lent zero i o e | inr e ↦ room_free zero i p o e ]
-  room_is (suc half) i p o = elim (rule (suc half) i p) [
-    | inl e ↦ room_lent (suc half) i o e.lent
-    | inr is_parent ↦ elim (cases_eq (node_at nodes i) (suc half + 2)) [
-      | inl e ↦ room_free (suc half) i p o e
-      | inr n ↦ elim (cases_lt half o) [
-        | inl l ↦ no_whole (suc half) i p o (omega arith) n
-        | inr l ↦
-            let xs = blocks_under half (2 * i) nodes in
-            let ys = blocks_under half (2 * i + 1) nodes in
-            let a = node_at nodes (2 * i) in
-            let b = node_at nodes (2 * i + 1) in
-            ap (λ lent. is_some (fit (suc half) lent o)) (blocks_halves half i nodes (λ z. omega (arith, is_parent, z, parent_pos half a b)))
-            ∙ ap (λ x. is_some x) (fit_split half xs ys o l (blocks_lent_set half (2 * i) nodes).in_arena)
-            ∙ is_some-or (fit half xs o) (fit half ys o) (2 ^ half)
-            ∙ ap (λ t. t || is_some (fit half ys o)) (room_is half (2 * i) (to_left height half i p) o)
-            ∙ ap (λ t. leb (o + 2) a || t) (room_is half (2 * i + 1) (to_right height half i p) o)
-            ∙ sym (parent_room half a b o l (bounded half (2 * i) (to_left height half i p)) (bounded half (2 * i + 1) (to_right height half i p)))
-            ∙ ap (λ x. leb (o + 2) x) (sym is_parent)
+  room_is (suc half) i p o =
+      let l = to_left height half i p in
+      let r = to_right height half i p in
+      let xs = blocks_under half (2 * i) nodes in
+      let ys = blocks_under half (2 * i + 1) nodes in
+      let a = node_at nodes (2 * i) in
+      let b = node_at nodes (2 * i + 1) in
+      elim (rule (suc half) i p) [
+        | inl e ↦ room_lent (suc half) i o e.lent
+        | inr is ↦
+            let split = blocks_halves half i nodes (λ z. omega (arith, is, z, parent_pos half a b)) in
+            elim (cases_order o (suc half)) [
+              | inl same ↦ elim (cases_eq (node_at nodes i) (suc half + 2)) [
+                | inl e ↦ room_free (suc half) i p o e
+                | inr n ↦
+                    rw (same, lt-leb (suc half + 2) (node_at nodes i) (omega (arith, n, bounded (suc half) i p)))
+                    (not_some (fit (suc half) (blocks_under (suc half) i nodes) (suc half)) (λ s found.
+                    let whole = fit_whole (suc half) (blocks_under (suc half) i nodes) s (blocks_lent_set (suc half) i nodes).in_arena found in
+                    let none = halves_empty (2 ^ half) xs ys (sym split ∙ whole) in
+                    n (is ∙ parent_free half a b (empty_is_free half (2 * i) l none.0 (room_is half (2 * i) l half))
+                    (empty_is_free half (2 * i + 1) r none.1 (room_is half (2 * i + 1) r half)))))
+              ]
+              | inr q ↦ elim q [
+                | inl low ↦
+                    rw (
+                      split,
+                      fit_halves half xs ys o (omega arith) (blocks_lent_set half (2 * i) nodes).in_arena (fit half xs o) (fit half ys o) refl refl,
+                      is_some-or (fit half xs o) (fit half ys o) (2 ^ half),
+                      room_is half (2 * i) l o,
+                      room_is half (2 * i + 1) r o,
+                      is,
+                      parent_room half a b o (omega arith) (bounded half (2 * i) l) (bounded half (2 * i + 1) r),
+                    ) refl
+                | inr high ↦ rw (fit_over (suc half) (blocks_under (suc half) i nodes) o high, lt-leb (o + 2) (node_at nodes i) (omega (arith, high, bounded (suc half) i p))) refl
+              ]
+            ]
       ]
-    ]
-  ]
 
   -- where the left half has no room for an order, the right one has
   pub right_room : (half i : ℕ) → HasHeight height (suc half) i → (o : ℕ) → o ≤ half → o + 2 ≤ node_at nodes i → leb (o + 2) (node_at nodes (2 * i)) ≡ false → o + 2 ≤ node_at nodes (2 * i + 1)

@@ -1,27 +1,15 @@
 use Rattle.std.proofs.Common.{◌≡◌, ◌∙◌, arith}
 use Rattle.mq_tree.specs.Nodes.{node_at}
-use Rattle.mq_tree.proofs.Closing.{closes_first, at_in, right_in, stays, next_over, all_closed}
+use Rattle.mq_tree.proofs.Closing.{closes_first, stays, next_over, all_closed}
 use Rattle.mq_tree.proofs.close.close.Goals as goal
 
 pub loop-half-init : goal.loop-half-init
 loop-half-init c = closes_first c.requires
 
-pub bounds-nodes-at : goal.bounds-nodes-at
-bounds-nodes-at c = omega (arith, right_in c.loop-half.invariant c.loop-half-test.true)
-
-pub bounds-nodes-at-in-loop-half : goal.bounds-nodes-at-in-loop-half
-bounds-nodes-at-in-loop-half c = right_in c.loop-half.invariant c.loop-half-test.true
-
-pub bounds-nodes-at-in-loop-half-2 : goal.bounds-nodes-at-in-loop-half-2
-bounds-nodes-at-in-loop-half-2 c = at_in c.loop-half.invariant c.loop-half-test.true
-
 pub returns-then-node-nodes : goal.returns-then-node-nodes
 returns-then-node-nodes c =
     let same : node_at c.loop-half.nodes c.loop-half.at ≡ c.over-node.result = omega (arith, c.if-node-nodes.true) in
     record { tree = stays c.loop-half.invariant c.loop-half-test.true (same ∙ c.over-node.ensures); lent_is = c.loop-half.invariant.lent_is }
-
-pub bounds-nodes-at-in-loop-half-3 : goal.bounds-nodes-at-in-loop-half-3
-bounds-nodes-at-in-loop-half-3 c = at_in c.loop-half.invariant c.loop-half-test.true
 
 pub loop-half-preserved : goal.loop-half-preserved
 loop-half-preserved c = next_over c.loop-half.invariant c.loop-half-test.true c.over-node.result c.over-node.ensures

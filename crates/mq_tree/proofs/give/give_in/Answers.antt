@@ -1,6 +1,5 @@
-use Rattle.std.proofs.Common.{◌≡◌, false, sym, ap, ◌∙◌, set}
+use Rattle.std.proofs.Common.{sym, ap, ◌∙◌, set}
 use Rattle.mq_tree.specs.Blocks.{block}
-use Rattle.mq_tree.specs.LentSet.{is_lent}
 use Rattle.mq_tree.specs.Trees.{lent_blocks}
 use Rattle.mq_tree.proofs.LentSets.{left_not_lent}
 use Rattle.mq_tree.proofs.Trees.{blocks_lent_set}
@@ -9,8 +8,7 @@ use Rattle.mq_tree.proofs.give.give_in.Goals as goal
 
 pub returns-in_default : goal.returns-in_default
 returns-in_default c =
-    let none : is_lent (block c.args.start c.args.order) (lent_blocks c.args.height c.args.nodes.now) ≡ false =
-    c.in_default.ensures (lent_blocks c.args.height c.args.nodes.now) (blocks_lent_set c.args.height 1 c.args.nodes.now) in
+    let none = c.in_default.ensures (lent_blocks c.args.height c.args.nodes.now) (blocks_lent_set c.args.height 1 c.args.nodes.now) in
     record { order = tt; lent = sym none; left = record { tree = c.requires; lent_is = sym (left_not_lent (block c.args.start c.args.order) (lent_blocks c.args.height c.args.nodes.now) none) } }
 
 pub returns-then-nodes-at-ne-LENT : goal.returns-then-nodes-at-ne-LENT

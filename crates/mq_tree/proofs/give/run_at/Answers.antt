@@ -1,7 +1,7 @@
 use Rattle.std.proofs.Common.{◌≡◌, ◌%◌, ◌^◌, ap, arith}
 use Rattle.std.proofs.lemmas.Nat.{pow_pos, pow_below}
 use Rattle.mq_tree.specs.Blocks.{block}
-use Rattle.mq_tree.proofs.Starts.{run_place, run_start}
+use Rattle.mq_tree.proofs.Starts.{run_of}
 use Rattle.mq_tree.proofs.Giving.{not_lent}
 use Rattle.mq_tree.proofs.give.run_at.Goals as goal
 
@@ -20,7 +20,5 @@ returns-then-inside-ne0 c = λ lent set.
 pub returns : goal.returns
 returns c =
     let aligned : c.args.start % 2 ^ c.args.order ≡ 0 = omega (arith, c.if-inside-ne0.false, ap (λ x. c.args.start % x) c.pages_in-pages.ensures) in
-    rw (c.pages_in-all.ensures, c.pages_in-pages.ensures) (record {
-      place = run_place c.args.height c.args.order c.args.start c.if-order-height.false (omega (arith, c.if-start-all.false, c.pages_in-all.ensures)) aligned;
-      start_is = run_start c.args.height c.args.order c.args.start c.if-order-height.false (omega (arith, c.if-start-all.false, c.pages_in-all.ensures)) aligned;
-    })
+    rw (c.pages_in-all.ensures, c.pages_in-pages.ensures)
+    (run_of c.args.height c.args.order c.args.start c.if-order-height.false (omega (arith, c.if-start-all.false, c.pages_in-all.ensures)) aligned)

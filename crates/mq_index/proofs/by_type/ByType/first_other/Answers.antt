@@ -1,8 +1,6 @@
 use Rattle.std.proofs.Common.{not}
 use Rattle.std.specs.Ordering.{int_eq}
 use Rattle.std.proofs.lemmas.Int.{to_z-of_z}
-use Rattle.mq_index.specs.Fronts.{first_of}
-use Rattle.mq_index.specs.Index.{merged}
 use Rattle.mq_index.proofs.Firsts.{least_found}
 use Rattle.mq_index.proofs.by_type.ByType.first_other.Goals as goal
 
@@ -10,4 +8,4 @@ pub returns : goal.returns
 returns g c =
     let least = simp (to_z-of_z, c.ranges.other) at c.least_beside.ensures in
     rw (← c.self.view_is)
-    (least_found (λ m. m.mtype) (merged c.self.inside.queues.entries) (first_of c.self.inside.fronts) (λ t. not (int_eq t c.args.other)) c.least_beside.result c.self.invariant.0.rising c.self.invariant.0.fronted least)
+    (least_found _ _ _ _ _ _ (λ t. not (int_eq t c.args.other)) c.least_beside.result c.self.invariant.0 least)

@@ -1,26 +1,23 @@
-use Rattle.std.proofs.Common.{sym, FitsSigned, w64}
+use Rattle.std.proofs.Common.{sym, FitsSigned, w64, rules}
 use Rattle.std.proofs.lemmas.Int.{to_z-of_z}
-use Rattle.mq_index.specs.Index.{merged}
 use Rattle.mq_index.proofs.Lowests.{least_found}
 use Rattle.mq_index.proofs.by_type.ByType.lowest_within.Goals as goal
 
 pub returns-in-Some : goal.returns-in-Some
 returns-in-Some g c =
-    let range = rw c.in-Some.is at c.lowest.type_inv in
-    let fits : FitsSigned w64 c.in-Some.lowest = record { sfits = range.1.1.1.1.0.1 } in
+    let fits : FitsSigned w64 c.in-Some.lowest = search rules in
     let within = simp (to_z-of_z, fits) at c.if-is_within.ensures in
-    let found = least_found (λ m. m.mtype) (merged c.self.inside.queues.entries) c.self.inside.queues.entries c.args.bound _ c.self.invariant.0.ordered c.self.invariant.0.parted c.in-Some.ensures in
+    let found = least_found _ _ _ _ _ _ c.args.bound _ c.self.invariant.0 c.in-Some.ensures in
     rw (← c.self.view_is) (simp (to_z-of_z, fits) (sym (rw (← within) at found)))
 
 pub returns-in_default : goal.returns-in_default
 returns-in_default g c =
-    let range = rw c.in-Some.is at c.lowest.type_inv in
-    let fits : FitsSigned w64 c.in-Some.lowest = record { sfits = range.1.1.1.1.0.1 } in
+    let fits : FitsSigned w64 c.in-Some.lowest = search rules in
     let within = simp (to_z-of_z, fits) at c.if-is_within.ensures in
-    let found = least_found (λ m. m.mtype) (merged c.self.inside.queues.entries) c.self.inside.queues.entries c.args.bound _ c.self.invariant.0.ordered c.self.invariant.0.parted c.in-Some.ensures in
+    let found = least_found _ _ _ _ _ _ c.args.bound _ c.self.invariant.0 c.in-Some.ensures in
     rw (← c.self.view_is) (sym (rw (← within) at found))
 
 pub returns-in_default-2 : goal.returns-in_default-2
 returns-in_default-2 g c =
-    let found = least_found (λ m. m.mtype) (merged c.self.inside.queues.entries) c.self.inside.queues.entries c.args.bound _ c.self.invariant.0.ordered c.self.invariant.0.parted c.in_default.ensures in
+    let found = least_found _ _ _ _ _ _ c.args.bound _ c.self.invariant.0 c.in_default.ensures in
     rw (← c.self.view_is) (sym found)

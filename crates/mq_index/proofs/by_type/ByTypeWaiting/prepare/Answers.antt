@@ -1,13 +1,11 @@
-use Rattle.std.proofs.Common.{◌≡◌, ◌≢◌, ◌∙◌, ℕ, ℤ, List, Some, Result, Ok, Err, OnErr, true, false, ap, sym, cond, nat_eq, refl, arith}
+use Rattle.std.proofs.Common.{◌≡◌, ◌≢◌, ◌∙◌, ℕ, ℤ, List, Some, Result, Ok, Err, OnErr, true, ap, sym, cond, nat_eq, refl, arith}
 use Rattle.std.specs.Ordering.{int_eq}
 use Rattle.std.specs.Map.{lookup}
 use Rattle.std.proofs.lemmas.Bool.{lt-ltb, ltb-true}
 use Rattle.std.proofs.lemmas.Int.{to_z-of_z}
 use Rattle.std.proofs.lemmas.Option.{same_Some}
-use Rattle.indexmap.specs.IndexMap.{get}
-use Rattle.mq_index.specs.Fronts.{first_of}
-use Rattle.mq_index.specs.Index.{merged, queue_at, queue_of}
-use Rattle.mq_index.proofs.Changes.{prepared, same_index, settled}
+use Rattle.mq_index.specs.Index.{queue_at, queue_of}
+use Rattle.mq_index.proofs.Changes.{prepared, same_index}
 use Rattle.mq_index.proofs.Merging.{int_eq-here}
 use Rattle.mq_index.proofs.by_type.ByTypeWaiting.prepare.Goals as goal
 
@@ -17,21 +15,19 @@ at_type t queues made at = rw (int_eq-here t) at (at t)
 
 pub invariant_of-self : goal.invariant_of-self
 invariant_of-self g c = (
-  same_index (λ m. m.mtype) (merged c.self.inside.queues.entries) c.self.inside.queues.entries (first_of c.self.inside.fronts) (first_of c.reserve.new.self) (get nat_eq c.self.inside.types) (get nat_eq c.self.inside.types) c.self.inside.prepared c.self.invariant.0 c.reserve.ensures.unchanged (λ n. refl),
-  λ x e. let r = c.self.invariant.1 x e in let more = c.reserve.ensures.room in
-      record { queue = r.queue; few = r.few; front = omega (arith, r.front, more); place = r.place; node = r.node },
+  same_index _ _ _ _ _ _ _ _ c.self.invariant.0 c.reserve.ensures.unchanged (λ n. refl),
+  λ x e. search (arith, c.self.invariant.1 x e, c.reserve.ensures.room),
 )
 
 pub invariant_of-self-in_err-reserve-2 : goal.invariant_of-self-in_err-reserve-2
 invariant_of-self-in_err-reserve-2 g c = (
-  same_index (λ m. m.mtype) (merged c.self.inside.queues.entries) c.self.inside.queues.entries (first_of c.self.inside.fronts) (first_of c.reserve.new.self) (get nat_eq c.self.inside.types) (get nat_eq c.reserve-2.new.self) c.self.inside.prepared c.self.invariant.0 c.reserve.ensures.unchanged (λ n. ap (lookup (nat_eq n)) c.reserve-2.ensures.entries),
-  λ x e. let r = c.self.invariant.1 x e in let more = c.reserve.ensures.room in let most = c.reserve-2.ensures.room.0 in
-      record { queue = r.queue; few = r.few; front = omega (arith, r.front, more); place = omega (arith, r.place, most); node = r.node },
+  same_index _ _ _ _ _ _ _ _ c.self.invariant.0 c.reserve.ensures.unchanged (λ n. ap (lookup (nat_eq n)) c.reserve-2.ensures.entries),
+  λ x e. search (arith, c.self.invariant.1 x e, c.reserve.ensures.room, c.reserve-2.ensures.room.0),
 )
 
 pub invariant_of-self-in_err-make : goal.invariant_of-self-in_err-make
 invariant_of-self-in_err-make g c = (
-  same_index (λ m. m.mtype) (merged c.self.inside.queues.entries) c.self.inside.queues.entries (first_of c.self.inside.fronts) (first_of c.reserve.new.self) (get nat_eq c.self.inside.types) (get nat_eq c.reserve-2.new.self) c.self.inside.prepared c.self.invariant.0 c.reserve.ensures.unchanged (λ n. ap (lookup (nat_eq n)) c.reserve-2.ensures.entries),
+  same_index _ _ _ _ _ _ _ _ c.self.invariant.0 c.reserve.ensures.unchanged (λ n. ap (lookup (nat_eq n)) c.reserve-2.ensures.entries),
   λ x e. let r = c.self.invariant.1 x e in let more = c.reserve.ensures.room in let most = c.reserve-2.ensures.room.0 in
       record { queue = r.queue; few = r.few; front = omega (arith, r.front, more); place = omega (arith, r.place, most); node = c.in_err-make.ensures.refused.1 ∙ sym c.in_err-make.ensures.refused.0 ∙ r.node },
 )
@@ -43,8 +39,7 @@ invariant_of-self-2 g c =
     let made = simp (to_z-of_z, c.ranges.mtype) at c.in_ok-make-2.ensures.ok in
     let there = simp (to_z-of_z, c.ranges.mtype) at c.forget_older.ensures.there in
     let kept = simp (to_z-of_z, c.ranges.mtype) at c.forget_older.ensures.kept in
-    let new = prepared (λ m. m.mtype) (merged c.self.inside.queues.entries) c.self.inside.queues.entries c.make-2.new.queues.entries c.forget_older.new.queues.entries (first_of c.self.inside.fronts) (first_of c.reserve.new.self) (get nat_eq c.self.inside.types) (get nat_eq c.reserve-2.new.self) c.self.inside.prepared c.args.mtype c.self.invariant.0 c.forget_older.ensures.ordered made c.forget_older.ensures.same kept c.reserve.ensures.unchanged (λ n. ap (lookup (nat_eq n)) c.reserve-2.ensures.entries) in
-    let whole = settled _ _ _ _ _ _ new in
+    let whole = prepared _ _ _ c.make-2.new.queues.entries c.forget_older.new.queues.entries _ _ _ _ _ c.args.mtype c.self.invariant.0 c.forget_older.ensures.ordered made c.forget_older.ensures.same kept c.reserve.ensures.unchanged (λ n. ap (lookup (nat_eq n)) c.reserve-2.ensures.entries) in
     let is = at_type c.args.mtype c.self.inside.queues.entries c.make-2.new.queues.entries made in
     simp (to_z-of_z, c.ranges.mtype) (
       whole.1,
@@ -63,8 +58,7 @@ pub returns-clause-prepared : goal.returns-clause-prepared
 returns-clause-prepared g c =
     let made = simp (to_z-of_z, c.ranges.mtype) at c.in_ok-make-2.ensures.ok in
     let kept = simp (to_z-of_z, c.ranges.mtype) at c.forget_older.ensures.kept in
-    let new = prepared (λ m. m.mtype) (merged c.self.inside.queues.entries) c.self.inside.queues.entries c.make-2.new.queues.entries c.forget_older.new.queues.entries (first_of c.self.inside.fronts) (first_of c.reserve.new.self) (get nat_eq c.self.inside.types) (get nat_eq c.reserve-2.new.self) c.self.inside.prepared c.args.mtype c.self.invariant.0 c.forget_older.ensures.ordered made c.forget_older.ensures.same kept c.reserve.ensures.unchanged (λ n. ap (lookup (nat_eq n)) c.reserve-2.ensures.entries) in
-    let whole = settled _ _ _ _ _ _ new in
+    let whole = prepared _ _ _ c.make-2.new.queues.entries c.forget_older.new.queues.entries _ _ _ _ _ c.args.mtype c.self.invariant.0 c.forget_older.ensures.ordered made c.forget_older.ensures.same kept c.reserve.ensures.unchanged (λ n. ap (lookup (nat_eq n)) c.reserve-2.ensures.entries) in
     record { unchanged = rw (← c.self.view_is) whole.0; ok = simp (to_z-of_z, c.ranges.mtype) refl; err = tt }
 
 -- what holds anyway holds of a refusal
@@ -77,8 +71,7 @@ pub returns-then-not-has_room-clause-refused : goal.returns-then-not-has_room-cl
 returns-then-not-has_room-clause-refused g c e =
     let ready = c.self.invariant.1 c.args.mtype (rw (← c.self.view_is) at e) in
     let room = simp (to_z-of_z, c.ranges.mtype) at c.has_room.ensures in
-    let fits = lt-ltb _ _ ready.few in
-    cc
+    cc (lt-ltb _ _ ready.few)
 
 pub returns-in_err-reserve-clause-refused : goal.returns-in_err-reserve-clause-refused
 returns-in_err-reserve-clause-refused g c =
@@ -92,17 +85,14 @@ returns-in_err-reserve-2-clause-refused g c =
     on_err (c.args.self.now.prepared ≢ Some c.args.mtype) c.from_residual-in_err-reserve-2.result
     (λ e.
     let ready = c.self.invariant.1 c.args.mtype (rw (← c.self.view_is) at e) in
-    let clash : false ≡ true = c.in_err-reserve-2.ensures.succeeds (omega (arith, ready.place)) in
-    cc)
+    cc (c.in_err-reserve-2.ensures.succeeds (omega (arith, ready.place))))
 
 pub returns-in_err-make-clause-refused : goal.returns-in_err-make-clause-refused
 returns-in_err-make-clause-refused g c =
     on_err (c.args.self.now.prepared ≢ Some c.args.mtype) c.from_residual-in_err-make.result
     (λ e.
     let ready = c.self.invariant.1 c.args.mtype (rw (← c.self.view_is) at e) in
-    let node = ready.node in
-    let none = c.in_err-make.ensures.refused.0 in
-    cc)
+    cc (ready.node, c.in_err-make.ensures.refused.0))
 
 pub returns-in_err-make-2-clause-refused : goal.returns-in_err-make-2-clause-refused
 returns-in_err-make-2-clause-refused g c =
@@ -110,5 +100,4 @@ returns-in_err-make-2-clause-refused g c =
     (λ e.
     let ready = c.self.invariant.1 c.args.mtype (rw (← c.self.view_is) at e) in
     let none = simp (to_z-of_z, c.ranges.mtype) at c.in_err-make-2.ensures.refused in
-    let clash : false ≡ true = rw none at ready.queue in
-    cc)
+    cc (rw none at ready.queue))

@@ -20,5 +20,5 @@ sink-requires c =
 pub returns-clause-at : goal.returns-clause-at
 returns-clause-at c t =
     let index = simp (to_z-of_z, c.ranges.mtype) at c.get_index_of.ensures.index in
-    rw (← c.self.view_is)
-    (c.sink.ensures.at t ∙ written_at c.self.inside.heap c.args.mtype c.unwrap-i.result c.args.place c.get_index_of.ensures.unique (sym index ∙ c.unwrap-i.ensures) t)
+    let is = written_at c.self.inside.heap c.args.mtype c.unwrap-i.result c.args.place c.get_index_of.ensures.unique (sym index ∙ c.unwrap-i.ensures) t in
+    rw (← c.self.view_is) (cc (c.sink.ensures.at t, is))

@@ -1,5 +1,5 @@
 use Rattle.std.proofs.Common.{◌≡◌, refl, rules, ◌∙◌}
-use Rattle.mq_table.specs.Calls.{receives}
+use Rattle.mq_table.specs.Calls.{receipt_of, receives}
 use Rattle.mq_table.specs.KeptPart.{whole}
 use Rattle.mq_table.proofs.Kepts.{live_is}
 use Rattle.mq_table.proofs.Whole.{receive_refused}
@@ -20,8 +20,8 @@ publish-requires-clause-due g c =
     let live = rw (← c.self.view_is) at c.in_ok-look.ensures.live in
     let short = rw (← c.self.view_is) at c.holds.ensures.few in
     let few = rw (← c.self.view_is) at c.holds.ensures.made in
-    rw (← c.number-number.ensures) (receive_changes _ _ _ _ _ c.self.inside.writer _ _ _ c.self.invariant short few live c.args.size
-    c.args.selection c.args.noerror c.number-number.result c.args.moment _ c.in-Ok.ensures.answer.ok
+    rw (← c.number-number.ensures) (receive_changes _ _ _ _ _ c.self.inside.writer _ _ c.receive.new.self c.self.invariant short few live c.args.size
+    c.args.selection c.args.noerror c.number-number.result c.args.moment (receipt_of c.in-Ok.received) (cc (c.in-Ok.ensures.answer.ok))
     c.in-Ok.ensures.noticed).due
 
 pub publish-requires-clause-known : goal.publish-requires-clause-known

@@ -1,10 +1,11 @@
-use Rattle.std.proofs.Common.{◌≡◌, ℕ, pos, int_lt, false, Err, ap, refl, sym, rules, ◌∙◌}
+use Rattle.std.proofs.Common.{◌≡◌, ℕ, pos, int_lt, false, Ok, Err, ap, refl, sym, rules, ◌∙◌}
 use mir.Val.{SFits}
 use mir.Syntax.{w64}
 use Rattle.std.proofs.lemmas.Int.{to_z-of_z}
 use Rattle.mq_message.specs.Text.{PlainText}
 use Rattle.mq_message.specs.declared.message.Message.{Message}
 use Rattle.mq_table.specs.Calls.{sends}
+use Rattle.mq_table.specs.KeptCalls.{kept_sends}
 use Rattle.mq_table.specs.KeptPart.{whole}
 use Rattle.mq_table.proofs.Kepts.{live_is}
 use Rattle.mq_table.proofs.Whole.{send_refused}
@@ -32,13 +33,14 @@ publish-requires-clause-due g c =
       tag = c.args.tag;
       body = c.args.text;
     } in
-    let told = simp to_z-of_z at c.in-Ok-send.ensures.answer in
+    let told : kept_sends bytes_of c.self.inside.slot message c.args.moment ≡ Ok (c.in-Ok-send.entry, c.send.new.self) =
+    search (rules, to_z-of_z) in
     let noticed = simp to_z-of_z at c.in-Ok-send.ensures.noticed in
     let live = rw (← c.self.view_is) at c.in-Ok.ensures.live in
     let short = rw (← c.self.view_is) at c.holds.ensures.few in
     let few = rw (← c.self.view_is) at c.holds.ensures.made in
-    rw (← c.number.ensures) (send_changes _ _ _ _ _ c.self.inside.writer _ _ _ c.self.invariant short few live message
-    c.args.moment _ (rw c.number.ensures c.requires.pledge) told noticed).due
+    rw (← c.number.ensures) (send_changes _ _ _ _ _ c.self.inside.writer _ _ c.send.new.self c.self.invariant short few live message
+    c.args.moment c.in-Ok-send.entry (rw c.number.ensures c.requires.pledge) told noticed).due
 
 pub publish-requires-clause-known : goal.publish-requires-clause-known
 publish-requires-clause-known g c =

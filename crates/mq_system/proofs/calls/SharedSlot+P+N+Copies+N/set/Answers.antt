@@ -18,8 +18,8 @@ publish-requires-clause-due g c =
     let live = rw (← c.self.view_is) at c.in_ok-look.ensures.live in
     let short = rw (← c.self.view_is) at c.holds.ensures.few in
     let few = rw (← c.self.view_is) at c.holds.ensures.made in
-    rw (← c.number-number.ensures) (set_changes _ _ _ _ _ c.self.inside.writer _ _ _ c.self.invariant short few live c.args.qbytes
-    c.number-number.result c.args.moment _ c.in-Ok.ensures.answer c.in-Ok.ensures.noticed).due
+    rw (← c.number-number.ensures) (set_changes _ _ _ _ _ c.self.inside.writer _ _ c.set.new.self c.self.invariant short few live c.args.qbytes
+    c.number-number.result c.args.moment c.in-Ok.entry (cc (c.in-Ok.ensures.answer)) c.in-Ok.ensures.noticed).due
 
 pub publish-requires-clause-known : goal.publish-requires-clause-known
 publish-requires-clause-known g c =

@@ -24,8 +24,8 @@ returns-in-Ok g c =
     let selected = simp to_z-of_z at c.read-selection.ensures in
     let done =
     done_receive c.args.seat.now now c.receive.new.seat (slot_of c.args.id) s h c.args.id
-    c.args.size c.read-selection.result c.args.flags.noerror c.args.moment _ c.receive.new.self
-    told.answer.noted told.answer.ok in record {
+    c.args.size c.read-selection.result c.args.flags.noerror c.args.moment c.in-Ok.delivered c.receive.new.self
+    told.answer.noted (cc (told.answer.ok)) in record {
       answer = record {
         early = in_slots g.N.Names.slots c.args.id within;
         step = done.0;

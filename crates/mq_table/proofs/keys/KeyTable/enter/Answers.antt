@@ -1,4 +1,4 @@
-use Rattle.std.proofs.Common.{rules, ◌≡◌, ◌++◌, ◌∷◌, []}
+use Rattle.std.proofs.Common.{rules}
 use mir.Val.{SFits}
 use mir.Syntax.{w32}
 use Rattle.std.proofs.lemmas.Int.{to_z-of_z}
@@ -10,10 +10,8 @@ invariant_of-self-2 c =
     let fits : SFits w32 c.args.key = search rules in
     let told = simp to_z-of_z at c.in_ok-insert.ensures.entries in
     let absent = rw (← c.self.view_is) at c.requires.absent in
-    let put = entered c.self.inside.ids c.args.key c.args.id absent in
-    let grown : c.insert.new.self.entries ≡ c.self.inside.ids.entries ++ (c.args.key, c.args.id) ∷ [] =
-    rw told (search (rules, put)) in
-    keys_entered _ _ c.args.key c.args.id c.self.invariant grown c.requires.key c.in_ok-insert.ensures.unique
+    keys_entered c.self.inside.ids _ c.args.key c.args.id c.self.invariant absent told
+    c.requires.key c.in_ok-insert.ensures.unique
 
 pub returns : goal.returns
 returns c =

@@ -22,5 +22,5 @@ invariant_of-self-in-Ok g c =
     ≡ c.self.inside.past.items ++ (c.in-Some-take.queue.tail ++ e ∷ []) =
     rw (c.prepare_end.ensures.items, c.in-Ok.ensures.answer.tail) at c.append.ensures in
     rw c.take.ensures.after
-    (removed_slot _ _ _ _ _ _ _ _ _ c.self.invariant c.in-Some-take.queue there
-    c.args.seat c.args.moment _ kept _ grown (rw (← c.self.view_is) at room))
+    (removed_slot _ _ _ _ _ _ _ _ _ (rw there at c.self.invariant) c.args.seat c.args.moment _ kept
+    _ grown (rw (← c.self.view_is, there) at room))

@@ -1,4 +1,4 @@
-use Rattle.std.proofs.Common.{sym, ap, ◌∙◌, arith}
+use Rattle.std.proofs.Common.{refl, sym, ap, ◌∙◌, arith}
 use Rattle.mq_tree.specs.Blocks.{block}
 use Rattle.mq_tree.specs.LentSet.{free_pages}
 use Rattle.mq_tree.specs.Trees.{lent_blocks}
@@ -16,21 +16,17 @@ invariant_of-self c =
     rw (refilled c.self.invariant.tree c.self.inside.nodes.ok.0 left.tree)
     (record { tree = left.tree; free_is = c.self.invariant.free_is ∙ ap (free_pages c.self.inside.height) (sym kept) })
 
-pub returns-then-not-give_in-clause-left : goal.returns-then-not-give_in-clause-left
-returns-then-not-give_in-clause-left c =
-    rw (← c.self.view_is) (ap (λ x. record { height = c.self.inside.height; lent = x })
-    (seen c.self.invariant.tree c.self.inside.nodes.ok.0 (rw c.as_mut_slice.ensures.value at c.give_in.ensures.left)))
-
-pub returns-then-not-give_in-clause-kept : goal.returns-then-not-give_in-clause-kept
-returns-then-not-give_in-clause-kept c =
+pub returns-then-not-give_in : goal.returns-then-not-give_in
+returns-then-not-give_in c =
     let lent = lent_blocks c.self.inside.height c.self.inside.nodes.items in
     let none = sym (rw c.as_mut_slice.ensures.value at c.give_in.ensures.lent) ∙ c.if-not-give_in.true in
-    ap (λ x. record { height = c.self.inside.height; lent = x })
-    (seen c.self.invariant.tree c.self.inside.nodes.ok.0 (rw c.as_mut_slice.ensures.value at c.give_in.ensures.left) ∙ left_not_lent (block c.args.start c.args.order) lent none)
-    ∙ c.self.view_is
-
-pub returns-then-not-give_in-clause-lent_set : goal.returns-then-not-give_in-clause-lent_set
-returns-then-not-give_in-clause-lent_set c = blocks_lent_set c.self.inside.height 1 _
+    let all = seen c.self.invariant.tree c.self.inside.nodes.ok.0 (rw c.as_mut_slice.ensures.value at c.give_in.ensures.left) in
+    rw (← c.self.view_is, all) (record {
+      lent = sym none;
+      left = refl;
+      kept = rw (left_not_lent (block c.args.start c.args.order) lent none) refl;
+      lent_set = rw (← all) (blocks_lent_set c.self.inside.height 1 _);
+    })
 
 pub overflow_add-self : goal.overflow_add-self
 overflow_add-self c =
