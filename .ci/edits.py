@@ -8,8 +8,6 @@ class Refused(Exception):
 
 
 class Edit:
-    """The edit in this file."""
-
     def __init__(self, path):
         self.folder, self.crate = path.parent.parent, path.parent.parent.name
         self.label = f"{self.crate}/{path.stem}"

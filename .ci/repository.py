@@ -6,8 +6,6 @@ TOP = Path(__file__).resolve().parent.parent
 
 
 class Crates:
-    """The crates below this folder."""
-
     def __init__(self, top):
         page = subprocess.run(["rt", "doc"], capture_output=True, text=True, check=True).stdout
         self.top, self.kit, self.uses = top, Path(page.strip()).parent, {}

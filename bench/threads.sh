@@ -167,7 +167,8 @@ def main():
     if PICTURE:
         picture.bars(PICTURE, list(PROGRAMS.values()),
                      [(f"{row.head}, {row.length} bytes", *times.values())
-                      for row, times in found.items() if len(times) == len(PROGRAMS)])
+                      for row, times in found.items() if len(times) == len(PROGRAMS)],
+                     "nanoseconds a text")
     sys.exit(f"{missed} missed" if missed else 0)
 
 
