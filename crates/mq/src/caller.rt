@@ -131,8 +131,8 @@ impl<'a, N: Names, R: Wait> Caller<'a, N, R> {
         ensures answer { MatchResult result
             (IsSent N.slots id mtype tag (length bytes.now) self.old.moment
             self.old.seat.now self.new.seat.now)
-            (IsNotSentFrom (IsNotDrafted (length bytes.now) self.old.seat.now self.new.seat.now) N.slots
-            id mtype (length bytes.now) false self.old.seat.now self.new.seat.now) }
+            (IsNotSentFrom (IsNotDrafted (length bytes.now) self.old.seat.now self.new.seat.now)
+            N.slots id mtype (length bytes.now) false self.old.seat.now self.new.seat.now) }
         ensures moment { self.new.moment ≡ self.old.moment }
     {
         self.send_with(system, id, mtype, tag, bytes, SendFlags { nowait: false })
@@ -153,8 +153,8 @@ impl<'a, N: Names, R: Wait> Caller<'a, N, R> {
         ensures answer { MatchResult result
             (IsSent N.slots id mtype tag (length bytes.now) self.old.moment
             self.old.seat.now self.new.seat.now)
-            (IsNotSentFrom (IsNotDrafted (length bytes.now) self.old.seat.now self.new.seat.now) N.slots
-            id mtype (length bytes.now) flags.nowait self.old.seat.now self.new.seat.now) }
+            (IsNotSentFrom (IsNotDrafted (length bytes.now) self.old.seat.now self.new.seat.now)
+            N.slots id mtype (length bytes.now) flags.nowait self.old.seat.now self.new.seat.now) }
         ensures moment { self.new.moment ≡ self.old.moment }
     {
         match system.draft_by(self.rt, self.seat, bytes) {
@@ -267,8 +267,8 @@ impl<'a, N: Names, R: Wait> Caller<'a, N, R> {
         flags: RecvFlags,
     ) -> Result<Delivered<Vec<u8>>, Errno>
         ensures answer { MatchResult result
-            (λ d. IsReceivedInto P.kept N.slots id size (selection_of msgtyp flags.except) flags.noerror
-            self.old.moment self.old.seat.now self.new.seat.now d d.text.items)
+            (λ d. IsReceivedInto P.kept N.slots id size (selection_of msgtyp flags.except)
+            flags.noerror self.old.moment self.old.seat.now self.new.seat.now d d.text.items)
             (IsNotReceivedInto N.slots id size (selection_of msgtyp flags.except) flags.noerror
             flags.nowait self.old.seat.now self.new.seat.now) }
         ensures moment { self.new.moment ≡ self.old.moment }
@@ -288,8 +288,8 @@ impl<'a, N: Names, R: Wait> Caller<'a, N, R> {
         patience: &mut T,
     ) -> Result<Delivered<Vec<u8>>, Errno>
         ensures answer { MatchResult result
-            (λ d. IsReceivedInto P.kept N.slots id size (selection_of msgtyp flags.except) flags.noerror
-            self.old.moment self.old.seat.now self.new.seat.now d d.text.items)
+            (λ d. IsReceivedInto P.kept N.slots id size (selection_of msgtyp flags.except)
+            flags.noerror self.old.moment self.old.seat.now self.new.seat.now d d.text.items)
             (IsNotReceivedInto N.slots id size (selection_of msgtyp flags.except) flags.noerror
             (T.ends || flags.nowait) self.old.seat.now self.new.seat.now) }
         ensures moment { self.new.moment ≡ self.old.moment }

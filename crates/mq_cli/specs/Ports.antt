@@ -49,4 +49,5 @@ abbrev pub Removes : ℕ → ℕ → SeatState → SeatState → ℕ → ℕ →
 Removes slots last_seq old new id moment (Ok entry) =
     (r : Removal) × (entry ≡ r.entry) × IsRemoved slots last_seq id moment old new r
 Removes slots last_seq old new id moment (Err errno) =
-    IsRefusal (out_of_slots slots id) MayRemove (slot_of id) (remove_verdict (seq_of id)) old new errno
+    IsRefusal (out_of_slots slots id) MayRemove (slot_of id) (remove_verdict (seq_of id)) old new
+    errno

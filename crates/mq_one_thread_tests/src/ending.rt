@@ -40,8 +40,8 @@ fn used<L: Ledger>(rt: &impl Abort, system: &mut OneThread<L>) -> Text<L> {
     text
 }
 
-/// The slot at this place tells its whole list, has so many events of removed queues and of its last
-/// one, and left so many messages.
+/// The slot at this place tells its whole list, has so many events of removed queues and of its
+/// last one, and left so many messages.
 fn left(rt: &impl Abort, slots: &[ClosedSlot], at: usize, past: usize, last: usize, left: u64) {
     match slots.get(at) {
         Some(slot) => {

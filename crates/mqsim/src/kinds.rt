@@ -12,7 +12,7 @@ use mq_one_thread::Config;
 use std::io;
 use std::io::Read;
 use std::sync::Wait;
-use std::thread::{Threads, join};
+use std::thread::{Threads, join_mut};
 use std::time::Clock;
 
 /// Runs the reader's script, which is of this kind, and prints what it answers.
@@ -42,21 +42,22 @@ pub fn run_shown<R: Read>(
     is_shown: bool,
 ) -> Result<(), RunFault>
     requires { IsRunSize config }
+    ensures ran { RanKind kind config (R.remaining reader.old) (R.remaining reader.new) result }
 {
     if !is_shown || matches!(kind, Kind::Serial) {
         return run_kind(rt, kind, reader, config);
     }
     let ticker = Ticker::new();
-    let ((), ended) = join(
-        rt,
-        || ticker.shows(rt),
-        || -> Result<(), RunFault>
-            requires { IsRunSize config }
-        {
-            let ended = run_kind(rt, kind, reader, config);
-            ticker.ends(rt);
-            ended
-        },
-    );
+    let mut shows = || ticker.shows(rt);
+    let mut runs = || -> Result<(), RunFault>
+        requires { IsRunSize config }
+        ensures ran { RanKind kind config (R.remaining reader.entry.now)
+            (R.remaining reader.exit.now) result }
+    {
+        let ended = run_kind(rt, kind, reader, config);
+        ticker.ends(rt);
+        ended
+    };
+    let ((), ended) = join_mut(rt, &mut shows, &mut runs);
     ended
 }

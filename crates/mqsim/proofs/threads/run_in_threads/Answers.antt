@@ -6,4 +6,4 @@ pub returns-in-Ok : goal.returns-in-Ok
 returns-in-Ok g c = record { ran = search (rules, ran_threads) }
 
 pub returns-in-Err : goal.returns-in-Err
-returns-in-Err g c = record { ran = no_memory _ _ _ }
+returns-in-Err g c = record { ran = search (rules, no_memory) }

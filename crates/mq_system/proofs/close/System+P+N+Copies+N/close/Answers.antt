@@ -40,8 +40,7 @@ come_home-requires g c =
     omega (arith, ap length c.in-Some.ensures.items, length-append c.pop.new.self.items (c.in-Some.place ∷ [])) in
     let parts = c.into_parts-slot.ensures in
     let board : c.into_parts-slot.result.writer.board ≡ vec_len c.pop.new.self =
-    parts.shared.published.numbered ∙ ap (λ s. s.number) parts.slot ∙ c.with_number.ensures.number
-    ∙ c.len.ensures in
+    cc (parts.shared.published.numbered, ap (λ s. s.number) parts.slot, c.with_number.ensures.number, c.len.ensures) in
     let number : c.into_parts-slot.result.writer.board ≡ m = omega (arith, board) in
     record {
       number = λ k d low.
