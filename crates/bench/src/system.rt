@@ -18,8 +18,8 @@ impl Pledge for Anything {
 }
 
 /// Does so many rounds, in each of which it sends a text of each type to the queue of the first
-/// key, receives one from that of the second one, and sends one to that of the third one, where it has
-/// such a key.
+/// key, receives one from that of the second one, and sends one to that of the third one, where it
+/// has such a key.
 #[derive(Drop)]
 struct Player {
     bytes: Vec<u8>,
@@ -236,9 +236,10 @@ impl Sizes {
 /// `system alone BYTES CYCLES SEATS`, where one of so many seats sends and receives by turns;
 /// `system own BYTES CYCLES SEATS`, where each of them does, in a queue of its own; `system two
 /// BYTES CYCLES`, where two pass one text there and back; `system flow BYTES COUNT SENDERS
-/// RECEIVERS QUOTA`, where each sender sends COUNT texts through one queue of that quota and each receiver
-/// takes its share of them; `system types`, of the same words, where each sender sends COUNT texts
-/// to each receiver, which takes those of a type of its own: counts the bytes that came.
+/// RECEIVERS QUOTA`, where each sender sends COUNT texts through one queue of that quota and each
+/// receiver takes its share of them; `system types`, of the same words, where each sender sends
+/// COUNT texts to each receiver, which takes those of a type of its own: counts the bytes that
+/// came.
 pub(crate) fn run(
     rt: &(impl Print + Threads + Wait + Sync),
     alloc: Global,

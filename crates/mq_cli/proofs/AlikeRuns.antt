@@ -1,6 +1,6 @@
 -- A cut changes no other line of a run.
 use Rattle.std.proofs.Common.{◌≡◌, ℕ, ◌+◌, if◌then◌else◌, List, [], ◌∷◌, ◌++◌, map, codes, Option}
-use Rattle.std.proofs.Common.{None, Some, Result, Ok, Err, Bool, true, false, refl, ap, sym, subst}
+use Rattle.std.proofs.Common.{None, Some, Result, Ok, Err, Bool, true, false, refl, ap, rules, sym, subst}
 use Rattle.std.proofs.Common.{◌∙◌}
 use Rattle.std.specs.List.{AllZip, flat_map, range_with_len}
 use Rattle.mq_one_thread.specs.declared.config.Config.{Config}
@@ -19,17 +19,7 @@ use Rattle.mq_cli.proofs.AlikeSteps.{RunsAlike, cut_alone, step_like}
 -- both runs begin alike
 start_alike : (config : Config)
     → RunsAlike config.last_seq (first_session config) (first_session config)
-start_alike config = record {
-  queues = record {
-    arena = refl;
-    keys = refl;
-    one = refl;
-    other = refl;
-    slots =
-        slots (range_with_len 0 config.slots);
-  };
-  seat = refl;
-}
+start_alike config = search (rules, slots (range_with_len 0 config.slots))
   where
     slots : (numbers : List ℕ) → AllZip (AreAlike config.last_seq) (map empty_kept numbers)
         (map empty_kept numbers)
@@ -117,10 +107,5 @@ joined_is n s (line ∷ lines) = by (said n s (reading line)) (λ t. joined_is (
 pub changes_no_other : (config : Config) (lines : List (List ℕ)) → CutsChangeNoOther config lines
 changes_no_other config lines =
     let both = lines_like config.last_seq 1 (first_session config) (first_session config) lines
-    (start_alike config)
-    in
-    record {
-      whole = joined_is 1 (first_session config) lines;
-      texts = both.texts;
-      fault = both.fault;
-    }
+    (start_alike config) in
+    search (rules, joined_is 1 (first_session config) lines, both.texts, both.fault)

@@ -1,6 +1,6 @@
 -- Two slots that keep parts of one list, and what calls answer in them.
 use Rattle.std.proofs.Common.{◌≡◌, ℕ, ℤ, ◌≤◌, List, [], ◌∷◌, ◌++◌, length, Option, None, Some}
-use Rattle.std.proofs.Common.{Result, Ok, Err, Bool, true, false, refl, ap, sym, ◌∙◌}
+use Rattle.std.proofs.Common.{Result, Ok, Err, Bool, true, false, refl, ap, rules, sym, ◌∙◌}
 use Rattle.mq_message.specs.Text.{PlainText}
 use Rattle.mq_message.specs.declared.message.Message.{Message}
 use Rattle.mq_select.specs.declared.header.Header.{Header}
@@ -15,9 +15,8 @@ use Rattle.mq_queue.specs.Row.{is_live, last_log, made_count}
 use Rattle.mq_queue.specs.Waiting.{waiting}
 use Rattle.mq_table.specs.Cut.{kept_cuts}
 use Rattle.mq_table.specs.Kept.{KeptSlot, entries_of, kept_figures, places_now}
-use Rattle.mq_table.specs.KeptCalls.{KeptTurn, kept_makes, kept_received}
-use Rattle.mq_table.specs.KeptCalls.{kept_receives, kept_removes, kept_sends, kept_sets}
-use Rattle.mq_table.specs.KeptCalls.{kept_unless}
+use Rattle.mq_table.specs.KeptCalls.{KeptTurn, kept_makes, kept_received, kept_receives}
+use Rattle.mq_table.specs.KeptCalls.{kept_removes, kept_sends, kept_sets, kept_unless}
 use Rattle.mq_table.specs.KeptPart.{IsKeptPart}
 use Rattle.mq_table.specs.KeptShown.{is_free_now, last_id_now, next_id_now, row_now, standing_now}
 use Rattle.mq_table.specs.SlotList.{IsSlotList}
@@ -26,8 +25,7 @@ use Rattle.mq_table.proofs.Cuts.{cut_kept}
 use Rattle.mq_table.proofs.Grown.{list_made, list_more}
 use Rattle.mq_table.proofs.Kepts.{entries_is, figures_is, is_free_is, last_id_is, next_id_is}
 use Rattle.mq_table.proofs.Kepts.{places_is, row_is, standing_is}
-use Rattle.mq_table.proofs.KeptTurns.{kept_more, makes_kept, removes_kept, quota_last}
-use Rattle.mq_table.proofs.KeptTurns.{waits_last}
+use Rattle.mq_table.proofs.KeptTurns.{kept_more, makes_kept, removes_kept, quota_last, waits_last}
 
 -- both keep a part of one slot list, and have the same number and the same messages
 pub record AreAlike (last_seq : ℕ) (a b : KeptSlot PlainText) : Type 0 where
@@ -79,27 +77,19 @@ module _ (last_seq : ℕ) (a b : KeptSlot PlainText) (k : AreAlike last_seq a b)
 
   -- a cut of the one
   pub cut_alike : AreAlike last_seq (kept_cuts a) b
-  cut_alike = record {
-    list = k.list;
-    lawful = k.lawful;
-    one = cut_kept k.list a k.one last_seq k.lawful;
-    other = k.other;
-    number = k.number;
-    messages = k.messages;
-  }
+  cut_alike =
+      let one = cut_kept k.list a k.one last_seq k.lawful in
+      search (rules, k.lawful, one, k.other, k.number, k.messages)
 
   -- msgget
   pub made_alike : (key : ℤ) (seat moment : ℕ) → is_live k.list ≡ false
       → made_count k.list ≤ last_seq
       → AreAlike last_seq (kept_makes a key seat moment) (kept_makes b key seat moment)
-  made_alike key seat moment off few = record {
-    list = k.list ++ event.Made seat moment key ∷ [];
-    lawful = list_made last_seq k.list k.lawful seat moment key off few;
-    one = makes_kept k.list a k.one key seat moment off;
-    other = makes_kept k.list b k.other key seat moment off;
-    number = k.number;
-    messages = refl;
-  }
+  made_alike key seat moment off few =
+      let lawful = list_made last_seq k.list k.lawful seat moment key off few in
+      let one = makes_kept k.list a k.one key seat moment off in
+      let other = makes_kept k.list b k.other key seat moment off in
+      search (rules, lawful, one, other, k.number)
 
   module _ (live : is_live k.list ≡ true) where
     -- msgsnd
@@ -113,8 +103,7 @@ module _ (last_seq : ℕ) (a b : KeptSlot PlainText) (k : AreAlike last_seq a b)
         rw (
           waits_last k.list a k.one live,
           quota_last k.list a k.one live,
-          waits_last k.list b
-              k.other live,
+          waits_last k.list b k.other live,
           quota_last k.list b k.other live,
         )
         (unless_alike last_seq e a b _ _ entries_alike (λ free. record {
@@ -135,9 +124,6 @@ module _ (last_seq : ℕ) (a b : KeptSlot PlainText) (k : AreAlike last_seq a b)
         rw (waits_last k.list a k.one live, waits_last k.list b k.other live)
         (by (receive_answer (waiting (last_log k.list)) size selection noerror) refl)
       where
-        got : Header → Event
-        got m = event.Received seat moment m.place selection size noerror
-
         by : (answer : Result Header QueueError) → receive_answer (waiting (last_log k.list)) size
             selection noerror ≡ answer
             → TurnAlike last_seq
@@ -182,11 +168,8 @@ module _ (last_seq : ℕ) (a b : KeptSlot PlainText) (k : AreAlike last_seq a b)
     pub removes_alike : (seat moment : ℕ) → AreAlike last_seq (kept_removes a seat moment)
         (kept_removes b seat moment)
     removes_alike seat moment =
-        let e : Event = event.Removed seat moment in record {
-          list = k.list ++ e ∷ [];
-          lawful = list_more last_seq k.list k.lawful e live refl tt;
-          one = removes_kept k.list a k.one live seat moment;
-          other = removes_kept k.list b k.other live seat moment;
-          number = k.number;
-          messages = refl;
-        }
+        let e : Event = event.Removed seat moment in
+        let lawful = list_more last_seq k.list k.lawful e live refl tt in
+        let one = removes_kept k.list a k.one live seat moment in
+        let other = removes_kept k.list b k.other live seat moment in
+        search (rules, lawful, one, other, k.number)

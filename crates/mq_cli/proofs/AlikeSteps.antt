@@ -2,12 +2,12 @@
 use Rattle.std.proofs.Common.{◌≡◌, ℕ, ℤ, pos, int_lt, ◌+◌, ◌^◌, ◌==◌, nat_lt, if◌then◌else◌}
 use Rattle.std.proofs.Common.{List, [], ◌∷◌, ◌++◌, get_or, set as set_at, zero, suc, length}
 use Rattle.std.proofs.Common.{length-append, Option, None, Some, Result, Ok, Err, Bool, true, false}
-use Rattle.std.proofs.Common.{refl, ap, subst, ◌∙◌, arith}
+use Rattle.std.proofs.Common.{refl, ap, rules, subst, ◌∙◌, arith}
 use Rattle.std.specs.List.{AllZip, flat_map, range_with_len}
 use Rattle.mq_tree.specs.Blocks.{PlainBlock}
-use Rattle.mq_tree.specs.LentSet.{Lending}
+use Rattle.mq_tree.specs.LentSet.{Lending, free_pages}
 use Rattle.mq_arena.specs.Lent.{lend}
-use Rattle.mq_message.specs.Text.{PlainText, no_text, order_for}
+use Rattle.mq_message.specs.Text.{PlainText, order_for}
 use Rattle.mq_message.specs.declared.message.Message.{Message}
 use Rattle.mq_queue.specs.declared.limits.TheConstants.{MSGMAX}
 use Rattle.mq_queue.specs.declared.event.Event.{Event}
@@ -19,39 +19,34 @@ use Rattle.mq_table.specs.Ids.{slot_of}
 use Rattle.mq_table.specs.Keys.{forget}
 use Rattle.mq_queue.specs.Row.{is_live}
 use Rattle.mq_tree.specs.Fit.{largest}
-use Rattle.mq_tree.specs.LentSet.{free_pages}
 use Rattle.mq_table.specs.Kept.{KeptSlot, base_now, entries_of}
 use Rattle.mq_table.specs.KeptCalls.{KeptTurn, kept_receives, kept_sends, kept_sets}
 use Rattle.mq_table.specs.KeptShown.{last_id_now, row_now}
 use Rattle.mq_table.specs.SlotParts.{empty_kept}
 use Rattle.mq_one_thread.specs.declared.draft_error.DraftError.{DraftError}
-use Rattle.mq_one_thread.specs.declared.draft_error.DraftError.TheVariants.{TooLong}
 use Rattle.mq_one_thread.specs.declared.errno.Errno.{Errno}
-use Rattle.mq_one_thread.specs.declared.errno.Errno.TheVariants.{EINVAL}
 use Rattle.mq_one_thread.specs.declared.results.Refused.{Refused}
 use Rattle.mq_one_thread.specs.declared.results.GetFlags.{GetFlags}
-use Rattle.mq_one_thread.specs.Calls.{cut_log, delivers, msgrcv, msgsnd, removed}
+use Rattle.mq_one_thread.specs.Calls.{delivers, msgrcv, msgsnd, removed}
 use Rattle.mq_one_thread.specs.Calls.{set as set_answer, figures_shown, stat as stat_answer}
 use Rattle.mq_cli.specs.Commands.{AskedCall, sit, show, get, snd, rcv, set, rm, stat, cut, ipcs, info}
 use Rattle.mq_cli.specs.Commands.{AskedText}
 use Rattle.mq_cli.specs.Drafts.{by_draft_errno, bytes_of_text, draft}
 use Rattle.mq_cli.specs.Cuts.{is_cut}
-use Rattle.mq_one_thread.specs.Look.{in_queue, look, once, refused_early}
+use Rattle.mq_one_thread.specs.Look.{look, once}
 use Rattle.mq_cli.specs.Reports.{line_of_row, table_of}
 use Rattle.mq_cli.specs.Session.{SessionState, by_errno}
 use Rattle.mq_one_thread.specs.State.{QueuesState as System, slot_at}
-use Rattle.mq_one_thread.specs.Texts.{bytes_of, drafts, in_block, spends, spends_all}
+use Rattle.mq_one_thread.specs.Texts.{bytes_of, drafts, in_block, spends, spends_all, filled_with}
 use Rattle.mq_one_thread.specs.Usages.{no_usage, usage_of}
 use Rattle.mq_one_thread.proofs.UsageLemmas.{usage_same}
-use Rattle.mq_one_thread.specs.Texts.{filled_with}
-use Rattle.mq_cli.specs.Transcript.{Reply, refused, at, gone, cut_off}
-use Rattle.mq_cli.specs.Transcript.{cut_step, arena as arena_told, figures_reply, by_seat, get_step}
-use Rattle.mq_cli.specs.Transcript.{output, receive_step, remove_step, send_step, set_step, step}
-use Rattle.mq_cli.specs.Transcript.{replied, usage}
+use Rattle.mq_cli.specs.Transcript.{Reply, refused, at, gone, cut_step, arena as arena_told}
+use Rattle.mq_cli.specs.Transcript.{figures_reply, by_seat, get_step, output, receive_step}
+use Rattle.mq_cli.specs.Transcript.{remove_step, send_step, set_step, step, replied, usage}
 use Rattle.mq_cli.proofs.AlikeSlots.{AreAlike, TurnAlike, cut_alike, entries_alike, figures_alike}
 use Rattle.mq_cli.proofs.AlikeSlots.{last_id_alike, places_alike, receives_alike, removes_alike}
 use Rattle.mq_cli.proofs.AlikeSlots.{row_alike, sends_alike, sets_alike}
-use Rattle.mq_cli.proofs.AlikeSystems.{AnswerAlike, AreLike, in_queue_like, look_like, look_live}
+use Rattle.mq_cli.proofs.AlikeSystems.{AnswerAlike, AreLike, if_like, in_queue_like, look_like, look_live}
 use Rattle.mq_cli.proofs.AlikeSystems.{msgget_like, slot_like, slots_like, with_arena_like}
 use Rattle.mq_cli.proofs.AlikeSystems.{with_slot_like}
 
@@ -69,43 +64,27 @@ module _ (last_seq : ℕ) (s t : System) (k : AreLike last_seq s t) where
       → SaysAlike last_seq (replied s one x) (replied t other y)
   told_like one other (Ok x) (Ok y) same by =
       subst (λ r. SaysAlike last_seq (one x) (other (r, y.1))) same.0 (by x.0 x.1 y.1 same.1)
-  told_like one other (Ok x) (Err e) same by = absurd same
-  told_like one other (Err e) (Ok y) same by = absurd same
   told_like one other (Err d) (Err e) same by =
       record { line = ap (λ e. output (refused e)) same; left = k }
+  told_like one other _ _ same by = absurd same
 
   errno_like : {T : Type 0} (x y : Result (T × System) Refused) → AnswerAlike last_seq x y
       → AnswerAlike last_seq (by_errno x) (by_errno y)
   errno_like (Ok x) (Ok y) same = same
-  errno_like (Ok x) (Err e) same = absurd same
-  errno_like (Err e) (Ok y) same = absurd same
   errno_like (Err d) (Err e) same = ap (λ r. r.errno) same
+  errno_like _ _ same = absurd same
 
   -- a draft
   drafts_like : (n : ℕ) → AnswerAlike last_seq (drafts s n) (drafts t n)
-  drafts_like n = long (nat_lt MSGMAX n)
+  drafts_like n =
+      if_like last_seq (nat_lt MSGMAX n) _ _ _ _ refl
+      (if_like last_seq (n == 0) _ _ _ _ (refl, k)
+      (rw (← k.arena) (lent (lend s.arena (order_for n)))))
     where
       lent : (a : Option (PlainBlock × Lending))
           → AnswerAlike last_seq (in_block s n a) (in_block t n a)
       lent None = refl
       lent (Some block) = (refl, with_arena_like last_seq s t k block.1 block.1 refl)
-
-      empty : (b : Bool) → AnswerAlike last_seq
-          (if b then Ok (no_text, s) else in_block s n (lend s.arena (order_for n)))
-          (if b then Ok (no_text, t) else in_block t n (lend t.arena (order_for n)))
-      empty true = (refl, k)
-      empty false =
-          subst (λ arena. AnswerAlike last_seq (in_block s n (lend s.arena (order_for n)))
-          (in_block t n (lend arena (order_for n)))) k.arena
-          (lent (lend s.arena (order_for n)))
-
-      long : (b : Bool) → AnswerAlike last_seq
-          (if b then Err TooLong else (if n == 0 then Ok (no_text, s) else in_block s n
-          (lend s.arena (order_for n))))
-          (if b then Err TooLong else (if n == 0 then Ok (no_text, t) else in_block t n
-          (lend t.arena (order_for n))))
-      long true = refl
-      long false = empty (n == 0)
 
   draft_like : (text : AskedText) → AnswerAlike last_seq (draft s text) (draft t text)
   draft_like text = named (drafts s (length bytes)) (drafts t (length bytes))
@@ -119,42 +98,28 @@ module _ (last_seq : ℕ) (s t : System) (k : AreLike last_seq s t) where
           (by_draft_errno (filled_with bytes y))
       named (Ok x) (Ok y) same =
           (ap (λ (text : PlainText). record { bytes = bytes; block = text.block }) same.0, same.1)
-      named (Ok x) (Err e) same = absurd same
-      named (Err e) (Ok y) same = absurd same
       named (Err d) (Err e) same = cc same
+      named _ _ same = absurd same
 
   -- msgsnd
   msgsnd_like : (seat id : ℕ) (mtype : ℤ) (tag : ℕ) (text : PlainText) (moment : ℕ)
       → AnswerAlike last_seq (msgsnd s seat id mtype tag text moment)
       (msgsnd t seat id mtype tag text moment)
-  msgsnd_like seat id mtype tag text moment = by (int_lt mtype (pos 1))
-    where
-      call : KeptSlot PlainText → KeptTurn PlainText ℕ
-      call slot = kept_sends bytes_of slot
-          (record { mtype = mtype; sender = seat; tag = tag; body = text }) moment
-
-      by : (b : Bool) → AnswerAlike last_seq
-          (if b then Err (refused_early EINVAL) else in_queue s id
-          (λ slot. kept_sends bytes_of slot
-          (record { mtype = mtype; sender = seat; tag = tag; body = text }) moment))
-          (if b then Err (refused_early EINVAL) else in_queue t id
-          (λ slot. kept_sends bytes_of slot
-          (record { mtype = mtype; sender = seat; tag = tag; body = text }) moment))
-      by true = refl
-      by false = in_queue_like last_seq s t k id
-          (λ slot. kept_sends bytes_of slot
-          (record { mtype = mtype; sender = seat; tag = tag; body = text }) moment)
-          (λ live. sends_alike last_seq _ _ (slot_like last_seq s t k (slot_of id)) live bytes_of
-          (record { mtype = mtype; sender = seat; tag = tag; body = text }) moment)
+  msgsnd_like seat id mtype tag text moment =
+      let m : Message PlainText =
+      record { mtype = mtype; sender = seat; tag = tag; body = text } in
+      if_like last_seq (int_lt mtype (pos 1)) _ _ _ _ refl
+      (in_queue_like last_seq s t k id (λ slot. kept_sends bytes_of slot m moment)
+      (λ live. sends_alike last_seq _ _ (slot_like last_seq s t k (slot_of id)) live bytes_of m
+      moment))
 
   -- msgrcv
   delivers_like : (held other : List (ℕ × Message PlainText)) (size : ℕ) → held ≡ other
       → (x y : KeptTurn PlainText Receipt) → TurnAlike last_seq x y
       → TurnAlike last_seq (delivers held size x) (delivers other size y)
   delivers_like held other size is (Ok x) (Ok y) same = (cc (same.0, is), same.1)
-  delivers_like held other size is (Ok x) (Err e) same = absurd same
-  delivers_like held other size is (Err e) (Ok y) same = absurd same
   delivers_like held other size is (Err d) (Err e) same = same
+  delivers_like held other size is _ _ same = absurd same
 
   msgrcv_like : (seat id size : ℕ) (mtype : ℤ) (except noerror : Bool) (moment : ℕ)
       → AnswerAlike last_seq (msgrcv s seat id size mtype except noerror moment)
@@ -197,14 +162,12 @@ module _ (last_seq : ℕ) (s t : System) (k : AreLike last_seq s t) where
       → output (gone (entries_of a) ((base_now a).places + length (a.last ++ e ∷ []))) ≡ output
       (gone (entries_of b) ((base_now b).places + length (b.last ++ e ∷ [])))
   gone_like a b e alike =
-      let events : length (a.last ++ e ∷ []) ≡ length a.last + 1 = length-append a.last (e ∷ []) in
-      let others : length (b.last ++ e ∷ []) ≡ length b.last + 1 = length-append b.last (e ∷ []) in
+      let events = length-append a.last (e ∷ []) in
+      let others = length-append b.last (e ∷ []) in
       let count : (base_now a).places + length (a.last ++ e ∷ []) ≡ (base_now b).places + length
       (b.last ++ e ∷ []) =
       omega (arith, events, others, places_alike last_seq a b alike) in
-      ap (λ entry. output (gone entry ((base_now a).places + length (a.last ++ e ∷ []))))
-      (entries_alike last_seq a b alike)
-      ∙ ap (λ events. output (gone (entries_of b) events)) count
+      rw (entries_alike last_seq a b alike, count) refl
 
   remove_like : (n seat id : ℕ) → SaysAlike last_seq (remove_step n seat s id)
       (remove_step n seat t id)
@@ -217,14 +180,11 @@ module _ (last_seq : ℕ) (s t : System) (k : AreLike last_seq s t) where
           (replied t (λ t. (gone t.0.entry (t.0.log.base.places + length t.0.log.tail), t.1))
           (by_errno (once r (Ok (removed t (slot_of id) seat n)))))
 
-      done : look s id ≡ Ok tt → Goes (Ok tt)
-      done is = record {
+      by : (r : Result (Unit {0}) Refused) → look s id ≡ r → Goes r
+      by (Ok u) is = record {
         line = gone_like _ _ (event.Removed seat n) (slot_like last_seq s t k (slot_of id));
         left = removed_like n seat id (look_live last_seq s t k id is);
       }
-
-      by : (r : Result (Unit {0}) Refused) → look s id ≡ r → Goes r
-      by (Ok u) is = done is
       by (Err refusal) is = record { line = refl; left = k }
 
   -- what a report shows
@@ -259,34 +219,23 @@ module _ (last_seq : ℕ) (s t : System) (k : AreLike last_seq s t) where
 
   -- a cut on the one side alone
   cut_like : (slot : ℕ) → AreLike last_seq (cut_step s slot).1 t
-  cut_like slot = by (nat_lt slot (length s.slots))
+  cut_like slot =
+      let slots = put s.slots t.slots slot (empty_kept slot) k.slots in
+      pick (nat_lt slot (length s.slots)) _ _
+      (search (rules, k.arena, k.keys, k.one, k.other, slots)) k
     where
       put : (xs ys : List (KeptSlot PlainText)) (n : ℕ) (d : KeptSlot PlainText)
           → AllZip (AreAlike last_seq) xs ys → AllZip (AreAlike last_seq)
           (set_at xs n (kept_cuts (get_or xs n d))) ys
       put [] [] n d all = tt
-      put [] (b ∷ ys) n d all = absurd all
-      put (a ∷ xs) [] n d all = absurd all
       put (a ∷ xs) (b ∷ ys) zero d all = (cut_alike last_seq a b all.0, all.1)
       put (a ∷ xs) (b ∷ ys) (suc n) d all = (all.0, put xs ys n d all.1)
+      put _ _ _ d all = absurd all
 
-      left : Bool → Reply × System
-      left b =
-          if b then (
-            cut_off (slot_at s slot).first (entries_of (slot_at s slot)),
-            (cut_log s slot).1,
-          )
-          else (refused EINVAL, s)
-
-      by : (b : Bool) → AreLike last_seq (left b).1 t
-      by true = record {
-        arena = k.arena;
-        keys = k.keys;
-        one = k.one;
-        other = k.other;
-        slots = put s.slots t.slots slot (empty_kept slot) k.slots;
-      }
-      by false = k
+      pick : (b : Bool) (x y : Reply × System) → AreLike last_seq x.1 t → AreLike last_seq y.1 t
+          → AreLike last_seq (if b then x else y).1 t
+      pick true x y one other = one
+      pick false x y one other = other
 
 module _ (last_seq : ℕ) (s t : System) (k : AreLike last_seq s t) where
   -- the calls of a line
@@ -361,8 +310,7 @@ module _ (last_seq n : ℕ) (s t : SessionState) (k : RunsAlike last_seq s t) wh
       record { line = refl; left = record { queues = k.queues; seat = refl } }
   step_like show e = record {
     line = ap (λ arena. output (arena_of arena)) k.queues.arena;
-    left =
-        k;
+    left = k;
   }
   step_like (get key flags) e = by_seat_like (λ seat q. get_step n seat q key flags)
       (λ seat. get_like last_seq s.queues t.queues k.queues n seat key flags)
@@ -398,7 +346,6 @@ module _ (last_seq n : ℕ) (s t : SessionState) (k : RunsAlike last_seq s t) wh
   pub cut_alone : (call : AskedCall) → is_cut call ≡ true → RunsAlike last_seq (step n s call).1 t
   cut_alone (cut slot) e = record {
     queues = cut_like last_seq s.queues t.queues k.queues slot;
-    seat
-        = k.seat;
+    seat = k.seat;
   }
   cut_alone _ e = absurd (cc e)

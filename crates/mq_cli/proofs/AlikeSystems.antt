@@ -1,8 +1,7 @@
 -- Two systems whose slots keep parts of the same lists, and what calls answer in them.
-use Rattle.std.proofs.Common.{◌≡◌, ℕ, ℤ, suc, zero, pos, ◌&&◌}
-use Rattle.std.proofs.Common.{nat_le, nat_lt, if◌then◌else◌, List, [], ◌∷◌, length}
-use Rattle.std.proofs.Common.{get_or, set, Option, None, Some, Result, Ok, Err, Bool, true, false}
-use Rattle.std.proofs.Common.{not, refl, ap, sym, subst, ◌∙◌, arith}
+use Rattle.std.proofs.Common.{◌≡◌, ℕ, ℤ, suc, zero, pos, ◌&&◌, nat_le, nat_lt, if◌then◌else◌, List}
+use Rattle.std.proofs.Common.{[], ◌∷◌, length, get_or, set, Option, None, Some, Result, Ok, Err}
+use Rattle.std.proofs.Common.{Bool, true, false, not, refl, rules, ap, sym, subst, ◌∙◌, arith}
 use Rattle.std.specs.List.{AllZip, position_or_len}
 use Rattle.std.specs.Ordering.{int_eq}
 use Rattle.std.proofs.lemmas.Bool.{and_parts, leb-true, not-true}
@@ -23,9 +22,8 @@ use Rattle.mq_table.specs.SlotList.{IsSlotList, is_free, standing}
 use Rattle.mq_table.specs.declared.refusal.IdRefusal.{IdRefusal}
 use Rattle.mq_table.proofs.Kepts.{is_free_is, standing_is}
 use Rattle.mq_table.proofs.KeptTurns.{none_kept}
-use Rattle.mq_one_thread.specs.declared.errno.Errno.TheVariants.{EEXIST, EINVAL, ENOENT}
+use Rattle.mq_one_thread.specs.declared.errno.Errno.TheVariants.{EINVAL}
 use Rattle.mq_one_thread.specs.declared.results.GetFlags.{GetFlags}
-use Rattle.mq_one_thread.specs.declared.results.Got.{Got}
 use Rattle.mq_one_thread.specs.declared.results.Refused.{Refused}
 use Rattle.mq_one_thread.specs.Get.{by_key, free_slot, made_in, makes_one, msgget}
 use Rattle.mq_one_thread.specs.Look.{by_slot, in_queue, in_slot, look, once, refused_early}
@@ -38,29 +36,26 @@ set_pairs : {X : Type 0} (R : X → X → Type 0) (xs ys : List X) (k : ℕ) (x 
     → R x y
     → AllZip R (set xs k x) (set ys k y)
 set_pairs R [] [] k x y all r = tt
-set_pairs R [] (b ∷ ys) k x y all r = absurd all
-set_pairs R (a ∷ xs) [] k x y all r = absurd all
 set_pairs R (a ∷ xs) (b ∷ ys) zero x y all r = (r, all.1)
 set_pairs R (a ∷ xs) (b ∷ ys) (suc k) x y all r = (all.0, set_pairs R xs ys k x y all.1 r)
+set_pairs R _ _ _ x y all r = absurd all
 
 -- one of each
 pair_at : {X : Type 0} (R : X → X → Type 0) (xs ys : List X) (k : ℕ) (d : X) → AllZip R xs ys
     → R d d
     → R (get_or xs k d) (get_or ys k d)
 pair_at R [] [] k d all r = r
-pair_at R [] (b ∷ ys) k d all r = absurd all
-pair_at R (a ∷ xs) [] k d all r = absurd all
 pair_at R (a ∷ xs) (b ∷ ys) zero d all r = all.0
 pair_at R (a ∷ xs) (b ∷ ys) (suc k) d all r = pair_at R xs ys k d all.1 r
+pair_at R _ _ _ d all r = absurd all
 
 -- where a test does not tell them apart it first holds at one place
 first_place : {X : Type 0} (R : X → X → Type 0) (p : X → Bool) (xs ys : List X) → AllZip R xs ys
     → ((x y : X) → R x y → p x ≡ p y) → position_or_len p xs ≡ position_or_len p ys
 first_place R p [] [] all same = refl
-first_place R p [] (b ∷ ys) all same = absurd all
-first_place R p (a ∷ xs) [] all same = absurd all
 first_place R p (a ∷ xs) (b ∷ ys) all same = rw (same a b all.0, first_place R p xs ys all.1 same)
     refl
+first_place R p _ _ all same = absurd all
 
 -- both have lent the same, know the same keys, and have slots that are alike
 pub record AreLike (last_seq : ℕ) (s t : QueuesState) : Type 0 where
@@ -78,27 +73,27 @@ AnswerAlike last_seq (Ok t) (Err e) = ⊥
 AnswerAlike last_seq (Err e) (Ok u) = ⊥
 AnswerAlike last_seq (Err d) (Err e) = d ≡ e
 
+-- answers by a test that goes the same way in both
+pub if_like : {T E : Type 0} (last_seq : ℕ) (b : Bool) (x y u v : Result (T × QueuesState) E)
+    → AnswerAlike last_seq x y → AnswerAlike last_seq u v
+    → AnswerAlike last_seq (if b then x else u) (if b then y else v)
+if_like last_seq true x y u v one other = one
+if_like last_seq false x y u v one other = other
+
 -- a slot list of no entry
 none_listed : (last_seq : ℕ) → IsSlotList last_seq []
 none_listed last_seq = record {
   logs = [];
   whole = refl;
   few = omega arith;
-  lawful =
-      (λ k d within. absurd (omega (arith, within)));
-  ended =
-      (λ k d within. absurd (omega (arith, within)));
+  lawful = (λ k d within. absurd (omega (arith, within)));
+  ended = (λ k d within. absurd (omega (arith, within)));
 }
 
 pub empty_alike : (last_seq k : ℕ) → AreAlike last_seq (empty_kept k) (empty_kept k)
-empty_alike last_seq k = record {
-  list = [];
-  lawful = none_listed last_seq;
-  one = none_kept (empty_kept k) refl refl refl refl refl refl;
-  other = none_kept (empty_kept k) refl refl refl refl refl refl;
-  number = refl;
-  messages = refl;
-}
+empty_alike last_seq k =
+    let none = none_kept {B = PlainText} (empty_kept k) refl refl refl refl refl refl in
+    search (rules, none_listed last_seq, none)
 
 -- an id that is there has a queue
 live_there : (list : List Event) (seq : ℕ) → by_standing (standing list seq) ≡ Ok tt
@@ -120,24 +115,13 @@ module _ (last_seq : ℕ) (s t : QueuesState) (k : AreLike last_seq s t) where
       (empty_alike last_seq n)
 
   pub with_arena_like : (a b : Lending) → a ≡ b → AreLike last_seq (with_arena s a) (with_arena t b)
-  with_arena_like a b same = record {
-    arena = same;
-    keys = k.keys;
-    one = k.one;
-    other =
-        k.other;
-    slots = k.slots;
-  }
+  with_arena_like a b same = search (rules, same, k.keys, k.one, k.other, k.slots)
 
   pub with_slot_like : (n : ℕ) (a b : KeptSlot PlainText) → AreAlike last_seq a b
       → AreLike last_seq (with_slot s n a) (with_slot t n b)
-  with_slot_like n a b alike = record {
-    arena = k.arena;
-    keys = k.keys;
-    one = k.one;
-    other = k.other;
-    slots = set_pairs (AreAlike last_seq) s.slots t.slots n a b k.slots alike;
-  }
+  with_slot_like n a b alike =
+      let slots = set_pairs (AreAlike last_seq) s.slots t.slots n a b k.slots alike in
+      search (rules, k.arena, k.keys, k.one, k.other, slots)
 
   -- an id is looked up alike
   pub look_like : (id : ℕ) → look s id ≡ look t id
@@ -171,10 +155,9 @@ module _ (last_seq : ℕ) (s t : QueuesState) (k : AreLike last_seq s t) where
   in_slot_like : {T : Type 0} (id : ℕ) (x y : KeptTurn PlainText T) → TurnAlike last_seq x y
       → AnswerAlike last_seq (in_slot s id x) (in_slot t id y)
   in_slot_like id (Ok x) (Ok y) same = (same.0, with_slot_like (slot_of id) x.1 y.1 same.1)
-  in_slot_like id (Ok x) (Err e) same = absurd same
-  in_slot_like id (Err e) (Ok y) same = absurd same
   in_slot_like id (Err d) (Err e) same =
       rw (same, entries_alike last_seq _ _ (slot_like (slot_of id))) refl
+  in_slot_like id _ _ same = absurd same
 
   -- a call of an id's queue
   pub in_queue_like : {T : Type 0} (id : ℕ) (call : KeptSlot PlainText → KeptTurn PlainText T)
@@ -231,33 +214,16 @@ module _ (last_seq : ℕ) (s t : QueuesState) (k : AreLike last_seq s t) where
 
   by_key_like : (seat : ℕ) (key : ℤ) (flags : GetFlags) (moment : ℕ) (id : Option ℕ)
       → AnswerAlike last_seq (by_key s seat key flags moment id) (by_key t seat key flags moment id)
-  by_key_like seat key flags moment (Some id) = by (flags.create && flags.exclusive)
-    where
-      by : (b : Bool) → AnswerAlike {T = Got} last_seq
-          (if b then Err EEXIST else Ok (record { id = id; made = None }, s))
-          (if b then Err EEXIST else Ok (record { id = id; made = None }, t))
-      by true = refl
-      by false = (refl, k)
-  by_key_like seat key flags moment None = by flags.create
-    where
-      by : (b : Bool) → AnswerAlike last_seq (if b then makes_one s key seat moment else Err ENOENT)
-          (if b then makes_one t key seat moment else Err ENOENT)
-      by true = makes_one_like key seat moment
-      by false = refl
+  by_key_like seat key flags moment (Some id) =
+      if_like last_seq (flags.create && flags.exclusive) _ _ _ _ refl (refl, k)
+  by_key_like seat key flags moment None =
+      if_like last_seq flags.create _ _ _ _ (makes_one_like key seat moment) refl
 
   -- msgget
   pub msgget_like : (seat : ℕ) (key : ℤ) (flags : GetFlags) (moment : ℕ) → AnswerAlike last_seq
       (msgget s seat key flags moment) (msgget t seat key flags moment)
-  msgget_like seat key flags moment = by (int_eq key (pos 0))
-    where
-      by : (b : Bool) → AnswerAlike last_seq
-          (if b then makes_one s key seat moment else by_key s seat key flags moment
-          (id_of_key s.keys key))
-          (if b then makes_one t key seat moment else by_key t seat key flags moment
-          (id_of_key t.keys key))
-      by true = makes_one_like key seat moment
-      by false =
-          subst (λ keys. AnswerAlike last_seq
-          (by_key s seat key flags moment (id_of_key s.keys key))
-          (by_key t seat key flags moment (id_of_key keys key))) k.keys
-          (by_key_like seat key flags moment (id_of_key s.keys key))
+  msgget_like seat key flags moment =
+      if_like last_seq (int_eq key (pos 0)) _ _ _ _ (makes_one_like key seat moment)
+      (subst (λ keys. AnswerAlike last_seq (by_key s seat key flags moment (id_of_key s.keys key))
+      (by_key t seat key flags moment (id_of_key keys key))) k.keys
+      (by_key_like seat key flags moment (id_of_key s.keys key)))

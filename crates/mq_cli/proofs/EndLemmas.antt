@@ -1,5 +1,5 @@
 -- What a whole run of a threads script has written.
-use Rattle.std.proofs.Common.{◌≡◌, ◌⊎◌, inl, inr, ℕ, ◌-◌, ◌<◌, ◌^◌, zero, suc, List, [], ◌∷◌, ◌++◌, map, Option, IfSome, Result, Ok, Err, refl, sym, ap, ◌∙◌, subst, append-nil, arith, take}
+use Rattle.std.proofs.Common.{◌≡◌, ◌⊎◌, inl, inr, ℕ, ◌-◌, ◌<◌, ◌^◌, zero, suc, List, [], ◌∷◌, ◌++◌, map, Option, IfSome, Result, Ok, Err, refl, rules, sym, ap, ◌∙◌, subst, append-nil, arith, take}
 use Rattle.std.specs.Global.{Vec}
 use Rattle.std.specs.List.{AllZip}
 use Rattle.std.specs.Io.KnownBytes.{Keeps}
@@ -23,16 +23,15 @@ use Rattle.mq_cli.specs.ThreadsParsed.{Parses, wanted_seen}
 use Rattle.mq_cli.specs.ThreadsRun.{RanThreads, RanWanted}
 use Rattle.mq_cli.specs.ThreadsScript.{Wanted, wanted_of}
 use Rattle.mq_cli.proofs.InputLemmas.{reads_few}
-use Rattle.mq_cli.proofs.MainLemmas.{all_kept, all_prefix, prefix_behind, some_kept, wrote_first, wrote_nothing}
-use Rattle.mq_cli.proofs.Runs.{prefix_kept}
+use Rattle.mq_cli.proofs.MainLemmas.{all_kept, prefix_behind, some_kept, wrote_first, wrote_nothing}
+use Rattle.mq_cli.proofs.Runs.{prefix_kept, writes_prefix}
 
 -- the same of sections and of the vectors that hold them
 pub done_seen : (sections : List (Vec Step)) (outcomes : List Outcome) → AllZip (λ (plan : Vec Step) outcome. IsCarriedOut plan.items outcome) sections outcomes
     → AreDone (map (λ (v : Vec Step). v.items) sections) outcomes
 done_seen [] [] done = tt
-done_seen [] (o ∷ outcomes) done = absurd done
-done_seen (s ∷ sections) [] done = absurd done
 done_seen (s ∷ sections) (o ∷ outcomes) done = (done.0, done_seen sections outcomes done.1)
+done_seen _ _ done = absurd done
 
 -- all calls of the main part are some of them
 pub all_some : (slots last_seq : ℕ) (wanted : Wanted) (main now : SeatState) (old new : Option (List ℕ)) → WroteAll slots last_seq wanted.calls main now old new
@@ -44,20 +43,14 @@ pub not_run : (slots last_seq : ℕ) (wanted : Wanted) (main now : SeatState) (o
     → IsMakingFault fault → RanParts slots last_seq wanted main now old new (Err fault)
 not_run slots last_seq wanted main now old new Memory so making = all_some slots last_seq wanted main now old new so
 not_run slots last_seq wanted main now old new Thread so making = so
-not_run slots last_seq wanted main now old new (Script line cause) so making = absurd making
-not_run slots last_seq wanted main now old new Size so making = absurd making
-not_run slots last_seq wanted main now old new Read so making = absurd making
-not_run slots last_seq wanted main now old new Write so making = absurd making
+not_run slots last_seq wanted main now old new _ so making = absurd making
 
 -- a main part that was not done to its end
 pub main_failed : (slots last_seq : ℕ) (wanted : Wanted) (main now : SeatState) (old new : Option (List ℕ)) (fault : RunFault)
     → RanMain slots last_seq wanted.calls main now old new (Err fault) → RanParts slots last_seq wanted main now old new (Err fault)
 main_failed slots last_seq wanted main now old new Write ran = ran
 main_failed slots last_seq wanted main now old new Memory ran = ran
-main_failed slots last_seq wanted main now old new Thread ran = absurd ran
-main_failed slots last_seq wanted main now old new (Script line cause) ran = absurd ran
-main_failed slots last_seq wanted main now old new Size ran = absurd ran
-main_failed slots last_seq wanted main now old new Read ran = absurd ran
+main_failed slots last_seq wanted main now old new _ ran = absurd ran
 
 -- the workers, behind a main part that was
 pub sections_ran : (slots last_seq : ℕ) (script : ThreadsScript) (main now : SeatState) (old mid new : Option (List ℕ)) (r : Result (Vec Outcome) RunFault)
@@ -102,9 +95,7 @@ part_stays : (config : Config) (wanted : Wanted) (now : SeatState) (old mid new 
 part_stays config wanted now old mid new Write ran kept = inl (some_kept config.slots config.last_seq wanted.calls (main_seat config) old mid new ran kept)
 part_stays config wanted now old mid new Memory ran kept = inl (some_kept config.slots config.last_seq wanted.calls (main_seat config) old mid new ran kept)
 part_stays config wanted now old mid new Thread ran kept = (now, all_kept config.slots config.last_seq wanted.calls (main_seat config) now old mid new ran kept)
-part_stays config wanted now old mid new (Script line cause) ran kept = absurd ran
-part_stays config wanted now old mid new Size ran kept = absurd ran
-part_stays config wanted now old mid new Read ran kept = absurd ran
+part_stays config wanted now old mid new _ ran kept = absurd ran
 
 -- the same where the last flush failed
 part_cut : (config : Config) (wanted : Wanted) (now : SeatState) (old mid new : Option (List ℕ)) (fault : RunFault) → RanFrom config wanted now old mid (Err fault) → Keeps mid new
@@ -114,9 +105,7 @@ part_cut config wanted now old mid new Memory ran kept = inl (some_kept config.s
 part_cut config wanted now old mid new Thread ran kept =
     let main = main_seat config in
     inl (all_some config.slots config.last_seq wanted main now old new (all_kept config.slots config.last_seq wanted.calls main now old mid new ran kept))
-part_cut config wanted now old mid new (Script line cause) ran kept = absurd ran
-part_cut config wanted now old mid new Size ran kept = absurd ran
-part_cut config wanted now old mid new Read ran kept = absurd ran
+part_cut config wanted now old mid new _ ran kept = absurd ran
 
 -- all replies of the main part, as it ended
 abbrev WroteFrom : Config → Wanted → SeatState → Option (List ℕ) → Option (List ℕ) → Type 0
@@ -131,20 +120,7 @@ end_kept : (mid end new : Option (List ℕ)) (told : List ℕ) (r : Result (Unit
 end_kept mid end new told (Ok _) wrote kept = Appends-kept mid end new told wrote kept
 end_kept mid end new told (Err Write) wrote kept = prefix_kept mid end new told wrote kept
 end_kept mid end new told (Err Memory) wrote kept = prefix_kept mid end new told wrote kept
-end_kept mid end new told (Err Thread) wrote kept = absurd wrote
-end_kept mid end new told (Err (Script line cause)) wrote kept = absurd wrote
-end_kept mid end new told (Err Size) wrote kept = absurd wrote
-end_kept mid end new told (Err Read) wrote kept = absurd wrote
-
--- whatever is written of it is a prefix
-end_prefix : (mid new : Option (List ℕ)) (told : List ℕ) (r : Result (Unit {0}) RunFault) → Writes mid new told r → AppendsPrefix mid new told
-end_prefix mid new told (Ok _) wrote = all_prefix mid new told wrote
-end_prefix mid new told (Err Write) wrote = wrote
-end_prefix mid new told (Err Memory) wrote = wrote
-end_prefix mid new told (Err Thread) wrote = absurd wrote
-end_prefix mid new told (Err (Script line cause)) wrote = absurd wrote
-end_prefix mid new told (Err Size) wrote = absurd wrote
-end_prefix mid new told (Err Read) wrote = absurd wrote
+end_kept mid end new told _ wrote kept = absurd wrote
 
 -- a run whose workers have ended, and a prefix of what it tells
 whole_cut : (config : Config) (wanted : Wanted) (now : SeatState) (old mid new : Option (List ℕ)) (told : List ℕ) → WroteFrom config wanted now old mid
@@ -160,10 +136,7 @@ whole_stays config wanted now old mid new told (Ok _) so ending wrote =
     (text ++ told, whole config wanted now old mid told so ending, Appends-trans old mid new text told so.wrote wrote)
 whole_stays config wanted now old mid new told (Err Write) so ending wrote = whole_cut config wanted now old mid new told so ending wrote
 whole_stays config wanted now old mid new told (Err Memory) so ending wrote = whole_cut config wanted now old mid new told so ending wrote
-whole_stays config wanted now old mid new told (Err Thread) so ending wrote = absurd wrote
-whole_stays config wanted now old mid new told (Err (Script line cause)) so ending wrote = absurd wrote
-whole_stays config wanted now old mid new told (Err Size) so ending wrote = absurd wrote
-whole_stays config wanted now old mid new told (Err Read) so ending wrote = absurd wrote
+whole_stays config wanted now old mid new told _ so ending wrote = absurd wrote
 
 told_of : (config : Config) (wanted : Wanted) (now : SeatState) (outcomes : List Outcome) (slots : List ClosedSlot) (free : ℕ) → AreDone wanted.sections outcomes
     → AreClosed config now slots → IsTold config wanted.sections now (closing outcomes slots (2 ^ config.height) free)
@@ -183,7 +156,7 @@ run_by config wanted now old mid end new (Ok outcomes) slots pages free told res
     let text = closing outcomes.items slots (2 ^ config.height) free in
     let wrote : Writes mid end text told = subst (λ (p : ℕ). Writes mid end (closing outcomes.items slots p free) told) paged tells in
     subst (RanWanted config wanted old new) (sym failed)
-    (whole_cut config wanted now old mid new text parts.0 (told_of config wanted now outcomes.items slots free parts.1 are) (end_prefix mid new text told (end_kept mid end new text told wrote kept)))
+    (whole_cut config wanted now old mid new text parts.0 (told_of config wanted now outcomes.items slots free parts.1 are) (writes_prefix mid new text told (end_kept mid end new text told wrote kept)))
 run_by config wanted now old mid end new (Err fault) slots pages free told result parts are paged tells kept (inl same) =
     let stays : Keeps mid new = Keeps-trans mid end new tells.1 kept in
     subst (RanWanted config wanted old new) (sym (same ∙ tells.0)) (part_stays config wanted now old mid new fault parts stays)
@@ -202,26 +175,17 @@ pub unread_tells : (config : Config) (script left now : Option (List ℕ)) (faul
 unread_tells config script left now Size unread = record { reads = unread; writes = Keeps-refl now }
 unread_tells config script left now Read unread = record { reads = unread; writes = Keeps-refl now }
 unread_tells config script left now Memory unread = record { reads = unread; writes = inl (Keeps-refl now) }
-unread_tells config script left now (Script line cause) unread = absurd unread
-unread_tells config script left now Write unread = absurd unread
-unread_tells config script left now Thread unread = absurd unread
+unread_tells config script left now _ unread = absurd unread
 
 -- or is not well formed
 pub unparsed_tells : (config : Config) (script left : Option (List ℕ)) (all : Vec ℕ) (text : List ℕ) (now : Option (List ℕ)) (fault : RunFault) → HasRead script left all
     → text ≡ all.items → Parses (wanted_of text) (Err fault) → RanThreads config script left now now (Err fault)
-unparsed_tells config script left all text now (Script line cause) read same parsed = record {
-  reads = reads_few script left all read;
-  writes = (
-    Consumes-whole script left all.items (λ s. wanted_of s ≡ Err (line, cause)) read.whole read.end
-        (subst (λ (t : List ℕ). wanted_of t ≡ Err (line, cause)) same parsed),
-    Keeps-refl now,
-  );
-}
+unparsed_tells config script left all text now (Script line cause) read same parsed =
+    let told = subst (λ (t : List ℕ). wanted_of t ≡ Err (line, cause)) same parsed in
+    let whole = Consumes-whole script left all.items (λ s. wanted_of s ≡ Err (line, cause)) read.whole read.end told in
+    search (rules, reads_few script left all read, Keeps-refl now, whole)
 unparsed_tells config script left all text now Memory read same parsed = record { reads = reads_few script left all read; writes = inl (Keeps-refl now) }
-unparsed_tells config script left all text now Size read same parsed = absurd parsed
-unparsed_tells config script left all text now Read read same parsed = absurd parsed
-unparsed_tells config script left all text now Write read same parsed = absurd parsed
-unparsed_tells config script left all text now Thread read same parsed = absurd parsed
+unparsed_tells config script left all text now _ read same parsed = absurd parsed
 
 -- or for whose system memory ran out
 pub unmade_tells : (config : Config) (script left : Option (List ℕ)) (all : Vec ℕ) (now : Option (List ℕ)) → HasRead script left all
@@ -238,22 +202,12 @@ tells So wanted script left all text read same is so =
 pub wanted_tells : (config : Config) (script left : Option (List ℕ)) (all : Vec ℕ) (text : List ℕ) (wanted : Wanted) (old new : Option (List ℕ))
     (r : Result (Unit {0}) RunFault) → HasRead script left all → text ≡ all.items → wanted_of text ≡ Ok wanted → RanWanted config wanted old new r
     → RanThreads config script left old new r
-wanted_tells config script left all text wanted old new (Ok done) read same is ran = record {
-  reads = (reads_few script left all read, read.end);
-  writes = tells (λ w. WroteWhole config w old new) wanted script left all text read same is ran;
-}
-wanted_tells config script left all text wanted old new (Err Thread) read same is ran = record {
-  reads = reads_few script left all read;
-  writes = tells (λ w. WroteMain config w old new) wanted script left all text read same is ran;
-}
-wanted_tells config script left all text wanted old new (Err Write) read same is ran = record {
-  reads = reads_few script left all read;
-  writes = tells (λ w. WrotePart config w old new) wanted script left all text read same is ran;
-}
-wanted_tells config script left all text wanted old new (Err Memory) read same is ran = record {
-  reads = reads_few script left all read;
-  writes = inr (tells (λ w. WrotePart config w old new) wanted script left all text read same is ran);
-}
-wanted_tells config script left all text wanted old new (Err (Script line cause)) read same is ran = absurd ran
-wanted_tells config script left all text wanted old new (Err Size) read same is ran = absurd ran
-wanted_tells config script left all text wanted old new (Err Read) read same is ran = absurd ran
+wanted_tells config script left all text wanted old new (Ok done) read same is ran =
+    search (rules, reads_few script left all read, read.end, tells (λ w. WroteWhole config w old new) wanted script left all text read same is ran)
+wanted_tells config script left all text wanted old new (Err Thread) read same is ran =
+    search (rules, reads_few script left all read, tells (λ w. WroteMain config w old new) wanted script left all text read same is ran)
+wanted_tells config script left all text wanted old new (Err Write) read same is ran =
+    search (rules, reads_few script left all read, tells (λ w. WrotePart config w old new) wanted script left all text read same is ran)
+wanted_tells config script left all text wanted old new (Err Memory) read same is ran =
+    search (rules, reads_few script left all read, tells (λ w. WrotePart config w old new) wanted script left all text read same is ran)
+wanted_tells config script left all text wanted old new _ read same is ran = absurd ran

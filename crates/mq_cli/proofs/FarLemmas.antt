@@ -1,5 +1,5 @@
 -- How far a worker is in its plan, and what it has noted.
-use Rattle.std.proofs.Common.{◌≡◌, ℕ, ℤ, ◌+◌, ◌&&◌, Bool, replicate, Ok, List, [], ◌∷◌, ◌++◌, length, Option, None, Some, refl, sym, ap, ◌∙◌, subst, append_assoc, append-nil, length-append, arith}
+use Rattle.std.proofs.Common.{◌≡◌, ℕ, ℤ, ◌+◌, ◌&&◌, Bool, replicate, Ok, List, [], ◌∷◌, ◌++◌, length, Option, None, Some, refl, rules, sym, ap, ◌∙◌, subst, append_assoc, append-nil, length-append, arith}
 use Rattle.std.proofs.lemmas.List.{reverse-append}
 use Rattle.std.specs.HashMap.{Updates, get}
 use Rattle.std.specs.Prelude.{reverse}
@@ -24,9 +24,6 @@ module _ (outcome : Outcome) (progress : Progress) (stop : Option Errno) (told :
 
   pub told_received : outcome.received ≡ progress.received
   told_received = ap (λ (o : Outcome). o.received) told
-
-  pub told_ordered : outcome.ordered ≡ progress.notes.ordered
-  told_ordered = ap (λ (o : Outcome). o.ordered) told
 
   pub told_end : outcome.end ≡ stop
   told_end = ap (λ (o : Outcome). o.end) told
@@ -81,17 +78,14 @@ module _ {Q : Type 0} (eq : Stream → Stream → Bool) (puts : Puts Q) (takes :
     called = it;
     sent_is = sent;
     received_is = omega (arith, received);
-    noted = λ so_far had.
-        let same : AreNotes eq so_far after.notes = subst (AreNotes eq so_far) (sym notes) had in
-        subst (λ (l : List TakenMessage). AreNotes eq l after.notes) (sym (append-nil so_far)) same;
+    noted = λ so_far had. rw (append-nil so_far, notes) had;
   }
 
   -- nothing was done by a call that sends and receives nothing
   pub goes_nowhere : (calls : List PortCall) (old new : Q) (before : Progress) (end : Option Errno) → AreCalled puts takes removes calls old 0 [] end new
       → ComesFurther eq puts takes removes calls old new before before end
   goes_nowhere calls old new before end it =
-      let none : before.sent ≡ before.sent + 0 = omega arith in
-      goes_sending calls old new before before 0 end none refl refl it
+      goes_sending calls old new before before 0 end (omega arith) refl refl it
 
   -- messages were received, and nothing else was done
   pub goes_receiving : (calls : List PortCall) (old new : Q) (before after : Progress) (received : List TakenMessage) (end : Option Errno) → after.sent ≡ before.sent
@@ -144,8 +138,7 @@ module _ {Q : Type 0} (eq : Stream → Stream → Bool) (puts : Puts Q) (takes :
       ap (λ (l : List PortCall). calls_in 0 plan ++ l) (sym (append-nil (calls_of before.sent step))) ∙ sym (more_calls plan [] step before.sent is) in
       record {
         received = far.received ++ on.received;
-        called = subst (λ (l : List PortCall). AreCalled puts takes removes l old after.sent (far.received ++ on.received) None new) calls
-            (subst (λ (s : ℕ). AreCalled puts takes removes (calls_in 0 plan ++ calls_of before.sent step) old s (far.received ++ on.received) None new) (sym on.sent_is) all);
+        called = rw (on.sent_is, ← calls) all;
         count = omega (arith, far.count, on.received_is, length-append far.received on.received);
         notes = on.noted far.received far.notes;
       }
@@ -157,10 +150,6 @@ module _ {Q : Type 0} (eq : Stream → Stream → Bool) (puts : Puts Q) (takes :
       (Some errno)
       → outcome ≡ outcome_of after (Some errno) → HasWorked puts takes removes all outcome old new
   far_until plan rest all step errno old mid new before after outcome cut far is on told =
-      let sent = told_sent outcome after (Some errno) told in
-      let received = told_received outcome after (Some errno) told in
-      let ordered = told_ordered outcome after (Some errno) told in
-      let end = told_end outcome after (Some errno) told in
       let some = called_then puts takes removes (calls_in 0 plan) (calls_of before.sent step) old mid new before.sent on.sent far.received on.received (Some errno) far.called on.called in
       let within = called_within puts takes removes (calls_in 0 plan ++ calls_of before.sent step) (calls_in (before.sent + puts_of step) rest) old new (before.sent + on.sent)
       (far.received ++ on.received) errno some in
@@ -168,25 +157,15 @@ module _ {Q : Type 0} (eq : Stream → Stream → Bool) (puts : Puts Q) (takes :
       append_assoc (calls_in 0 plan) (calls_of before.sent step) (calls_in (before.sent + puts_of step) rest)
       ∙ sym (more_calls plan rest step before.sent is) ∙ ap (calls_in 0) (sym cut) in
       let notes = on.noted far.received far.notes in
-      record {
+      rw told (record {
         received = far.received ++ on.received;
-        called = rw (end, sent, on.sent_is)
-            (subst (λ (l : List PortCall). AreCalled puts takes removes l old (before.sent + on.sent) (far.received ++ on.received) (Some errno) new) calls within);
-        count = omega (arith, received, far.count, on.received_is, length-append far.received on.received);
-        ordered = ordered ∙ notes.ordered;
-      }
+        called = rw (on.sent_is, ← calls) within;
+        count = omega (arith, far.count, on.received_is, length-append far.received on.received);
+        ordered = notes.ordered;
+      })
 
   -- a plan that was done
   pub far_end : (plan : List Step) (old new : Q) (progress : Progress) (outcome : Outcome) → IsFar eq puts takes removes plan old progress new
       → outcome ≡ outcome_of progress None → HasWorked puts takes removes plan outcome old new
   far_end plan old new progress outcome far told =
-      let sent = told_sent outcome progress None told in
-      let received = told_received outcome progress None told in
-      let ordered = told_ordered outcome progress None told in
-      let end = told_end outcome progress None told in
-      record {
-        received = far.received;
-        called = rw (end, sent) far.called;
-        count = received ∙ far.count;
-        ordered = ordered ∙ far.notes.ordered;
-      }
+      rw told (search (rules, far.called, far.count, far.notes.ordered))

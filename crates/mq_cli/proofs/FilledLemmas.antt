@@ -1,4 +1,4 @@
-use Rattle.std.proofs.Common.{◌≡◌, ℕ, ℤ, ◌+◌, ◌^◌, Bool, true, false, cond, List, [], ◌∷◌, Some, Result, Ok, Err, codes, refl, arith}
+use Rattle.std.proofs.Common.{◌≡◌, ℕ, ℤ, ◌+◌, ◌^◌, ◌≤◌, Bool, true, false, cond, List, [], ◌∷◌, Some, Result, Ok, Err, codes, refl, arith, lit≤}
 use Rattle.std.specs.List.{list_all}
 use Rattle.std.specs.Str.{bytes_eq}
 use Rattle.mq_table.specs.declared.limits.TheConstants.{MAX_SLOTS}
@@ -9,17 +9,14 @@ use Rattle.mq_cli.specs.Commands.{AskedCall, sit, get, rcv, set, rm, stat, cut, 
 use Rattle.mq_cli.specs.Laws.{flag_words, get_flag_words}
 use Rattle.mq_cli.specs.Numbers.{number_of, integer_of, key_of, under, above_zero}
 use Rattle.mq_cli.proofs.NumberLemmas.{number_of-Some}
-use Rattle.mq_cli.proofs.SpellingLemmas.{above_zero-Some, bind_ok, decimal_word, flags_of-Some, get_flags_of-Some, integer_of-Some, key_fits, key_of-Some, signed_word, under-Some, worded_ok}
+use Rattle.mq_cli.proofs.SpellingLemmas.{above_zero-Some, all_filled, bind_ok, decimal_word, flags_again, flags_of-Some, get_flags_again, get_flags_of-Some, integer_of-Some, key_fits, key_of-Some, signed_word, under-Some, worded_ok}
 
 -- a word that spells a number is filled
 number_filled : (word : List ℕ) (n : ℕ) → number_of word ≡ Some n → is_filled word ≡ true
 number_filled word n e = let is = number_of-Some word n e in rw is.0 (decimal_word n is.1).filled
 
-id_filled : (word : List ℕ) (n : ℕ) → under (2 ^ 32) (number_of word) ≡ Some n → is_filled word ≡ true
-id_filled word n e = let is = under-Some (2 ^ 32) word n e in rw is.0 (decimal_word n (omega (arith, is.1))).filled
-
-slot_filled : (word : List ℕ) (k : ℕ) → under MAX_SLOTS (number_of word) ≡ Some k → is_filled word ≡ true
-slot_filled word k e = let is = under-Some MAX_SLOTS word k e in rw is.0 (decimal_word k (omega (arith, is.1))).filled
+below_filled : (limit : ℕ) (word : List ℕ) (n : ℕ) → limit ≤ 2 ^ 64 → under limit (number_of word) ≡ Some n → is_filled word ≡ true
+below_filled limit word n most e = let is = under-Some limit word n e in rw is.0 (decimal_word n (omega (arith, is.1))).filled
 
 seat_filled : (word : List ℕ) (n : ℕ) → above_zero (under (MAX_SEATS + 1) (number_of word)) ≡ Some n → is_filled word ≡ true
 seat_filled word n e = let is = above_zero-Some word n e in rw is.0 (decimal_word n (omega (arith, is.2))).filled
@@ -30,19 +27,6 @@ integer_filled word z e = let is = integer_of-Some word z e in rw is.0 (signed_w
 key_filled : (word : List ℕ) (z : ℤ) → key_of word ≡ Some z → is_filled word ≡ true
 key_filled word z e = let is = key_of-Some word z e in rw is.0 (signed_word z (key_fits z is.1).1).filled
 
--- and so is a word of flags
-flags_filled : (except noerror : Bool) → list_all is_filled (flag_words except noerror) ≡ true
-flags_filled false false = refl
-flags_filled true false = refl
-flags_filled false true = refl
-flags_filled true true = refl
-
-get_flags_filled : (create exclusive : Bool) → list_all is_filled (get_flag_words create exclusive) ≡ true
-get_flags_filled false false = refl
-get_flags_filled true false = refl
-get_flags_filled false true = refl
-get_flags_filled true true = refl
-
 -- so the words of a command that is read are filled
 receive_filled : (words : List (List ℕ)) (call : AskedCall) → receive_asked words ≡ Ok call → list_all is_filled words ≡ true
 receive_filled (id ∷ size ∷ mtype ∷ words) call e =
@@ -50,50 +34,42 @@ receive_filled (id ∷ size ∷ mtype ∷ words) call e =
     bind_ok _ _ call numbers (λ i read_id sized.
     bind_ok _ _ call sized (λ s read_size typed.
     bind_ok (integer_of mtype) (λ z. Ok (rcv i s z flags.except flags.noerror)) call typed (λ z read_type done.
-    rw (id_filled id i read_id, number_filled size s read_size, integer_filled mtype z read_type, flags_of-Some words flags read_flags)
-    (flags_filled flags.except flags.noerror)))))
-receive_filled [] call e = refl
-receive_filled (id ∷ []) call e = absurd (cc e)
-receive_filled (id ∷ size ∷ []) call e = absurd (cc e)
+    rw (below_filled (2 ^ 32) id i (lit≤ tt) read_id, number_filled size s read_size, integer_filled mtype z read_type, flags_of-Some words flags read_flags)
+    (all_filled (flag_words flags.except flags.noerror) (flags_again flags.except flags.noerror).0)))))
+receive_filled _ call e = absurd (cc e)
 
 get_filled : (words : List (List ℕ)) (call : AskedCall) → get_asked words ≡ Ok call → list_all is_filled words ≡ true
 get_filled [] call e = refl
 get_filled (key ∷ words) call e =
     worded_ok (get_flags_asked words) _ call e (λ flags read_flags keyed.
     bind_ok (key_of key) (λ k. Ok (get k flags)) call keyed (λ k read done.
-    rw (key_filled key k read, get_flags_of-Some words flags read_flags) (get_flags_filled flags.create flags.exclusive)))
+    rw (key_filled key k read, get_flags_of-Some words flags read_flags) (all_filled (get_flag_words flags.create flags.exclusive) (get_flags_again flags.create flags.exclusive).0)))
 
 seat_of_filled : (words : List (List ℕ)) (call : AskedCall) → seat_asked words ≡ Ok call → list_all is_filled words ≡ true
-seat_of_filled [] call e = refl
 seat_of_filled (word ∷ []) call e = bind_ok (above_zero (under (MAX_SEATS + 1) (number_of word))) (λ n. Ok (sit n)) call e (λ n read done. rw (seat_filled word n read) refl)
-seat_of_filled (word ∷ more ∷ words) call e = absurd (cc e)
+seat_of_filled _ call e = absurd (cc e)
 
 arena_filled : (words : List (List ℕ)) (call : AskedCall) → arena_asked words ≡ Ok call → list_all is_filled words ≡ true
 arena_filled [] call e = refl
 arena_filled (word ∷ words) call e = absurd (cc e)
 
 set_filled : (words : List (List ℕ)) (call : AskedCall) → set_asked words ≡ Ok call → list_all is_filled words ≡ true
-set_filled [] call e = refl
-set_filled (id ∷ []) call e = absurd (cc e)
 set_filled (id ∷ qbytes ∷ []) call e =
     bind_ok _ _ call e (λ i read_id told.
-    bind_ok (number_of qbytes) (λ q. Ok (set i q)) call told (λ q read_qbytes done. rw (id_filled id i read_id, number_filled qbytes q read_qbytes) refl))
-set_filled (id ∷ qbytes ∷ more ∷ words) call e = absurd (cc e)
+    bind_ok (number_of qbytes) (λ q. Ok (set i q)) call told (λ q read_qbytes done. rw (below_filled (2 ^ 32) id i (lit≤ tt) read_id, number_filled qbytes q read_qbytes) refl))
+set_filled _ call e = absurd (cc e)
 
 remove_filled : (words : List (List ℕ)) (call : AskedCall) → remove_asked words ≡ Ok call → list_all is_filled words ≡ true
-remove_filled [] call e = refl
-remove_filled (id ∷ []) call e = bind_ok (under (2 ^ 32) (number_of id)) (λ i. Ok (rm i)) call e (λ i read done. rw (id_filled id i read) refl)
-remove_filled (id ∷ more ∷ words) call e = absurd (cc e)
+remove_filled (id ∷ []) call e = bind_ok (under (2 ^ 32) (number_of id)) (λ i. Ok (rm i)) call e (λ i read done. rw (below_filled (2 ^ 32) id i (lit≤ tt) read) refl)
+remove_filled _ call e = absurd (cc e)
 
 stat_filled : (words : List (List ℕ)) (call : AskedCall) → stat_asked words ≡ Ok call → list_all is_filled words ≡ true
-stat_filled [] call e = refl
-stat_filled (id ∷ []) call e = bind_ok (under (2 ^ 32) (number_of id)) (λ i. Ok (stat i)) call e (λ i read done. rw (id_filled id i read) refl)
-stat_filled (id ∷ more ∷ words) call e = absurd (cc e)
+stat_filled (id ∷ []) call e = bind_ok (under (2 ^ 32) (number_of id)) (λ i. Ok (stat i)) call e (λ i read done. rw (below_filled (2 ^ 32) id i (lit≤ tt) read) refl)
+stat_filled _ call e = absurd (cc e)
 
 cut_filled : (words : List (List ℕ)) (call : AskedCall) → cutting_asked words ≡ Ok call → list_all is_filled words ≡ true
-cut_filled [] call e = refl
-cut_filled (slot ∷ []) call e = bind_ok (under MAX_SLOTS (number_of slot)) (λ k. Ok (cut k)) call e (λ k read done. rw (slot_filled slot k read) refl)
-cut_filled (slot ∷ more ∷ words) call e = absurd (cc e)
+cut_filled (slot ∷ []) call e = bind_ok (under MAX_SLOTS (number_of slot)) (λ k. Ok (cut k)) call e (λ k read done. rw (below_filled MAX_SLOTS slot k (lit≤ tt) read) refl)
+cut_filled _ call e = absurd (cc e)
 
 ipcs_filled : (words : List (List ℕ)) (call : AskedCall) → ipcs_asked words ≡ Ok call → list_all is_filled words ≡ true
 ipcs_filled [] call e = refl

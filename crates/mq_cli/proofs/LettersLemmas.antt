@@ -1,21 +1,11 @@
 -- Texts that are cut from a run of letters.
 use Rattle.std.proofs.Common.{◌≡◌, ℕ, ◌+◌, ◌-◌, ◌*◌, ◌/◌, ◌%◌, ◌≤◌, zero, suc, List, [], ◌∷◌, ◌++◌, map, length, take, drop, refl, sym, ap, ◌∙◌, arith}
 use Rattle.std.specs.List.{range_with_len}
+use Rattle.std.proofs.Math.Seq.{drop-append_seam}
 use Rattle.std.proofs.Math.Nat.{mod-add-div, add-mul-mod_self_left}
 use Rattle.std.proofs.lemmas.List.FromFn.{length-map-range_with_len, take-map-range_with_len}
 use Rattle.mq_cli.specs.Drafts.{letter}
 use Rattle.mq_cli.specs.Letters.{letters_from}
-
--- a run without its first elements
-dropped : (f : ℕ → ℕ) (a s n : ℕ) → drop s (map f (range_with_len a (s + n))) ≡ map f (range_with_len (a + s) n)
-dropped f a zero n =
-    let none : 0 + n ≡ n = omega arith in
-    let same : a + 0 ≡ a = omega arith in
-    rw (none, same) refl
-dropped f a (suc s) n =
-    let one : suc s + n ≡ suc (s + n) = omega arith in
-    let next : a + 1 + s ≡ a + suc s = omega arith in
-    rw one (dropped f (a + 1) s n ∙ ap (λ k. map f (range_with_len k n)) next)
 
 -- a run in two parts
 pub in_two : {A : Type 0} (f : ℕ → A) (a s n : ℕ) → map f (range_with_len a (s + n)) ≡ map f (range_with_len a s) ++ map f (range_with_len (a + s) n)
@@ -27,6 +17,12 @@ in_two f a (suc s) n =
     let one : suc s + n ≡ suc (s + n) = omega arith in
     let next : a + 1 + s ≡ a + suc s = omega arith in
     rw one (ap (λ l. f a ∷ l) (in_two f (a + 1) s n ∙ ap (λ k. map f (range_with_len (a + 1) s) ++ map f (range_with_len k n)) next))
+
+-- a run without its first elements
+dropped : (f : ℕ → ℕ) (a s n : ℕ) → drop s (map f (range_with_len a (s + n))) ≡ map f (range_with_len (a + s) n)
+dropped f a s n =
+    let seam = drop-append_seam (map f (range_with_len a s)) (map f (range_with_len (a + s) n)) in
+    rw (in_two f a s n) (rw (length-map-range_with_len f a s) at seam)
 
 -- a run from a later number, by a function that adds the rest
 shifted : (f : ℕ → ℕ) (s a n : ℕ) → map f (range_with_len (s + a) n) ≡ map (λ i. f (s + i)) (range_with_len a n)

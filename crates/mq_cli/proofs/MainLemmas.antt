@@ -1,5 +1,5 @@
 -- What the main part of a threads script has written.
-use Rattle.std.proofs.Common.{◌≡◌, ◌≢◌, OnOk, Result, Ok, Err, ℕ, ◌+◌, ◌<◌, List, [], ◌∷◌, ◌++◌, length, take, drop, Option, refl, sym, ap, ◌∙◌, subst, append_assoc, append-nil, take-append-drop, add-one}
+use Rattle.std.proofs.Common.{◌≡◌, ◌≢◌, OnOk, Result, Ok, Err, ℕ, ◌+◌, ◌<◌, List, [], ◌∷◌, ◌++◌, length, take, Option, refl, rules, sym, ap, ◌∙◌, subst, append_assoc, append-nil, add-one}
 use Rattle.std.proofs.Math.ListN.{get_or}
 use Rattle.std.proofs.Math.Seq.{take-suc}
 use Rattle.std.proofs.lemmas.Grind.{flat_map-append}
@@ -20,10 +20,9 @@ pub one_more : (slots last_seq : ℕ) (calls : List MainCall) (replies : List Re
 one_more slots last_seq [] [] call reply old mid new are is =
     let so : IsReply slots last_seq call reply old new = subst (λ (q : SeatState). IsReply slots last_seq call reply q new) are is in
     (new, so, refl)
-one_more slots last_seq [] (b ∷ replies) call reply old mid new are is = absurd are
-one_more slots last_seq (a ∷ calls) [] call reply old mid new are is = absurd are
 one_more slots last_seq (a ∷ calls) (b ∷ replies) call reply old mid new are is =
     (are.0, are.1, one_more slots last_seq calls replies call reply are.0 mid new are.2 is)
+one_more slots last_seq _ _ call reply old mid new are is = absurd are
 
 -- no call, and nothing written
 pub wrote_nothing : (slots last_seq : ℕ) (seat : SeatState) (now : Option (List ℕ)) → WroteAll slots last_seq [] seat seat now now
@@ -49,6 +48,11 @@ prefix_behind old mid new text more taken part = (
   Appends-trans old mid new text part.0 taken part.2,
 )
 
+-- a prefix of a text is one of all that begins with the text
+pub prefix_more : (old new : Option (List ℕ)) (text more : List ℕ) → AppendsPrefix old new text → AppendsPrefix old new (text ++ more)
+prefix_more old new text more part =
+    (part.0, (part.1.0 ++ more, ap (λ l. l ++ more) part.1.1 ∙ append_assoc part.0 part.1.0 more), part.2)
+
 -- a whole text is a prefix of itself
 pub all_prefix : (old new : Option (List ℕ)) (text : List ℕ) → Appends old new text → AppendsPrefix old new text
 all_prefix old new text taken = (text, ([], sym (append-nil text)), taken)
@@ -63,19 +67,11 @@ wrote_first slots last_seq first rest calls old mid had has is so =
 pub wrote_part : (slots last_seq : ℕ) (first : List MainCall) (call : MainCall) (rest calls : List MainCall) (line : List ℕ) (old mid new : SeatState) (had then has : Option (List ℕ))
     → calls ≡ (first ++ call ∷ []) ++ rest → WroteAll slots last_seq first old mid had then → Replies slots last_seq call [] line mid new → AppendsPrefix then has line
     → WroteSome slots last_seq calls old had has
-wrote_part slots last_seq first call rest calls line old mid new had then has is so reply part = record {
-  first = first ++ call ∷ [];
-  rest = rest;
-  cut = is;
-  replies = so.replies ++ reply.0 ∷ [];
-  mid = new;
-  are = one_more slots last_seq first so.replies call reply.0 old mid new so.are reply.1;
-  wrote = subst (AppendsPrefix had has) (ap (λ l. lines_replied so.replies ++ l) reply.2 ∙ sym (lines_more so.replies reply.0)) (prefix_behind had then has (lines_replied so.replies) line so.wrote part);
-}
-
--- a list up to an index, and from there on
-pub cut_at : {A : Type 0} (xs : List A) (k : ℕ) → xs ≡ take k xs ++ drop k xs
-cut_at xs k = sym (take-append-drop k xs)
+wrote_part slots last_seq first call rest calls line old mid new had then has is so reply part =
+    let are = one_more slots last_seq first so.replies call reply.0 old mid new so.are reply.1 in
+    let lines = ap (λ l. lines_replied so.replies ++ l) reply.2 ∙ sym (lines_more so.replies reply.0) in
+    let wrote = subst (AppendsPrefix had has) lines (prefix_behind had then has (lines_replied so.replies) line so.wrote part) in
+    search (rules, is, are, wrote)
 
 -- one element more
 pub taken_more : {A : Type 0} (xs : List A) (k : ℕ) (x : A) → k < length xs → x ≡ get_or xs k x → take (k + 1) xs ≡ take k xs ++ x ∷ []
@@ -90,16 +86,8 @@ all_kept slots last_seq calls old new had then has so kept =
 pub some_kept : (slots last_seq : ℕ) (calls : List MainCall) (old : SeatState) (had then has : Option (List ℕ)) → WroteSome slots last_seq calls old had then → Keeps then has
     → WroteSome slots last_seq calls old had has
 some_kept slots last_seq calls old had then has so kept =
-    let part = so.wrote in
-    record {
-      first = so.first;
-      rest = so.rest;
-      cut = so.cut;
-      replies = so.replies;
-      mid = so.mid;
-      are = so.are;
-      wrote = (part.0, part.1, Appends-kept had then has part.0 part.2 kept);
-    }
+    let part : AppendsPrefix had has (lines_replied so.replies) = (so.wrote.0, so.wrote.1, Appends-kept had then has so.wrote.0 so.wrote.2 kept) in
+    search (rules, so.cut, so.are, part)
 
 -- the reply of a call was written, if its line was
 pub replied : (slots last_seq : ℕ) (call : MainCall) (held holds : List ℕ) (old new : SeatState) (reply : Reply) (r : Result (Unit {0}) AllocError)

@@ -1,4 +1,4 @@
-use Rattle.std.proofs.Common.{◌≡◌, ℕ, ◌+◌, ◌-◌, ◌*◌, ◌^◌, ◌<◌, ◌≤◌, Bool, true, false, not, List, length, take, get_or, Option, Some, None, refl, ap, ◌∙◌, arith, zero, suc, ◌==◌, ◌&&◌, nat_lt, inl, inr, lit<, lit≤}
+use Rattle.std.proofs.Common.{◌≡◌, ℕ, ◌+◌, ◌-◌, ◌*◌, ◌^◌, ◌<◌, ◌≤◌, Bool, true, false, not, List, length, take, take_all, get_or, Option, Some, None, refl, ap, ◌∙◌, arith, zero, suc, ◌==◌, ◌&&◌, nat_lt, inl, inr, lit<, lit≤}
 use Rattle.std.specs.Int.{IsInRange}
 use Rattle.std.specs.List.{slice_index}
 use Rattle.std.specs.Fmt.{decimal}
@@ -7,7 +7,6 @@ use Rattle.std.proofs.lemmas.Bool.{and_from, and_parts, cond-true, lt-ltb, ltb-t
 use Rattle.std.proofs.lemmas.Fmt.{decimal-digits_value, decimal_digit, decimal_nonempty, digits_decimal, digits_value-decimal, first_decimal}
 use Rattle.std.proofs.lemmas.Option.{cond_some}
 use Rattle.std.proofs.lemmas.Slice.Eq.{bytes_eq-Decides}
-use Rattle.std.proofs.lemmas.Grind.{common_steps}
 use Rattle.std.proofs.lemmas.Int.Digits.{digits_value_more}
 use Rattle.std.proofs.lemmas.Str.{digit_value_digit}
 use Rattle.std.proofs.lemmas.Str.Parse.{IsNumeralModel, digit_at, digits_value-take-le, numerals_by_value, tells_by_index, tells_digits}
@@ -83,9 +82,6 @@ no_more_digits word i value within so_far none = number_of-None word (λ n fits 
     let part = digits_value-take-le 10 word (i + 1) (lit≤ tt) in
     let large = none range in
     omega arith)
-
-take_all : (i : ℕ) (xs : List ℕ) → length xs ≤ i → take i xs ≡ xs
-take_all i xs end = grind (arith, common_steps)
 
 -- a zero stands alone
 alone : (word : List ℕ) → has_first_digit word ≡ true → get_or word 0 0 ≡ 48 → length word ≡ 1

@@ -5,12 +5,13 @@ use Rattle.std.specs.List.{onto_first}
 use Rattle.std.proofs.KnownBytes.{Appends-kept, Appends-nil, Appends-trans}
 use Rattle.std.proofs.lemmas.List.Splits.{slice_split-cons_no, slice_split-cons_yes}
 use Rattle.mq_cli.specs.declared.fault.RunFault.{RunFault}
-use Rattle.mq_cli.specs.declared.fault.RunFault.TheVariants.{Script, Size, Read, Write, Memory, Thread}
+use Rattle.mq_cli.specs.declared.fault.RunFault.TheVariants.{Size, Write, Memory}
 use Rattle.mq_cli.specs.Lines.{lines_of, parts_of, without_return}
 use Rattle.mq_cli.specs.Prompt.{WritesAnswer, AnswersAll, AnswersNext, IsPromptFault, answer_of, answers_from, first_line_of}
 use Rattle.mq_cli.specs.Serial.{AppendsPrefix, RunsLine, Writes}
 use Rattle.mq_cli.specs.Session.{SessionState}
-use Rattle.mq_cli.proofs.Runs.{prefix_kept}
+use Rattle.mq_cli.proofs.MainLemmas.{prefix_behind, prefix_more}
+use Rattle.mq_cli.proofs.Runs.{prefix_kept, writes_prefix}
 
 -- the bytes through the first LF are the first line of a text, and what follows them the others
 pub record Through (xs : List ℕ) : Type 0 where
@@ -97,17 +98,8 @@ front_answered read left old now new all n s t e so next =
     let front = (subst (λ (r : Option (List ℕ)). AnswersNext r left now new n s t (Err e)) so.left_is next).1 in
     let turn = answer_of n s (first_line_of so.rest) in
     let others = answers_from (n + 1) turn.1 (lines_of (drop_through 10 so.rest)) in
-    let rest = front.1.0 in (
-      so.text ++ front.0,
-      (
-        rest ++ others,
-        so.all_is ∙ ap (λ (l : List ℕ). so.text ++ l) (answers_line n s so.rest)
-            ∙ ap (λ (p : List ℕ). so.text ++ (p ++ others)) front.1.1
-            ∙ ap (λ (l : List ℕ). so.text ++ l) (append_assoc front.0 rest others)
-            ∙ sym (append_assoc so.text front.0 (rest ++ others)),
-      ),
-      Appends-trans old now new so.text front.0 so.taken front.2,
-    )
+    subst (AppendsPrefix old new) (sym (so.all_is ∙ ap (λ (l : List ℕ). so.text ++ l) (answers_line n s so.rest)))
+    (prefix_behind old now new so.text (turn.0 ++ others) so.taken (prefix_more now new turn.0 others front))
 
 -- where nothing is left all is answered
 pub all_answered : (read left old now new : Option (List ℕ)) (all : List ℕ) (n : ℕ) (s t : SessionState) → SoFarAnswered read old now all n s
@@ -124,10 +116,7 @@ pub answered_call : (old new : Option (List ℕ)) (n : ℕ) (t : SessionState) (
 answered_call old new n t turn (Ok _) ran = ran
 answered_call old new n t turn (Err Write) ran = (tt, ran)
 answered_call old new n t turn (Err Memory) ran = (tt, ran)
-answered_call old new n t turn (Err (Script line cause)) ran = absurd ran
-answered_call old new n t turn (Err Size) ran = absurd ran
-answered_call old new n t turn (Err Read) ran = absurd ran
-answered_call old new n t turn (Err Thread) ran = absurd ran
+answered_call old new n t turn _ ran = absurd ran
 
 -- and a line that is not well formed by its name
 pub answered_fault : (old new : Option (List ℕ)) (text : List ℕ) (s : SessionState) (outcome : Result (Unit {0}) RunFault)
@@ -146,15 +135,6 @@ line_read (Some xs) before items line typed trimmed others empty given whole spl
     let same : typed ∷ others ≡ t.first ∷ t.none = sym split ∙ ap (parts_of 10) read ∙ t.front in
     cut ∙ ap (λ (ps : List (List ℕ)). without_return (slice_index_or ps 0 [])) same ∙ sym (first_line_is xs)
 
-writes_prefix : (old new : Option (List ℕ)) (text : List ℕ) (outcome : Result (Unit {0}) RunFault) → Writes old new text outcome → AppendsPrefix old new text
-writes_prefix old new text (Ok _) wrote = (text, ([], sym (append-nil text)), wrote)
-writes_prefix old new text (Err Write) wrote = wrote
-writes_prefix old new text (Err Memory) wrote = wrote
-writes_prefix old new text (Err (Script line cause)) wrote = absurd wrote
-writes_prefix old new text (Err Size) wrote = absurd wrote
-writes_prefix old new text (Err Read) wrote = absurd wrote
-writes_prefix old new text (Err Thread) wrote = absurd wrote
-
 -- an answer that was not written whole is a front of it
 pub next_failed : (read old new : Option (List ℕ)) (n : ℕ) (s t : SessionState) (line : List ℕ) (outcome : Result (Unit {0}) RunFault)
     → IfSome read (λ xs. line ≡ first_line_of xs)
@@ -167,10 +147,7 @@ next_failed (Some xs) old new n s t line outcome same answered =
 writes_fault : (old new : Option (List ℕ)) (text : List ℕ) (fault : RunFault) → Writes old new text (Err fault) → IsPromptFault fault
 writes_fault old new text Write wrote = tt
 writes_fault old new text Memory wrote = tt
-writes_fault old new text (Script line cause) wrote = absurd wrote
-writes_fault old new text Size wrote = absurd wrote
-writes_fault old new text Read wrote = absurd wrote
-writes_fault old new text Thread wrote = absurd wrote
+writes_fault old new text _ wrote = absurd wrote
 
 -- and is a fault of such a run
 pub next_refused : (read old new : Option (List ℕ)) (n : ℕ) (s t : SessionState) (line : List ℕ) (fault : RunFault)

@@ -1,20 +1,17 @@
-use Rattle.std.proofs.Common.{◌≡◌, ℕ, ◌+◌, List, [], ◌∷◌, ◌++◌, map, refl, sym, ap, ◌∙◌, arith, append-nil}
+use Rattle.std.proofs.Common.{◌≡◌, ℕ, ◌+◌, List, [], ◌∷◌, ◌++◌, sym, ap, ◌∙◌, arith, append-nil}
 use Rattle.std.specs.List.{flat_map, range_with_len}
 use Rattle.std.proofs.lemmas.Grind.{flat_map-append}
+use Rattle.std.proofs.lemmas.List.{map-id}
 use Rattle.std.proofs.lemmas.List.FromFn.{map-range_with_len_more}
 use Rattle.mq_table.specs.KeptShown.{row_now}
 use Rattle.mq_one_thread.specs.State.{QueuesState, slot_at}
 use Rattle.mq_cli.specs.Reports.{line_of_row, lines_to}
 
-same : (xs : List ℕ) → map (λ k. k) xs ≡ xs
-same [] = refl
-same (x ∷ xs) = ap (λ ys. x ∷ ys) (same xs)
-
 -- one more number from 0 on
 one_more : (n : ℕ) → range_with_len 0 (n + 1) ≡ range_with_len 0 n ++ n ∷ []
 one_more n =
-    sym (same (range_with_len 0 (n + 1))) ∙ map-range_with_len_more (λ k. k) 0 n n (omega arith)
-    ∙ ap (λ ks. ks ++ n ∷ []) (same (range_with_len 0 n))
+    sym (map-id (range_with_len 0 (n + 1))) ∙ map-range_with_len_more (λ k. k) 0 n n (omega arith)
+    ∙ ap (λ ks. ks ++ n ∷ []) (map-id (range_with_len 0 n))
 
 -- the lines of one more slot
 pub lines_more : (s : QueuesState) (n : ℕ) → lines_to s (n + 1) ≡ lines_to s n ++ line_of_row n (row_now (slot_at s n))

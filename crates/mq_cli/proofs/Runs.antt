@@ -1,4 +1,4 @@
-use Rattle.std.proofs.Common.{◌≡◌, ℕ, ◌+◌, List, [], ◌∷◌, ◌++◌, Option, None, Some, IfSome, Result, Ok, Err, refl, sym, ap, ◌∙◌, subst, append_assoc, append-nil}
+use Rattle.std.proofs.Common.{◌≡◌, ℕ, ◌+◌, List, [], ◌∷◌, ◌++◌, Option, None, Some, IfSome, Result, Ok, Err, refl, rules, sym, ap, ◌∙◌, subst, append_assoc, append-nil}
 use Rattle.std.specs.Global.{Vec}
 use Rattle.std.specs.Io.KnownBytes.{Appends, Keeps}
 use Rattle.std.proofs.KnownBytes.{Appends-kept, Appends-nil, Appends-trans, Consumes-whole, Keeps-refl}
@@ -9,9 +9,10 @@ use Rattle.mq_cli.specs.declared.fault.RunFault.TheVariants.{Script, Size, Read,
 use Rattle.mq_cli.specs.Commands.{reading}
 use Rattle.mq_cli.specs.Input.{HasRead, IsUnread}
 use Rattle.mq_cli.specs.Session.{SessionState}
-use Rattle.mq_cli.specs.Serial.{AppendsPrefix, RanSerial, Runs, RunsLine}
+use Rattle.mq_cli.specs.Serial.{AppendsPrefix, RanSerial, Runs, RunsLine, Writes}
 use Rattle.mq_cli.specs.Transcript.{Run, before, runs_on, run_from, run_of, said}
 use Rattle.mq_cli.proofs.InputLemmas.{reads_few}
+use Rattle.mq_cli.proofs.MainLemmas.{all_prefix, prefix_behind, prefix_more}
 
 -- before anything is written a prefix is
 pub nothing_yet : (now : Option (List ℕ)) (text : List ℕ) → AppendsPrefix now now text
@@ -51,36 +52,19 @@ so_far_step old now new n s t whole line lines so ran =
 prefix_before : (old now new : Option (List ℕ)) (whole run : Run) (part : List ℕ)
     → SoFar old now whole (before part run) → AppendsPrefix now new part → AppendsPrefix old new whole.written
 prefix_before old now new whole run part so front =
-    let rest = front.1.0 in (
-      so.text ++ front.0,
-      (
-        rest ++ run.written,
-        ap (λ (w : Run). w.written) so.whole_is
-            ∙ ap (λ (p : List ℕ). so.text ++ (p ++ run.written)) front.1.1
-            ∙ ap (λ (l : List ℕ). so.text ++ l) (append_assoc front.0 rest run.written)
-            ∙ sym (append_assoc so.text front.0 (rest ++ run.written)),
-      ),
-      Appends-trans old now new so.text front.0 so.taken front.2,
-    )
+    subst (AppendsPrefix old new) (sym (ap (λ (w : Run). w.written) so.whole_is))
+    (prefix_behind old now new so.text (part ++ run.written) so.taken (prefix_more now new part run.written front))
 
 line_failed : (old now new : Option (List ℕ)) (n : ℕ) (s : SessionState) (whole : Run) (rest : SessionState → Run) (r : Result (List ℕ × SessionState) Cause)
     (e : RunFault) → SoFar old now whole (runs_on n r rest) → RunsLine now new n r s (Err e) → Runs old new whole (Err e)
 line_failed old now new n s whole rest (Ok turn) Write so ran = prefix_before old now new whole (rest turn.1) turn.0 so ran
 line_failed old now new n s whole rest (Ok turn) Memory so ran = prefix_before old now new whole (rest turn.1) turn.0 so ran
-line_failed old now new n s whole rest (Ok turn) (Script line cause) so ran = absurd ran
-line_failed old now new n s whole rest (Ok turn) Size so ran = absurd ran
-line_failed old now new n s whole rest (Ok turn) Read so ran = absurd ran
-line_failed old now new n s whole rest (Ok turn) Thread so ran = absurd ran
 line_failed old now new n s whole rest (Err cause) (Script line named) so ran = (
   ap (λ (w : Run). w.fault) so.whole_is ∙ ap (λ (k : ℕ). Some (k, cause)) (sym ran.0) ∙ ap (λ (c : Cause). Some (line, c)) (sym ran.1),
   subst (λ (w : List ℕ). Appends old new w) (sym (ap (λ (w : Run). w.written) so.whole_is))
       (Appends-trans old now new so.text [] so.taken ran.2),
 )
-line_failed old now new n s whole rest (Err cause) Write so ran = absurd ran
-line_failed old now new n s whole rest (Err cause) Memory so ran = absurd ran
-line_failed old now new n s whole rest (Err cause) Size so ran = absurd ran
-line_failed old now new n s whole rest (Err cause) Read so ran = absurd ran
-line_failed old now new n s whole rest (Err cause) Thread so ran = absurd ran
+line_failed old now new n s whole rest _ _ so ran = absurd ran
 
 -- a line that ends the run ends it as the definition says
 pub so_far_failed : (old now new : Option (List ℕ)) (n : ℕ) (s t : SessionState) (whole : Run) (line : List ℕ) (lines : List (List ℕ)) (e : RunFault)
@@ -103,9 +87,13 @@ runs_prefix old now run (Ok _) ran = (run.written, ([], sym (append-nil run.writ
 runs_prefix old now run (Err (Script line cause)) ran = (run.written, ([], sym (append-nil run.written)), ran.1)
 runs_prefix old now run (Err Write) ran = ran
 runs_prefix old now run (Err Memory) ran = ran
-runs_prefix old now run (Err Size) ran = absurd ran
-runs_prefix old now run (Err Read) ran = absurd ran
-runs_prefix old now run (Err Thread) ran = absurd ran
+runs_prefix old now run _ ran = absurd ran
+
+pub writes_prefix : (old new : Option (List ℕ)) (text : List ℕ) (outcome : Result (Unit {0}) RunFault) → Writes old new text outcome → AppendsPrefix old new text
+writes_prefix old new text (Ok _) wrote = all_prefix old new text wrote
+writes_prefix old new text (Err Write) wrote = wrote
+writes_prefix old new text (Err Memory) wrote = wrote
+writes_prefix old new text _ wrote = absurd wrote
 
 -- and a flush keeps it so
 pub prefix_kept : (old now new : Option (List ℕ)) (text : List ℕ) → AppendsPrefix old now text → Keeps now new → AppendsPrefix old new text
@@ -121,9 +109,7 @@ pub unread_ran : (config : Config) (script left now : Option (List ℕ)) (fault 
 unread_ran config script left now Size unread = record { reads = unread; writes = Keeps-refl now }
 unread_ran config script left now Read unread = record { reads = unread; writes = Keeps-refl now }
 unread_ran config script left now Memory unread = record { reads = unread; writes = nothing_of config script now }
-unread_ran config script left now (Script line cause) unread = absurd unread
-unread_ran config script left now Write unread = absurd unread
-unread_ran config script left now Thread unread = absurd unread
+unread_ran config script left now _ unread = absurd unread
 
 -- what a run of the bytes that were read did is so of the script, where that is known
 of_script : (config : Config) (script left : Option (List ℕ)) (all : Vec ℕ) (text : List ℕ) (old new : Option (List ℕ)) (r : Result (Unit {0}) RunFault)
@@ -135,22 +121,10 @@ of_script config script left all text old new r read same ran =
 -- a run whose script was read
 pub read_ran : (config : Config) (script left : Option (List ℕ)) (all : Vec ℕ) (text : List ℕ) (old new : Option (List ℕ)) (r : Result (Unit {0}) RunFault)
     → HasRead script left all → text ≡ all.items → Runs old new (run_of config text) r → RanSerial config script left old new r
-read_ran config script left all text old new (Ok done) read same ran = record {
-  reads = (reads_few script left all read, read.end);
-  writes = of_script config script left all text old new (Ok done) read same ran;
-}
-read_ran config script left all text old new (Err (Script line cause)) read same ran = record {
-  reads = reads_few script left all read;
-  writes = of_script config script left all text old new (Err (Script line cause)) read same ran;
-}
-read_ran config script left all text old new (Err Write) read same ran = record {
-  reads = reads_few script left all read;
-  writes = of_script config script left all text old new (Err Write) read same ran;
-}
-read_ran config script left all text old new (Err Memory) read same ran = record {
-  reads = reads_few script left all read;
-  writes = of_script config script left all text old new (Err Memory) read same ran;
-}
 read_ran config script left all text old new (Err Size) read same ran = absurd ran
 read_ran config script left all text old new (Err Read) read same ran = absurd ran
 read_ran config script left all text old new (Err Thread) read same ran = absurd ran
+read_ran config script left all text old new (Ok done) read same ran =
+    search (rules, reads_few script left all read, read.end, of_script config script left all text old new (Ok done) read same ran)
+read_ran config script left all text old new r read same ran =
+    search (rules, reads_few script left all read, of_script config script left all text old new r read same ran)

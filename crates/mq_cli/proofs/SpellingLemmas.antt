@@ -1,4 +1,4 @@
-use Rattle.std.proofs.Common.{◌≡◌, ℕ, ℤ, pos, negsuc, ◌+◌, ◌-◌, ◌^◌, ◌<◌, ◌≤◌, ◌==◌, ◌&&◌, ◌||◌, nat_le, nat_lt, ◌*◌, Bool, true, false, not, cond, List, [], ◌∷◌, ◌++◌, length, get_or, drop, suc, Option, Some, None, Result, Ok, Err, codes, refl, sym, ap, subst, ◌∙◌, arith, lit<, lit≤, length-append}
+use Rattle.std.proofs.Common.{◌≡◌, ℕ, ℤ, pos, negsuc, ◌+◌, ◌-◌, ◌^◌, ◌<◌, ◌≤◌, ◌==◌, ◌&&◌, ◌||◌, nat_le, nat_lt, ◌*◌, Bool, true, false, cond, List, [], ◌∷◌, ◌++◌, length, get_or, drop, suc, Option, Some, None, Result, Ok, Err, codes, refl, sym, ap, subst, ◌∙◌, arith, lit<, lit≤, length-append}
 use Rattle.std.specs.Fmt.{decimal, signed_decimal}
 use Rattle.std.specs.Int.{w32, w64}
 use Rattle.std.specs.Int.RustNames.{FitsSigned}
@@ -20,7 +20,7 @@ use Rattle.mq_one_thread.specs.declared.results.GetFlags.{GetFlags}
 use Rattle.mq_cli.specs.declared.limits.TheConstants.{LINE_LIMIT}
 use Rattle.mq_cli.specs.declared.fault.Cause.{Cause}
 use Rattle.mq_cli.specs.declared.fault.Cause.TheVariants.{Words}
-use Rattle.mq_cli.specs.Commands.{AskedCall, sit, show, get, snd, rcv, set, rm, stat, cut, ipcs, info, AskedText, plain, letters, Flags, ok_map, ◌>>=◌, worded, is_filled, is_plain, is_text, text_asked, flags_asked, seat_asked, arena_asked, get_flags_asked, get_asked, set_asked, remove_asked, stat_asked, cutting_asked, ipcs_asked, info_asked, send_asked, receive_asked, command_asked, is_skipped, speaks, spoken, reading_by, reading}
+use Rattle.mq_cli.specs.Commands.{AskedCall, sit, show, get, snd, rcv, set, rm, stat, cut, ipcs, info, AskedText, plain, letters, Flags, ok_map, ◌>>=◌, worded, is_filled, is_plain, is_text, text_asked, flags_asked, seat_asked, arena_asked, get_flags_asked, get_asked, set_asked, remove_asked, stat_asked, cutting_asked, ipcs_asked, info_asked, send_asked, receive_asked, command_asked, is_skipped, speaks, spoken, reading_by}
 use Rattle.mq_cli.specs.Laws.{flag_words, get_flag_words, spelling, text_spelling, CanBeSpelled, Spells, ReadsBack, SpelledOneWay}
 use Rattle.mq_cli.specs.Lines.{is_printable, line_of, words_of}
 use Rattle.mq_cli.specs.Numbers.{number_of, integer_of, is_key, key_of, under, above_zero, below_zero}
@@ -40,11 +40,6 @@ pub record IsWord (word : List ℕ) : Type 0 where
 abbrev pub AreWords : List (List ℕ) → Type 0
 AreWords [] = Unit {0}
 AreWords (word ∷ words) = IsWord word × AreWords words
-
--- the words, with a space behind each, and then the last part of the line
-abbrev before_last : List (List ℕ) → List ℕ → List ℕ
-before_last [] last = last
-before_last (word ∷ words) last = word ++ 32 ∷ before_last words last
 
 -- the digits are bytes of a word
 word_digits : (ds : List ℕ) → AllDigits 10 ds → list_all is_word_byte ds ≡ true
@@ -100,16 +95,15 @@ word_printable (b ∷ word) h =
     let range = word_byte b parts.0 in
     and_from _ _ (and_from _ _ (le-leb 32 b (omega (arith, range.0))) (le-leb b 126 range.1)) (word_printable word parts.1)
 
--- the words of a line are the words that it was made of, and those of its last part
-words_before_last : (words : List (List ℕ)) (last : List ℕ) → AreWords words → words_of (before_last words last) ≡ words ++ words_of last
-words_before_last [] last are = refl
-words_before_last (word ∷ words) last are =
-    slice_split_at (λ b. b == 32) word 32 (before_last words last) (no_space word are.0.bytes) refl
-    ∙ ap (λ rest. word ∷ rest) (words_before_last words last are.1)
+-- behind a word and a space the other words stand
+words_behind : (word rest : List ℕ) → IsWord word → words_of (word ++ 32 ∷ rest) ≡ word ∷ words_of rest
+words_behind word rest is = slice_split_at (λ b. b == 32) word 32 rest (no_space word is.bytes) refl
 
--- a word alone is one word
-words_of_word : (word : List ℕ) → IsWord word → words_of word ≡ word ∷ []
-words_of_word word is = slice_split_none (λ b. b == 32) word (no_space word is.bytes)
+-- a line of words has just them
+words_of_line : (word : List ℕ) (words : List (List ℕ)) → AreWords (word ∷ words) → words_of (line_of (word ∷ words)) ≡ word ∷ words
+words_of_line word [] are = slice_split_none (λ b. b == 32) word (no_space word are.0.bytes)
+words_of_line word (next ∷ words) are =
+    words_behind word (line_of (next ∷ words)) are.0 ∙ ap (λ rest. word ∷ rest) (words_of_line next words are.1)
 
 -- each word is filled
 pub all_filled : (words : List (List ℕ)) → AreWords words → list_all is_filled words ≡ true
@@ -117,23 +111,22 @@ all_filled [] are = refl
 all_filled (word ∷ words) are = and_from _ _ are.0.filled (all_filled words are.1)
 
 -- such words make a short line
-short_before_last : (words : List (List ℕ)) (last : List ℕ) → AreWords words → length (before_last words last) ≤ 22 * length words + length last
-short_before_last [] last are = omega arith
-short_before_last (word ∷ words) last are =
-    omega (arith, length-append word (32 ∷ before_last words last), are.0.short, short_before_last words last are.1)
+short_line : (word : List ℕ) (words : List (List ℕ)) → AreWords (word ∷ words) → length (line_of (word ∷ words)) ≤ 21 + 22 * length words
+short_line word [] are = omega (arith, are.0.short)
+short_line word (next ∷ words) are =
+    omega (arith, length-append word (32 ∷ line_of (next ∷ words)), are.0.short, short_line next words are.1)
 
--- a line of words is printable where its last part is
-printable_before_last : (words : List (List ℕ)) (last : List ℕ) → AreWords words → list_all is_printable last ≡ true → list_all is_printable (before_last words last) ≡ true
-printable_before_last [] last are h = h
-printable_before_last (word ∷ words) last are h =
-    list_all-append is_printable word (32 ∷ before_last words last)
-    ∙ and_from _ _ (word_printable word are.0.bytes) (printable_before_last words last are.1 h)
+-- a word and what stands behind it are printable where that is
+printable_behind : (word rest : List ℕ) → IsWord word → list_all is_printable rest ≡ true → list_all is_printable (word ++ 32 ∷ rest) ≡ true
+printable_behind word rest is h = list_all-append is_printable word (32 ∷ rest) ∙ and_from _ _ (word_printable word is.bytes) h
 
--- the last part of a printable line is printable
-printable_last : (words : List (List ℕ)) (last : List ℕ) → list_all is_printable (before_last words last) ≡ true → list_all is_printable last ≡ true
-printable_last [] last h = h
-printable_last (word ∷ words) last h =
-    printable_last words last (and_parts _ _ (sym (list_all-append is_printable word (32 ∷ before_last words last)) ∙ h)).1
+printable_line : (word : List ℕ) (words : List (List ℕ)) → AreWords (word ∷ words) → list_all is_printable (line_of (word ∷ words)) ≡ true
+printable_line word [] are = word_printable word are.0.bytes
+printable_line word (next ∷ words) are = printable_behind word (line_of (next ∷ words)) are.0 (printable_line next words are.1)
+
+-- what stands behind a part of a printable text is printable
+printable_rest : (part rest : List ℕ) → list_all is_printable (part ++ 32 ∷ rest) ≡ true → list_all is_printable rest ≡ true
+printable_rest part rest h = (and_parts _ _ (sym (list_all-append is_printable part (32 ∷ rest)) ∙ h)).1
 
 -- the first byte of a text that begins with it
 first_byte : (text : List ℕ) (b : ℕ) → 0 < b → (get_or text 0 0 == b) ≡ true → text ≡ b ∷ drop 1 text
@@ -199,10 +192,21 @@ integer_of-Some word z e =
     (λ minus below. option_and_then_some below_zero _ z below (λ n read is. below_zero_read word n z (first_byte word 45 (lit< tt) minus) read is))
     (λ plain natural. natural_read word z natural)
 
+-- what is so of what was read
+pub from_ok : {A : Type 0} (P : A → Type 0) (x y : A) → ◌≡◌ {A = Result A Cause} (Ok x) (Ok y) → P x → P y
+from_ok P x y e so =
+    let same : x ≡ y = cc e in
+    subst P same so
+
 -- what follows from a step that did not fail
 pub bind_ok : {A B P : Type 0} (o : Option A) (f : A → Result B Cause) (y : B) → (o >>= f) ≡ Ok y → ((x : A) → o ≡ Some x → f x ≡ Ok y → P) → P
 bind_ok None f y e then = absurd (cc e)
 bind_ok (Some x) f y e then = then x refl e
+
+-- and what from the last
+pub bind_last : {A B : Type 0} (o : Option A) (f : A → B) (P : B → Type 0) (y : B) → (o >>= λ x. Ok (f x)) ≡ Ok y → ((x : A) → o ≡ Some x → P (f x)) → P y
+bind_last None f P y e then = absurd (cc e)
+bind_last (Some x) f P y e then = from_ok P (f x) y e (then x refl)
 
 -- a test that was needed held
 pub needed : {A : Type 0} (b : Bool) (x : Result A Cause) (cause : Cause) (y : A) → cond b x (Err cause) ≡ Ok y → (b ≡ true) × (x ≡ Ok y)
@@ -227,8 +231,7 @@ pub record IsSaid {A : Type 0} (say : List (List ℕ) → Result A Cause) (line 
 
 spoken_some : {A : Type 0} (s : Result Bool Cause) (said : Result A Cause) (x : A) → spoken s said ≡ Ok (Some x) → (s ≡ Ok true) × (said ≡ Ok x)
 spoken_some (Ok true) said x e = let is = mapped_ok Some said (Some x) e in (refl, cc (is.1, is.2))
-spoken_some (Ok false) said x e = absurd (cc e)
-spoken_some (Err cause) said x e = absurd (cc e)
+spoken_some _ said x e = absurd (cc e)
 
 -- what is known of a line that says something
 pub reading-Ok : {A : Type 0} (say : List (List ℕ) → Result A Cause) (line : List ℕ) (x : A) → reading_by say line ≡ Ok (Some x) → IsSaid say line x
@@ -259,62 +262,46 @@ above_zero-Some word n e = option_and_then_some _ _ n e (λ m read above.
 -- seat is read from its spelling alone
 seated : (line : List ℕ) (words : List (List ℕ)) (call : AskedCall) → line ≡ line_of (codes "seat" ∷ words) → seat_asked words ≡ Ok call → Spells line call
 seated line (word ∷ []) call is e =
-    bind_ok (above_zero (under (MAX_SEATS + 1) (number_of word))) (λ n. Ok (sit n)) call e (λ n read done.
+    bind_last (above_zero (under (MAX_SEATS + 1) (number_of word))) sit (Spells line) call e (λ n read.
     let spelled = above_zero-Some word n read in
-    let same : sit n ≡ call = cc done in
-    subst (Spells line) same (cc (is, spelled.0), (spelled.1, spelled.2)))
-seated line [] call is e = absurd (cc e)
-seated line (word ∷ more ∷ words) call is e = absurd (cc e)
+    (cc (is, spelled.0), (spelled.1, spelled.2)))
+seated line _ call is e = absurd (cc e)
 
 -- arena is read from its spelling alone
 listed : (line : List ℕ) (words : List (List ℕ)) (call : AskedCall) → line ≡ line_of (codes "arena" ∷ words) → arena_asked words ≡ Ok call → Spells line call
-listed line [] call is e =
-    let same : show ≡ call = cc e in
-    subst (Spells line) same (is, tt)
+listed line [] call is e = from_ok (Spells line) show call e (is, tt)
 listed line (word ∷ words) call is e = absurd (cc e)
 
 -- and set
 pub changed : (line : List ℕ) (words : List (List ℕ)) (call : AskedCall) → line ≡ line_of (codes "set" ∷ words) → set_asked words ≡ Ok call → Spells line call
 changed line (id ∷ qbytes ∷ []) call is e =
     bind_ok _ _ call e (λ i read_id told.
-    bind_ok (number_of qbytes) (λ q. Ok (set i q)) call told (λ q read_qbytes done.
+    bind_last (number_of qbytes) (set i) (Spells line) call told (λ q read_qbytes.
     let spelled_id = under-Some (2 ^ 32) id i read_id in
     let spelled_qbytes = number_of-Some qbytes q read_qbytes in
-    let same : set i q ≡ call = cc done in
-    subst (Spells line) same (cc (is, spelled_id.0, spelled_qbytes.0), (spelled_id.1, spelled_qbytes.1))))
-changed line [] call is e = absurd (cc e)
-changed line (id ∷ []) call is e = absurd (cc e)
-changed line (id ∷ qbytes ∷ more ∷ words) call is e = absurd (cc e)
+    (cc (is, spelled_id.0, spelled_qbytes.0), (spelled_id.1, spelled_qbytes.1))))
+changed line _ call is e = absurd (cc e)
 
--- and rm
+-- and rm, stat and cut, which ask by one number below a limit
+numbered : (line name word : List ℕ) (limit : ℕ) (of : ℕ → AskedCall) (call : AskedCall) → line ≡ line_of (name ∷ word ∷ []) → (under limit (number_of word) >>= λ i. Ok (of i)) ≡ Ok call
+    → ((i : ℕ) → i < limit → Spells (line_of (name ∷ decimal i ∷ [])) (of i)) → Spells line call
+numbered line name word limit of call is e spells =
+    bind_last (under limit (number_of word)) of (Spells line) call e (λ i read.
+    let spelled = under-Some limit word i read in
+    let so = spells i spelled.1 in
+    (cc (is, spelled.0, so.0), so.1))
+
 removed : (line : List ℕ) (words : List (List ℕ)) (call : AskedCall) → line ≡ line_of (codes "rm" ∷ words) → remove_asked words ≡ Ok call → Spells line call
-removed line (id ∷ []) call is e =
-    bind_ok (under (2 ^ 32) (number_of id)) (λ i. Ok (rm i)) call e (λ i read done.
-    let spelled = under-Some (2 ^ 32) id i read in
-    let same : rm i ≡ call = cc done in
-    subst (Spells line) same (cc (is, spelled.0), spelled.1))
-removed line [] call is e = absurd (cc e)
-removed line (id ∷ more ∷ words) call is e = absurd (cc e)
+removed line (id ∷ []) call is e = numbered line (codes "rm") id (2 ^ 32) rm call is e (λ i below. (refl, below))
+removed line _ call is e = absurd (cc e)
 
--- and stat
 asked : (line : List ℕ) (words : List (List ℕ)) (call : AskedCall) → line ≡ line_of (codes "stat" ∷ words) → stat_asked words ≡ Ok call → Spells line call
-asked line (id ∷ []) call is e =
-    bind_ok (under (2 ^ 32) (number_of id)) (λ i. Ok (stat i)) call e (λ i read done.
-    let spelled = under-Some (2 ^ 32) id i read in
-    let same : stat i ≡ call = cc done in
-    subst (Spells line) same (cc (is, spelled.0), spelled.1))
-asked line [] call is e = absurd (cc e)
-asked line (id ∷ more ∷ words) call is e = absurd (cc e)
+asked line (id ∷ []) call is e = numbered line (codes "stat") id (2 ^ 32) stat call is e (λ i below. (refl, below))
+asked line _ call is e = absurd (cc e)
 
--- and cut
 severed : (line : List ℕ) (words : List (List ℕ)) (call : AskedCall) → line ≡ line_of (codes "cut" ∷ words) → cutting_asked words ≡ Ok call → Spells line call
-severed line (slot ∷ []) call is e =
-    bind_ok (under MAX_SLOTS (number_of slot)) (λ k. Ok (cut k)) call e (λ k read done.
-    let spelled = under-Some MAX_SLOTS slot k read in
-    let same : cut k ≡ call = cc done in
-    subst (Spells line) same (cc (is, spelled.0), spelled.1))
-severed line [] call is e = absurd (cc e)
-severed line (slot ∷ more ∷ words) call is e = absurd (cc e)
+severed line (slot ∷ []) call is e = numbered line (codes "cut") slot MAX_SLOTS cut call is e (λ i below. (refl, below))
+severed line _ call is e = absurd (cc e)
 
 -- what follows from words that say something
 pub worded_ok : {A B P : Type 0} (o : Option A) (f : A → Result B Cause) (y : B) → worded o f ≡ Ok y → ((x : A) → o ≡ Some x → f x ≡ Ok y → P) → P
@@ -325,36 +312,30 @@ worded_ok (Some x) f y e then = then x refl e
 some_is : {A : Type 0} (x y : A) → Some x ≡ Some y → x ≡ y
 some_is x y e = cc e
 
--- a word that passes the test is the word for those flags
-flag_word : {F : Type 0} (words_for : F → List (List ℕ)) (word text : List ℕ) (wanted flags : F) → bytes_eq word text ≡ true → wanted ≡ flags → words_for wanted ≡ text ∷ [] → word ∷ [] ≡ words_for flags
-flag_word words_for word text wanted flags test same spelled =
-    ap (λ w. w ∷ []) ((bytes_eq-Decides word text).0 test) ∙ sym spelled ∙ ap words_for same
+-- a word that passes one of three tests is the word for its flags
+one_of_three : {F : Type 0} (words_for : F → List (List ℕ)) (word a b c : List ℕ) (x y z flags : F) → words_for x ≡ a ∷ [] → words_for y ≡ b ∷ [] → words_for z ≡ c ∷ []
+    → cond (bytes_eq word a) (Some x) (cond (bytes_eq word b) (Some y) (cond (bytes_eq word c) (Some z) None)) ≡ Some flags → word ∷ [] ≡ words_for flags
+one_of_three words_for word a b c x y z flags for_x for_y for_z e =
+    chosen _ _ _ _ e
+    (λ (is : bytes_eq word a ≡ true) (found : Some x ≡ Some flags). cc (for_x, (bytes_eq-Decides word a).0 is, found))
+    (λ not_a others. chosen _ _ _ _ others
+    (λ (is : bytes_eq word b ≡ true) (found : Some y ≡ Some flags). cc (for_y, (bytes_eq-Decides word b).0 is, found))
+    (λ not_b last. chosen _ _ _ _ last
+    (λ (is : bytes_eq word c ≡ true) (found : Some z ≡ Some flags). cc (for_z, (bytes_eq-Decides word c).0 is, found))
+    (λ not_c none. absurd (cc none))))
 
 -- flags are read from their word alone
 pub flags_of-Some : (words : List (List ℕ)) (flags : Flags) → flags_asked words ≡ Some flags → words ≡ flag_words flags.except flags.noerror
 flags_of-Some [] flags e = subst (λ (f : Flags). [] ≡ flag_words f.except f.noerror) (some_is _ _ e) refl
 flags_of-Some (word ∷ []) flags e =
-    chosen _ _ _ _ e
-    (λ is_e found. flag_word (λ (f : Flags). flag_words f.except f.noerror) word (codes "e") _ flags is_e (some_is _ _ found) refl)
-    (λ not_e others. chosen _ _ _ _ others
-    (λ is_n found. flag_word (λ (f : Flags). flag_words f.except f.noerror) word (codes "n") _ flags is_n (some_is _ _ found) refl)
-    (λ not_n last. chosen _ _ _ _ last
-    (λ is_en found. flag_word (λ (f : Flags). flag_words f.except f.noerror) word (codes "en") _ flags is_en (some_is _ _ found) refl)
-    (λ not_en none. absurd (cc none))))
+    one_of_three (λ (f : Flags). flag_words f.except f.noerror) word (codes "e") (codes "n") (codes "en") _ _ _ flags refl refl refl e
 flags_of-Some (word ∷ more ∷ words) flags e = absurd (cc e)
 
 -- the same of the flags of get
 pub get_flags_of-Some : (words : List (List ℕ)) (flags : GetFlags) → get_flags_asked words ≡ Some flags → words ≡ get_flag_words flags.create flags.exclusive
 get_flags_of-Some [] flags e = subst (λ (f : GetFlags). [] ≡ get_flag_words f.create f.exclusive) (some_is _ _ e) refl
 get_flags_of-Some (word ∷ []) flags e =
-    let words_for : GetFlags → List (List ℕ) = λ f. get_flag_words f.create f.exclusive in
-    chosen _ _ _ _ e
-    (λ is_c found. flag_word words_for word (codes "c") _ flags is_c (some_is _ _ found) refl)
-    (λ not_c others. chosen _ _ _ _ others
-    (λ is_x found. flag_word words_for word (codes "x") _ flags is_x (some_is _ _ found) refl)
-    (λ not_x last. chosen _ _ _ _ last
-    (λ is_cx found. flag_word words_for word (codes "cx") _ flags is_cx (some_is _ _ found) refl)
-    (λ not_cx none. absurd (cc none))))
+    one_of_three (λ (f : GetFlags). get_flag_words f.create f.exclusive) word (codes "c") (codes "x") (codes "cx") _ _ _ flags refl refl refl e
 get_flags_of-Some (word ∷ more ∷ words) flags e = absurd (cc e)
 
 -- an i32 is a key, and an i64
@@ -385,25 +366,19 @@ key_of-Some word z e = option_and_then_some _ (integer_of word) z e (λ m read k
 pub got : (line : List ℕ) (words : List (List ℕ)) (call : AskedCall) → line ≡ line_of (codes "get" ∷ words) → get_asked words ≡ Ok call → Spells line call
 got line (key ∷ words) call is e =
     worded_ok (get_flags_asked words) _ call e (λ flags read_flags keyed.
-    bind_ok (key_of key) (λ k. Ok (get k flags)) call keyed (λ k read done.
+    bind_last (key_of key) (λ k. get k flags) (Spells line) call keyed (λ k read.
     let spelled = key_of-Some key k read in
-    let spelled_flags = get_flags_of-Some words flags read_flags in
-    let same : get k flags ≡ call = cc done in
-    subst (Spells line) same (cc (is, spelled.0, spelled_flags), spelled.1)))
+    (cc (is, spelled.0, get_flags_of-Some words flags read_flags), spelled.1)))
 got line [] call is e = absurd (cc e)
 
 -- and ipcs
 reported : (line : List ℕ) (words : List (List ℕ)) (call : AskedCall) → line ≡ line_of (codes "ipcs" ∷ words) → ipcs_asked words ≡ Ok call → Spells line call
-reported line [] call is e =
-    let same : ipcs ≡ call = cc e in
-    subst (Spells line) same (is, tt)
+reported line [] call is e = from_ok (Spells line) ipcs call e (is, tt)
 reported line (word ∷ words) call is e = absurd (cc e)
 
 -- and info
 informed : (line : List ℕ) (words : List (List ℕ)) (call : AskedCall) → line ≡ line_of (codes "info" ∷ words) → info_asked words ≡ Ok call → Spells line call
-informed line [] call is e =
-    let same : info ≡ call = cc e in
-    subst (Spells line) same (is, tt)
+informed line [] call is e = from_ok (Spells line) info call e (is, tt)
 informed line (word ∷ words) call is e = absurd (cc e)
 
 -- and rcv
@@ -412,16 +387,13 @@ received line (id ∷ size ∷ mtype ∷ words) call is e =
     worded_ok (flags_asked words) _ call e (λ flags read_flags numbers.
     bind_ok _ _ call numbers (λ i read_id sized.
     bind_ok _ _ call sized (λ s read_size typed.
-    bind_ok (integer_of mtype) (λ z. Ok (rcv i s z flags.except flags.noerror)) call typed (λ z read_type done.
+    bind_last (integer_of mtype) (λ z. rcv i s z flags.except flags.noerror) (Spells line) call typed (λ z read_type.
     let spelled_id = under-Some (2 ^ 32) id i read_id in
     let spelled_size = number_of-Some size s read_size in
     let spelled_type = integer_of-Some mtype z read_type in
     let spelled_flags = flags_of-Some words flags read_flags in
-    let same : rcv i s z flags.except flags.noerror ≡ call = cc done in
-    subst (Spells line) same (cc (is, spelled_id.0, spelled_size.0, spelled_type.0, spelled_flags), (spelled_id.1, spelled_size.1, spelled_type.1))))))
-received line [] call is e = absurd (cc e)
-received line (id ∷ []) call is e = absurd (cc e)
-received line (id ∷ size ∷ []) call is e = absurd (cc e)
+    (cc (is, spelled_id.0, spelled_size.0, spelled_type.0, spelled_flags), (spelled_id.1, spelled_size.1, spelled_type.1))))))
+received line _ call is e = absurd (cc e)
 
 -- a word, and behind it parts that are not empty
 joined_behind : (word : List ℕ) (parts : List (List ℕ)) (b : ℕ) (text : List ℕ) → join_with_byte 32 parts ≡ b ∷ text → join_with_byte 32 (word ∷ parts) ≡ word ++ 32 ∷ (b ∷ text)
@@ -467,7 +439,7 @@ sent_line name id mtype parts (letters count) text = ap (λ rest. name ++ 32 ∷
 sent_can : (id : ℕ) (z : ℤ) (t : AskedText) → id < 2 ^ 32 → FitsSigned w64 z → LettersFit t → length (spelling (snd id z t)) ≤ LINE_LIMIT
     → list_all is_printable (spelling (snd id z t)) ≡ true → CanBeSpelled (snd id z t)
 sent_can id z (plain bytes) id_fits z_fits fits short printable =
-    (id_fits, z_fits, printable_last (codes "snd" ∷ decimal id ∷ signed_decimal z ∷ []) (61 ∷ bytes) printable, short)
+    (id_fits, z_fits, printable_rest (signed_decimal z) (61 ∷ bytes) (printable_rest (decimal id) (signed_decimal z ++ 32 ∷ 61 ∷ bytes) printable), short)
 sent_can id z (letters count) id_fits z_fits fits short printable = (id_fits, z_fits, fits)
 
 -- and snd
@@ -477,17 +449,14 @@ sent line (id ∷ mtype ∷ parts) call is short printable e =
     let begins = (and_parts (is_filled id && is_filled mtype) (is_text (line_of parts)) tests.0).1 in
     bind_ok _ _ call tests.1 (λ i read_id typed.
     bind_ok (integer_of mtype) (λ z. text_asked (line_of parts) >>= λ t. Ok (snd i z t)) call typed (λ z read_type told.
-    bind_ok (text_asked (line_of parts)) (λ t. Ok (snd i z t)) call told (λ t read_text done.
+    bind_last (text_asked (line_of parts)) (snd i z) (Spells line) call told (λ t read_text.
     let spelled_id = under-Some (2 ^ 32) id i read_id in
     let spelled_type = integer_of-Some mtype z read_type in
     let spelled_text = text_of-Some (line_of parts) t begins read_text in
-    let same : snd i z t ≡ call = cc done in
     let behind = sent_line (codes "snd") id mtype parts t spelled_text.same in
     let line_is : line ≡ spelling (snd i z t) = cc (is, behind, spelled_id.0, spelled_type.0) in
-    subst (Spells line) same
     (line_is, sent_can i z t spelled_id.1 spelled_type.1 spelled_text.fits (rw line_is at short) (rw line_is at printable)))))
-sent line [] call is short printable e = absurd (cc e)
-sent line (id ∷ []) call is short printable e = absurd (cc e)
+sent line _ call is short printable e = absurd (cc e)
 
 -- the command that a line's words are is spelled by the line
 commanded : (line : List ℕ) (words : List (List ℕ)) (call : AskedCall) → words_of line ≡ words → length line ≤ LINE_LIMIT → list_all is_printable line ≡ true → command_asked words ≡ Ok call → Spells line call
@@ -533,107 +502,46 @@ not_skipped (b ∷ line) letter =
     rw (ne_eqb (length (b ∷ line)) 0 (λ e. omega arith), ne_eqb b 35 (λ e. omega arith)) refl
 
 -- a short and printable line is read as its words are
-reads : {A : Type 0} (say : List (List ℕ) → Result A Cause) (words : List (List ℕ)) (last : List ℕ) (x : A) → AreWords words → length (before_last words last) ≤ LINE_LIMIT → list_all is_printable last ≡ true → nat_lt 35 (get_or (before_last words last) 0 0) ≡ true → say (words ++ words_of last) ≡ Ok x → reading_by say (before_last words last) ≡ Ok (Some x)
-reads say words last x are short printable letter said =
-    let line = before_last words last in
-    let told : Bool → Result Bool Cause = λ skipped. Ok (not skipped) in
-    let speaks_line : speaks line ≡ Ok true =
-    cond-false _ _ _ (le-ltb _ _ short)
-    ∙ cond-false _ _ _ (not_from_true _ (printable_before_last words last are printable))
-    ∙ ap told (not_skipped line letter) in
-    ap (λ s. spoken s (say (words_of line))) speaks_line
-    ∙ ap (ok_map Some) (ap say (words_before_last words last are) ∙ said)
+reads : {A : Type 0} (say : List (List ℕ) → Result A Cause) (line : List ℕ) (words : List (List ℕ)) (x : A) → length line ≤ LINE_LIMIT → list_all is_printable line ≡ true
+    → nat_lt 35 (get_or line 0 0) ≡ true → words_of line ≡ words → say words ≡ Ok x → reading_by say line ≡ Ok (Some x)
+reads say line words x short printable letter are said =
+    rw (le-ltb LINE_LIMIT (length line) short, printable, not_skipped line letter, are, said) refl
 
--- the same of a line of words alone, which is short where they are few
-pub reads_words : {A : Type 0} (say : List (List ℕ) → Result A Cause) (words : List (List ℕ)) (last : List ℕ) (x : A) → AreWords words → IsWord last → length words ≤ 100 → nat_lt 35 (get_or (before_last words last) 0 0) ≡ true → say (words ++ last ∷ []) ≡ Ok x → reading_by say (before_last words last) ≡ Ok (Some x)
-reads_words say words last x are is few letter said =
-    let short = short_before_last words last are in
-    reads say words last x are (omega (arith, short, is.short, few)) (word_printable last is.bytes) letter
-    (ap (λ rest. say (words ++ rest)) (words_of_word last is) ∙ said)
+-- the same of a line of a few words, none of which is empty
+pub reads_line : {A : Type 0} (say : List (List ℕ) → Result A Cause) (word : List ℕ) (words : List (List ℕ)) (x : A) → AreWords (word ∷ words) → length words ≤ 100
+    → nat_lt 35 (get_or (line_of (word ∷ words)) 0 0) ≡ true → (list_all is_filled (word ∷ words) ≡ true → say (word ∷ words) ≡ Ok x)
+    → reading_by say (line_of (word ∷ words)) ≡ Ok (Some x)
+reads_line say word words x are few letter said =
+    reads say (line_of (word ∷ words)) (word ∷ words) x (omega (arith, short_line word words are, few)) (printable_line word words are) letter
+    (words_of_line word words are) (said (all_filled (word ∷ words) are))
 
 -- what the words of get say, whatever more is said of them
 abbrev GetSays : {A : Type 0} → (List (List ℕ) → Result A Cause) → AskedCall → A → Type 0
 GetSays say call x = (words : List (List ℕ)) → list_all is_filled words ≡ true → get_asked words ≡ Ok call → say (codes "get" ∷ words) ≡ Ok x
 
--- the words of get are read back
-get_is : (key : ℤ) (words : List (List ℕ)) (flags : GetFlags) → FitsSigned w32 key → get_flags_asked words ≡ Some flags → get_asked (signed_decimal key ∷ words) ≡ Ok (get key flags)
-get_is key words flags fits read = rw (read, key_of-signed_decimal key fits) refl
+-- the words for flags are read back
+pub flags_again : (except noerror : Bool) → AreWords (flag_words except noerror) × (length (flag_words except noerror) ≤ 1)
+    × (flags_asked (flag_words except noerror) ≡ Some (record { except = except; noerror = noerror }))
+flags_again false false = (tt, lit≤ tt, refl)
+flags_again true false = ((name_word (codes "e") refl, tt), lit≤ tt, refl)
+flags_again false true = ((name_word (codes "n") refl, tt), lit≤ tt, refl)
+flags_again true true = ((name_word (codes "en") refl, tt), lit≤ tt, refl)
 
--- with a word of flags
-flagged_get_again : {A : Type 0} (say : List (List ℕ) → Result A Cause) (x : A) (key : ℤ) (word : List ℕ) (flags : GetFlags) → IsWord word → get_flags_asked (word ∷ []) ≡ Some flags → FitsSigned w32 key
-    → GetSays say (get key flags) x → reading_by say (line_of (codes "get" ∷ signed_decimal key ∷ word ∷ [])) ≡ Ok (Some x)
-flagged_get_again say x key word flags is read fits says =
-    let key_word = signed_word key (key_fits key fits).1 in
-    reads_words say (codes "get" ∷ signed_decimal key ∷ []) word x (name_word (codes "get") refl, (key_word, tt)) is (lit≤ tt) refl
-    (says (signed_decimal key ∷ word ∷ []) (all_filled (signed_decimal key ∷ word ∷ []) (key_word, (is, tt))) (get_is key (word ∷ []) flags fits read))
+pub get_flags_again : (create exclusive : Bool) → AreWords (get_flag_words create exclusive) × (length (get_flag_words create exclusive) ≤ 1)
+    × (get_flags_asked (get_flag_words create exclusive) ≡ Some (record { create = create; exclusive = exclusive }))
+get_flags_again false false = (tt, lit≤ tt, refl)
+get_flags_again true false = ((name_word (codes "c") refl, tt), lit≤ tt, refl)
+get_flags_again false true = ((name_word (codes "x") refl, tt), lit≤ tt, refl)
+get_flags_again true true = ((name_word (codes "cx") refl, tt), lit≤ tt, refl)
 
--- and in each way
+-- get is read back, whatever more is said of its words
 pub key_again : {A : Type 0} (say : List (List ℕ) → Result A Cause) (x : A) (key : ℤ) (create exclusive : Bool) → FitsSigned w32 key
     → GetSays say (get key (record { create = create; exclusive = exclusive })) x → reading_by say (spelling (get key (record { create = create; exclusive = exclusive }))) ≡ Ok (Some x)
-key_again say x key false false fits says =
-    let key_word = signed_word key (key_fits key fits).1 in
-    reads_words say (codes "get" ∷ []) (signed_decimal key) x (name_word (codes "get") refl, tt) key_word (lit≤ tt) refl
-    (says (signed_decimal key ∷ []) (all_filled (signed_decimal key ∷ []) (key_word, tt)) (get_is key [] (record { create = false; exclusive = false }) fits refl))
-key_again say x key true false fits says = flagged_get_again say x key (codes "c") (record { create = true; exclusive = false }) (name_word (codes "c") refl) refl fits says
-key_again say x key false true fits says = flagged_get_again say x key (codes "x") (record { create = false; exclusive = true }) (name_word (codes "x") refl) refl fits says
-key_again say x key true true fits says = flagged_get_again say x key (codes "cx") (record { create = true; exclusive = true }) (name_word (codes "cx") refl) refl fits says
-
--- a seat is read back
-seat_again : (n : ℕ) → 1 ≤ n → n ≤ MAX_SEATS → command_asked (codes "seat" ∷ decimal n ∷ []) ≡ Ok (sit n)
-seat_again n least most =
-    let word = decimal_word n (omega arith) in
-    rw (word.filled, above_zero-decimal n least most) refl
-
--- the words of set, rm and stat are read back
-set_again : (id qbytes : ℕ) → id < 2 ^ 32 → qbytes < 2 ^ 64 → command_asked (codes "set" ∷ decimal id ∷ decimal qbytes ∷ []) ≡ Ok (set id qbytes)
-set_again id qbytes id_fits qbytes_fits =
-    let id_word = decimal_word id (omega arith) in
-    let qbytes_word = decimal_word qbytes qbytes_fits in
-    rw (id_word.filled, qbytes_word.filled, under-decimal (2 ^ 32) id (lit≤ tt) id_fits, number_of-decimal qbytes qbytes_fits) refl
-
-remove_again : (id : ℕ) → id < 2 ^ 32 → command_asked (codes "rm" ∷ decimal id ∷ []) ≡ Ok (rm id)
-remove_again id fits = rw ((decimal_word id (omega arith)).filled, under-decimal (2 ^ 32) id (lit≤ tt) fits) refl
-
-stat_again : (id : ℕ) → id < 2 ^ 32 → command_asked (codes "stat" ∷ decimal id ∷ []) ≡ Ok (stat id)
-stat_again id fits = rw ((decimal_word id (omega arith)).filled, under-decimal (2 ^ 32) id (lit≤ tt) fits) refl
-
-cut_again : (slot : ℕ) → slot < MAX_SLOTS → command_asked (codes "cut" ∷ decimal slot ∷ []) ≡ Ok (cut slot)
-cut_again slot fits = rw ((decimal_word slot (omega (arith, fits))).filled, under-decimal MAX_SLOTS slot (lit≤ tt) fits) refl
-
--- the words of rcv are read back
-receive_again : (id size : ℕ) (z : ℤ) (words : List (List ℕ)) (flags : Flags) → id < 2 ^ 32 → size < 2 ^ 64 → FitsSigned w64 z → flags_asked words ≡ Some flags
-    → receive_asked (decimal id ∷ decimal size ∷ signed_decimal z ∷ words) ≡ Ok (rcv id size z flags.except flags.noerror)
-receive_again id size z words flags id_fits size_fits z_fits read =
-    rw (read, under-decimal (2 ^ 32) id (lit≤ tt) id_fits, number_of-decimal size size_fits, integer_of-signed_decimal z z_fits) refl
-
--- and with its name, where none is empty
-rcv_again : (words : List (List ℕ)) (call : AskedCall) → list_all is_filled words ≡ true → receive_asked words ≡ Ok call → command_asked (codes "rcv" ∷ words) ≡ Ok call
-rcv_again words call filled is = cond-false _ _ _ (not_from_true _ filled) ∙ is
-
--- rcv without flags is read back
-plain_rcv_again : (id size : ℕ) (z : ℤ) → id < 2 ^ 32 → size < 2 ^ 64 → FitsSigned w64 z → reading (spelling (rcv id size z false false)) ≡ Ok (Some (rcv id size z false false))
-plain_rcv_again id size z id_fits size_fits z_fits =
-    let id_word = decimal_word id (omega arith) in
-    let size_word = decimal_word size size_fits in
-    let type_word = signed_word z z_fits in
-    let words = decimal id ∷ decimal size ∷ signed_decimal z ∷ [] in
-    reads_words command_asked (codes "rcv" ∷ decimal id ∷ decimal size ∷ []) (signed_decimal z) (rcv id size z false false)
-    (name_word (codes "rcv") refl, (id_word, (size_word, tt))) type_word (lit≤ tt) refl
-    (rcv_again words (rcv id size z false false) (all_filled words (id_word, (size_word, (type_word, tt))))
-    (receive_again id size z [] (record { except = false; noerror = false }) id_fits size_fits z_fits refl))
-
--- and with a word of flags
-flagged_rcv_again : (id size : ℕ) (z : ℤ) (word : List ℕ) (flags : Flags) → IsWord word → flags_asked (word ∷ []) ≡ Some flags → id < 2 ^ 32 → size < 2 ^ 64 → FitsSigned w64 z
-    → reading (line_of (codes "rcv" ∷ decimal id ∷ decimal size ∷ signed_decimal z ∷ word ∷ [])) ≡ Ok (Some (rcv id size z flags.except flags.noerror))
-flagged_rcv_again id size z word flags is read id_fits size_fits z_fits =
-    let id_word = decimal_word id (omega arith) in
-    let size_word = decimal_word size size_fits in
-    let type_word = signed_word z z_fits in
-    let words = decimal id ∷ decimal size ∷ signed_decimal z ∷ word ∷ [] in
-    reads_words command_asked (codes "rcv" ∷ decimal id ∷ decimal size ∷ signed_decimal z ∷ []) word (rcv id size z flags.except flags.noerror)
-    (name_word (codes "rcv") refl, (id_word, (size_word, (type_word, tt)))) is (lit≤ tt) refl
-    (rcv_again words (rcv id size z flags.except flags.noerror) (all_filled words (id_word, (size_word, (type_word, (is, tt)))))
-    (receive_again id size z (word ∷ []) flags id_fits size_fits z_fits read))
+key_again say x key create exclusive fits says =
+    let flags = get_flags_again create exclusive in
+    let words = signed_decimal key ∷ get_flag_words create exclusive in
+    reads_line say (codes "get") words x (name_word (codes "get") refl, (signed_word key (key_fits key fits).1, flags.0)) (omega (arith, flags.1)) refl
+    (λ filled. says words filled (rw (flags.2, key_of-signed_decimal key fits) refl))
 
 -- the words of snd are read back
 send_again : (id mtype : List ℕ) (parts : List (List ℕ)) (text : List ℕ) (t : AskedText) (i : ℕ) (z : ℤ) → is_filled id ≡ true → is_filled mtype ≡ true → line_of parts ≡ text
@@ -662,45 +570,46 @@ letters_word count fits =
 -- each call that can be spelled is read back
 pub reads_back : ReadsBack
 reads_back (sit number) can =
-    reads_words command_asked (codes "seat" ∷ []) (decimal number) (sit number) (name_word (codes "seat") refl, tt) (decimal_word number (omega (arith, can.1))) (lit≤ tt) refl
-    (seat_again number can.0 can.1)
+    reads_line command_asked (codes "seat") (decimal number ∷ []) (sit number) (name_word (codes "seat") refl, (decimal_word number (omega (arith, can.1)), tt)) (lit≤ tt) refl
+    (λ filled. rw (filled, above_zero-decimal number can.0 can.1) refl)
 reads_back show can = refl
 reads_back (get key flags) can =
     key_again command_asked (get key flags) key flags.create flags.exclusive can (λ words filled is. cond-false _ _ _ (not_from_true _ filled) ∙ is)
 reads_back (snd id mtype (plain bytes)) can =
-    let words = codes "snd" ∷ decimal id ∷ signed_decimal mtype ∷ [] in
     let id_word = decimal_word id (omega (arith, can.0)) in
     let type_word = signed_word mtype can.1 in
-    let are : AreWords words = (name_word (codes "snd") refl, (id_word, (type_word, tt))) in
-    reads command_asked words (61 ∷ bytes) (snd id mtype (plain bytes)) are can.3 can.2 refl
+    let behind = signed_decimal mtype ++ 32 ∷ 61 ∷ bytes in
+    reads command_asked (spelling (snd id mtype (plain bytes))) (codes "snd" ∷ decimal id ∷ signed_decimal mtype ∷ words_of (61 ∷ bytes)) (snd id mtype (plain bytes)) can.3
+    (printable_behind (decimal id) behind id_word (printable_behind (signed_decimal mtype) (61 ∷ bytes) type_word can.2)) refl
+    (rw (words_behind (decimal id) behind id_word, words_behind (signed_decimal mtype) (61 ∷ bytes) type_word) refl)
     (send_again (decimal id) (signed_decimal mtype) (words_of (61 ∷ bytes)) (61 ∷ bytes) (plain bytes) id mtype id_word.filled type_word.filled
     (join_with_byte-slice_split 32 (61 ∷ bytes)) refl refl (under-decimal (2 ^ 32) id (lit≤ tt) can.0) (integer_of-signed_decimal mtype can.1))
 reads_back (snd id mtype (letters count)) can =
-    let words = codes "snd" ∷ decimal id ∷ signed_decimal mtype ∷ [] in
     let id_word = decimal_word id (omega (arith, can.0)) in
     let type_word = signed_word mtype can.1 in
     let word = letters_word count can.2 in
-    let are : AreWords words = (name_word (codes "snd") refl, (id_word, (type_word, tt))) in
-    reads_words command_asked words (42 ∷ decimal count) (snd id mtype (letters count)) are word (lit≤ tt) refl
-    (send_again (decimal id) (signed_decimal mtype) ((42 ∷ decimal count) ∷ []) (42 ∷ decimal count) (letters count) id mtype id_word.filled type_word.filled
+    reads_line command_asked (codes "snd") (decimal id ∷ signed_decimal mtype ∷ (42 ∷ decimal count) ∷ []) (snd id mtype (letters count))
+    (name_word (codes "snd") refl, (id_word, (type_word, (word, tt)))) (lit≤ tt) refl
+    (λ filled. send_again (decimal id) (signed_decimal mtype) ((42 ∷ decimal count) ∷ []) (42 ∷ decimal count) (letters count) id mtype id_word.filled type_word.filled
     refl (rw (spaceless (42 ∷ decimal count) word.bytes) refl) (ap (option_map letters) (number_of-decimal count can.2))
     (under-decimal (2 ^ 32) id (lit≤ tt) can.0) (integer_of-signed_decimal mtype can.1))
-reads_back (rcv id size mtype false false) can = plain_rcv_again id size mtype can.0 can.1 can.2
-reads_back (rcv id size mtype true false) can =
-    flagged_rcv_again id size mtype (codes "e") (record { except = true; noerror = false }) (name_word (codes "e") refl) refl can.0 can.1 can.2
-reads_back (rcv id size mtype false true) can =
-    flagged_rcv_again id size mtype (codes "n") (record { except = false; noerror = true }) (name_word (codes "n") refl) refl can.0 can.1 can.2
-reads_back (rcv id size mtype true true) can =
-    flagged_rcv_again id size mtype (codes "en") (record { except = true; noerror = true }) (name_word (codes "en") refl) refl can.0 can.1 can.2
+reads_back (rcv id size mtype except noerror) can =
+    let flags = flags_again except noerror in
+    reads_line command_asked (codes "rcv") (decimal id ∷ decimal size ∷ signed_decimal mtype ∷ flag_words except noerror) (rcv id size mtype except noerror)
+    (name_word (codes "rcv") refl, (decimal_word id (omega (arith, can.0)), (decimal_word size can.1, (signed_word mtype can.2, flags.0)))) (omega (arith, flags.1)) refl
+    (λ filled. rw (filled, flags.2, under-decimal (2 ^ 32) id (lit≤ tt) can.0, number_of-decimal size can.1, integer_of-signed_decimal mtype can.2) refl)
 reads_back (set id qbytes) can =
-    let id_word = decimal_word id (omega (arith, can.0)) in
-    reads_words command_asked (codes "set" ∷ decimal id ∷ []) (decimal qbytes) (set id qbytes) (name_word (codes "set") refl, (id_word, tt)) (decimal_word qbytes can.1) (lit≤ tt) refl
-    (set_again id qbytes can.0 can.1)
+    reads_line command_asked (codes "set") (decimal id ∷ decimal qbytes ∷ []) (set id qbytes)
+    (name_word (codes "set") refl, (decimal_word id (omega (arith, can.0)), (decimal_word qbytes can.1, tt))) (lit≤ tt) refl
+    (λ filled. rw (filled, under-decimal (2 ^ 32) id (lit≤ tt) can.0, number_of-decimal qbytes can.1) refl)
 reads_back (rm id) can =
-    reads_words command_asked (codes "rm" ∷ []) (decimal id) (rm id) (name_word (codes "rm") refl, tt) (decimal_word id (omega (arith, can))) (lit≤ tt) refl (remove_again id can)
+    reads_line command_asked (codes "rm") (decimal id ∷ []) (rm id) (name_word (codes "rm") refl, (decimal_word id (omega (arith, can)), tt)) (lit≤ tt) refl
+    (λ filled. rw (filled, under-decimal (2 ^ 32) id (lit≤ tt) can) refl)
 reads_back (stat id) can =
-    reads_words command_asked (codes "stat" ∷ []) (decimal id) (stat id) (name_word (codes "stat") refl, tt) (decimal_word id (omega (arith, can))) (lit≤ tt) refl (stat_again id can)
+    reads_line command_asked (codes "stat") (decimal id ∷ []) (stat id) (name_word (codes "stat") refl, (decimal_word id (omega (arith, can)), tt)) (lit≤ tt) refl
+    (λ filled. rw (filled, under-decimal (2 ^ 32) id (lit≤ tt) can) refl)
 reads_back (cut slot) can =
-    reads_words command_asked (codes "cut" ∷ []) (decimal slot) (cut slot) (name_word (codes "cut") refl, tt) (decimal_word slot (omega (arith, can))) (lit≤ tt) refl (cut_again slot can)
+    reads_line command_asked (codes "cut") (decimal slot ∷ []) (cut slot) (name_word (codes "cut") refl, (decimal_word slot (omega (arith, can)), tt)) (lit≤ tt) refl
+    (λ filled. rw (filled, under-decimal MAX_SLOTS slot (lit≤ tt) can) refl)
 reads_back ipcs can = refl
 reads_back info can = refl

@@ -1,7 +1,5 @@
-use Rattle.std.proofs.Common.{◌≡◌, ℕ, ℤ, ◌+◌, ◌^◌, ◌<◌, ◌≤◌, true, false, List, [], ◌∷◌, Option, None, Some, Result, Ok, Err, codes, refl, ap, subst, ◌∙◌, arith, lit≤}
+use Rattle.std.proofs.Common.{◌≡◌, ℕ, ◌+◌, ◌^◌, ◌<◌, ◌≤◌, true, false, List, [], ◌∷◌, length, Option, None, Some, Result, Ok, Err, codes, refl, ap, ◌∙◌, arith, lit≤}
 use Rattle.std.specs.Fmt.{decimal, signed_decimal}
-use Rattle.std.specs.Int.{w64}
-use Rattle.std.specs.Int.RustNames.{FitsSigned}
 use Rattle.std.specs.List.{list_all}
 use Rattle.std.specs.Str.{bytes_eq}
 use Rattle.std.proofs.lemmas.Bool.{cond-true, cond-false, eqb-true, lt-ltb, ltb-true, ne_eqb, eqb-false}
@@ -13,150 +11,85 @@ use Rattle.mq_cli.specs.declared.step.Step.TheVariants.{Put, Take, Remove}
 use Rattle.mq_cli.specs.declared.threads_script.MainCall.TheVariants.{Get, Set}
 use Rattle.mq_cli.specs.declared.threads_script.ThreadsLine.{ThreadsLine}
 use Rattle.mq_cli.specs.declared.threads_script.ThreadsLine.TheVariants.{Worker, Main, Section}
-use Rattle.mq_cli.specs.Commands.{AskedCall, sit, show, get, snd, rcv, set, rm, stat, cut, ipcs, info, get_asked, set_asked, is_filled, ok_map}
+use Rattle.mq_cli.specs.Commands.{AskedCall, get, set, get_asked, set_asked, is_filled, ok_map}
 use Rattle.mq_cli.specs.Laws.{Spells}
 use Rattle.mq_cli.specs.Lines.{line_of, words_of}
 use Rattle.mq_cli.specs.Numbers.{number_of, under}
-use Rattle.mq_cli.specs.ThreadsLaws.{within_words, CanWait, line_spelling, CanStand, Says, ThreadsReadBack, ThreadsSpelledOneWay}
-use Rattle.mq_cli.specs.ThreadsScript.{main_call, asked, main_of, within_of, with_end, put_of, take_of, drop_of, section_of, worker_of, part_of, line_said, threads_reading}
+use Rattle.mq_cli.specs.ThreadsLaws.{within_words, CanWait, Says, ThreadsReadBack, ThreadsSpelledOneWay}
+use Rattle.mq_cli.specs.ThreadsScript.{main_call, asked, main_of, within_of, with_end, put_of, take_of, drop_of, section_of, worker_of, part_of, line_said}
 use Rattle.mq_cli.proofs.NumberLemmas.{number_of-decimal, number_of-Some}
-use Rattle.mq_cli.proofs.SpellingLemmas.{all_filled, bind_ok, changed, chosen, decimal_word, got, integer_of-Some, integer_of-signed_decimal, key_again, name_word, needed, reading-Ok, reads_words, rejoined, signed_word, under-Some, under-decimal}
+use Rattle.mq_cli.proofs.SpellingLemmas.{AreWords, bind_last, bind_ok, changed, chosen, decimal_word, from_ok, got, integer_of-Some, integer_of-signed_decimal, key_again, name_word, needed, reading-Ok, reads_line, rejoined, signed_word, under-Some, under-decimal}
 
 -- a line of the main part, whose words are filled
 in_main : (n : ℕ) (name : List ℕ) (words : List (List ℕ)) → bytes_eq name (codes "worker") ≡ false → list_all is_filled (name ∷ words) ≡ true
     → line_said 0 n (name ∷ words) ≡ main_of n name words
 in_main n name words other filled = cond-true _ _ _ filled ∙ cond-false _ _ _ other
 
--- and one of a section
-in_section : (sections n : ℕ) (name : List ℕ) (words : List (List ℕ)) → 0 < sections → bytes_eq name (codes "worker") ≡ false → list_all is_filled (name ∷ words) ≡ true
-    → line_said sections n (name ∷ words) ≡ section_of n name words
-in_section sections n name words some other filled =
-    cond-true _ _ _ filled ∙ cond-false _ _ _ other ∙ cond-false _ _ _ (ne_eqb sections 0 (λ e. omega (arith, some, e)))
-
 -- the words for the end of a step's waits are read back
-span_again : (span : ℕ) → span ≤ MAX_WITHIN → within_of (codes "within" ∷ decimal span ∷ []) ≡ Ok (Some span)
-span_again span fits = rw (under-decimal (MAX_WITHIN + 1) span (lit≤ tt) (omega arith)) refl
-
--- the words of put are read back
-put_again : (n id : ℕ) (z : ℤ) (count len : ℕ) (words : List (List ℕ)) (within : Option ℕ) → within_of words ≡ Ok within → id < 2 ^ 32 → FitsSigned w64 z → count ≤ MAX_MESSAGES → len < 2 ^ 64
-    → put_of n (decimal id ∷ signed_decimal z ∷ decimal count ∷ decimal len ∷ words) ≡ Ok (Section (Put id z count len within n))
-put_again n id z count len words within read id_fits z_fits count_fits len_fits =
-    rw (read, under-decimal (2 ^ 32) id (lit≤ tt) id_fits, integer_of-signed_decimal z z_fits, under-decimal (MAX_MESSAGES + 1) count (lit≤ tt) (omega arith), number_of-decimal len len_fits) refl
-
-take_again : (n id : ℕ) (z : ℤ) (count : ℕ) (words : List (List ℕ)) (within : Option ℕ) → within_of words ≡ Ok within → id < 2 ^ 32 → FitsSigned w64 z → count ≤ MAX_MESSAGES
-    → take_of n (decimal id ∷ signed_decimal z ∷ decimal count ∷ words) ≡ Ok (Section (Take id z count within n))
-take_again n id z count words within read id_fits z_fits count_fits =
-    rw (read, under-decimal (2 ^ 32) id (lit≤ tt) id_fits, integer_of-signed_decimal z z_fits, under-decimal (MAX_MESSAGES + 1) count (lit≤ tt) (omega arith)) refl
-
-drop_again : (n id : ℕ) → id < 2 ^ 32 → drop_of n (decimal id ∷ []) ≡ Ok (Section (Remove id n))
-drop_again n id fits = rw (under-decimal (2 ^ 32) id (lit≤ tt) fits) refl
-
--- the words of set are read back
-set_is : (id qbytes : ℕ) → id < 2 ^ 32 → qbytes < 2 ^ 64 → set_asked (decimal id ∷ decimal qbytes ∷ []) ≡ Ok (set id qbytes)
-set_is id qbytes id_fits qbytes_fits = rw (under-decimal (2 ^ 32) id (lit≤ tt) id_fits, number_of-decimal qbytes qbytes_fits) refl
+within_again : (within : Option ℕ) → CanWait within → AreWords (within_words within) × (length (within_words within) ≤ 2) × (within_of (within_words within) ≡ Ok within)
+within_again None can = (tt, lit≤ tt, refl)
+within_again (Some span) can = (
+  (name_word (codes "within") refl, (decimal_word span (omega (arith, can)), tt)),
+  lit≤ tt,
+  rw (under-decimal (MAX_WITHIN + 1) span (lit≤ tt) (omega (arith, can))) refl,
+)
 
 -- what can stand in line n, by its own number
-reads_there : (sections n : ℕ) (line : ThreadsLine) → CanStand sections n line → threads_reading sections n (line_spelling line) ≡ Ok (Some line)
-reads_there sections n Worker can =
+pub threads_read_back : ThreadsReadBack
+threads_read_back sections n Worker can =
     let is : worker_of sections [] ≡ Ok Worker = cond-true _ _ _ (lt-ltb sections MAX_WORKERS can) in
     ap (ok_map Some) is
-reads_there sections n (Main (Get key flags moment)) can =
+threads_read_back sections n (Main (Get key flags moment)) can =
     let x : ThreadsLine = Main (Get key flags n) in
     let again = key_again (line_said 0 n) x key flags.create flags.exclusive can.2 (λ words filled is. in_main n (codes "get") words refl filled ∙ ap (asked n) is) in
     rw (can.0, can.1) again
-reads_there sections n (Main (Set id qbytes moment)) can =
-    let id_word = decimal_word id (omega (arith, can.2.0)) in
-    let last = decimal_word qbytes can.2.1 in
-    let words = decimal id ∷ decimal qbytes ∷ [] in
-    let name = name_word (codes "set") refl in
-    let again = reads_words (line_said 0 n) (codes "set" ∷ decimal id ∷ []) (decimal qbytes) (Main (Set id qbytes n)) (name, (id_word, tt)) last (lit≤ tt) refl
-    (in_main n (codes "set") words refl (all_filled (codes "set" ∷ words) (name, (id_word, (last, tt)))) ∙ ap (asked n) (set_is id qbytes can.2.0 can.2.1)) in
+threads_read_back sections n (Main (Set id qbytes moment)) can =
+    let again = reads_line (line_said 0 n) (codes "set") (decimal id ∷ decimal qbytes ∷ []) (Main (Set id qbytes n))
+    (name_word (codes "set") refl, (decimal_word id (omega (arith, can.2.0)), (decimal_word qbytes can.2.1, tt))) (lit≤ tt) refl
+    (λ filled. rw (filled, under-decimal (2 ^ 32) id (lit≤ tt) can.2.0, number_of-decimal qbytes can.2.1) refl) in
     rw (can.0, can.1) again
-reads_there sections n (Section (Put id z count len None moment)) can =
-    let id_word = decimal_word id (omega (arith, can.2)) in
-    let type_word = signed_word z can.3 in
-    let count_word = decimal_word count (omega (arith, can.4)) in
-    let last = decimal_word len can.5 in
-    let words = decimal id ∷ signed_decimal z ∷ decimal count ∷ decimal len ∷ [] in
-    let name = name_word (codes "put") refl in
-    let again = reads_words (line_said sections n) (codes "put" ∷ decimal id ∷ signed_decimal z ∷ decimal count ∷ []) (decimal len) (Section (Put id z count len None n))
-    (name, (id_word, (type_word, (count_word, tt)))) last (lit≤ tt) refl
-    (in_section sections n (codes "put") words can.0 refl (all_filled (codes "put" ∷ words) (name, (id_word, (type_word, (count_word, (last, tt))))))
-    ∙ put_again n id z count len [] None refl can.2 can.3 can.4 can.5) in
+threads_read_back sections n (Section (Put id z count len within moment)) can =
+    let some = ne_eqb sections 0 (λ e. omega (arith, can.0, e)) in
+    let ids = under-decimal (2 ^ 32) id (lit≤ tt) can.2 in
+    let types = integer_of-signed_decimal z can.3 in
+    let counts = under-decimal (MAX_MESSAGES + 1) count (lit≤ tt) (omega (arith, can.4)) in
+    let end = within_again within can.6 in
+    let again = reads_line (line_said sections n) (codes "put") (decimal id ∷ signed_decimal z ∷ decimal count ∷ decimal len ∷ within_words within)
+    (Section (Put id z count len within n))
+    (name_word (codes "put") refl, (decimal_word id (omega (arith, can.2)), (signed_word z can.3, (decimal_word count (omega (arith, can.4)), (decimal_word len can.5, end.0)))))
+    (omega (arith, end.1)) refl
+    (λ filled. rw (filled, some, end.2, ids, types, counts, number_of-decimal len can.5) refl) in
     rw (can.1) again
-reads_there sections n (Section (Put id z count len (Some span) moment)) can =
-    let id_word = decimal_word id (omega (arith, can.2)) in
-    let type_word = signed_word z can.3 in
-    let count_word = decimal_word count (omega (arith, can.4)) in
-    let len_word = decimal_word len can.5 in
-    let last = decimal_word span (omega (arith, can.6)) in
-    let words = decimal id ∷ signed_decimal z ∷ decimal count ∷ decimal len ∷ codes "within" ∷ decimal span ∷ [] in
-    let name = name_word (codes "put") refl in
-    let within = name_word (codes "within") refl in
-    let again = reads_words (line_said sections n) (codes "put" ∷ decimal id ∷ signed_decimal z ∷ decimal count ∷ decimal len ∷ codes "within" ∷ []) (decimal span)
-    (Section (Put id z count len (Some span) n)) (name, (id_word, (type_word, (count_word, (len_word, (within, tt)))))) last (lit≤ tt) refl
-    (in_section sections n (codes "put") words can.0 refl (all_filled (codes "put" ∷ words) (name, (id_word, (type_word, (count_word, (len_word, (within, (last, tt))))))))
-    ∙ put_again n id z count len (codes "within" ∷ decimal span ∷ []) (Some span) (span_again span can.6) can.2 can.3 can.4 can.5) in
+threads_read_back sections n (Section (Take id z count within moment)) can =
+    let some = ne_eqb sections 0 (λ e. omega (arith, can.0, e)) in
+    let ids = under-decimal (2 ^ 32) id (lit≤ tt) can.2 in
+    let types = integer_of-signed_decimal z can.3 in
+    let counts = under-decimal (MAX_MESSAGES + 1) count (lit≤ tt) (omega (arith, can.4)) in
+    let end = within_again within can.5 in
+    let again = reads_line (line_said sections n) (codes "take") (decimal id ∷ signed_decimal z ∷ decimal count ∷ within_words within) (Section (Take id z count within n))
+    (name_word (codes "take") refl, (decimal_word id (omega (arith, can.2)), (signed_word z can.3, (decimal_word count (omega (arith, can.4)), end.0))))
+    (omega (arith, end.1)) refl
+    (λ filled. rw (filled, some, end.2, ids, types, counts) refl) in
     rw (can.1) again
-reads_there sections n (Section (Take id z count None moment)) can =
-    let id_word = decimal_word id (omega (arith, can.2)) in
-    let type_word = signed_word z can.3 in
-    let last = decimal_word count (omega (arith, can.4)) in
-    let words = decimal id ∷ signed_decimal z ∷ decimal count ∷ [] in
-    let name = name_word (codes "take") refl in
-    let again = reads_words (line_said sections n) (codes "take" ∷ decimal id ∷ signed_decimal z ∷ []) (decimal count) (Section (Take id z count None n))
-    (name, (id_word, (type_word, tt))) last (lit≤ tt) refl
-    (in_section sections n (codes "take") words can.0 refl (all_filled (codes "take" ∷ words) (name, (id_word, (type_word, (last, tt)))))
-    ∙ take_again n id z count [] None refl can.2 can.3 can.4) in
+threads_read_back sections n (Section (Remove id moment)) can =
+    let some = ne_eqb sections 0 (λ e. omega (arith, can.0, e)) in
+    let again = reads_line (line_said sections n) (codes "rm") (decimal id ∷ []) (Section (Remove id n))
+    (name_word (codes "rm") refl, (decimal_word id (omega (arith, can.2)), tt)) (lit≤ tt) refl
+    (λ filled. rw (filled, some, under-decimal (2 ^ 32) id (lit≤ tt) can.2) refl) in
     rw (can.1) again
-reads_there sections n (Section (Take id z count (Some span) moment)) can =
-    let id_word = decimal_word id (omega (arith, can.2)) in
-    let type_word = signed_word z can.3 in
-    let count_word = decimal_word count (omega (arith, can.4)) in
-    let last = decimal_word span (omega (arith, can.5)) in
-    let words = decimal id ∷ signed_decimal z ∷ decimal count ∷ codes "within" ∷ decimal span ∷ [] in
-    let name = name_word (codes "take") refl in
-    let within = name_word (codes "within") refl in
-    let again = reads_words (line_said sections n) (codes "take" ∷ decimal id ∷ signed_decimal z ∷ decimal count ∷ codes "within" ∷ []) (decimal span)
-    (Section (Take id z count (Some span) n)) (name, (id_word, (type_word, (count_word, (within, tt))))) last (lit≤ tt) refl
-    (in_section sections n (codes "take") words can.0 refl (all_filled (codes "take" ∷ words) (name, (id_word, (type_word, (count_word, (within, (last, tt)))))))
-    ∙ take_again n id z count (codes "within" ∷ decimal span ∷ []) (Some span) (span_again span can.5) can.2 can.3 can.4) in
-    rw (can.1) again
-reads_there sections n (Section (Remove id moment)) can =
-    let last = decimal_word id (omega (arith, can.2)) in
-    let name = name_word (codes "rm") refl in
-    let again = reads_words (line_said sections n) (codes "rm" ∷ []) (decimal id) (Section (Remove id n)) (name, tt) last (lit≤ tt) refl
-    (in_section sections n (codes "rm") (decimal id ∷ []) can.0 refl (all_filled (codes "rm" ∷ decimal id ∷ []) (name, (last, tt))) ∙ drop_again n id can.2) in
-    rw (can.1) again
-
-pub threads_read_back : ThreadsReadBack
-threads_read_back sections n line can = reads_there sections n line can
 
 -- a section begins by its name alone
 worked : (sections n : ℕ) (text : List ℕ) (words : List (List ℕ)) (line : ThreadsLine) → text ≡ line_of (codes "worker" ∷ words) → worker_of sections words ≡ Ok line → Says sections n text line
 worked sections n text [] line is e =
     let found = needed _ _ _ _ e in
-    let same : Worker ≡ line = cc (found.1) in
-    subst (Says sections n text) same (is, ltb-true _ _ found.0)
+    from_ok (Says sections n text) Worker line found.1 (is, ltb-true _ _ found.0)
 worked sections n text (word ∷ words) line is e = absurd (cc e)
 
 -- a call of the main part is spelled as in a serial script
 called : (n : ℕ) (text : List ℕ) (call : AskedCall) (line : ThreadsLine) → Spells text call → main_call n call ≡ Ok line → Says 0 n text line
-called n text (get key flags) line spelled e =
-    let same : Main (Get key flags n) ≡ line = cc e in
-    subst (Says 0 n text) same (spelled.0, (refl, refl, spelled.1))
-called n text (set id qbytes) line spelled e =
-    let same : Main (Set id qbytes n) ≡ line = cc e in
-    subst (Says 0 n text) same (spelled.0, (refl, refl, spelled.1))
-called n text (sit number) line spelled e = absurd (cc e)
-called n text show line spelled e = absurd (cc e)
-called n text (snd id mtype sent) line spelled e = absurd (cc e)
-called n text (rcv id size mtype except noerror) line spelled e = absurd (cc e)
-called n text (rm id) line spelled e = absurd (cc e)
-called n text (stat id) line spelled e = absurd (cc e)
-called n text (cut slot) line spelled e = absurd (cc e)
-called n text ipcs line spelled e = absurd (cc e)
-called n text info line spelled e = absurd (cc e)
+called n text (get key flags) line spelled e = from_ok (Says 0 n text) (Main (Get key flags n)) line e (spelled.0, (refl, refl, spelled.1))
+called n text (set id qbytes) line spelled e = from_ok (Says 0 n text) (Main (Set id qbytes n)) line e (spelled.0, (refl, refl, spelled.1))
+called n text _ line spelled e = absurd (cc e)
 
 -- what was asked, before it was a call of the main part
 asked_ok : (n : ℕ) (text : List ℕ) (r : Result AskedCall Cause) (line : ThreadsLine) → ((call : AskedCall) → r ≡ Ok call → Spells text call) → asked n r ≡ Ok line → Says 0 n text line
@@ -174,18 +107,14 @@ mains n text name words line are e =
 
 -- the end of a step's waits is read from its words alone
 ended : (words : List (List ℕ)) (within : Option ℕ) → within_of words ≡ Ok within → (words ≡ within_words within) × CanWait within
-ended [] within e =
-    let same : None ≡ within = cc e in
-    subst (λ (w : Option ℕ). ([] ≡ within_words w) × CanWait w) same (refl, tt)
+ended [] within e = from_ok (λ w. ([] ≡ within_words w) × CanWait w) None within e (refl, tt)
 ended (word ∷ span ∷ []) within e =
     let named = needed _ _ _ _ e in
-    bind_ok (under (MAX_WITHIN + 1) (number_of span)) (λ s. Ok (Some s)) within named.1 (λ s read done.
+    bind_last (under (MAX_WITHIN + 1) (number_of span)) Some (λ w. (word ∷ span ∷ [] ≡ within_words w) × CanWait w) within named.1 (λ s read.
     let spelled = under-Some (MAX_WITHIN + 1) span s read in
     let is = (bytes_eq-Decides word (codes "within")).0 named.0 in
-    let same : Some s ≡ within = cc done in
-    subst (λ (w : Option ℕ). (word ∷ span ∷ [] ≡ within_words w) × CanWait w) same (cc (is, spelled.0), omega (arith, spelled.1)))
-ended (word ∷ []) within e = absurd (cc e)
-ended (word ∷ span ∷ more ∷ words) within e = absurd (cc e)
+    (cc (is, spelled.0), omega (arith, spelled.1)))
+ended _ within e = absurd (cc e)
 
 -- and it was read where its step is said
 end_read : {P : Type 0} (r : Result (Option ℕ) Cause) (step : Option ℕ → Result ThreadsLine Cause) (line : ThreadsLine) → with_end r step ≡ Ok line
@@ -200,21 +129,16 @@ puts sections n text (id ∷ mtype ∷ count ∷ len ∷ words) line some is e =
     bind_ok _ _ line numbered (λ i read_id typed.
     bind_ok _ _ line typed (λ z read_type counted.
     bind_ok _ _ line counted (λ c read_count sized.
-    bind_ok (number_of len) (λ l. Ok (Section (Put i z c l w n))) line sized (λ l read_len done.
+    bind_last (number_of len) (λ l. Section (Put i z c l w n)) (Says sections n text) line sized (λ l read_len.
     let spelled_id = under-Some (2 ^ 32) id i read_id in
     let spelled_type = integer_of-Some mtype z read_type in
     let spelled_count = under-Some (MAX_MESSAGES + 1) count c read_count in
     let spelled_len = number_of-Some len l read_len in
-    let spelled_end = ended words w read_end in
-    let same : Section (Put i z c l w n) ≡ line = cc done in
-    subst (Says sections n text) same (
+    let spelled_end = ended words w read_end in (
       cc (is, spelled_id.0, spelled_type.0, spelled_count.0, spelled_len.0, spelled_end.0),
       (some, refl, spelled_id.1, spelled_type.1, omega (arith, spelled_count.1), spelled_len.1, spelled_end.1),
     ))))))
-puts sections n text [] line some is e = absurd (cc e)
-puts sections n text (id ∷ []) line some is e = absurd (cc e)
-puts sections n text (id ∷ mtype ∷ []) line some is e = absurd (cc e)
-puts sections n text (id ∷ mtype ∷ count ∷ []) line some is e = absurd (cc e)
+puts sections n text _ line some is e = absurd (cc e)
 
 -- and take
 takes : (sections n : ℕ) (text : List ℕ) (words : List (List ℕ)) (line : ThreadsLine) → 0 < sections → text ≡ line_of (codes "take" ∷ words) → take_of n words ≡ Ok line → Says sections n text line
@@ -222,29 +146,23 @@ takes sections n text (id ∷ mtype ∷ count ∷ words) line some is e =
     end_read (within_of words) _ line e (λ w read_end numbered.
     bind_ok _ _ line numbered (λ i read_id typed.
     bind_ok _ _ line typed (λ z read_type counted.
-    bind_ok (under (MAX_MESSAGES + 1) (number_of count)) (λ c. Ok (Section (Take i z c w n))) line counted (λ c read_count done.
+    bind_last (under (MAX_MESSAGES + 1) (number_of count)) (λ c. Section (Take i z c w n)) (Says sections n text) line counted (λ c read_count.
     let spelled_id = under-Some (2 ^ 32) id i read_id in
     let spelled_type = integer_of-Some mtype z read_type in
     let spelled_count = under-Some (MAX_MESSAGES + 1) count c read_count in
-    let spelled_end = ended words w read_end in
-    let same : Section (Take i z c w n) ≡ line = cc done in
-    subst (Says sections n text) same (
+    let spelled_end = ended words w read_end in (
       cc (is, spelled_id.0, spelled_type.0, spelled_count.0, spelled_end.0),
       (some, refl, spelled_id.1, spelled_type.1, omega (arith, spelled_count.1), spelled_end.1),
     )))))
-takes sections n text [] line some is e = absurd (cc e)
-takes sections n text (id ∷ []) line some is e = absurd (cc e)
-takes sections n text (id ∷ mtype ∷ []) line some is e = absurd (cc e)
+takes sections n text _ line some is e = absurd (cc e)
 
 -- and rm
 drops : (sections n : ℕ) (text : List ℕ) (words : List (List ℕ)) (line : ThreadsLine) → 0 < sections → text ≡ line_of (codes "rm" ∷ words) → drop_of n words ≡ Ok line → Says sections n text line
 drops sections n text (id ∷ []) line some is e =
-    bind_ok (under (2 ^ 32) (number_of id)) (λ i. Ok (Section (Remove i n))) line e (λ i read done.
+    bind_last (under (2 ^ 32) (number_of id)) (λ i. Section (Remove i n)) (Says sections n text) line e (λ i read.
     let spelled = under-Some (2 ^ 32) id i read in
-    let same : Section (Remove i n) ≡ line = cc done in
-    subst (Says sections n text) same (cc (is, spelled.0), (some, refl, spelled.1)))
-drops sections n text [] line some is e = absurd (cc e)
-drops sections n text (id ∷ more ∷ words) line some is e = absurd (cc e)
+    (cc (is, spelled.0), (some, refl, spelled.1)))
+drops sections n text _ line some is e = absurd (cc e)
 
 -- a section has no other lines
 stepped : (sections n : ℕ) (text name : List ℕ) (words : List (List ℕ)) (line : ThreadsLine) → 0 < sections → words_of text ≡ name ∷ words → section_of n name words ≡ Ok line → Says sections n text line

@@ -1,4 +1,4 @@
-use Rattle.std.proofs.Common.{◌≡◌, ℕ, ◌+◌, zero, suc, List, [], ◌∷◌, ◌++◌, length, map, Some, None, Ok, Err, refl, sym, ap, ◌∙◌, arith}
+use Rattle.std.proofs.Common.{◌≡◌, ℕ, ◌+◌, zero, suc, List, [], ◌∷◌, ◌++◌, length, map, Option, Result, Ok, refl, sym, ap, ◌∙◌, arith}
 use Rattle.std.proofs.Math.ListN.{set}
 use Rattle.std.proofs.lemmas.List.{length-map}
 use Rattle.std.specs.Global.{Vec}
@@ -8,7 +8,7 @@ use Rattle.mq_cli.specs.declared.step.Step.{Step}
 use Rattle.mq_cli.specs.declared.threads_script.ThreadsLine.{ThreadsLine}
 use Rattle.mq_cli.specs.declared.threads_script.ThreadsScript.{ThreadsScript}
 use Rattle.mq_cli.specs.ThreadsParsed.{wanted_seen}
-use Rattle.mq_cli.specs.ThreadsScript.{Wanted, reads_on, onto_last, threads_reading, wanted_from, with_line}
+use Rattle.mq_cli.specs.ThreadsScript.{Wanted, reads_on, onto_last, threads_reading, wanted_from}
 
 -- the last section is written
 pub onto_last_set : (sections : List (Vec Step)) (k : ℕ) (old new : Vec Step) (step : Step) → k + 1 ≡ length sections → old ≡ slice_index_or sections k old
@@ -24,25 +24,11 @@ onto_last_set (s ∷ t ∷ sections) (suc k) old new step e is pushed =
 pub sections_seen : (s : ThreadsScript) → length (wanted_seen s).sections ≡ s.sections.len
 sections_seen s = length-map s.sections.items (λ (v : Vec Step). v.items) ∙ sym s.sections.ok.0
 
--- a line is taken in
-pub line_taken : (n : ℕ) (w : Wanted) (k : ℕ) (line : List ℕ) (lines : List (List ℕ)) (said : ThreadsLine) → length w.sections ≡ k → Ok (Some said) ≡ threads_reading k n line
-    → wanted_from n w (line ∷ lines) ≡ wanted_from (n + 1) (with_line w said) lines
+-- a line is taken in, says nothing or is not well formed
+pub line_read : (n : ℕ) (w : Wanted) (k : ℕ) (line : List ℕ) (lines : List (List ℕ)) (r : Result (Option ThreadsLine) Cause) → length w.sections ≡ k → r ≡ threads_reading k n line
+    → wanted_from n w (line ∷ lines) ≡ reads_on n w r (λ more. wanted_from (n + 1) more lines)
 unfolding wanted_from
-line_taken n w k line lines said count e =
-    rw count (ap (λ r. reads_on n w r (λ more. wanted_from (n + 1) more lines)) (sym e))
-
--- or says nothing
-pub line_passed : (n : ℕ) (w : Wanted) (k : ℕ) (line : List ℕ) (lines : List (List ℕ)) → length w.sections ≡ k → Ok None ≡ threads_reading k n line
-    → wanted_from n w (line ∷ lines) ≡ wanted_from (n + 1) w lines
-unfolding wanted_from
-line_passed n w k line lines count e =
-    rw count (ap (λ r. reads_on n w r (λ more. wanted_from (n + 1) more lines)) (sym e))
-
--- or is not well formed
-pub line_refused : (n : ℕ) (w : Wanted) (k : ℕ) (line : List ℕ) (lines : List (List ℕ)) (cause : Cause) → length w.sections ≡ k → Err cause ≡ threads_reading k n line
-    → wanted_from n w (line ∷ lines) ≡ Err (n, cause)
-unfolding wanted_from
-line_refused n w k line lines cause count e =
+line_read n w k line lines r count e =
     rw count (ap (λ r. reads_on n w r (λ more. wanted_from (n + 1) more lines)) (sym e))
 
 -- with no line left all is read

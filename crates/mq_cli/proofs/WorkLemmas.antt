@@ -1,5 +1,5 @@
 -- The calls of a plan, one after the other.
-use Rattle.std.proofs.Common.{◌≡◌, ℕ, ℤ, Bool, ◌+◌, ◌-◌, ◌<◌, suc, List, [], ◌∷◌, ◌++◌, map, replicate, cond, Option, None, Some, Ok, Err, refl, sym, ap, ◌∙◌, subst, append_assoc, append-nil, arith}
+use Rattle.std.proofs.Common.{◌≡◌, ℕ, ℤ, Bool, ◌+◌, ◌-◌, ◌<◌, suc, List, [], ◌∷◌, ◌++◌, map, replicate, cond, Option, None, Some, Ok, Err, refl, rules, sym, ap, ◌∙◌, subst, append_assoc, append-nil, arith}
 use Rattle.std.proofs.lemmas.List.{replicate-append-replicate}
 use Rattle.std.proofs.lemmas.List.FromFn.{map-range_with_len_more}
 use Rattle.std.proofs.lemmas.List.Sums.{sum_by-append}
@@ -18,11 +18,6 @@ sends_counted : (a b : List PortCall) → count_by is_send (a ++ b) ≡ count_by
 sends_counted a b = sum_by-append (λ c. cond (is_send c) 1 0) a b
 
 module _ {Q : Type 0} (puts : Puts Q) (takes : Takes Q) (removes : Removals Q) where
-  -- one call
-  one_succeeds : (call : PortCall) (old new : Q) (received : List TakenMessage) → Succeeds puts takes removes call old received new
-      → AllSucceed puts takes removes (call ∷ []) old received new
-  one_succeeds call old new received done = (received, [], new, sym (append-nil received), done, (refl, refl))
-
   -- calls behind others
   all_then : (first rest : List PortCall) (old mid new : Q) (a b : List TakenMessage) → AllSucceed puts takes removes first old a mid
       → AllSucceed puts takes removes rest mid b new → AllSucceed puts takes removes (first ++ rest) old (a ++ b) new
@@ -73,15 +68,10 @@ module _ {Q : Type 0} (puts : Puts Q) (takes : Takes Q) (removes : Removals Q) w
   -- calls of which one was refused, before more calls
   pub called_within : (calls more : List PortCall) (old new : Q) (sent : ℕ) (received : List TakenMessage) (errno : Errno)
       → AreCalled puts takes removes calls old sent received (Some errno) new → AreCalled puts takes removes (calls ++ more) old sent received (Some errno) new
-  called_within calls more old new sent received errno it = record {
-    first = it.first;
-    rest = it.rest ++ more;
-    mid = it.mid;
-    cut = ap (λ (l : List PortCall). l ++ more) it.cut ∙ append_assoc it.first it.rest more;
-    made = it.made;
-    sent_is = it.sent_is;
-    ended = refused_before it.rest more it.mid new errno it.ended;
-  }
+  called_within calls more old new sent received errno it =
+      let cut = ap (λ (l : List PortCall). l ++ more) it.cut ∙ append_assoc it.first it.rest more in
+      let ended = refused_before it.rest more it.mid new errno it.ended in
+      search (rules, cut, it.made, it.sent_is, ended)
 
   -- one call, which succeeded
   pub called_one : (call : PortCall) (old new : Q) (sent : ℕ) (received : List TakenMessage) → sent ≡ count_by is_send (call ∷ [])
@@ -91,7 +81,7 @@ module _ {Q : Type 0} (puts : Puts Q) (takes : Takes Q) (removes : Removals Q) w
     rest = [];
     mid = new;
     cut = refl;
-    made = one_succeeds call old new received done;
+    made = (received, [], new, sym (append-nil received), done, (refl, refl));
     sent_is = counted;
     ended = refl;
   }
@@ -138,8 +128,7 @@ module _ {Q : Type 0} (puts : Puts Q) (takes : Takes Q) (removes : Removals Q) w
       let same : (sends_after before id mtype k n ends moment ++ call ∷ []) ++ rest ≡ sends_after before id mtype count n ends moment =
       append_assoc (sends_after before id mtype k n ends moment) (call ∷ []) rest
       ∙ ap (λ (t : ℕ). sends_after before id mtype k n ends moment ++ f t ∷ rest) (sym next) ∙ first in
-      subst (λ (calls : List PortCall). AreCalled puts takes removes calls old k [] (Some errno) new) same
-      (subst (λ (s : ℕ). AreCalled puts takes removes ((sends_after before id mtype k n ends moment ++ call ∷ []) ++ rest) old s [] (Some errno) new) none all)
+      rw (← same) (rw none at all)
 
   -- one message more was received
   pub received_more : (id : ℕ) (msgtyp : ℤ) (k : ℕ) (ends : Bool) (moment : ℕ) (taken : Taken) (received : List TakenMessage) (old mid new : Q)
@@ -166,8 +155,7 @@ module _ {Q : Type 0} (puts : Puts Q) (takes : Takes Q) (removes : Removals Q) w
       let number : k + suc left ≡ count = omega arith in
       let same : (replicate k call ++ call ∷ []) ++ rest ≡ replicate count call =
       append_assoc (replicate k call) (call ∷ []) rest ∙ replicate-append-replicate k (suc left) call ∙ ap (λ (c : ℕ). replicate c call) number in
-      subst (λ (calls : List PortCall). AreCalled puts takes removes calls old 0 received (Some errno) new) same
-      (subst (λ (l : List TakenMessage). AreCalled puts takes removes ((replicate k call ++ call ∷ []) ++ rest) old 0 l (Some errno) new) (append-nil received) all)
+      rw (← same) (rw (append-nil received) at all)
 
 -- the calls of a plan in two parts
 pub calls_in_two : (sent : ℕ) (first rest : List Step) → calls_in sent (first ++ rest) ≡ calls_in sent first ++ calls_in (sent + puts_in first) rest

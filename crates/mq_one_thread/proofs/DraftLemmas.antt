@@ -35,17 +35,14 @@ placed s bytes (Some lent) = refl
 pub zeros_too_long : (s : QueuesState) (n : ℕ) → MSGMAX < n → drafts s n ≡ Err TooLong
 zeros_too_long s n long =
     let over : nat_lt MSGMAX n ≡ true = grind (arith, nat_tests) in
-    ap (λ t. if t then Err TooLong
-    else (if n == 0 then Ok (no_text, s) else in_block s n (lend s.arena (order_for n)))) over
+    rw over refl
 
 zeros_in : (s : QueuesState) (n : ℕ) → 0 < n → n ≤ MSGMAX
     → drafts s n ≡ in_block s n (lend s.arena (order_for n))
 zeros_in s n some short =
     let over : nat_lt MSGMAX n ≡ false = grind (arith, nat_tests) in
     let none : (n == 0) ≡ false = grind (arith, nat_tests) in
-    let lent = in_block s n (lend s.arena (order_for n)) in
-    ap (λ t. if t then Err TooLong else (if n == 0 then Ok (no_text, s) else lent)) over
-    ∙ ap (λ t. if t then Ok (no_text, s) else lent) none
+    rw (over, none) refl
 
 -- the same of bytes
 pub too_long : (s : QueuesState) (bytes : List ℕ) → MSGMAX < length bytes → drafts_of s bytes ≡ Err TooLong
@@ -63,8 +60,8 @@ by_lent : {A : Type 0} (found : Option A) (answer : A → PlainText × QueuesSta
     → (refusal ≡ take.NoRun → found ≡ None) → (found ≡ None → refusal ≡ take.NoRun)
     → by_take refusal ≡ or_memory Memory (option_map_or (λ a. Ok (answer a)) found (Err NoRun))
 by_lent None answer take.NoRun none run = refl
-by_lent None answer take.Memory none run = absurd (cc (run refl))
-by_lent (Some a) answer take.NoRun none run = absurd (cc (none refl))
+by_lent None answer take.Memory none run = cc (run refl)
+by_lent (Some a) answer take.NoRun none run = cc (none refl)
 by_lent (Some a) answer take.Memory none run = refl
 
 -- zeros for which the arena lends no block

@@ -1,5 +1,5 @@
 -- What the arena is once texts have gone home.
-use Rattle.std.proofs.Common.{◌≡◌, ℕ, Bool, true, false, not, ◌||◌, cond, List, [], ◌∷◌, ◌++◌, map, reverse, Option, None, Some, refl, sym, ap, ◌∙◌, append-nil, append_assoc}
+use Rattle.std.proofs.Common.{◌≡◌, ℕ, Bool, true, false, not, ◌||◌, List, [], ◌∷◌, ◌++◌, map, reverse, Option, None, Some, refl, sym, ap, ◌∙◌, append-nil, append_assoc, arith}
 use Rattle.std.specs.List.{filter, flat_map, list_any}
 use Rattle.std.specs.List.Sorted.{IsPermutation}
 use Rattle.std.specs.Option.{option_map_or}
@@ -20,17 +20,9 @@ use Rattle.mq_one_thread.specs.Texts.{lies_in, spends, spends_all}
 use Rattle.mq_one_thread.specs.declared.close.ClosedSlot.{ClosedSlot}
 
 -- what passes neither test is kept by one after the other
-kept_step : {X : Type 0} (b c : Bool) (x : X) (both once after : List X) → both ≡ after
-    → (q : X → Bool) → q x ≡ c → filter (λ y. not (q y)) once ≡ after
-    → cond (not (b || c)) (x ∷ both) both ≡ filter (λ y. not (q y)) (cond (not b) (x ∷ once) once)
-kept_step true c x both once after e q is rest = e ∙ sym rest
-kept_step false true x both once after e q is rest = rw (is, rest) e
-kept_step false false x both once after e q is rest = rw (is, rest) (ap (λ ys. x ∷ ys) e)
-
 kept_twice : {X : Type 0} (p q : X → Bool) (xs : List X) → filter (λ x. not (p x || q x)) xs ≡ filter (λ x. not (q x)) (filter (λ x. not (p x)) xs)
 kept_twice p q [] = refl
-kept_twice p q (x ∷ xs) =
-    kept_step (p x) (q x) x _ (filter (λ y. not (p y)) xs) _ (kept_twice p q xs) q refl refl
+kept_twice p q (x ∷ xs) = grind (arith, kept_twice p q xs)
 
 -- nothing is taken out where no test holds
 kept_all : {X : Type 0} (xs : List X) → filter (λ x. true) xs ≡ xs

@@ -4,7 +4,8 @@ use Rattle.std.specs.Ordering.{int_eq}
 use Rattle.std.proofs.lemmas.List.{get_or_default}
 use Rattle.std.proofs.lemmas.List.Elements.{All-contains, All-contains_itself, All-filter, All-set, Contains-append_left, Contains-append_right, Contains-push, Contains-push_cases, filter-append, filter_passes}
 use Rattle.std.proofs.lemmas.List.Quantifiers.{any-set}
-use Rattle.std.proofs.lemmas.Bool.Decides.{Decides-int_eq, eqb_tells}
+use Rattle.std.proofs.lemmas.Bool.{cases_eq, ne_eqb}
+use Rattle.std.proofs.lemmas.Bool.Decides.{Decides-int_eq, nat_tests}
 use Rattle.mq_message.specs.Text.{PlainText}
 use Rattle.mq_queue.specs.declared.base.Base.{Base}
 use Rattle.mq_queue.specs.declared.event.Event.{Event}
@@ -24,23 +25,6 @@ use Rattle.mq_one_thread.specs.Holds.{HasQueue, AreKeysOf}
 use Rattle.mq_one_thread.specs.Kept.{IsKept}
 use Rattle.mq_one_thread.specs.Texts.{bytes_of}
 
--- whether two numbers are equal
-same_or_not : (j k : ℕ) → (j ≡ k) ⊎ (j ≢ k)
-same_or_not j k = elim (eqb_tells j k) [ inl p ↦ inl p.1 | inr p ↦ inr p.1 ]
-
--- a test that tells numbers apart
-not_same : (a b : ℕ) → not (a == b) ≡ true → b ≡ a → ⊥
-not_same a b passes same = elim (eqb_tells a b) [
-  | inl p ↦ true≢false (sym (rw p.0 at passes))
-  | inr p ↦ p.1 (sym same)
-]
-
-differs : (a b : ℕ) → (a ≡ b → ⊥) → not (a == b) ≡ true
-differs a b other = elim (eqb_tells a b) [
-  | inl p ↦ absurd (other p.1)
-  | inr p ↦ rw p.0 refl
-]
-
 -- a list in which t takes the place of the element at k
 module _ {X : Type 0} (P : X → Type 0) (xs : List X) (k : ℕ) (within : k < length xs) (old t d : X)
     (at : get_or xs k d ≡ old) where
@@ -50,23 +34,19 @@ module _ {X : Type 0} (P : X → Type 0) (xs : List X) (k : ℕ) (within : k < l
 
   -- what holds of some element, holds of that at k or elsewhere
   pub here_or_else : Any P xs → P old ⊎ Elsewhere
-  here_or_else some = elim (same_or_not some.0 k) [
+  here_or_else some = elim (cases_eq some.0 k) [
     | inl same ↦
-        let here : old ≡ some.1 =
-        sym at ∙ get_or_default xs k d some.1 within ∙ ap (λ j. get_or xs j some.1) (sym same)
-        ∙ some.3 in
-        inl (subst P (sym here) some.4)
+        let here : some.1 ≡ old = cc (get_or_default xs k d some.1 within, some.3, same, at) in
+        inl (subst P here some.4)
     | inr other ↦ inr (some.0, some.1, some.2, some.3, some.4, other)
   ]
 
   -- so it does in the new list
   pub new_or_else : Any P (set xs k t) → P t ⊎ Elsewhere
-  new_or_else some = elim (same_or_not some.0 k) [
+  new_or_else some = elim (cases_eq some.0 k) [
     | inl same ↦
-        let here : t ≡ some.1 =
-        sym (get_or-set_same xs k t some.1 within)
-        ∙ ap (λ j. get_or (set xs k t) j some.1) (sym same) ∙ some.3 in
-        inl (subst P (sym here) some.4)
+        let here : some.1 ≡ t = cc (get_or-set_same xs k t some.1 within, some.3, same) in
+        inl (subst P here some.4)
     | inr other ↦
         let kept = sym (get_or-set_other xs k some.0 t some.1 other) ∙ some.3 in
         inr (some.0, some.1, rw (← length-set xs k t) some.2, kept, some.4, other)
@@ -110,11 +90,6 @@ cut_stays s = record {
     by true base = refl
     by false base = refl
 
--- ids of queues in different slots differ
-slots_apart : (j k m n : ℕ) → j < MAX_SLOTS → k < MAX_SLOTS
-    → m * MAX_SLOTS + j ≡ n * MAX_SLOTS + k → j ≡ k
-slots_apart j k m n low high same = omega arith
-
 -- a queue that goes on has its key and its id
 goes_on : (key : ℤ) (id : ℕ) (s t : KeptSlot PlainText) → KeptStays s t → HasQueue key id s
     → HasQueue key id t
@@ -131,11 +106,6 @@ went_on key id s t h q = record {
   made = sym h.key ∙ q.made;
   named = rw (← h.number, ← h.made) q.named;
 }
-
--- none is where no queue is
-none_there : (key : ℤ) (id : ℕ) (s : KeptSlot PlainText) → is_live_kept s ≡ false
-    → HasQueue key id s → ⊥
-none_there key id s none q = true≢false (sym q.live ∙ none)
 
 -- a key other than 0, and an id that a queue in some slot has
 abbrev HasKey : ℤ → ℕ → List (KeptSlot PlainText) → Type 0
@@ -191,7 +161,7 @@ module _ (slots : List (KeptSlot PlainText)) (keys : List (ℤ × ℕ)) (all : A
     stays key id there =
         let has = (all key id).0 there in
         let goes : Any (HasQueue key id) (set slots k t) = elim (was key id has.1) [
-          | inl q ↦ absurd (none_there key id old none q)
+          | inl q ↦ cc (q.live, none)
           | inr w ↦ still key id w
         ] in
         (has.0, goes)
@@ -205,8 +175,7 @@ module _ (slots : List (KeptSlot PlainText)) (keys : List (ℤ × ℕ)) (all : A
           stays key id,
           λ has. elim (now key id has.1) [
             | inl q ↦
-                let same : key' ≡ key = sym made.made ∙ q.made in
-                absurd (has.0 (sym same ∙ (Decides-int_eq key' (pos 0)).0 is))
+                absurd (has.0 (cc (made.made, q.made, (Decides-int_eq key' (pos 0)).0 is)))
             | inr w ↦ known key id has.0 w
           ],
         )
@@ -241,9 +210,7 @@ module _ (slots : List (KeptSlot PlainText)) (keys : List (ℤ × ℕ)) (all : A
         (sym is ∙ get_or_default slots j s (empty_kept j) low) ∙ placed j low in
         let olds : old.number ≡ k =
         ap (λ (x : KeptSlot PlainText). x.number) (sym at) ∙ placed k within in
-        other
-        (slots_apart j k (made_of s - 1) (made_of old - 1)
-        (omega (arith, low, few)) (omega (arith, within, few)) (rw (its, olds) at same))
+        other (omega (arith, low, few, within, rw (its, olds) at same))
 
     pub keys_removed : AreKeysOf (set slots k t) (forget (last_id_now old) keys)
     keys_removed key id = (
@@ -252,17 +219,17 @@ module _ (slots : List (KeptSlot PlainText)) (keys : List (ℤ × ℕ)) (all : A
           left_contained (λ (p : ℤ × ℕ). not (p.1 == last_id_now old)) (key, id) keys there in
           let has = (all key id).0 left.0 in
           let goes : Any (HasQueue key id) (set slots k t) = elim (was key id has.1) [
-            | inl q ↦ absurd (not_same id (last_id_now old) left.1 q.named)
+            | inl q ↦ absurd (grind (arith, nat_tests, left.1, q.named))
             | inr w ↦ still key id w
           ] in
           (has.0, goes),
       λ has. elim (now key id has.1) [
-        | inl q ↦ absurd (none_there key id t gone q)
+        | inl q ↦ cc (q.live, gone)
         | inr w ↦
             contains_left (λ (p : ℤ × ℕ). not (p.1 == last_id_now old)) (key, id) keys
             (known key id has.0 w)
-            (differs id (last_id_now old)
-            (λ same. apart w.0 w.1 w.2 w.3 w.5 (w.4.named ∙ same)))
+            (ap not
+            (ne_eqb id (last_id_now old) (λ same. apart w.0 w.1 w.2 w.3 w.5 (w.4.named ∙ same))))
       ],
     )
 
@@ -300,7 +267,7 @@ module _ {C : Type 0} (slots : List (KeptSlot PlainText)) (keys : List (ℤ × �
     where
       placed : (j : ℕ) → j < length (set slots k t)
           → (get_or (set slots k t) j (empty_kept j)).number ≡ j
-      placed j low = elim (same_or_not j k) [
+      placed j low = elim (cases_eq j k) [
         | inl same ↦
             rw (same, get_or-set_same slots k t (empty_kept k) within)
             (number ∙ ap (λ (s : KeptSlot PlainText). s.number) (sym at) ∙ h.placed k within)

@@ -1,38 +1,34 @@
 -- The message that the waiting list finds is the one that the log names.
-use Rattle.std.proofs.Common.{◌≡◌, ℕ, nat_le, ◌==◌, List, [], ◌∷◌, length, map, find, filter, Option, Some, None, Ok, Err, if◌then◌else◌, IfSome, IsSome, Bool, true, false, not, ◌||◌, cond, refl, ap, subst, sym, ◌∙◌}
+use Rattle.std.proofs.Common.{◌≡◌, ℕ, ◌==◌, List, [], ◌∷◌, length, map, find, filter, Option, Some, None, Err, ◌+◌, ◌<◌, ◌≤◌, arith, nat_le, IfSome, Bool, true, not, ◌||◌, refl, ap, sym}
 use Rattle.std.specs.Option.{option_map}
-use Rattle.std.proofs.lemmas.Option.{none-some, same_Some}
+use Rattle.std.proofs.lemmas.Bool.Decides.{nat_tests}
+use Rattle.std.proofs.lemmas.Option.{MatchOption-at_some}
 use Rattle.mq_message.specs.declared.message.Message.{Message}
 use Rattle.mq_select.specs.declared.selection.Selection.{Selection}
 use Rattle.mq_select.specs.Selection.{pick, eligible}
 use Rattle.mq_select.specs.declared.header.Header.{Header}
 use Rattle.mq_select.specs.Waiting.{header_of, headers_of, message_at, without}
-use Rattle.mq_select.proofs.Places.{picked_waits}
-use Rattle.mq_queue.specs.declared.error.QueueError.TheVariants.{NoMessage, TooBig}
+use Rattle.mq_queue.specs.declared.error.QueueError.TheVariants.{NoMessage}
 use Rattle.mq_queue.specs.declared.event.Event.{Event}
-use Rattle.mq_queue.specs.Answer.{receive_answer, receive_refusal, handed_out}
-use Rattle.mq_queue.specs.Queue.{IsSound}
+use Rattle.mq_queue.specs.declared.figures.Figures.{Figures}
+use Rattle.mq_queue.specs.Answer.{receive_answer}
+use Rattle.mq_queue.specs.Figures.{live_figures}
+use Rattle.mq_queue.specs.Queue.{AreFigures, IsSound}
+use Rattle.mq_queue.specs.Room.{bytes_waiting}
 use Rattle.mq_queue.specs.Waiting.{waiting}
-use Rattle.mq_queue.proofs.Places.{Rises, found_at, whole_at}
+use Rattle.mq_queue.proofs.Places.{Rises, first_least, found_is, length-without, rest_rises, sum_by-without}
 use Rattle.mq_queue.proofs.Sound.{messages_rise}
+use Rattle.mq_queue.proofs.Steps.{waits_rising}
 
 -- what is found in a list that was mapped
 find-map : {X Y : Type 0} (p : Y → Bool) (f : X → Y) (xs : List X) → find p (map f xs) ≡ option_map f (find (λ x. p (f x)) xs)
 find-map p f [] = refl
-find-map {X} {Y} p f (x ∷ xs) = by (p (f x)) (find-map p f xs)
-  where
-    by : (b : Bool) → find p (map f xs) ≡ option_map f (find (λ x. p (f x)) xs) → cond b (Some (f x)) (find p (map f xs)) ≡ option_map f (cond b (Some x) (find (λ x. p (f x)) xs))
-    by true later = refl
-    by false later = later
+find-map p f (x ∷ xs) = grind (arith, find-map p f xs)
 
 -- what passes of a list that was mapped
 filter-map : {X Y : Type 0} (p : Y → Bool) (f : X → Y) (xs : List X) → filter p (map f xs) ≡ map f (filter (λ x. p (f x)) xs)
 filter-map p f [] = refl
-filter-map {X} {Y} p f (x ∷ xs) = by (p (f x)) (filter-map p f xs)
-  where
-    by : (b : Bool) → filter p (map f xs) ≡ map f (filter (λ x. p (f x)) xs) → cond b (f x ∷ filter p (map f xs)) (filter p (map f xs)) ≡ map f (cond b (x ∷ filter (λ x. p (f x)) xs) (filter (λ x. p (f x)) xs))
-    by true later = ap (λ ys. f x ∷ ys) later
-    by false later = later
+filter-map p f (x ∷ xs) = grind (arith, filter-map p f xs)
 
 -- a list that is mapped twice
 map-map : {X Y Z : Type 0} (g : Y → Z) (f : X → Y) (xs : List X) → map g (map f xs) ≡ map (λ x. g (f x)) xs
@@ -49,50 +45,49 @@ pick-headers {B} bytes messages selection =
 pub headers_without : {B : Type 0} (bytes : B → List ℕ) (messages : List (ℕ × Message B)) (place : ℕ) → headers_of bytes (without place messages) ≡ filter (λ m. not (m.place == place)) (headers_of bytes messages)
 headers_without bytes messages place = sym (filter-map (λ (m : Header). not (m.place == place)) (header_of bytes) messages)
 
--- the message at the place that was found is the one that is picked
-picked_is : {B : Type 0} (messages : List (ℕ × Message B)) (selection : Selection) (place : ℕ) (m : Message B) → Rises (λ (m : ℕ × Message B). m.0) messages → Some place ≡ option_map (λ m. m.0) (pick (λ m. m.1.mtype) messages selection) → message_at place messages ≡ Some m → pick (λ m. m.1.mtype) messages selection ≡ Some (place, m)
-picked_is {B} messages selection place m rises found at = by (pick (λ m. m.1.mtype) messages selection) refl found
-  where
-    by : (o : Option (ℕ × Message B)) → pick (λ m. m.1.mtype) messages selection ≡ o → Some place ≡ option_map (λ m. m.0) o → o ≡ Some (place, m)
-    by None picked e = absurd (none-some place (sym e))
-    by (Some x) picked e =
-        let there : find (λ m. m.0 == x.0) messages ≡ Some x = found_at (λ (m : ℕ × Message B). m.0) (λ (m : ℕ × Message B). eligible (map (λ m. m.1.mtype) messages) selection m.1.mtype) messages x rises picked in
-        let same : place ≡ x.0 = same_Some _ _ e in
-        let At : ℕ → Type 0 = λ k. find (λ m. m.0 == k) messages ≡ Some x in
-        sym (subst At (sym same) there) ∙ whole_at place messages m at
+-- what a test finds is found by its place
+found_at : {X : Type 0} (p : ℕ × X → Bool) (xs : List (ℕ × X)) (place : ℕ) (m : X) → Rises (λ (x : ℕ × X). x.0) xs → find p xs ≡ Some (place, m) → message_at place xs ≡ Some m
+found_at p [] place m rises found = cc
+found_at {X} p ((n, x) ∷ xs) place m rises found =
+    grind (arith, nat_tests, found_is (λ y. n < y.0) p xs (place, m) (first_least (λ (x : ℕ × X). x.0) (n, x) xs rises), found_at p xs place m (rest_rises (λ (x : ℕ × X). x.0) (n, x) xs rises))
 
--- so it is in the log
-pub picked_header : {B : Type 0} (bytes : B → List ℕ) (log : List Event) (messages : List (ℕ × Message B)) (selection : Selection) (place : ℕ) (m : Message B) → IsSound bytes log messages → Some place ≡ option_map (λ m. m.0) (pick (λ m. m.1.mtype) messages selection) → message_at place messages ≡ Some m → pick (λ m. m.mtype) (waiting log) selection ≡ Some (header_of bytes (place, m))
-picked_header bytes log messages selection place m sound found at =
-    let P : List Header → Type 0 = λ headers. pick (λ m. m.mtype) headers selection ≡ Some (header_of bytes (place, m)) in
-    subst P sound.waits (rw (pick-headers bytes messages selection, picked_is messages selection place m (messages_rise bytes log messages sound) found at) refl)
+-- something is found where a place is
+found_there : {X : Type 0} (o : Option (ℕ × X)) (place : ℕ) → Some place ≡ option_map (λ m. m.0) o → (m : X) × (o ≡ Some (place, m))
+found_there None place e = cc
+found_there (Some (n, m)) place e = (m, cc)
+
+-- the message that is found is picked by what waits, where its text has this length
+pub picked_header : {B : Type 0} (bytes : B → List ℕ) (log : List Event) (messages : List (ℕ × Message B)) (selection : Selection) (place n : ℕ) → IsSound bytes log messages → Some place ≡ option_map (λ m. m.0) (pick (λ m. m.1.mtype) messages selection) → IfSome (message_at place messages) (λ m. n ≡ length (bytes m.body)) → (m : Message B) × (message_at place messages ≡ Some m) × (pick (λ m. m.mtype) (waiting log) selection ≡ Some (record { place = place; seat = m.sender; tag = m.tag; mtype = m.mtype; length = n }))
+picked_header {B} bytes log messages selection place n sound found long =
+    let there = found_there (pick (λ (m : ℕ × Message B). m.1.mtype) messages selection) place found in
+    let at = found_at (λ m. eligible (map (λ m. m.1.mtype) messages) selection m.1.mtype) messages place there.0 (messages_rise bytes log messages sound) there.1 in
+    (there.0, at, rw (← sound.waits, pick-headers bytes messages selection, MatchOption-at_some _ _ _ at long) (ap (option_map (header_of bytes)) there.1))
 
 -- where nothing is found there is no message
-pub none_found : {B : Type 0} (bytes : B → List ℕ) (log : List Event) (messages : List (ℕ × Message B)) (size : ℕ) (selection : Selection) (noerror : Bool) → IsSound bytes log messages → None ≡ option_map (λ m. m.0) (pick (λ m. m.1.mtype) messages selection) → receive_answer (waiting log) size selection noerror ≡ Err NoMessage
-none_found {B} bytes log messages size selection noerror sound found =
-    let P : List Header → Type 0 = λ headers. receive_answer headers size selection noerror ≡ Err NoMessage in
-    subst P sound.waits (rw (pick-headers bytes messages selection) (by (pick (λ m. m.1.mtype) messages selection) found))
-  where
-    by : (o : Option (ℕ × Message B)) → None ≡ option_map (λ m. m.0) o → handed_out size noerror (option_map (header_of bytes) o) ≡ Err NoMessage
-    by None e = refl
-    by (Some x) e = absurd (none-some x.0 e)
+pub none_found : {B : Type 0} (bytes : B → List ℕ) (messages : List (ℕ × Message B)) (waits : List Header) (size : ℕ) (selection : Selection) (noerror : Bool) → headers_of bytes messages ≡ waits → None ≡ option_map (λ m. m.0) (pick (λ m. m.1.mtype) messages selection) → receive_answer waits size selection noerror ≡ Err NoMessage
+none_found bytes messages waits size selection noerror same found =
+    rw (← same, pick-headers bytes messages selection) (grind (arith, found))
 
--- where one is found the size decides
-answer_found : {B : Type 0} (bytes : B → List ℕ) (log : List Event) (messages : List (ℕ × Message B)) (size : ℕ) (selection : Selection) (noerror : Bool) (place n : ℕ) → IsSound bytes log messages → Some place ≡ option_map (λ m. m.0) (pick (λ m. m.1.mtype) messages selection) → IfSome (message_at place messages) (λ m. n ≡ length (bytes m.body)) → (m : Header) × (receive_answer (waiting log) size selection noerror ≡ (if noerror || nat_le n size then Ok m else Err TooBig))
-answer_found {B} bytes log messages size selection noerror place n sound found long =
-    by (message_at place messages) refl (picked_waits (λ (m : ℕ × Message B). m.1.mtype) messages selection place (sym found)) long
-  where
-    by : (o : Option (Message B)) → message_at place messages ≡ o → IsSome o → IfSome o (λ m. n ≡ length (bytes m.body)) → (m : Header) × (receive_answer (waiting log) size selection noerror ≡ (if noerror || nat_le n size then Ok m else Err TooBig))
-    by None at there e = cc
-    by (Some m) at there e =
-        (header_of bytes (place, m), rw (picked_header bytes log messages selection place m sound found at, e) refl)
+-- the message is the one that the selection picks, and it is handed out to this receiver
+pub record IsTaken (log : List Event) (selection : Selection) (size : ℕ) (noerror : Bool) (m : Header) : Type 0 where
+  pub picked : pick (λ m. m.mtype) (waiting log) selection ≡ Some m
+  pub fits : (noerror || nat_le m.length size) ≡ true
 
--- one that is too long is refused
-pub too_big_found : {B : Type 0} (bytes : B → List ℕ) (log : List Event) (messages : List (ℕ × Message B)) (size : ℕ) (selection : Selection) (noerror : Bool) (place n : ℕ) → IsSound bytes log messages → Some place ≡ option_map (λ m. m.0) (pick (λ m. m.1.mtype) messages selection) → IfSome (message_at place messages) (λ m. n ≡ length (bytes m.body)) → false ≡ (noerror || nat_le n size) → receive_answer (waiting log) size selection noerror ≡ Err TooBig
-too_big_found bytes log messages size selection noerror place n sound found long big =
-    rw ((answer_found bytes log messages size selection noerror place n sound found long).1, ← big) refl
+-- the message that the waiting list finds and takes out is such a message
+pub taken_is : {B : Type 0} (bytes : B → List ℕ) (log : List Event) (messages : List (ℕ × Message B)) (selection : Selection) (size : ℕ) (noerror : Bool) (found place n : ℕ) (m : Message B) → IsSound bytes log messages → Some found ≡ option_map (λ m. m.0) (pick (λ m. m.1.mtype) messages selection) → message_at place messages ≡ Some m → IfSome (message_at place messages) (λ m. n ≡ length (bytes m.body)) → true ≡ (noerror || nat_le n size) → place ≡ found → IsTaken log selection size noerror (record { place = place; seat = m.sender; tag = m.tag; mtype = m.mtype; length = n })
+taken_is bytes log messages selection size noerror found place n m sound picked at long fits same =
+    let there = picked_header bytes log messages selection place n sound (rw (← same) at picked) long in
+    record { picked = cc (there.1, there.2, at); fits = sym fits }
 
--- one that fits is not refused
-pub fitting_found : {B : Type 0} (bytes : B → List ℕ) (log : List Event) (messages : List (ℕ × Message B)) (size : ℕ) (selection : Selection) (noerror : Bool) (place n : ℕ) → IsSound bytes log messages → Some place ≡ option_map (λ m. m.0) (pick (λ m. m.1.mtype) messages selection) → IfSome (message_at place messages) (λ m. n ≡ length (bytes m.body)) → true ≡ (noerror || nat_le n size) → receive_refusal (receive_answer (waiting log) size selection noerror) ≡ None
-fitting_found bytes log messages size selection noerror place n sound found long fits =
-    rw ((answer_found bytes log messages size selection noerror place n sound found long).1, ← fits) refl
+-- without it one message fewer waits, and its bytes
+pub taken_left : (log : List Event) (kept : Figures) (selection : Selection) (m : Header) → kept ≡ live_figures log → pick (λ m. m.mtype) (waiting log) selection ≡ Some m → (1 + length (filter (λ x. not (x.place == m.place)) (waiting log)) ≡ kept.qnum) × (m.length + bytes_waiting (filter (λ x. not (x.place == m.place)) (waiting log)) ≡ kept.cbytes)
+taken_left log kept selection m same picked =
+    let p : Header → Bool = λ x. eligible (map (λ m. m.mtype) (waiting log)) selection x.mtype in
+    rw same (length-without (λ (x : Header). x.place) p (waiting log) m (waits_rising log) picked, sum_by-without (λ (x : Header). x.place) p (λ (x : Header). x.length) (waiting log) m (waits_rising log) picked)
+
+-- its bytes are among those that wait
+pub found_within : {B : Type 0} (bytes : B → List ℕ) (log : List Event) (messages : List (ℕ × Message B)) (kept : Figures) (selection : Selection) (found n : ℕ) → IsSound bytes log messages → AreFigures log kept → Some found ≡ option_map (λ m. m.0) (pick (λ m. m.1.mtype) messages selection) → IfSome (message_at found messages) (λ m. n ≡ length (bytes m.body)) → (n ≤ kept.cbytes) × (1 ≤ kept.qnum)
+found_within bytes log messages kept selection found n sound are picked long =
+    let there = picked_header bytes log messages selection found n sound picked long in
+    let left = taken_left log kept selection _ are.same there.2 in
+    (omega (arith, left.1), omega (arith, left.0))

@@ -1,5 +1,5 @@
 -- A log of which nothing was cut off, and the places of one of which something was.
-use Rattle.std.proofs.Common.{◌≡◌, inl, ℕ, ◌+◌, ◌-◌, nat_lt, false, slice_get, List, [], refl, ap, arith}
+use Rattle.std.proofs.Common.{◌≡◌, inl, ℕ, ◌+◌, slice_get, List, [], refl, ap, arith}
 use Rattle.std.proofs.lemmas.Bool.{le-ltb}
 use Rattle.mq_queue.specs.declared.event.Event.{Event}
 use Rattle.mq_queue.specs.Base.{base_of, event_from}
@@ -10,9 +10,7 @@ use Rattle.mq_queue.proofs.Bases.{goes_on}
 -- the event at a place that was not cut off
 pub event_at : (first : ℕ) (tail : List Event) (i : ℕ) → event_from first tail (first + i) ≡ slice_get tail i
 event_at first tail i =
-    let low : nat_lt (first + i) first ≡ false = le-ltb (first + i) first (omega arith) in
-    let same : first + i - first ≡ i = omega arith in
-    rw low (ap (slice_get tail) same)
+    rw (le-ltb (first + i) first (omega arith)) (ap (slice_get tail) (omega arith))
 
 pub lawful_uncut : (tail : List Event) → LawfulFrom (base_of []) tail → Lawful tail
 lawful_uncut tail lawful = (goes_on [] tail (record { lawful = inl refl; live = refl })).whole lawful

@@ -213,8 +213,9 @@ fn the_bodies_give_the_same_answers(rt: HostRuntime) -> Result<(), Fail> {
     Ok(())
 }
 
-/// A list of steps that sends messages of the type 2, and then some of three types between receipts:
-/// at first as many as these, then few, then most of them. It ends with messages that wait.
+/// A list of steps that sends messages of the type 2, and then some of three types between
+/// receipts: at first as many as these, then few, then most of them. It ends with messages that
+/// wait.
 fn layered(alloc: Global, seed: u64, first: u64) -> Result<Vec<Step>, AllocError> {
     let mut steps = Vec::new(alloc);
     for _ in 0..first {

@@ -221,8 +221,8 @@ pub(crate) fn counts<N: Names>(system: &System<Nothing, N>, seat: &Seat<N>) -> [
     [seat.count(0), seat.count(1), seat.count(2)]
 }
 
-/// The answer to this call; the log of a queue that it removes is kept, and what it cuts off. `None`
-/// where a text was not drafted, and no call was made.
+/// The answer to this call; the log of a queue that it removes is kept, and what it cuts off.
+/// `None` where a text was not drafted, and no call was made.
 pub(crate) fn answer<N: Names, R: Wait>(
     rt: &R,
     system: &System<Nothing, N>,

@@ -93,7 +93,8 @@ IsNotSet slots id qbytes old new r =
     (set_verdict (seq_of id) qbytes) old new r
 
 -- IPC_RMID removed the queue, and hands out what is kept of its log
-pub record IsRemoved (slots last_seq id moment : ℕ) (old new : SeatState) (r : Removal) : Type 0 where
+pub record IsRemoved (slots last_seq id moment : ℕ) (old new : SeatState) (r : Removal)
+    : Type 0 where
   pub early : out_of_slots slots id ≡ false
   pub step : IsStep old new (slot_of id)
   pub done : IsDone old new (slot_of id) (remove_verdict (seq_of id)) r.entry
@@ -105,4 +106,5 @@ pub record IsRemoved (slots last_seq id moment : ℕ) (old new : SeatState) (r :
 -- IPC_RMID was refused
 abbrev pub IsNotRemoved : ℕ → ℕ → SeatState → SeatState → Refused → Type 0
 IsNotRemoved slots id old new r =
-    IsTurnedAway (out_of_slots slots id) MayRemove (slot_of id) (remove_verdict (seq_of id)) old new r
+    IsTurnedAway (out_of_slots slots id) MayRemove (slot_of id)
+    (remove_verdict (seq_of id)) old new r

@@ -60,8 +60,8 @@ pub record IsDone (old new : SeatState) (slot : ℕ) (verdict : Verdict) (entry 
 
 -- a call was refused after so many events of the slot, which are no fewer than the seat knew before
 -- and all that it knows now: for what they refuse, or else for memory
-pub record IsRefused (old new : SeatState) (slot : ℕ) (verdict : Verdict) (entry : ℕ) (errno : Errno)
-    : Type 0 where
+pub record IsRefused (old new : SeatState) (slot : ℕ) (verdict : Verdict) (entry : ℕ)
+    (errno : Errno) : Type 0 where
   pub late : length (front_of old slot) ≤ entry
   pub known : entry ≡ length (front_of new slot)
   pub why : errno ≡ unwrap_or (verdict (take entry (front_of new slot))) ENOMEM
@@ -73,12 +73,13 @@ IsDecided old new slot verdict r =
 
 -- a receipt: the slot's event at its entry is that of the message that the selection names among
 -- those that wait after the events before it, and that message is handed out
-pub record IsReceipt (old new : SeatState) (slot seq size : ℕ) (selection : Selection) (noerror : Bool)
-    (moment : ℕ) (d : Delivered PlainText) : Type 0 where
+pub record IsReceipt (old new : SeatState) (slot seq size : ℕ) (selection : Selection)
+    (noerror : Bool) (moment : ℕ) (d : Delivered PlainText) : Type 0 where
   pub message : Header
   pub done : IsDone old new slot (receive_verdict seq size selection noerror) d.entry
       (Received old.number moment message.place selection size noerror)
-  pub named : receive_answer (waiting (last_log (take d.entry (front_of new slot)))) size selection noerror
+  pub named :
+      receive_answer (waiting (last_log (take d.entry (front_of new slot)))) size selection noerror
       ≡ Ok message
   pub mtype : d.mtype ≡ message.mtype
   pub sender : d.sender ≡ message.seat

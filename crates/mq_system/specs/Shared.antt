@@ -19,9 +19,9 @@ pub record IsPublished {B : Type 0} (board : ℕ) (events : List Event) (pending
   pub kept : IsKeptPart events slot
   pub none : pending ≡ []
 
--- a slot under its lock, with its board: it is one of the system's, its list has no more queues than
--- ids allow, the pledge holds of each message that waits, and its part of the ledger of entries has
--- as much as its list has entries
+-- a slot under its lock, with its board: it is one of the system's, its list has no more queues
+-- than ids allow, the pledge holds of each message that waits, and its part of the ledger of
+-- entries has as much as its list has entries
 pub record IsShared (kept : Pledged) (slots last_seq board : ℕ) (events : List Event)
     (pending : List Posting) (slot : KeptSlot PlainText) (parts amount : ℕ) : Type 0 where
   pub published : IsPublished board events pending slot
@@ -35,8 +35,8 @@ pub record IsShared (kept : Pledged) (slots last_seq board : ℕ) (events : List
 abbrev pub with_pending : List Event → List Posting → List Event
 with_pending events pending = events ++ map (λ p. p.event) pending
 
--- a change of a slot is to be published, which this seat made: the slot is as it is to be once it is
--- published, and its entry is there
+-- a change of a slot is to be published, which this seat made: the slot is as it is to be once it
+-- is published, and its entry is there
 pub record IsDue (kept : Pledged) (slots last_seq seat board : ℕ) (events : List Event)
     (pending : List Posting) (slot : KeptSlot PlainText) (parts amount : ℕ) : Type 0 where
   pub ready : HasOnePending events pending

@@ -8,8 +8,8 @@ use Rattle.mq_system.specs.declared.blanks.Blanks.{Blanks}
 use Rattle.mq_system.specs.declared.names.Names.{Ghosts}
 use Rattle.mq_system.specs.declared.seat.TheConstants.{MAX_COUNT}
 
--- the names are those of these ledgers and boards and of this size; the ledger of entries has a part
--- for each slot and one for each seat
+-- the names are those of these ledgers and boards and of this size; the ledger of entries has a
+-- part for each slot and one for each seat
 pub record AreNames {X : Type 0} (names : Ghosts X) (books : naming.Ghosts X) (blanks : Blanks)
     (config : Config) : Type 0 where
   pub pages : blanks.pages.name ≡ names.pages

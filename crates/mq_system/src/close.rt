@@ -41,8 +41,8 @@ impl<N: Names> Model for Rest<N> {
 
 impl<P: Pledge, N: Names> System<P, N, Copies<N>> {
     /// Ends the system, once all seats are back. It takes no memory. What the seats kept back goes
-    /// home, and so do the texts that waited; one that is still outside is put into the arena by its
-    /// block.
+    /// home, and so do the texts that waited; one that is still outside is put into the arena by
+    /// its block.
     pub fn close<R: Wait>(self, rt: &R, seats: Vec<Seat<N>>) -> Closed<Pages<N>>
         requires seats { vec_len seats ≡ N.seats }
         ensures slots { length result.slots.items ≡ N.slots }

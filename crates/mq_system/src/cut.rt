@@ -12,9 +12,9 @@ use std::sync::{MutexGuard, Wait};
 
 impl<P: Pledge, N: Names> System<P, N, Copies<N>> {
     /// Cuts the slot's list off where it ends now, and hands out what was kept of it, to be stored
-    /// or dropped: of the front that the seat then has, the items from the cut's `first` to the end,
-    /// with what is known of the items before. All calls go on as before, and count on from the
-    /// whole list. It is no change, adds to no count and publishes nothing. ENOMEM alone.
+    /// or dropped: of the front that the seat then has, the items from the cut's `first` to the
+    /// end, with what is known of the items before. All calls go on as before, and count on from
+    /// the whole list. It is no change, adds to no count and publishes nothing. ENOMEM alone.
     pub fn cut_log<R: Wait>(&self, rt: &R, seat: &mut Seat<N>, slot: u8) -> Result<Cut, Refused>
         requires within { slot < N.slots }
         ensures answer { MatchResult result

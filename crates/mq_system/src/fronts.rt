@@ -7,8 +7,8 @@ use mq_board::{BoardReader, Naming};
 use std::alloc::{AllocError, Global};
 use std::marker::Model;
 
-/// What one seat has seen of each slot, before it sits and once it is taken apart, seen as its place
-/// and its fronts: a reader of each board, all at the same place.
+/// What one seat has seen of each slot, before it sits and once it is taken apart, seen as its
+/// place and its fronts: a reader of each board, all at the same place.
 #[derive(Drop)]
 pub struct Fronts<J: Naming> {
     pub(crate) place: u16,

@@ -61,8 +61,8 @@ impl<P: Pledge, N: Names> System<P, N, Copies<N>> {
     }
 
     /// The id of the queue with this key, which is not 0, as the table and then its slot have it. A
-    /// pair without its queue would be forgotten, and a queue without its pair found in its slot: no
-    /// run meets either.
+    /// pair without its queue would be forgotten, and a queue without its pair found in its slot:
+    /// no run meets either.
     #[tactic(auto, using(crate::proofs::LaterLemmas::look_self, crate::proofs::LaterLemmas::look_trans))]
     fn find<R: Wait>(&self, rt: &R, keys: &mut Keys<N>, seat: &mut Seat<N>, key: i32) -> Option<Id>
         requires some { key ≢ pos 0 }

@@ -16,10 +16,10 @@
 //! - The arena's lock protects which pages are lent; it is held while blocks leave or come home.
 //!   Texts are drafted before a slot is locked, their pages are cleared and written with no lock,
 //!   and the texts of a removed queue go home after its slot's lock is let go.
-//! - A magazine's lock protects the blocks that its seat has spent and keeps back for its drafts: so
-//!   seats that draft and spend by turns seldom meet at the arena. A draft for which the arena has no
-//!   run takes the locks of all magazines, in the order of the seats, and lets all blocks go home
-//!   before it is refused.
+//! - A magazine's lock protects the blocks that its seat has spent and keeps back for its drafts:
+//!   so seats that draft and spend by turns seldom meet at the arena. A draft for which the arena
+//!   has no run takes the locks of all magazines, in the order of the seats, and lets all blocks go
+//!   home before it is refused.
 //!
 //! **Counts** want no lock. All entries that the seats can ever make are dealt out to them at the
 //! start, as amounts of a ledger that are not there when the program runs; a change moves one from
@@ -27,9 +27,9 @@
 //!
 //! **Who is woken**, each after the lock is let go: a send wakes the receivers of its queue; a
 //! receipt and a new quota wake its senders; a removal wakes both, who then answer EIDRM. A making
-//! wakes none, for nobody waits for an id that was never given. A text that is spent wakes those who
-//! wait for pages, by whatever way its pages come back. All that wait are woken: the first of them may
-//! want another message, or less room, than the one that the change can serve.
+//! wakes none, for nobody waits for an id that was never given. A text that is spent wakes those
+//! who wait for pages, by whatever way its pages come back. All that wait are woken: the first of
+//! them may want another message, or less room, than the one that the change can serve.
 //!
 //! No contract says that a thread runs, wakes or comes first.
 

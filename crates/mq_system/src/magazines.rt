@@ -78,8 +78,8 @@ impl<N: Names> Magazines<N> {
         each.destroy_empty();
     }
 
-    /// A block with the bytes that its pages had: of the magazine of the seat with this number, else
-    /// as `take_any` answers it.
+    /// A block with the bytes that its pages had: of the magazine of the seat with this number,
+    /// else as `take_any` answers it.
     pub(crate) fn take<R: Wait, T: Patience>(
         &self,
         rt: &R,
@@ -190,8 +190,8 @@ impl<N: Names> Magazines<N> {
         self.waiters.wake();
     }
 
-    /// Keeps a block in the magazine of the seat with this number, while it has room; else the block
-    /// goes home.
+    /// Keeps a block in the magazine of the seat with this number, while it has room; else the
+    /// block goes home.
     pub(crate) fn put<R: Wait>(
         &self,
         rt: &R,

@@ -40,8 +40,8 @@ impl<P: Pledge, N: Names> System<P, N, Copies<N>> {
         self.msgsnd_within(rt, seat, id, mtype, tag, text, flags, patience, moment)
     }
 
-    /// Sends a text as `msgsnd` does, and waits for room no longer than until the patience ends. Then
-    /// it answers EAGAIN, which is what it saw last, as with IPC_NOWAIT.
+    /// Sends a text as `msgsnd` does, and waits for room no longer than until the patience ends.
+    /// Then it answers EAGAIN, which is what it saw last, as with IPC_NOWAIT.
     #[tactic(auto, using(crate::proofs::LaterLemmas::look_self))]
     pub fn msgsnd_within<R: Wait, T: Patience>(
         &self,
@@ -117,8 +117,8 @@ impl<P: Pledge, N: Names> System<P, N, Copies<N>> {
         self.msgrcv_within(rt, seat, id, size, msgtyp, flags, &mut Forever, moment)
     }
 
-    /// Receives a message as `msgrcv` does, and waits for one no longer than until the patience ends.
-    /// Then it answers ENOMSG, which is what it saw last, as with IPC_NOWAIT.
+    /// Receives a message as `msgrcv` does, and waits for one no longer than until the patience
+    /// ends. Then it answers ENOMSG, which is what it saw last, as with IPC_NOWAIT.
     #[tactic(auto, using(crate::proofs::LaterLemmas::look_self))]
     pub fn msgrcv_within<R: Wait, T: Patience>(
         &self,

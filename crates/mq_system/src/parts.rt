@@ -19,8 +19,8 @@ use std::sync::Wait;
 /// The readers of each board.
 pub(crate) type ReadersOf<N> = Vec<Vec<BoardReader<N>>>;
 
-/// The slots, in which no queue was made, with their boards, and the readers of each board. An `Err`
-/// means that memory ran out, and then those that were made are given up.
+/// The slots, in which no queue was made, with their boards, and the readers of each board. An
+/// `Err` means that memory ran out, and then those that were made are given up.
 pub(crate) fn make_slots<P: Pledge, N: Names, R: Wait>(
     alloc: Global,
     rt: &R,

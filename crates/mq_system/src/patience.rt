@@ -6,8 +6,8 @@ use std::time::{Clock, Duration, Instant};
 pub trait Patience {
     ghost ends: { Bool };
 
-    /// How much longer it waits, or that it waits no longer. It is asked with no lock held, and only
-    /// where a call has to wait.
+    /// How much longer it waits, or that it waits no longer. It is asked with no lock held, and
+    /// only where a call has to wait.
     fn left(&mut self) -> Option<Duration>
         ensures { IsNone result → Self.ends ≡ true };
 }

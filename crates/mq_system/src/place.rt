@@ -28,7 +28,8 @@ enum Pauses {
 }
 
 impl Pauses {
-    /// Those of a seat: long where plenty waited in the slot and there was room, as far as it knows.
+    /// Those of a seat: long where plenty waited in the slot and there was room, as far as it
+    /// knows.
     fn of<N: Names>(seat: &Seat<N>, slot: u8) -> Pauses
         requires { slot < N.slots }
     {

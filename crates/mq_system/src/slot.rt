@@ -23,9 +23,9 @@ use std::marker::{Model, PhantomData};
 use std::sync::ledger::Share;
 
 /// A slot of a system, under its lock, with the writer of its board, which has published all that
-/// happened in the slot and nothing else, also what was cut off of the slot's list since then. It is
-/// seen as the whole slot; the pledge holds of each message that waits in it. `C` is the type of the
-/// board's copies.
+/// happened in the slot and nothing else, also what was cut off of the slot's list since then. It
+/// is seen as the whole slot; the pledge holds of each message that waits in it. `C` is the type of
+/// the board's copies.
 pub struct SharedSlot<P: Pledge, N: Names, C = Copies<N>> {
     pub(crate) slot: SlotOf<N>,
     pub(crate) writer: BoardWriter<N, C>,

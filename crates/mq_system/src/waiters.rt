@@ -23,8 +23,8 @@ impl Waiters {
     }
 
     /// Wakes all that wait, once the change is made and its lock was let go, and answers whether
-    /// anyone came since they were last woken. Where nobody did, this writes nothing: who comes later
-    /// finds the change.
+    /// anyone came since they were last woken. Where nobody did, this writes nothing: who comes
+    /// later finds the change.
     pub fn wake(&self) -> bool {
         let came = self.came.load(Ordering::SeqCst) && self.came.swap(false, Ordering::SeqCst);
         if came {
@@ -33,8 +33,8 @@ impl Waiters {
         came
     }
 
-    /// Comes, and answers what `wait` is told. What is changed from now on wakes the caller: it comes
-    /// with the lock held under which it has looked, or looks once more.
+    /// Comes, and answers what `wait` is told. What is changed from now on wakes the caller: it
+    /// comes with the lock held under which it has looked, or looks once more.
     pub fn come(&self) -> u64 {
         let seen = self.changes.notifications();
         self.came.store(true, Ordering::SeqCst);

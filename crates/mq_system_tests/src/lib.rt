@@ -1,5 +1,5 @@
-//! Tests of the queues of several threads, by one thread, and of what the locks protect: a slot, the
-//! keys, the seats.
+//! Tests of the queues of several threads, by one thread, and of what the locks protect: a slot,
+//! the keys, the seats.
 
 #![tactic(auto)]
 

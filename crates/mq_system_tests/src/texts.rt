@@ -326,8 +326,8 @@ impl Day<Anything> for Leaves {
     }
 }
 
-/// The slot tells its whole list, has so many events of removed queues and of its last one, and left
-/// so many messages.
+/// The slot tells its whole list, has so many events of removed queues and of its last one, and
+/// left so many messages.
 fn slot_leaves(rt: &impl Abort, slot: &ClosedSlot, past: usize, last: usize, waited: u64) {
     holds(
         rt,

@@ -61,9 +61,9 @@ slot_with number first made key base past live = record {
   messages = messages_of live;
 }
 
--- the slot has a number; the makings are counted, and not too many for ids; not too many entries are
--- before the log of the queue in it; the slot keeps its part of some slot list; and that queue is the
--- list's
+-- the slot has a number; the makings are counted, and not too many for ids; not too many entries
+-- are before the log of the queue in it; the slot keeps its part of some slot list; and that queue
+-- is the list's
 pub record IsSlot {B : Type 0} (bytes : B → List ℕ) (made : ℕ) (live : Option (Queue B))
     (s : KeptSlot B) : Type 0 where
   pub numbered : s.number < MAX_SLOTS

@@ -26,8 +26,8 @@ fn shown(slot: &Place) -> (u64, u64, u32, BoardRow) {
     (slot.first(), slot.events(), slot.made(), slot.row())
 }
 
-/// Where a cut begins, how many makings are before it, how many entries it has of removed queues and
-/// of the queue that is there, and the places of its base.
+/// Where a cut begins, how many makings are before it, how many entries it has of removed queues
+/// and of the queue that is there, and the places of its base.
 fn told(cut: &Cut) -> (u64, u32, usize, usize, Option<u64>) {
     let places = match &cut.base {
         Some(Base { places, .. }) => Some(*places),

@@ -1,5 +1,5 @@
-//! Two seats cut one slot's log in turns while two others send and receive, and remove the queue and
-//! make it anew.
+//! Two seats cut one slot's log in turns while two others send and receive, and remove the queue
+//! and make it anew.
 
 use crate::joined::{Flaw, join};
 use crate::runs::{Nothing, SMALL, found_no_memory};

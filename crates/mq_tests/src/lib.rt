@@ -1,5 +1,5 @@
-//! Tests of programs over the queues of one thread, of one thread's calls at a seat, and of programs
-//! of several threads.
+//! Tests of programs over the queues of one thread, of one thread's calls at a seat, and of
+//! programs of several threads.
 
 #![tactic(auto)]
 

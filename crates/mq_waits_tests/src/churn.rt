@@ -26,14 +26,15 @@ const TRIES: u32 = 100_000_000;
 
 const LOOKS: u32 = 1000;
 
-/// How many messages each worker passes on or takes, and how many wait before the first is taken: so
-/// many that who fails to get the slot's lock keeps away for long.
+/// How many messages each worker passes on or takes, and how many wait before the first is taken:
+/// so many that who fails to get the slot's lock keeps away for long.
 const PASSED: u32 = 2000;
 
 const PLENTY: u64 = 64;
 
-/// How often who removes a queue under a receiver looks at it before, which takes some milliseconds:
-/// the receiver sleeps by then, and the next queue has its message before it looks again.
+/// How often who removes a queue under a receiver looks at it before, which takes some
+/// milliseconds: the receiver sleeps by then, and the next queue has its message before it looks
+/// again.
 const LONG: u32 = 500_000;
 
 /// What a worker does.

@@ -20,9 +20,9 @@ const SIZE: Config = Config {
 /// For how many seconds who waits is looked at.
 const SECONDS: u32 = 5;
 
-/// The ticks of a processor, of which a second has 100, that two threads which wait may take in that
-/// time: one that does not sleep takes 100 a second where no other wants the processor, and some
-/// where others do.
+/// The ticks of a processor, of which a second has 100, that two threads which wait may take in
+/// that time: one that does not sleep takes 100 a second where no other wants the processor, and
+/// some where others do.
 const MOST: u64 = 5;
 
 /// What a worker does once it has its queue.

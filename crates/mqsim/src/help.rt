@@ -1,6 +1,7 @@
 //! What the help says below the words and options.
 
-// What the help of `threads` and that of `mqsim` share, which begins the one and stands in the other.
+// What the help of `threads` and that of `mqsim` share, which begins the one and stands in the
+// other.
 macro_rules! notes {
     ($before:literal, $between:literal) => {
         concat!(

@@ -66,8 +66,9 @@ fn terminals_of(rt: &HostRuntime) -> Terminals {
     }
 }
 
-/// Does what the words say, and gives the exit status. Who types is told how to end, and is answered
-/// line by line where the script is a serial one. At a terminal threads that run long are told of.
+/// Does what the words say, and gives the exit status. Who types is told how to end, and is
+/// answered line by line where the script is a serial one. At a terminal threads that run long are
+/// told of.
 fn answered(
     rt: &(impl AllocGlobal + Files + Input + Print + Eprint + Threads + Wait + Clock + Sync),
     words: &[String],

@@ -1,13 +1,13 @@
-use Rattle.std.proofs.Common.{◌+◌, ◌++◌, List, take, drop, ap, sym, ◌∙◌}
+use Rattle.std.proofs.Common.{◌+◌, ◌++◌, List, take, take-append-drop, drop, ap, sym, ◌∙◌}
 use Rattle.mq_cli.specs.declared.threads_script.MainCall.{MainCall}
-use Rattle.mq_cli.proofs.MainLemmas.{cut_at, taken_more, wrote_first, wrote_more, wrote_part}
+use Rattle.mq_cli.proofs.MainLemmas.{taken_more, wrote_first, wrote_more, wrote_part}
 use Rattle.mq_cli.proofs.main_part.run_main.Goals as goal
 
 pub returns-in_default : goal.returns-in_default
 returns-in_default g c =
     let calls = c.args.calls.now in
     let k = c.loop-call.call-index in
-    wrote_first g.N.Names.slots g.N.Names.last_seq (take k calls) (drop k calls) calls _ _ _ _ (cut_at calls k) c.loop-call.invariant
+    wrote_first g.N.Names.slots g.N.Names.last_seq (take k calls) (drop k calls) calls _ _ _ _ (sym (take-append-drop k calls)) c.loop-call.invariant
 
 pub returns-in_default-write_bytes : goal.returns-in_default-write_bytes
 returns-in_default-write_bytes g c =
@@ -15,7 +15,7 @@ returns-in_default-write_bytes g c =
     let k = c.loop-call.call-index in
     let call = c.call-item.result in
     let more = taken_more calls k call c.loop-call-test.true c.call-item.is in
-    let cut = cut_at calls (k + 1) ∙ ap (λ (l : List MainCall). l ++ drop (k + 1) calls) more in
+    let cut = sym (take-append-drop (k + 1) calls) ∙ ap (λ (l : List MainCall). l ++ drop (k + 1) calls) more in
     let cleared = rw c.clear.ensures.items at c.in-Ok.ensures in
     let reply = rw (sym c.deref.ensures.value) at cleared in
     wrote_part g.N.Names.slots g.N.Names.last_seq (take k calls) call (drop (k + 1) calls) calls c.deref.result.now _ _ _ _ _ _ cut c.loop-call.invariant reply

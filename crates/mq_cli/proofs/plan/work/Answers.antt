@@ -1,4 +1,4 @@
-use Rattle.std.proofs.Common.{rules, ◌≡◌, ◌+◌, ◌^◌, ◌<◌, ◌++◌, ◌∷◌, [], List, take, take_all, drop, None, Some, refl, ap, subst, ◌∙◌, append_assoc, arith}
+use Rattle.std.proofs.Common.{rules, ◌≡◌, ◌+◌, ◌^◌, ◌<◌, ◌++◌, ◌∷◌, [], List, take, take_all, take-append-drop, drop, None, Some, refl, sym, ap, subst, ◌∙◌, append_assoc, arith}
 use Rattle.std.proofs.lemmas.Grind.{common_steps}
 use Rattle.std.proofs.lemmas.List.Sums.{sum_by_more_le}
 use Rattle.mq_cli.specs.declared.step.Step.{Step}
@@ -6,7 +6,7 @@ use Rattle.mq_cli.specs.Plans.{puts_in, puts_of, removes_in, removes_of, takes_i
 use Rattle.mq_cli.specs.Works.{HasWorked}
 use Rattle.mq_cli.specs.contracts.notes.StreamPartialEq.TheImpl.{eq-value}
 use Rattle.mq_cli.proofs.FarLemmas.{far_end, far_more, far_until, told_end, told_received, told_sent}
-use Rattle.mq_cli.proofs.MainLemmas.{cut_at, taken_more}
+use Rattle.mq_cli.proofs.MainLemmas.{taken_more}
 use Rattle.mq_cli.proofs.WorkLemmas.{none_called}
 use Rattle.mq_cli.proofs.plan.work.Goals as goal
 
@@ -65,7 +65,7 @@ returns-in-Err-clause-worked g c =
     let step = c.step-item.result in
     let more = taken_more plan k step c.loop-step-test.true c.step-item.is in
     let cut : plan ≡ take k plan ++ step ∷ drop (k + 1) plan =
-    cut_at plan (k + 1) ∙ ap (λ (l : List Step). l ++ drop (k + 1) plan) more ∙ append_assoc (take k plan) (step ∷ []) (drop (k + 1) plan) in
+    sym (take-append-drop (k + 1) plan) ∙ ap (λ (l : List Step). l ++ drop (k + 1) plan) more ∙ append_assoc (take k plan) (step ∷ []) (drop (k + 1) plan) in
     far_until eq-value.it p.puts p.takes p.removes (take k plan) (drop (k + 1) plan) plan step c.in-Err.errno c.args.port.now c.loop-step.port c.step.new.port
     c.loop-step.progress c.step.new.self c.outcome.result cut c.loop-step.invariant.3 c.loop-step.invariant.0 c.in-Err.ensures.called c.outcome.ensures
 

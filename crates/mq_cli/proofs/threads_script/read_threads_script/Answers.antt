@@ -5,7 +5,7 @@ use Rattle.mq_cli.specs.Parts.{lines_left}
 use Rattle.mq_cli.specs.ThreadsParsed.{wanted_seen}
 use Rattle.mq_cli.specs.ThreadsScript.{nothing, wanted_from}
 use Rattle.mq_cli.proofs.LinesLemmas.{length-lines_of-le}
-use Rattle.mq_cli.proofs.ThreadsRuns.{sections_seen, line_taken, line_passed, line_refused, lines_done}
+use Rattle.mq_cli.proofs.ThreadsRuns.{sections_seen, line_read, lines_done}
 use Rattle.mq_cli.proofs.WantedLemmas.{IsSmall, passed_small, said_small, small_countable}
 use Rattle.mq_cli.proofs.threads_script.read_threads_script.Goals as goal
 
@@ -24,7 +24,7 @@ loop-line-preserved-in-Ok-None c =
     let said = rw c.in-Ok-None.field-0-is at c.in-Ok-None.ensures in (
       tt,
       tt,
-      (rw left at inv.2) ∙ line_passed _ _ _ _ _ (sections_seen c.loop-line.wanted ∙ sym c.len.ensures) said,
+      (rw left at inv.2) ∙ line_read _ _ _ _ _ _ (sections_seen c.loop-line.wanted ∙ sym c.len.ensures) said,
       omega (arith, ap length left, inv.3),
       passed_small c.loop-line.number (wanted_seen c.loop-line.wanted) inv.4,
     )
@@ -32,7 +32,7 @@ loop-line-preserved-in-Ok-None c =
 pub returns-in-Err : goal.returns-in-Err
 returns-in-Err c =
     let inv = c.loop-line.invariant in
-    (rw c.in-Some.ensures.steps at inv.2) ∙ line_refused _ _ _ _ _ _ (sections_seen c.loop-line.wanted ∙ sym c.len.ensures) c.in-Err.ensures
+    (rw c.in-Some.ensures.steps at inv.2) ∙ line_read _ _ _ _ _ _ (sections_seen c.loop-line.wanted ∙ sym c.len.ensures) c.in-Err.ensures
 
 pub loop-line-preserved : goal.loop-line-preserved
 loop-line-preserved c =
@@ -43,7 +43,7 @@ loop-line-preserved c =
     let added = c.in-Ok.ensures in (
       tt,
       tt,
-      (rw left at inv.2) ∙ line_taken _ _ _ _ _ _ count said
+      (rw left at inv.2) ∙ line_read _ _ _ _ _ _ count said
           ∙ ap (λ w. wanted_from (c.loop-line.number + 1 + 1) w (lines_left c.next.new.self.rest)) (sym added),
       omega (arith, ap length left, inv.3),
       subst (IsSmall (c.loop-line.number + 1)) (sym added) (said_small c.loop-line.number (c.loop-line.number + 1) c.len.result (wanted_seen c.loop-line.wanted) c.in-Some.line.now c.in-Ok-Some.said count said inv.4),

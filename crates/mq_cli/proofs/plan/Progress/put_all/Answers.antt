@@ -35,15 +35,7 @@ loop-preserved g c =
     )
 
 pub returns-in-Err-clause-counted : goal.returns-in-Err-clause-counted
-returns-in-Err-clause-counted g c = record {
-  least_sent = omega arith;
-  least_received = omega arith;
-  sent = omega arith;
-  received = omega arith;
-  all = tt;
-  done = tt;
-  refused = omega (arith, c.in-Err.ensures.calls, c.loop.invariant.3);
-}
+returns-in-Err-clause-counted g c = search (rules, c.in-Err.ensures.calls, c.loop.invariant.3)
 
 pub returns-clause-counted : goal.returns-clause-counted
 returns-clause-counted g c =

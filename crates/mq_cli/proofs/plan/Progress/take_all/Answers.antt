@@ -13,26 +13,10 @@ stream_eq : (a b : Stream) → eq-value.it a b ≡ same_stream a b
 stream_eq a b = refl
 
 pub returns-in-Err-clause-counted : goal.returns-in-Err-clause-counted
-returns-in-Err-clause-counted g c = record {
-  least_sent = omega arith;
-  least_received = omega arith;
-  sent = omega arith;
-  received = omega arith;
-  all = tt;
-  done = tt;
-  refused = omega (arith, c.loop.invariant.3);
-}
+returns-in-Err-clause-counted g c = search (rules, c.loop.invariant.3)
 
 pub returns-in-Err-take-clause-counted : goal.returns-in-Err-take-clause-counted
-returns-in-Err-take-clause-counted g c = record {
-  least_sent = omega arith;
-  least_received = omega arith;
-  sent = omega arith;
-  received = omega arith;
-  all = tt;
-  done = tt;
-  refused = omega (arith, c.in-Err-take.ensures.calls, c.loop.invariant.3);
-}
+returns-in-Err-take-clause-counted g c = search (rules, c.in-Err-take.ensures.calls, c.loop.invariant.3)
 
 pub returns-clause-counted : goal.returns-clause-counted
 returns-clause-counted g c =
