@@ -1,10 +1,16 @@
 """Edits of a crate's files. One is a text file of lines `WORD: TEXT`: an `error`, a `function` or a
 `test`, which must see it; a `goal` or none; the `file` below the crate's folder; and pairs of `old`
-and `new`. Each old text stands exactly once in the file as the pairs before it left it."""
+and `new`. Each old text stands exactly once in the file as the pairs before it left it. What can't
+be tried is a ValueError."""
+import re
 
-
-class Refused(Exception):
-    """An edit that can't be tried, and why."""
+# A function that has a body, in the layout of `rt fmt`: the body begins on a line that is as far in
+# as the function's own, and ends with that line, or else with the next brace as far in.
+FUNCTION = re.compile(
+    r"""(?mx)^(?P<in>\ *)(?:pub(?:\(\w+\))?\ )?(?:const\ |extern\ "C"\ )?fn\ (?P<name>\w+)
+    (?:.*?|(?:.*\n(?!.*\bfn\ \w))+?(?P=in)(?:[^\s{].*?)?)
+    (?P<body>\{.*\}$|\{\n(?:.*\n)*?(?P=in)\}$)"""
+)
 
 
 class Edit:
@@ -19,16 +25,16 @@ class Edit:
         first, *more = words[:count] or [""]
         is_head = first in ("error", "function", "test") and more in (["file"], ["goal", "file"])
         if not is_head or words[count:] != ["old", "new"] * max(1, len(self.pairs)):
-            raise Refused("it is not written as an edit is")
+            raise ValueError("it is not written as an edit is")
 
     def texts(self):
         """The text of its file, and that with this edit."""
         if not (self.folder / self.file).is_file():
-            raise Refused(f"there is no file {self.file}")
+            raise ValueError(f"there is no file {self.file}")
         before = after = (self.folder / self.file).read_text()
         for old, new in self.pairs:
             if not old or after.count(old) != 1:
-                raise Refused(f"its text stands {after.count(old)} times in {self.file}: {old}")
+                raise ValueError(f"its text stands {after.count(old)} times in {self.file}: {old}")
             after = after.replace(old, new)
         return before, after
 
@@ -46,3 +52,23 @@ def tell(part, found, well):
     failed = sum(map(bool, found.values()))
     print(f"{part}: {len(found) - failed} passed, {failed} failed")
     return failed
+
+
+def changed_body(before, after):
+    """Of the function whose body alone differs between two texts of a file, which one of the file
+    it is, its name, and its body then; None where nothing differs, or anything else."""
+    pairs = zip(FUNCTION.finditer(before), FUNCTION.finditer(after)) if before != after else ()
+    for number, (old, new) in enumerate(pairs):
+        same_head = before[: old.start("body")] == after[: new.start("body")]
+        if same_head and before[old.end() :] == after[new.end() :]:
+            return number, new["name"], new["body"]
+    return None
+
+
+def with_bodies(source, body):
+    """A file's text where each function has the body that is made of its number and its own."""
+    text, last = "", 0
+    for number, it in enumerate(FUNCTION.finditer(source)):
+        text += source[last : it.start("body")] + body(number, it["body"])
+        last = it.end()
+    return text + source[last:]

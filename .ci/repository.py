@@ -1,5 +1,12 @@
-"""The crates of the repository, and what a check of one is passed."""
+#!/usr/bin/env -S python3 -B
+"""The crates of the repository, and what a check of one is passed.
+
+    .ci/repository.py copy NAME FOLDER    copies it there, of the crates this and those below it
+    .ci/repository.py library NAME        proves and builds the static library of a crate over what
+        `rt ci` has left, as crates/NAME/out/libNAME.a; `rt lib` would prove all this once more"""
+import shutil
 import subprocess
+import sys
 from pathlib import Path
 
 TOP = Path(__file__).resolve().parent.parent
@@ -35,3 +42,20 @@ class Crates:
         for it in ["std", *sorted(self.below(name))]:
             words += ["-L", f"dependency={self.libraries(it)}"]
         return words
+
+    def copy(self, name, folder):
+        kept = {name, *self.below(name)}
+        gone = lambda at, names: {*names} - kept if at == f"{self.top}/crates" else {"out", ".git"}
+        shutil.copytree(self.top, folder, ignore=gone)
+        lines = (self.top / "crates.txt").read_text().splitlines(True)
+        (folder / "crates.txt").write_text("".join(it for it in lines if it.split(":")[0] in kept))
+
+    def library(self, name):
+        words = [*self.words("build", name), "--crate-type", "staticlib", "--backend", "llvm"]
+        words += ["--toolchain", f"{self.kit}/toolchain", "-o", f"out/lib{name}.a"]
+        return subprocess.run(words, cwd=self.top / "crates" / name).returncode
+
+
+if __name__ == "__main__":
+    verb, name, *folder = sys.argv[1:]
+    sys.exit(getattr(Crates(TOP), verb)(name, *map(Path, folder)))

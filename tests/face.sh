@@ -50,7 +50,7 @@ checks() {
 
 build() {
     rm -rf face/out
-    make -C face prove='../.ci/static-library civdrax' > "$folder/made" 2>&1
+    make -C face prove='../.ci/repository.py library civdrax' > "$folder/made" 2>&1
     local status=$?
     count $status "make -C face: $(tail -n 3 "$folder/made")"
     [ $status -eq 0 ] || { echo "$passed passed, $failed failed"; exit 1; }
