@@ -1,6 +1,6 @@
 //! The calls of a system, each made once more where there was no memory. Seat 1 makes, sends, sets
 //! and removes, and seat 2 receives and cuts.
-ghost use Rattle.std.specs.Prelude.{◌≡◌, IfOk, replicate};
+ghost use Rattle.std.specs.Prelude.{◌≡◌, ◌<◌, IfOk, replicate};
 
 use crate::day::Anything;
 use crate::holds;
@@ -146,6 +146,26 @@ pub(crate) fn receive<N: Names, R: Abort + Wait>(
     }
 }
 
+/// Nothing is received, for this reason, after so many entries.
+pub(crate) fn refused<N: Names, R: Abort + Wait>(
+    rt: &R,
+    system: &System<Anything, N>,
+    seats: &mut [Seat<N>],
+    errno: Errno,
+    entries: u64,
+) {
+    match receive(rt, system, seats, 0, first(9), 5) {
+        Ok(_delivered) => panic!(rt; "a message is received"),
+        Err(refused) => is(rt, refused, errno, Some(entries)),
+    }
+}
+
+/// A call was refused for this, after so many entries.
+pub(crate) fn is(rt: &impl Abort, refused: Refused, errno: Errno, entries: Option<u64>) {
+    holds(rt, refused.errno == errno, "why a call is refused");
+    holds(rt, refused.entry == entries, "after so many entries");
+}
+
 pub(crate) fn set<N: Names, R: Abort + Wait>(
     rt: &R,
     system: &System<Anything, N>,
@@ -219,6 +239,38 @@ pub(crate) fn cut<N: Names, R: Abort + Wait>(
             Err(refused) => panic!(rt; "a cut is refused twice: {refused}"),
         },
     }
+}
+
+/// It is the first cut of a slot, in which no queue was removed.
+pub(crate) fn is_first(rt: &impl Abort, cut: &Cut) {
+    holds(rt, cut.first == 0 && cut.made == 0, "nothing was before");
+    holds(rt, cut.base.is_none(), "nothing waited before");
+    holds(rt, cut.past.is_empty(), "no queue was removed");
+}
+
+/// It is a cut behind another one, of a queue that is there. So many entries were before, of which
+/// one message waits, and nothing happened since.
+pub(crate) fn is_second(rt: &impl Abort, cut: &Cut, entries: u64) {
+    holds(
+        rt,
+        cut.first == entries && cut.made == 1,
+        "behind another cut",
+    );
+    holds(rt, cut.last.is_empty(), "nothing twice");
+    match &cut.base {
+        Some(base) => {
+            holds(rt, base.places == entries, "what was before");
+            holds(rt, base.waiting.len() == 1, "what waits");
+        }
+        None => panic!(rt; "nothing is known of the queue that is there"),
+    }
+}
+
+/// So many changes are of the seat's own calls in slot 0.
+pub(crate) fn counts<N: Names>(rt: &impl Abort, seat: &Seat<N>, changes: u64)
+    requires slots { 0 < N.slots }
+{
+    holds(rt, seat.count(0) == changes, "what a seat counts");
 }
 
 /// Whether a text has these bytes, at most a page of them.

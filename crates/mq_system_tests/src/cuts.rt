@@ -1,16 +1,14 @@
 //! Cuts of a slot's list, after which all calls answer as before.
 ghost use Rattle.std.specs.Prelude.{◌≡◌};
 
-use crate::calls::{CREATE, NEW, NO_FLAG, TAG, cut, first, get, has, receive, remove, seat, send};
+use crate::calls::{CREATE, NEW, NO_FLAG, TAG, counts, cut, first, has, is_first, seat};
 use crate::day::{Anything, Day, config, left_by};
-use crate::holds;
 use crate::table::{Answer, Step, plays};
+use crate::{granted, holds};
 use mq_queue::{Base, BaseEntry, BoardRow, Event, Figures};
 use mq_select::Selection;
-use mq_system::{
-    ClosedSlot, Config, Delivered, Errno, Got, Names, Removal, Seat, SendRefused, System,
-};
-use mq_table::{Cut, Id};
+use mq_system::{ClosedSlot, Config, Errno, Names, Removal, Seat, System};
+use mq_table::Cut;
 use std::alloc::Global;
 use std::process::Abort;
 use std::sync::Wait;
@@ -96,26 +94,36 @@ fn sent<N: Names, R: Abort + Wait>(
     bytes: &[u8],
     at: u64,
 ) {
-    let Ok(text) = system.draft_of(rt, bytes) else {
-        panic!(rt; "there is a page");
-    };
-    match send(rt, system, seats, 0, mtype, text, 5) {
-        Ok(entry) => holds(rt, entry == at, "it is sent by its entry"),
-        Err(SendRefused { refused, text }) => {
-            system.spend(rt, text);
-            panic!(rt; "a text is handed back: {refused}");
-        }
-    }
+    let text = granted::drafted(rt, system, bytes);
+    let entry = granted::sent(rt, system, seats, 0, mtype, text, 5);
+    holds(rt, entry == at, "it is sent by its entry");
 }
 
 /// A queue with a key, in which two messages wait.
 fn filled<N: Names, R: Abort + Wait>(rt: &R, system: &System<Anything, N>, seats: &mut [Seat<N>]) {
-    match get(rt, system, seats, 9, NEW, 4) {
-        Ok(got) => holds(rt, got.made == Some(0), "it is made by entry 0"),
-        Err(errno) => panic!(rt; "it is not made: {errno}"),
-    }
+    granted::made(rt, system, seats, 9, NEW, 4, 0, 0);
     sent(rt, system, seats, 1, b"one", 1);
     sent(rt, system, seats, 2, b"four", 2);
+}
+
+/// A seat is shown the queue with these figures, and no other one.
+fn is_shown<N: Names, R: Abort + Wait>(
+    rt: &R,
+    system: &System<Anything, N>,
+    seat: &mut Seat<N>,
+    figures: Figures,
+) {
+    let shown = granted::shown(rt, system, seat);
+    holds(rt, shown == figures, "its figures");
+    let row = BoardRow {
+        made: 1,
+        live: true,
+        key: 9,
+        figures,
+    };
+    let rows = granted::two_rows(rt, system, seat, row);
+    holds(rt, rows[0] == row, "its row");
+    holds(rt, !rows[1].live, "no other");
 }
 
 /// The queue is found and shown, by both seats, as if nothing had been cut off.
@@ -125,30 +133,10 @@ fn is_there<N: Names, R: Abort + Wait>(
     seats: &mut [Seat<N>],
     figures: Figures,
 ) {
-    match get(rt, system, seats, 9, NO_FLAG, 5) {
-        Ok(Got { id, made }) => holds(rt, id.number() == 0 && made.is_none(), "it is found"),
-        Err(errno) => panic!(rt; "it is not found: {errno}"),
-    }
-    if system.slots() != 2 {
-        panic!(rt; "there are other than two slots");
-    }
-    let row = BoardRow {
-        made: 1,
-        live: true,
-        key: 9,
-        figures,
-    };
-    for k in 0..2usize {
-        let seat = seat(rt, seats, k);
-        holds(
-            rt,
-            system.stat(seat, Id::from_number(0)) == Ok(figures),
-            "its figures",
-        );
-        let mut rows = [row; 2];
-        system.report(seat, &mut rows);
-        holds(rt, rows[0] == row && !rows[1].live, "its row, and no other");
-    }
+    let got = granted::got(rt, system, seats, 9, NO_FLAG, 5);
+    granted::is_found(rt, got);
+    is_shown(rt, system, seat(rt, seats, 0), figures);
+    is_shown(rt, system, seat(rt, seats, 1), figures);
 }
 
 /// `one` is received by entry 3.
@@ -157,53 +145,33 @@ fn receives<N: Names, R: Abort + Wait>(
     system: &System<Anything, N>,
     seats: &mut [Seat<N>],
 ) {
-    match receive(rt, system, seats, 0, first(9), 6) {
-        Ok(
-            Delivered {
-                entry,
-                mtype,
-                sender,
-                tag,
-                length,
-                text,
-            },
-        ) => {
-            holds(rt, has::<N>(&text, b"one"), "its text");
-            system.spend(rt, text);
-            holds(rt, entry == 3 && mtype == 1 && length == 3, "by entry 3");
-            holds(rt, sender == 1 && tag == TAG, "what seat 1 sent");
-        }
-        Err(refused) => panic!(rt; "it is not received: {refused}"),
+    let delivered = granted::received(rt, system, seats, 0, first(9), 6);
+    let text = granted::text_of(rt, delivered, 3, 1, 3);
+    holds(rt, has::<N>(&text, b"one"), "its text");
+    system.spend(rt, text);
+}
+
+/// These messages wait.
+fn waits(rt: &impl Abort, base: &Base, waiting: &[BaseEntry]) {
+    let count = waiting.len() as u64;
+    holds(
+        rt,
+        base.waiting.len() == count,
+        "as many messages before a cut",
+    );
+    for (index, entry) in waiting.iter().enumerate() {
+        let shown = base.waiting.get(index as u64);
+        holds(rt, shown == Some(*entry), "a message before a cut");
     }
 }
 
-/// What is known of the entries before a cut: these figures and messages.
-fn known(
-    rt: &impl Abort,
-    base: &Option<Base>,
-    places: u64,
-    figures: Figures,
-    waiting: &[BaseEntry],
-) {
+/// Three entries are before a cut, by which both messages wait.
+fn known(rt: &impl Abort, base: &Option<Base>) {
     match base {
         Some(base) => {
-            holds(
-                rt,
-                base.places == places && base.figures == figures,
-                "the figures before a cut",
-            );
-            holds(
-                rt,
-                base.waiting.len() == waiting.len() as u64,
-                "as many messages before a cut",
-            );
-            for (index, entry) in waiting.iter().enumerate() {
-                holds(
-                    rt,
-                    base.waiting.get(index as u64) == Some(*entry),
-                    "a message before a cut",
-                );
-            }
+            holds(rt, base.places == 3, "the entries before a cut");
+            holds(rt, base.figures == BOTH, "the figures before a cut");
+            waits(rt, base, &[ONE, FOUR]);
         }
         None => panic!(rt; "nothing is known of the entries before a cut"),
     }
@@ -211,12 +179,8 @@ fn known(
 
 /// Nothing happened in the slot by this cut.
 fn is_new(rt: &impl Abort, cut: &Cut) {
-    holds(
-        rt,
-        cut.first == 0 && cut.made == 0 && cut.base.is_none(),
-        "nothing was before",
-    );
-    holds(rt, cut.past.is_empty() && cut.last.is_empty(), "nothing is");
+    is_first(rt, cut);
+    holds(rt, cut.last.is_empty(), "nothing is");
 }
 
 /// Slot 0 is cut while both messages wait, and at once again.
@@ -226,39 +190,28 @@ fn cut_twice<N: Names, R: Abort + Wait>(
     seats: &mut [Seat<N>],
 ) {
     let all = cut(rt, system, seats, 0);
+    is_first(rt, &all);
     holds(
         rt,
-        all.first == 0 && all.made == 0 && all.base.is_none(),
-        "it is the first cut",
-    );
-    holds(
-        rt,
-        all.past.is_empty() && all.last.as_slice() == SENT.as_slice(),
+        all.last.as_slice() == SENT.as_slice(),
         "all that was sent",
     );
     is_there(rt, system, seats, BOTH);
     let none = cut(rt, system, seats, 0);
     holds(rt, none.first == 3 && none.made == 1, "behind the first");
-    known(rt, &none.base, 3, BOTH, &[ONE, FOUR]);
-    holds(
-        rt,
-        none.past.is_empty() && none.last.is_empty(),
-        "nothing twice",
-    );
+    known(rt, &none.base);
+    holds(rt, none.past.is_empty(), "of no removed queue");
+    holds(rt, none.last.is_empty(), "nothing twice");
     is_there(rt, system, seats, BOTH);
 }
 
 /// The queue is removed by entry 4: its log tells what was cut off and the rest.
 fn removed<N: Names, R: Abort + Wait>(rt: &R, system: &System<Anything, N>, seats: &mut [Seat<N>]) {
-    match remove(rt, system, seats, 0, 7) {
-        Ok(Removal { entry, log }) => {
-            holds(rt, entry == 4 && log.len() == 5, "its whole log");
-            let (base, tail) = log.into_parts();
-            known(rt, &Some(base), 3, BOTH, &[ONE, FOUR]);
-            holds(rt, tail.as_slice() == REST.as_slice(), "the rest of it");
-        }
-        Err(refused) => panic!(rt; "it is not removed: {refused}"),
-    }
+    let Removal { entry, log } = granted::removed(rt, system, seats, 0, 7);
+    holds(rt, entry == 4 && log.len() == 5, "its whole log");
+    let (base, tail) = log.into_parts();
+    holds(rt, tail.as_slice() == REST.as_slice(), "the rest of it");
+    known(rt, &Some(base));
 }
 
 #[derive(Drop)]
@@ -280,34 +233,37 @@ impl Day<Anything> for CutDay {
         is_there(rt, system, seats, LEFT);
         is_new(rt, &cut(rt, system, seats, 1));
         removed(rt, system, seats);
-        if system.slots() == 0 {
-            panic!(rt; "there is no slot");
-        }
-        let counts = (seat(rt, seats, 0).count(0), seat(rt, seats, 1).count(0));
-        holds(rt, counts.0 == 4 && counts.1 == 1, "a cut counts nothing");
+        holds(rt, system.slots() == 2, "two slots");
+        counts(rt, seat(rt, seats, 0), 4);
+        counts(rt, seat(rt, seats, 1), 1);
     }
 }
 
 /// At the end only what is kept is told.
 fn kept(rt: &impl Abort, slot: &ClosedSlot) {
     holds(rt, slot.first == 3 && slot.made == 1, "as much was cut off");
-    known(rt, &slot.base, 3, BOTH, &[ONE, FOUR]);
+    known(rt, &slot.base);
     holds(
         rt,
-        slot.past.as_slice() == REST.as_slice() && slot.last.is_empty(),
+        slot.past.as_slice() == REST.as_slice(),
         "what happened since then",
     );
+    holds(rt, slot.last.is_empty(), "no queue is there");
     holds(rt, slot.left == 0, "nothing waits");
+}
+
+fn first_is_kept(rt: &impl Abort, slots: &[ClosedSlot]) {
+    match slots.first() {
+        Some(slot) => kept(rt, slot),
+        None => panic!(rt; "there was no slot"),
+    }
 }
 
 #[test]
 fn what_waits_outlives_cuts(rt: HostRuntime) {
     let left = left_by(&rt, rt.alloc(), config(1, 2, 9), &CutDay);
     holds(&rt, left.free_pages == 2, "all pages are free");
-    match left.slots.first() {
-        Some(slot) => kept(&rt, slot),
-        None => panic!(rt; "there was no slot"),
-    }
+    first_is_kept(&rt, left.slots.as_slice());
 }
 
 #[test]

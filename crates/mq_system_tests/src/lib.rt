@@ -25,6 +25,8 @@ mod cuts;
 #[cfg(test)]
 mod day;
 #[cfg(test)]
+mod granted;
+#[cfg(test)]
 mod ids;
 #[cfg(test)]
 mod limits;

@@ -2,12 +2,12 @@
 //! run with each allocation refused in turn, and must answer as if none had been.
 ghost use Rattle.std.specs.Prelude.{◌≡◌};
 
-use crate::calls::{CREATE, TAG, Wanted, cut, draft, get, receive, remove, seat, send, set};
+use crate::calls::{CREATE, Wanted, cut, draft, first, seat};
 use crate::day::{Anything, Day, config, left_by};
-use crate::holds;
+use crate::{granted, holds};
 use mq_arena::Homecoming;
-use mq_system::{Config, Delivered, Got, Names, Seat, SendRefused, System};
-use mq_table::Id;
+use mq_queue::Base;
+use mq_system::{ClosedSlot, Config, Names, Removal, Seat, System};
 use std::alloc::Global;
 use std::process::Abort;
 use std::sync::Wait;
@@ -29,42 +29,15 @@ fn wanted_at(place: u64) -> i64 {
     (place / 8) as i64 + 1
 }
 
-fn makes<N: Names, R: Abort + Wait>(
-    rt: &R,
-    system: &System<Anything, N>,
-    seats: &mut [Seat<N>],
-    key: i32,
-    id: u32,
-    entry: u64,
-) {
-    match get(rt, system, seats, key, CREATE, 1) {
-        Ok(Got { id: number, made }) => {
-            holds(
-                rt,
-                number.number() == id && made == Some(entry),
-                "a queue is made",
-            );
-        }
-        Err(errno) => panic!(rt; "queue {id} is not made: {errno}"),
-    }
-}
-
 fn sends<N: Names, R: Abort + Wait>(
     rt: &R,
     system: &System<Anything, N>,
     seats: &mut [Seat<N>],
     place: u64,
 ) {
-    let Ok(text) = system.draft(rt, 0) else {
-        panic!(rt; "an empty text wants no page");
-    };
-    match send(rt, system, seats, 0, type_of(place), text, place) {
-        Ok(entry) => holds(rt, entry == place.saturating_add(1), "sent at its entry"),
-        Err(SendRefused { refused, text }) => {
-            system.spend(rt, text);
-            panic!(rt; "{place} is not sent: {refused}");
-        }
-    }
+    let text = granted::zeros(rt, system, 0);
+    let entry = granted::sent(rt, system, seats, 0, type_of(place), text, place);
+    holds(rt, entry == place.saturating_add(1), "sent at its entry");
 }
 
 /// A text is drafted whose block wants memory, and spent.
@@ -86,65 +59,43 @@ fn receives<N: Names, R: Abort + Wait>(
     place: u64,
 ) {
     let msgtyp = wanted_at(place);
-    let wanted = Wanted {
-        size: 0,
-        msgtyp,
-        except: false,
-        noerror: false,
-    };
-    match receive(rt, system, seats, 0, wanted, place) {
-        Ok(
-            Delivered {
-                entry,
-                mtype,
-                sender,
-                tag,
-                length,
-                text,
-            },
-        ) => {
-            system.spend(rt, text);
-            holds(
-                rt,
-                entry == place.saturating_add(MESSAGES + 1),
-                "received at its entry",
-            );
-            holds(rt, mtype == msgtyp && sender == 1, "of the type, by seat 1");
-            holds(rt, tag == TAG && length == 0, "with its tag, and empty");
-        }
-        Err(refused) => panic!(rt; "{place} is not received: {refused}"),
-    }
+    let wanted = Wanted { msgtyp, ..first(0) };
+    let delivered = granted::received(rt, system, seats, 0, wanted, place);
+    let entry = place.saturating_add(MESSAGES + 1);
+    let text = granted::text_of(rt, delivered, entry, msgtyp, 0);
+    system.spend(rt, text);
+}
+
+/// The queue is removed, of which so much was cut off.
+fn removes<N: Names, R: Abort + Wait>(rt: &R, system: &System<Anything, N>, seats: &mut [Seat<N>]) {
+    let Removal { entry, log } = granted::removed(rt, system, seats, 0, 91);
+    holds(rt, entry == 82 && log.len() == 83, "its own log");
+    let (base, tail) = log.into_parts();
+    holds(rt, base.places == 61, "what was cut off of it");
+    holds(rt, base.waiting.len() == 20, "what waited then");
+    holds(rt, tail.len() == 22, "the rest of it");
 }
 
 fn changes<N: Names, R: Abort + Wait>(rt: &R, system: &System<Anything, N>, seats: &mut [Seat<N>]) {
-    match set(rt, system, seats, 0, 100, 90) {
-        Ok(entry) => holds(rt, entry == 81, "the quota is set by entry 81"),
-        Err(refused) => panic!(rt; "not set: {refused}"),
-    }
-    let first = seat(rt, seats, 0);
-    match system.stat(first, Id::from_number(0)) {
-        Ok(figures) => holds(
-            rt,
-            figures.qnum == 0 && figures.qbytes == 100,
-            "the figures",
-        ),
-        Err(errno) => panic!(rt; "not shown: {errno}"),
-    }
-    match remove(rt, system, seats, 0, 91) {
-        Ok(removal) => {
-            holds(
-                rt,
-                removal.entry == 82 && removal.log.len() == 83,
-                "its own log",
-            );
-            let (base, tail) = removal.log.into_parts();
-            holds(
-                rt,
-                base.places == 61 && base.waiting.len() == 20 && tail.len() == 22,
-                "what was cut off of it, and the rest",
-            );
+    let entry = granted::changed(rt, system, seats, 0, 100, 90);
+    holds(rt, entry == 81, "the quota is set by entry 81");
+    let figures = granted::shown(rt, system, seat(rt, seats, 0));
+    holds(
+        rt,
+        figures.qnum == 0 && figures.qbytes == 100,
+        "the figures",
+    );
+    removes(rt, system, seats);
+}
+
+/// What is known of the entries before a cut is that so many messages were waiting, if it is known.
+fn is_base(rt: &impl Abort, base: Option<Base>, first: u64, waiting: Option<u64>) {
+    match base {
+        Some(base) => {
+            holds(rt, Some(base.waiting.len()) == waiting, "what waited");
+            holds(rt, base.places == first, "the base of what was cut off");
         }
-        Err(refused) => panic!(rt; "not removed: {refused}"),
+        None => holds(rt, waiting.is_none(), "the base of a queue"),
     }
 }
 
@@ -160,26 +111,15 @@ fn cuts<N: Names, R: Abort + Wait>(
     last: usize,
 ) {
     let cut = cut(rt, system, seats, 0);
-    let made = if first == 0 { 0 } else { 1 };
+    holds(rt, cut.first == first, "as much was cut off before");
     holds(
         rt,
-        cut.first == first && cut.made == made,
-        "as much was cut off before",
+        cut.made == u32::from(first != 0),
+        "a queue was made before",
     );
-    holds(
-        rt,
-        cut.past.len() == past && cut.last.len() == last,
-        "as much is handed out",
-    );
-    match (cut.base, waiting) {
-        (Some(base), Some(waiting)) => holds(
-            rt,
-            base.places == first && base.waiting.len() == waiting,
-            "the base of what was cut off",
-        ),
-        (None, None) => (),
-        _ => panic!(rt; "another base after {first} entries"),
-    }
+    holds(rt, cut.past.len() == past, "as much of a removed queue");
+    holds(rt, cut.last.len() == last, "as much of a queue");
+    is_base(rt, cut.base, first, waiting);
 }
 
 #[derive(Drop)]
@@ -194,8 +134,8 @@ impl Day<Anything> for Listed {
         system: &System<Anything, N>,
         seats: &mut [Seat<N>],
     ) {
-        makes(rt, system, seats, 9, 0, 0);
-        makes(rt, system, seats, 0, 1, 0);
+        granted::made(rt, system, seats, 9, CREATE, 1, 0, 0);
+        granted::made(rt, system, seats, 0, CREATE, 1, 1, 0);
         for place in 0..MESSAGES {
             sends(rt, system, seats, place);
         }
@@ -210,20 +150,26 @@ impl Day<Anything> for Listed {
         }
         changes(rt, system, seats);
         cuts(rt, system, seats, 61, Some(20), 22, 0);
-        makes(rt, system, seats, 9, 64, 83);
+        granted::made(rt, system, seats, 9, CREATE, 1, 64, 83);
         cuts(rt, system, seats, 83, None, 0, 1);
     }
+}
+
+/// All that happened in these slots, in which nothing waits.
+fn entries_of(rt: &impl Abort, slots: &[ClosedSlot]) -> u64 {
+    let mut entries = 0u64;
+    for slot in slots.iter() {
+        let kept = slot.past.len().saturating_add(slot.last.len());
+        entries = entries.saturating_add(slot.first.saturating_add(kept as u64));
+        holds(rt, slot.left == 0, "nothing waits");
+    }
+    entries
 }
 
 #[test]
 fn a_list_of_calls_answers_as_if_memory_had_never_run_out(rt: HostRuntime) {
     let left = left_by(&rt, rt.alloc(), config(4, 2, 1), &Listed);
     holds(&rt, left.free_pages == 16, "all pages are free");
-    let mut entries = 0u64;
-    for slot in left.slots {
-        let kept = slot.past.len().saturating_add(slot.last.len());
-        entries = entries.saturating_add(slot.first.saturating_add(kept as u64));
-        holds(&rt, slot.left == 0, "nothing waits");
-    }
+    let entries = entries_of(&rt, left.slots.as_slice());
     holds(&rt, entries == 85, "all that was not refused");
 }

@@ -3,7 +3,7 @@
 
 use crate::calls::seat;
 use crate::day::{Anything, Day, config, left_by};
-use crate::holds;
+use crate::{granted, holds};
 use mq_system::{Config, DraftError, Names, Seat, System, TextOf};
 use std::alloc::Global;
 use std::process::Abort;
@@ -13,6 +13,19 @@ use std::thread::Threads;
 
 /// The bytes of a text of eight pages.
 const WHOLE: [u8; 8192] = [b'w'; 8192];
+
+/// So many of these bytes.
+fn front(len: usize) -> &'static [u8] {
+    WHOLE.as_slice().split_at(len.min(WHOLE.len())).0
+}
+
+/// No eight pages are free, since one is in use.
+fn finds_no_run<N: Names, R: Abort + Wait>(rt: &R, system: &System<Anything, N>, seat: &Seat<N>) {
+    match system.draft_by(rt, seat, front(8192)) {
+        Err(DraftError::NoRun) => (),
+        _ => panic!(rt; "a page is in use, and all are drafted"),
+    }
+}
 
 /// A text of these bytes, drafted by a seat.
 fn drafted<N: Names, R: Abort + Wait>(
@@ -49,7 +62,7 @@ fn seat_1_keeps_pages<N: Names, R: Abort + Wait>(
     system: &System<Anything, N>,
     seats: &mut [Seat<N>],
 ) {
-    let half = drafted(rt, system, seats, 1, &WHOLE[..4096]);
+    let half = drafted(rt, system, seats, 1, front(4096));
     let page = drafted(rt, system, seats, 1, b"page");
     spent(rt, system, seats, 1, half);
     spent(rt, system, seats, 1, page);
@@ -68,25 +81,18 @@ impl Day<Anything> for Withholds {
         seats: &mut [Seat<N>],
     ) {
         seat_1_keeps_pages(rt, system, seats);
-        let whole = drafted(rt, system, seats, 2, &WHOLE);
-        holds(rt, has_part(&whole, 7, &WHOLE[..1024]), "its last page");
+        let whole = drafted(rt, system, seats, 2, front(8192));
+        holds(rt, has_part(&whole, 7, front(1024)), "its last page");
         spent(rt, system, seats, 2, whole);
 
         let page = drafted(rt, system, seats, 1, b"page");
-        match system.draft_by(rt, seat(rt, seats, 1), &WHOLE) {
-            Err(DraftError::NoRun) => (),
-            _ => panic!(rt; "a page is in use, and all are drafted"),
-        }
+        finds_no_run(rt, system, seat(rt, seats, 1));
         spent(rt, system, seats, 1, page);
 
-        let Ok(whole) = system.draft(rt, 8192) else {
-            panic!(rt; "a draft of eight pages is refused");
-        };
+        let whole = granted::zeros(rt, system, 8192);
         holds(rt, has_part(&whole, 0, &[0; 1024]), "it is zero");
         spent(rt, system, seats, 2, whole);
-        let Ok(page) = system.draft_of(rt, b"page") else {
-            panic!(rt; "a draft of a page is refused");
-        };
+        let page = granted::drafted(rt, system, b"page");
         holds(rt, has_part(&page, 0, b"page"), "its bytes");
         system.spend(rt, page);
         seat_1_keeps_pages(rt, system, seats);
@@ -114,7 +120,7 @@ impl Day<Anything> for Reuses {
     ) {
         let first = drafted(rt, system, seats, 1, b"first");
         let second = drafted(rt, system, seats, 1, b"second");
-        let pair = drafted(rt, system, seats, 1, &WHOLE[..2048]);
+        let pair = drafted(rt, system, seats, 1, front(2048));
         let (start, two) = (second.start(), pair.start());
         spent(rt, system, seats, 1, second);
         spent(rt, system, seats, 1, pair);
@@ -125,7 +131,7 @@ impl Day<Anything> for Reuses {
             third.start() != start,
             "a block of another seat is taken",
         );
-        let pair = drafted(rt, system, seats, 1, &WHOLE[..1025]);
+        let pair = drafted(rt, system, seats, 1, front(1025));
         holds(rt, pair.start() == two, "the two pages that were spent");
         let fourth = drafted(rt, system, seats, 1, b"4th");
         holds(rt, fourth.start() == start, "the page that was spent");

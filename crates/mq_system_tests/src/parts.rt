@@ -7,27 +7,12 @@ use crate::holds;
 use mq_arena::{ArenaState, Homecoming};
 use mq_board::{BoardReader, BoardWriter, Copies};
 use mq_message::Text;
+use mq_queue::Figures;
 use mq_select::Waiting;
-use mq_system::{Fronts, Names, Pages, Pledge, Seat, Tally, TextOf, WaitingOf};
+use mq_system::{Fronts, Names, Pages, Seat, Tally, TextOf, WaitingOf};
 use mq_table::{Id, IdRefusal};
 use std::alloc::{AllocError, Global};
 use std::process::Abort;
-
-/// Nothing is pledged of what is sent.
-pub(crate) struct Anything;
-
-impl Pledge for Anything {
-    ghost kept = { λ seat tag mtype bytes. Unit {0} };
-}
-
-/// Whether a text has these bytes, at most a page of them.
-pub(crate) fn has<N: Names>(text: &TextOf<N>, bytes: &[u8]) -> bool {
-    match text.count() {
-        0 => bytes.is_empty(),
-        1 => text.part(0) == bytes,
-        _ => false,
-    }
-}
 
 /// A text of an arena.
 pub(crate) fn drafted<N: Names>(rt: &impl Abort, arena: &mut ArenaState<Pages<N>>) -> TextOf<N> {
@@ -103,6 +88,26 @@ pub(crate) fn seated<N: Names>(
     (first, second)
 }
 
+/// A seat shows nothing of the first queue in slot 0, for this reason.
+pub(crate) fn not_shown<N: Names>(rt: &impl Abort, seat: &mut Seat<N>, wanted: IdRefusal)
+    requires slots { 0 < N.slots }
+{
+    match seat.stat(Id::of(0, 0)) {
+        Ok(_) => panic!(rt; "a queue is shown"),
+        Err(refusal) => holds(rt, refusal == wanted, "why no queue is shown"),
+    }
+}
+
+/// What a seat shows of the first queue in slot 0.
+pub(crate) fn figures_of<N: Names>(rt: &impl Abort, seat: &mut Seat<N>) -> Figures
+    requires slots { 0 < N.slots }
+{
+    match seat.stat(Id::of(0, 0)) {
+        Ok(figures) => figures,
+        Err(_) => panic!(rt; "no queue is shown"),
+    }
+}
+
 /// The seat learns what was published of the slot, which is known of no other way.
 pub(crate) fn told<N: Names>(
     rt: &impl Abort,
@@ -112,12 +117,9 @@ pub(crate) fn told<N: Names>(
     requires slots { N.slots ≡ 1 }
 {
     let told = writer.tell();
-    holds(rt, told.board() == 0 && seat.learn(0, told), "all is known");
-    holds(
-        rt,
-        seat.stat(Id::of(0, 0)) == Err(IdRefusal::Removed),
-        "the queue was removed",
-    );
+    holds(rt, told.board() == 0, "the board of slot 0");
+    holds(rt, seat.learn(0, told), "all is known");
+    not_shown(rt, seat, IdRefusal::Removed);
 }
 
 /// The seat's only reader comes home.

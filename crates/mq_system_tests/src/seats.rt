@@ -1,25 +1,26 @@
 //! What a seat sees of a queue that comes and goes in a slot whose changes are published, while it
 //! makes them or another does. Seat 1 makes, sends, sets and removes, and seat 2 receives.
-ghost use Rattle.std.specs.Prelude.{◌≡◌, ◌≤◌};
+ghost use Rattle.std.specs.Prelude.{◌≡◌, ◌<◌, ◌≤◌};
 
+use crate::day::Anything;
 use crate::holds;
-use crate::parts::{Anything, drafted, spent};
+use crate::parts::{drafted, figures_of, not_shown, spent};
 use crate::shared::{Day, apart_once};
 use crate::slot_calls::{cut, entered, made, received, removed, sent};
 use mq_arena::ArenaState;
 use mq_one_thread::Config;
-use mq_queue::Figures;
 use mq_system::{Keys, Names, Pages, Seat, SharedSlot};
 use mq_table::{Id, IdRefusal, MAX_SEQ};
 use std::process::Abort;
 use std::sync::Wait;
 
-/// Whether so many messages and such a quota were shown.
-fn shows(answer: &Result<Figures, IdRefusal>, qnum: u64, qbytes: u64) -> bool {
-    match answer {
-        Ok(figures) => figures.qnum == qnum && figures.qbytes == qbytes,
-        Err(_) => false,
-    }
+/// A seat shows so many messages and such a quota.
+fn shows<N: Names>(rt: &impl Abort, seat: &mut Seat<N>, qnum: u64, qbytes: u64)
+    requires slots { 0 < N.slots }
+{
+    let figures = figures_of(rt, seat);
+    holds(rt, figures.qnum == qnum, "as many messages");
+    holds(rt, figures.qbytes == qbytes, "the quota");
 }
 
 /// A quota of 100 bytes is set.
@@ -55,28 +56,21 @@ pub(crate) fn followed<N: Names, R: Abort + Wait>(
     requires number { slot.number ≡ 0 }
 {
     let mut slot = slot;
-    let id = Id::of(0, 0);
-    let never = first.stat(id);
-    holds(rt, never == Err(IdRefusal::Never), "no queue was made");
+    not_shown(rt, first, IdRefusal::Never);
     made(rt, &mut slot, keys, first, last_seq);
-    holds(rt, shows(&first.stat(id), 0, 131_072), "it is made");
+    shows(rt, first, 0, 131_072);
     let text = drafted(rt, arena);
     sent(rt, &mut slot, first, text);
-    holds(rt, shows(&first.stat(id), 1, 131_072), "a message waits");
+    shows(rt, first, 1, 131_072);
     cut(rt, &mut slot);
-    holds(
-        rt,
-        shows(&first.stat(id), 1, 131_072),
-        "it waits after a cut",
-    );
+    shows(rt, first, 1, 131_072);
     let text = received(rt, &mut slot, second);
     spent(rt, arena, text);
-    holds(rt, shows(&first.stat(id), 0, 131_072), "it is received");
+    shows(rt, first, 0, 131_072);
     narrowed(rt, &mut slot, first);
-    holds(rt, shows(&first.stat(id), 0, 100), "the new quota");
+    shows(rt, first, 0, 100);
     removed(rt, &mut slot, keys, first);
-    let gone = first.stat(id);
-    holds(rt, gone == Err(IdRefusal::Removed), "it is removed");
+    not_shown(rt, first, IdRefusal::Removed);
     slot
 }
 

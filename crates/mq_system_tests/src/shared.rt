@@ -2,14 +2,15 @@
 ghost use Rattle.std.specs.Prelude.{◌≡◌, ◌≤◌};
 ghost use Rattle.mq_system.specs.Sizes.{AreNames};
 
+use crate::day::Anything;
 use crate::holds;
-use crate::parts::{Anything, come_home, drafted, seated, spent, told};
+use crate::parts::{come_home, drafted, seated, spent, told};
 use crate::seats::followed;
 use crate::slot_calls::{changed, cut, made, nothing_shown, received, removed, sent, shown};
 use mq_arena::{ArenaState, LEDGER_PARTS, Unopened};
 use mq_board::next_board;
 use mq_one_thread::{Config, SysError};
-use mq_system::{Blanks, Keys, Names, Pages, Seat, SharedSlot, SlotParts, Tally};
+use mq_system::{Blanks, Keys, Names, Pages, Seat, SharedSlot, SlotOf, SlotParts, Tally};
 use mq_table::{MAX_SEQ, Slot};
 use std::alloc::Global;
 use std::marker::Brand;
@@ -21,6 +22,18 @@ use std::sync::Wait;
 pub(crate) enum Day {
     Slot,
     Seat,
+}
+
+/// Five things happened in the slot, and no queue is there.
+fn is_over<N: Names>(rt: &impl Abort, slot: SlotOf<N>) {
+    let (cut, live) = slot.into_parts();
+    match live {
+        None => (),
+        Some(_queue) => panic!(rt; "a removed queue is there"),
+    }
+    let entries = cut.first.saturating_add(cut.past.len() as u64);
+    holds(rt, entries == 5, "all that happened in it");
+    holds(rt, cut.made == 1, "one queue was made");
 }
 
 /// All is over: the queue is removed, both readers come home, and what the slot's entries and the
@@ -51,15 +64,7 @@ fn taken_apart<N: Names, R: Abort + Wait>(
     come_home(rt, &mut writer, fronts);
     total.audit(&mut parts);
     writer.close(rt);
-    let (cut, live) = slot.into_parts();
-    match live {
-        None => holds(
-            rt,
-            cut.first.saturating_add(cut.past.len() as u64) == 5 && cut.made == 1,
-            "all that happened in it",
-        ),
-        Some(_queue) => panic!(rt; "a removed queue is there"),
-    }
+    is_over(rt, slot);
 }
 
 /// What each of the two has done.
@@ -107,13 +112,34 @@ fn slot_day<N: Names, R: Abort + Wait>(
     slot
 }
 
+fn spent_day<N: Names, R: Abort + Wait>(
+    rt: &R,
+    slot: SharedSlot<Anything, N>,
+    keys: &mut Keys<N>,
+    arena: &mut ArenaState<Pages<N>>,
+    first: &mut Seat<N>,
+    second: &mut Seat<N>,
+    last_seq: u32,
+    day: Day,
+) -> SharedSlot<Anything, N>
+    requires slots { N.slots ≡ 1 }
+    requires last_seq { last_seq ≡ N.last_seq }
+    requires bounded { N.last_seq ≤ MAX_SEQ }
+    requires number { slot.number ≡ 0 }
+{
+    match day {
+        Day::Slot => slot_day(rt, slot, keys, arena, first, second, last_seq),
+        Day::Seat => followed(rt, slot, keys, arena, first, second, last_seq),
+    }
+}
+
 fn apart<N: Names, R: Abort + Wait>(rt: &R, alloc: Global, config: Config, blanks: Blanks, day: Day)
     requires names { AreNames N.Names.own N.Naming blanks config }
     requires enough { LEDGER_PARTS ≤ blanks.pages.parts }
 {
-    if config.slots != 1 || config.seats != 2 || config.last_seq > MAX_SEQ {
-        panic!(rt; "another size");
-    }
+    holds(rt, config.slots == 1, "one slot");
+    holds(rt, config.seats == 2, "two seats");
+    holds(rt, config.last_seq <= MAX_SEQ, "its last seq");
     let Blanks {
         pages,
         entries,
@@ -132,26 +158,16 @@ fn apart<N: Names, R: Abort + Wait>(rt: &R, alloc: Global, config: Config, blank
     let mut arena = unopened.open::<Pages<N>>(pages);
     let mut keys = Keys::<N>::new(alloc);
     let last_seq = config.last_seq;
-    let slot = match day {
-        Day::Slot => slot_day(
-            rt,
-            slot,
-            &mut keys,
-            &mut arena,
-            &mut first,
-            &mut second,
-            last_seq,
-        ),
-        Day::Seat => followed(
-            rt,
-            slot,
-            &mut keys,
-            &mut arena,
-            &mut first,
-            &mut second,
-            last_seq,
-        ),
-    };
+    let slot = spent_day(
+        rt,
+        slot,
+        &mut keys,
+        &mut arena,
+        &mut first,
+        &mut second,
+        last_seq,
+        day,
+    );
     counted(rt, &first, &second);
     taken_apart(rt, slot, first, second, tally);
 }

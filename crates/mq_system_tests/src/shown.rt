@@ -1,9 +1,9 @@
 //! A report shows each slot's row, and what is in use in all of them.
 ghost use Rattle.std.specs.Prelude.{◌≡◌};
 
-use crate::calls::{CREATE, get, remove, seat};
+use crate::calls::{CREATE, seat};
 use crate::day::{Anything, Day, config, left_by};
-use crate::holds;
+use crate::{granted, holds};
 use mq_one_thread::Usage;
 use mq_queue::{BoardRow, Figures};
 use mq_system::{Config, Names, Seat, System};
@@ -30,6 +30,22 @@ const NO_QUEUE: BoardRow = BoardRow {
     figures: NO_FIGURES,
 };
 
+/// The row of a slot whose only queue was removed.
+const LEFT: BoardRow = BoardRow {
+    made: 1,
+    ..NO_QUEUE
+};
+
+/// Two queues in four slots.
+const USAGE: Usage = Usage {
+    queues: 2,
+    messages: 0,
+    bytes: 0,
+    greatest: 1,
+    slots: 4,
+    pages: 1,
+};
+
 /// The row of a slot whose queue is new.
 fn row_of_new(made: u32, key: i32, ctime: u64) -> BoardRow {
     BoardRow {
@@ -44,30 +60,32 @@ fn row_of_new(made: u32, key: i32, ctime: u64) -> BoardRow {
     }
 }
 
-fn made<N: Names, R: Abort + Wait>(
+/// The rows of four slots, as a seat is shown them.
+fn four_rows<N: Names, R: Abort + Wait>(
     rt: &R,
     system: &System<Anything, N>,
-    seats: &mut [Seat<N>],
-    key: i32,
-    moment: u64,
-) {
-    match get(rt, system, seats, key, CREATE, moment) {
-        Ok(_) => (),
-        Err(errno) => panic!(rt; "no memory for a queue: {errno}"),
+    seat: &mut Seat<N>,
+) -> [BoardRow; 4] {
+    if system.slots() != 4 {
+        panic!(rt; "there are other than four slots");
     }
+    let mut rows: [BoardRow; 4] = [row_of_new(9, 9, 9); 4];
+    system.report(seat, &mut rows);
+    rows
 }
 
-fn gone<N: Names, R: Abort + Wait>(
+/// A seat is shown two queues in four slots.
+fn two_are_shown<N: Names, R: Abort + Wait>(
     rt: &R,
     system: &System<Anything, N>,
-    seats: &mut [Seat<N>],
-    id: u32,
-    moment: u64,
+    seat: &mut Seat<N>,
 ) {
-    match remove(rt, system, seats, id, moment) {
-        Ok(_) => (),
-        Err(refused) => panic!(rt; "a queue is not removed: {refused}"),
-    }
+    let rows = four_rows(rt, system, seat);
+    holds(rt, rows[0] == row_of_new(2, 7, 6), "the second in slot 0");
+    holds(rt, rows[1] == row_of_new(1, -8, 2), "the queue of slot 1");
+    holds(rt, rows[2] == LEFT, "none in slot 2");
+    holds(rt, rows[3] == NO_QUEUE, "none was in slot 3");
+    holds(rt, system.info(seat) == USAGE, "two queues are there");
 }
 
 #[derive(Drop)]
@@ -82,35 +100,13 @@ impl Day<Anything> for Report {
         system: &System<Anything, N>,
         seats: &mut [Seat<N>],
     ) {
-        made(rt, system, seats, 0, 1);
-        made(rt, system, seats, -8, 2);
-        made(rt, system, seats, 9, 3);
-        gone(rt, system, seats, 0, 4);
-        gone(rt, system, seats, 2, 5);
-        made(rt, system, seats, 7, 6);
-        if system.slots() != 4 {
-            panic!(rt; "there are other than four slots");
-        }
-        let mut rows: [BoardRow; 4] = [row_of_new(9, 9, 9); 4];
-        let seat = seat(rt, seats, 1);
-        system.report(seat, &mut rows);
-        let was = BoardRow {
-            made: 1,
-            ..NO_QUEUE
-        };
-        holds(rt, rows[0] == row_of_new(2, 7, 6), "the second in slot 0");
-        holds(rt, rows[1] == row_of_new(1, -8, 2), "the queue of slot 1");
-        holds(rt, rows[2] == was, "none in slot 2");
-        holds(rt, rows[3] == NO_QUEUE, "none was in slot 3");
-        let usage = Usage {
-            queues: 2,
-            messages: 0,
-            bytes: 0,
-            greatest: 1,
-            slots: 4,
-            pages: 1,
-        };
-        holds(rt, system.info(seat) == usage, "two queues are there");
+        granted::got(rt, system, seats, 0, CREATE, 1);
+        granted::got(rt, system, seats, -8, CREATE, 2);
+        granted::got(rt, system, seats, 9, CREATE, 3);
+        granted::gone(rt, system, seats, 0, 4);
+        granted::gone(rt, system, seats, 2, 5);
+        granted::got(rt, system, seats, 7, CREATE, 6);
+        two_are_shown(rt, system, seat(rt, seats, 1));
     }
 }
 

@@ -1,9 +1,11 @@
 //! The calls of a slot under its lock. Seat 1 makes, sends, sets and removes, and seat 2 receives.
-ghost use Rattle.std.specs.Prelude.{◌≡◌, ◌≤◌};
+ghost use Rattle.std.specs.Prelude.{◌≡◌, ◌<◌, ◌≤◌};
 ghost use Rattle.mq_system.specs.Seat.{front_of};
 
+use crate::calls::{has, is_first, is_second};
+use crate::day::Anything;
 use crate::holds;
-use crate::parts::{Anything, emptied, has};
+use crate::parts::{emptied, figures_of, not_shown};
 use mq_one_thread::{Delivered, Errno, Refused, Removal};
 use mq_select::Selection;
 use mq_system::{Keys, Names, Seat, SharedSlot, TextOf};
@@ -15,13 +17,21 @@ use std::sync::Wait;
 fn cut_once<N: Names>(rt: &impl Abort, slot: &mut SharedSlot<Anything, N>) -> Cut
     ensures number { slot.new.number ≡ slot.old.number }
 {
-    if let Ok(cut) = slot.cut() {
-        return cut;
-    }
     match slot.cut() {
         Ok(cut) => cut,
-        Err(refused) => panic!(rt; "a cut is refused twice: {refused}"),
+        Err(_) => match slot.cut() {
+            Ok(cut) => cut,
+            Err(refused) => panic!(rt; "a cut is refused twice: {refused}"),
+        },
     }
+}
+
+/// There is a slot of number 0.
+fn has_slot<N: Names>(slot: &SharedSlot<Anything, N>)
+    requires number { slot.now.number ≡ 0 }
+    ensures slots { 0 < N.slots }
+{
+    slot.holds();
 }
 
 /// The seat learns all that happened in the slot, as it does once it has the slot's lock.
@@ -29,7 +39,7 @@ pub(crate) fn entered<N: Names>(rt: &impl Abort, slot: &SharedSlot<Anything, N>,
     requires number { slot.now.number ≡ 0 }
     ensures known { front_of seat.new slot.now.number ≡ slot.now.events }
 {
-    slot.holds();
+    has_slot(slot);
     if !slot.enter(seat, 0) {
         panic!(rt; "a slot of another number");
     }
@@ -43,12 +53,8 @@ pub(crate) fn nothing_shown<N: Names>(
 )
     requires number { slot.now.number ≡ 0 }
 {
-    slot.holds();
-    holds(
-        rt,
-        seat.stat(Id::of(0, 0)) == Err(IdRefusal::Never),
-        "no queue was made",
-    );
+    has_slot(slot);
+    not_shown(rt, seat, IdRefusal::Never);
     holds(rt, seat.row(0).made == 0, "its row");
 }
 
@@ -108,11 +114,9 @@ pub(crate) fn sent<N: Names, R: Abort + Wait>(
         Ok(entry) => holds(rt, entry == 1, "it is sent by entry 1"),
         Err(_refused) => panic!(rt; "out of memory"),
     }
-    slot.holds();
-    match seat.stat(Id::of(0, 0)) {
-        Ok(figures) => holds(rt, figures.qnum == 1 && figures.cbytes == 2, "it waits"),
-        Err(_) => panic!(rt; "the queue is there"),
-    }
+    has_slot(slot);
+    let figures = figures_of(rt, seat);
+    holds(rt, figures.qnum == 1 && figures.cbytes == 2, "it waits");
 }
 
 /// A cut while the text waits hands out the making and the sending, and a second one nothing more.
@@ -121,37 +125,17 @@ pub(crate) fn cut<N: Names>(rt: &impl Abort, slot: &mut SharedSlot<Anything, N>)
     ensures number { slot.new.number ≡ 0 }
 {
     let cut = cut_once(rt, slot);
-    holds(
-        rt,
-        cut.first == 0 && cut.made == 0 && cut.base.is_none(),
-        "it is the first cut",
-    );
-    holds(
-        rt,
-        cut.past.is_empty() && cut.last.len() == 2,
-        "what happened in it",
-    );
+    is_first(rt, &cut);
+    holds(rt, cut.last.len() == 2, "what happened in it");
     let cut = cut_once(rt, slot);
-    holds(
-        rt,
-        cut.first == 2 && cut.made == 1 && cut.last.is_empty(),
-        "nothing twice",
-    );
-    match &cut.base {
-        Some(base) => holds(
-            rt,
-            base.places == 2 && base.waiting.len() == 1,
-            "what waits",
-        ),
-        None => panic!(rt; "nothing is known of the queue that is there"),
-    }
+    is_second(rt, &cut, 2);
 }
 
 /// What the other seat is shown before it enters is no more than what it knows then.
 pub(crate) fn shown<N: Names>(rt: &impl Abort, slot: &SharedSlot<Anything, N>, seat: &mut Seat<N>)
     requires number { slot.now.number ≡ 0 }
 {
-    slot.holds();
+    has_slot(slot);
     let before = seat.row(0);
     entered(rt, slot, seat);
     let after = seat.row(0);
@@ -167,9 +151,10 @@ pub(crate) fn shown<N: Names>(rt: &impl Abort, slot: &SharedSlot<Anything, N>, s
     );
     holds(
         rt,
-        seat.stat(Id::of(0, 0)) == Ok(after.figures) && after.figures.qnum == 1,
-        "what waits",
+        figures_of(rt, seat) == after.figures,
+        "the row's figures",
     );
+    holds(rt, after.figures.qnum == 1, "what waits");
 }
 
 pub(crate) fn received<N: Names, R: Abort + Wait>(

@@ -222,13 +222,23 @@ fn called<N: Names, R: Abort + Wait>(
     }
 }
 
+/// How many changes a seat made in all slots.
+fn changes_of<N: Names>(seat: &Seat<N>, slots: u8) -> u64
+    requires slots { slots ≡ N.slots }
+{
+    let mut all = 0u64;
+    for slot in 0..slots {
+        all = all.wrapping_add(seat.count(slot as usize));
+    }
+    all
+}
+
 /// How many changes the seats made in all slots.
 fn changes<N: Names>(system: &System<Anything, N>, seats: &[Seat<N>]) -> u64 {
+    let slots = system.slots();
     let mut all = 0u64;
     for seat in seats.iter() {
-        for slot in 0..system.slots() {
-            all = all.wrapping_add(seat.count(slot as usize));
-        }
+        all = all.wrapping_add(changes_of(seat, slots));
     }
     all
 }

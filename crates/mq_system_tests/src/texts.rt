@@ -2,12 +2,12 @@
 ghost use Rattle.std.specs.Prelude.{◌≡◌, ◌≤◌, IfOk, length};
 ghost use Rattle.mq_message.specs.Text.{count_of};
 
-use crate::calls::{CREATE, draft, first, get, receive, remove, send};
+use crate::calls::{CREATE, draft, first};
 use crate::day::{Anything, Day, config, left_by};
-use crate::holds;
+use crate::{granted, holds};
 use mq_arena::{Homecoming, PAGE_LEN};
 use mq_message::Body;
-use mq_system::{ClosedSlot, Config, Delivered, DraftError, Names, Seat, System, TextOf};
+use mq_system::{ClosedSlot, Config, DraftError, Names, Seat, System, TextOf};
 use std::alloc::{AllocError, Global};
 use std::process::Abort;
 use std::sync::Wait;
@@ -94,37 +94,14 @@ fn through<N: Names, R: Abort + Wait>(
     bytes: &[u8],
 ) -> TextOf<N> {
     let start = text.start();
-    match send(rt, system, seats, id, 3, text, 5) {
-        Ok(entry) => holds(rt, entry == 1, "it is sent by entry 1"),
-        Err(_refused) => panic!(rt; "a text was not sent"),
-    }
-    match receive(rt, system, seats, id, first(bytes.len() as u64), 6) {
-        Ok(
-            Delivered {
-                entry,
-                mtype,
-                sender,
-                tag,
-                length,
-                text,
-            },
-        ) => {
-            holds(
-                rt,
-                entry == 2 && mtype == 3 && sender == 1,
-                "seat 1 sent it with type 3",
-            );
-            holds(
-                rt,
-                tag == 7 && length == bytes.len() as u64,
-                "its tag and its length",
-            );
-            holds(rt, shows::<N>(&text, bytes), "its bytes are as they were");
-            holds(rt, text.start() == start, "its pages are where they were");
-            text
-        }
-        Err(refused) => panic!(rt; "{refused}"),
-    }
+    let entry = granted::sent(rt, system, seats, id, 3, text, 5);
+    holds(rt, entry == 1, "it is sent by entry 1");
+    let length = bytes.len() as u64;
+    let delivered = granted::received(rt, system, seats, id, first(length), 6);
+    let text = granted::text_of(rt, delivered, 2, 3, length);
+    holds(rt, shows::<N>(&text, bytes), "its bytes are as they were");
+    holds(rt, text.start() == start, "its pages are where they were");
+    text
 }
 
 #[derive(Drop)]
@@ -142,11 +119,7 @@ impl<'t> Day<Anything> for TwoQueues<'t> {
         seats: &mut [Seat<N>],
     ) {
         for key in 5..7i32 {
-            holds(
-                rt,
-                get(rt, system, seats, key, CREATE, 4).is_ok(),
-                "memory for a queue",
-            );
+            granted::got(rt, system, seats, key, CREATE, 4);
         }
         let text = filled(rt, system, self.halves);
         let text = through(rt, system, seats, 0, text, self.halves.bytes);
@@ -196,21 +169,45 @@ fn all_are_free<N: Names, R: Abort + Wait>(
     bytes: &[u8],
     of_bytes: bool,
 ) {
-    let Ok(one) = system.draft(rt, 8192) else {
-        panic!(rt; "no half is free");
-    };
+    let one = granted::zeros(rt, system, 8192);
     match drafted(rt, system, bytes, of_bytes) {
         Err(refusal) => holds(rt, refusal == DraftError::NoRun, "no run is free"),
-        Ok(text) => {
-            system.spend(rt, text);
-            panic!(rt; "a lent page is lent again");
-        }
+        Ok(_text) => panic!(rt; "a lent page is lent again"),
     }
-    let Ok(other) = system.draft(rt, 8192) else {
-        panic!(rt; "the other half is not free");
-    };
+    let other = granted::zeros(rt, system, 8192);
     goes_home(rt, system, one);
     goes_home(rt, system, other);
+}
+
+/// A draft, made once more where there was no memory.
+fn drafted_again<N: Names, R: Abort + Wait>(
+    rt: &R,
+    system: &System<Anything, N>,
+    bytes: &[u8],
+    of_bytes: bool,
+) -> TextOf<N> {
+    match drafted(rt, system, bytes, of_bytes) {
+        Ok(text) => text,
+        Err(refusal) => {
+            holds(rt, refusal == DraftError::Memory, "all pages are free");
+            all_are_free(rt, system, bytes, of_bytes);
+            match drafted(rt, system, bytes, of_bytes) {
+                Ok(text) => text,
+                Err(_refusal) => panic!(rt; "a text is refused though all pages are free"),
+            }
+        }
+    }
+}
+
+/// A draft of these bytes, or of as many zeros, has nine pages.
+fn is_whole<N: Names>(rt: &impl Abort, text: &TextOf<N>, bytes: &[u8], of_bytes: bool) {
+    let whole = if of_bytes {
+        shows::<N>(text, bytes)
+    } else {
+        is_zero::<N>(text)
+    };
+    holds(rt, whole, "its bytes");
+    holds(rt, text.count() == 9, "nine pages");
 }
 
 impl<'t> Day<Anything> for Drafts<'t> {
@@ -223,22 +220,8 @@ impl<'t> Day<Anything> for Drafts<'t> {
         _seats: &mut [Seat<N>],
     ) {
         for of_bytes in [false, true] {
-            let answer = match drafted(rt, system, self.bytes, of_bytes) {
-                Err(DraftError::Memory) => {
-                    all_are_free(rt, system, self.bytes, of_bytes);
-                    drafted(rt, system, self.bytes, of_bytes)
-                }
-                answer => answer,
-            };
-            let Ok(text) = answer else {
-                panic!(rt; "a text is refused though all pages are free");
-            };
-            let whole = if of_bytes {
-                shows::<N>(&text, self.bytes)
-            } else {
-                is_zero::<N>(&text)
-            };
-            holds(rt, whole && text.count() == 9, "its bytes, in nine pages");
+            let text = drafted_again(rt, system, self.bytes, of_bytes);
+            is_whole(rt, &text, self.bytes, of_bytes);
             goes_home(rt, system, text);
             all_are_free(rt, system, self.bytes, of_bytes);
         }
@@ -267,37 +250,8 @@ fn waits<N: Names, R: Abort + Wait>(
     id: u32,
     bytes: &[u8],
 ) {
-    let Ok(text) = system.draft_of(rt, bytes) else {
-        panic!(rt; "no page");
-    };
-    match send(rt, system, seats, id, 1, text, 5) {
-        Ok(_) => (),
-        Err(_refused) => panic!(rt; "a text was not sent"),
-    }
-}
-
-fn made<N: Names, R: Abort + Wait>(
-    rt: &R,
-    system: &System<Anything, N>,
-    seats: &mut [Seat<N>],
-    key: i32,
-) {
-    match get(rt, system, seats, key, CREATE, 4) {
-        Ok(_) => (),
-        Err(errno) => panic!(rt; "no memory for a queue: {errno}"),
-    }
-}
-
-fn gone<N: Names, R: Abort + Wait>(
-    rt: &R,
-    system: &System<Anything, N>,
-    seats: &mut [Seat<N>],
-    id: u32,
-) {
-    match remove(rt, system, seats, id, 6) {
-        Ok(_) => (),
-        Err(refused) => panic!(rt; "a queue is not removed: {refused}"),
-    }
+    let text = granted::drafted(rt, system, bytes);
+    granted::sent(rt, system, seats, id, 1, text, 5);
 }
 
 impl Day<Anything> for Leaves {
@@ -309,17 +263,15 @@ impl Day<Anything> for Leaves {
         system: &System<Anything, N>,
         seats: &mut [Seat<N>],
     ) {
-        made(rt, system, seats, 5);
+        granted::got(rt, system, seats, 5, CREATE, 4);
         waits(rt, system, seats, 0, b"gone");
-        gone(rt, system, seats, 0);
-        let Ok(whole) = system.draft(rt, 8192) else {
-            panic!(rt; "what waited at the removal is not home");
-        };
+        granted::gone(rt, system, seats, 0, 6);
+        let whole = granted::zeros(rt, system, 8192);
         goes_home(rt, system, whole);
         for key in 5..8i32 {
-            made(rt, system, seats, key);
+            granted::got(rt, system, seats, key, CREATE, 4);
         }
-        gone(rt, system, seats, 1);
+        granted::gone(rt, system, seats, 1, 6);
         waits(rt, system, seats, 64, b"one");
         waits(rt, system, seats, 64, b"two");
         waits(rt, system, seats, 2, b"four");
@@ -331,9 +283,10 @@ impl Day<Anything> for Leaves {
 fn slot_leaves(rt: &impl Abort, slot: &ClosedSlot, past: usize, last: usize, waited: u64) {
     holds(
         rt,
-        slot.first == 0 && slot.made == 0 && slot.base.is_none(),
+        slot.first == 0 && slot.made == 0,
         "nothing was cut off before",
     );
+    holds(rt, slot.base.is_none(), "nothing waited before");
     holds(
         rt,
         slot.past.len() == past,
@@ -343,17 +296,21 @@ fn slot_leaves(rt: &impl Abort, slot: &ClosedSlot, past: usize, last: usize, wai
     holds(rt, slot.left == waited, "as many messages waited");
 }
 
+fn slots_leave(rt: &impl Abort, slots: &[ClosedSlot]) {
+    match slots {
+        [first, second, third, fourth] => {
+            slot_leaves(rt, first, 3, 3, 2);
+            slot_leaves(rt, second, 2, 0, 0);
+            slot_leaves(rt, third, 0, 2, 1);
+            slot_leaves(rt, fourth, 0, 0, 0);
+        }
+        _ => panic!(rt; "there were other than four slots"),
+    }
+}
+
 #[test]
 fn texts_that_wait_at_the_end_come_home(rt: HostRuntime) {
     let left = left_by(&rt, rt.alloc(), config(3, 4, 9), &Leaves);
     holds(&rt, left.free_pages == 8, "all pages are home");
-    match left.slots.as_slice() {
-        [first, second, third, fourth] => {
-            slot_leaves(&rt, first, 3, 3, 2);
-            slot_leaves(&rt, second, 2, 0, 0);
-            slot_leaves(&rt, third, 0, 2, 1);
-            slot_leaves(&rt, fourth, 0, 0, 0);
-        }
-        _ => panic!(&rt; "there were other than four slots"),
-    }
+    slots_leave(&rt, left.slots.as_slice());
 }

@@ -1,5 +1,6 @@
 //! Those who wait, by themselves.
 
+use crate::holds;
 use mq_system::{Forever, NoWait, Patience, Until, Waiters};
 use std::test::Fail;
 use std::time::{Duration, Instant};
@@ -7,12 +8,12 @@ use std::time::{Duration, Instant};
 #[test]
 fn who_waited_until_its_time_is_not_woken_twice(rt: HostRuntime) {
     let waiters = Waiters::new();
-    assert!(rt; !waiters.wake(), "nobody came");
+    holds(&rt, !waiters.wake(), "nobody came");
     for _ in 0..2 {
         let seen = waiters.come();
         waiters.wait(&rt, seen, Duration::from_millis(1));
-        assert!(rt; waiters.wake(), "one came");
-        assert!(rt; !waiters.wake(), "it has gone");
+        holds(&rt, waiters.wake(), "one came");
+        holds(&rt, !waiters.wake(), "it has gone");
     }
 }
 
@@ -31,19 +32,25 @@ fn a_patience_says_how_long_it_waits(rt: HostRuntime) {
     let Ok(now) = Instant::now(&rt) else {
         panic!(rt; "no clock");
     };
-    assert!(rt; NoWait.left().is_none(), "no wait");
-    assert!(rt; Forever.left() == Some(Duration::MAX), "for ever");
+    holds(&rt, NoWait.left().is_none(), "no wait");
+    holds(&rt, Forever.left() == Some(Duration::MAX), "for ever");
     let mut within = Until::within(&rt, minute);
-    assert!(rt;
+    holds(
+        &rt,
         within.left() == Some(minute),
-        "the time begins at the first wait"
+        "the time begins at the first wait",
     );
-    assert!(rt; within.left() <= Some(minute), "and goes on");
-    assert!(rt; Until::at(&rt, now).left().is_none(), "that time has come");
-    assert!(rt;
+    holds(&rt, within.left() <= Some(minute), "and goes on");
+    holds(
+        &rt,
+        Until::at(&rt, now).left().is_none(),
+        "that time has come",
+    );
+    holds(
+        &rt,
         Until::within(&rt, Duration::ZERO).left().is_none(),
-        "no time"
+        "no time",
     );
     let far = Until::within(&rt, Duration::MAX).left();
-    assert!(rt; far == Some(Duration::MAX), "a time that does not come");
+    holds(&rt, far == Some(Duration::MAX), "a time that does not come");
 }

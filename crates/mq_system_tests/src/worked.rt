@@ -1,14 +1,13 @@
 //! One queue from its making to its end, on one page and in one slot.
 ghost use Rattle.std.specs.Prelude.{◌≡◌};
 
-use crate::calls::{CREATE, first, get, has, receive, remove, seat, send};
+use crate::calls::{CREATE, counts, has, is, refused, seat, send};
 use crate::day::{Anything, Day, config, left_by, lives};
-use crate::holds;
+use crate::{granted, holds};
 use mq_queue::{Event, Figures};
 use mq_system::{
-    Config, Errno, Got, Names, Refused, Removal, Seat, SendRefused, SysError, System, TextOf,
+    ClosedSlot, Config, Errno, Names, Removal, Seat, SendRefused, SysError, System, TextOf,
 };
-use mq_table::Id;
 use std::alloc::Global;
 use std::process::Abort;
 use std::sync::Wait;
@@ -41,34 +40,17 @@ const LOG: [Event; 3] = [
     Event::Removed { seat: 1, moment: 6 },
 ];
 
-/// Nothing can be received, and what is sent with type 0 is handed back.
-fn refused<N: Names, R: Abort + Wait>(
+/// What is sent with type 0 is handed back.
+fn handed_back<N: Names, R: Abort + Wait>(
     rt: &R,
     system: &System<Anything, N>,
     seats: &mut [Seat<N>],
 ) -> TextOf<N> {
-    match receive(rt, system, seats, 0, first(9), 5) {
-        Ok(_delivered) => panic!(rt; "a message waits"),
-        Err(Refused { errno, entry }) => {
-            holds(
-                rt,
-                errno == Errno::ENOMSG && entry == Some(1),
-                "ENOMSG after 1 entry",
-            );
-        }
-    }
-    let Ok(text) = system.draft_of(rt, b"hi") else {
-        panic!(rt; "no page");
-    };
+    let text = granted::drafted(rt, system, b"hi");
     match send(rt, system, seats, 0, 0, text, 5) {
         Ok(_) => panic!(rt; "type 0 was sent"),
         Err(SendRefused { refused, text }) => {
-            let Refused { errno, entry } = refused;
-            holds(
-                rt,
-                errno == Errno::EINVAL && entry == None,
-                "EINVAL before any entry",
-            );
+            is(rt, refused, Errno::EINVAL, None);
             holds(rt, has::<N>(&text, b"hi"), "the text is handed back");
             text
         }
@@ -81,34 +63,18 @@ fn sent<N: Names, R: Abort + Wait>(
     seats: &mut [Seat<N>],
     text: TextOf<N>,
 ) {
-    match send(rt, system, seats, 0, 1, text, 5) {
-        Ok(entry) => holds(rt, entry == 1, "it is sent by entry 1"),
-        Err(_refused) => panic!(rt; "a text was not sent"),
-    }
-    let seat = seat(rt, seats, 0);
-    match system.stat(seat, Id::from_number(0)) {
-        Ok(figures) => holds(rt, figures == FIGURES, "one message of two bytes waits"),
-        Err(errno) => panic!(rt; "{errno}"),
-    }
+    let entry = granted::sent(rt, system, seats, 0, 1, text, 5);
+    holds(rt, entry == 1, "it is sent by entry 1");
+    let figures = granted::shown(rt, system, seat(rt, seats, 0));
+    holds(rt, figures == FIGURES, "one message of two bytes waits");
 }
 
 fn removed<N: Names, R: Abort + Wait>(rt: &R, system: &System<Anything, N>, seats: &mut [Seat<N>]) {
-    match remove(rt, system, seats, 0, 6) {
-        Ok(Removal { entry, log }) => {
-            holds(rt, entry == 2, "it is removed by entry 2");
-            holds(
-                rt,
-                log.into_parts().1.as_slice() == LOG.as_slice(),
-                "its own log",
-            );
-        }
-        Err(refused) => panic!(rt; "{refused}"),
-    }
-    let seat = seat(rt, seats, 0);
-    match system.stat(seat, Id::from_number(0)) {
-        Ok(_) => panic!(rt; "a removed queue is shown"),
-        Err(errno) => holds(rt, errno == Errno::EIDRM, "EIDRM of a removed queue"),
-    }
+    let Removal { entry, log } = granted::removed(rt, system, seats, 0, 6);
+    holds(rt, entry == 2, "it is removed by entry 2");
+    let (_base, tail) = log.into_parts();
+    holds(rt, tail.as_slice() == LOG.as_slice(), "its own log");
+    granted::is_removed(rt, system, seat(rt, seats, 0));
 }
 
 #[derive(Drop)]
@@ -123,27 +89,26 @@ impl Day<Anything> for OneLife {
         system: &System<Anything, N>,
         seats: &mut [Seat<N>],
     ) {
-        match get(rt, system, seats, 0, CREATE, 4) {
-            Ok(Got { id, made }) => {
-                holds(
-                    rt,
-                    id.number() == 0 && made == Some(0),
-                    "id 0, made by entry 0",
-                );
-            }
-            Err(errno) => panic!(rt; "{errno}"),
-        }
-        let text = refused(rt, system, seats);
+        granted::made(rt, system, seats, 0, CREATE, 4, 0, 0);
+        refused(rt, system, seats, Errno::ENOMSG, 1);
+        let text = handed_back(rt, system, seats);
         sent(rt, system, seats, text);
         removed(rt, system, seats);
-        if system.slots() == 0 {
-            panic!(rt; "there is no slot");
-        }
-        let made = seat(rt, seats, 0).count(0);
-        holds(rt, made == 3, "seat 1 made, sent and removed");
-        let made = seat(rt, seats, 1).count(0);
-        holds(rt, made == 0, "seat 2 was refused");
+        holds(rt, system.slots() == 1, "one slot");
+        // Seat 1 made, sent and removed, and seat 2 was refused.
+        counts(rt, seat(rt, seats, 0), 3);
+        counts(rt, seat(rt, seats, 1), 0);
     }
+}
+
+fn closed(rt: &impl Abort, slot: &ClosedSlot) {
+    holds(
+        rt,
+        slot.past.as_slice() == LOG.as_slice(),
+        "all that happened in it",
+    );
+    holds(rt, slot.last.is_empty(), "no queue is left");
+    holds(rt, slot.left == 0, "no message is left");
 }
 
 #[test]
@@ -151,17 +116,8 @@ fn a_queue_is_made_filled_shown_and_removed(rt: HostRuntime) {
     let left = left_by(&rt, rt.alloc(), config(0, 1, 9), &OneLife);
     holds(&rt, left.free_pages == 1, "its page is free");
     holds(&rt, left.slots.len() == 1, "there was one slot");
-    for slot in left.slots {
-        holds(
-            &rt,
-            slot.past.as_slice() == LOG.as_slice(),
-            "all that happened in it",
-        );
-        holds(
-            &rt,
-            slot.last.is_empty() && slot.left == 0,
-            "no queue is left",
-        );
+    for slot in left.slots.iter() {
+        closed(&rt, slot);
     }
 }
 
