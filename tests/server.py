@@ -15,10 +15,11 @@ TOP = os.path.dirname(os.path.dirname(os.path.abspath(__file__)))
 PROGRAM = f"{TOP}/crates/hello_server/out/hello_server"
 EVERY = 100_000
 SHORT, LONG = 200_000, 1_000_000
-# In MiB: the arena has 1.3, and each of two logs up to 131,072 events of 56 bytes, half as
-# much again while it grows, and again what a cut hands out until it is dropped.
-BOUND = 40
-MORE = 16
+# In MiB: the arena has 1.3, and each of two logs up to 131,072 events of 56 bytes, half as much again
+# while it grows, and again what a cut hands out until it is dropped. What a thread has freed its own
+# heap may keep. Logs that were never cut would take 213 of the long run.
+BOUND = 64
+MORE = 32
 SECONDS = 240
 
 
