@@ -15,18 +15,21 @@ TOP = os.path.dirname(os.path.dirname(os.path.abspath(__file__)))
 PROGRAM = f"{TOP}/crates/hello_server/out/hello_server"
 EVERY = 100_000
 SHORT, LONG = 200_000, 1_000_000
-# In MiB: the arena has 1.3, and each of two logs up to 131,072 events of 56 bytes, half as much again
-# while it grows, and again what a cut hands out until it is dropped. What a thread has freed its own
-# heap may keep. Logs that were never cut would take 213 of the long run.
-BOUND = 64
-MORE = 32
+# In MiB: the arena has 1.3, and each of two logs up to 131,072 events of 56 bytes, half as
+# much again while it grows, and again what a cut hands out until it is dropped.
+BOUND = 40
+MORE = 16
+# Large memory that is freed goes back at once. Else each thread's heap keeps some of it, as the C
+# library sees fit: the same run then takes 20 to 43 MiB.
+HEAP = {"MALLOC_MMAP_THRESHOLD_": "65536"}
 SECONDS = 240
 
 
 def run(requests):
     """What the program prints, its status, and its greatest resident memory in MiB."""
     begun = time.monotonic()
-    with subprocess.Popen([PROGRAM, str(requests), str(EVERY)], stdout=subprocess.PIPE) as process:
+    how = {"stdout": subprocess.PIPE, "env": {**os.environ, **HEAP}}
+    with subprocess.Popen([PROGRAM, str(requests), str(EVERY)], **how) as process:
         told = process.stdout.read().decode()
         _, status, used = os.wait4(process.pid, 0)
         process.returncode = os.waitstatus_to_exitcode(status)
