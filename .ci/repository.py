@@ -1,10 +1,8 @@
 #!/usr/bin/env -S python3 -B
 """The crates of the repository, and what a check of one is passed.
 
-    .ci/repository.py copy NAME FOLDER    copies it there, of the crates this and those below it
     .ci/repository.py library NAME        proves and builds the static library of a crate over what
         `rt ci` has left, as crates/NAME/out/libNAME.a; `rt lib` would prove all this once more"""
-import shutil
 import subprocess
 import sys
 from pathlib import Path
@@ -43,19 +41,12 @@ class Crates:
             words += ["-L", f"dependency={self.libraries(it)}"]
         return words
 
-    def copy(self, name, folder):
-        kept = {name, *self.below(name)}
-        gone = lambda at, names: {*names} - kept if at == f"{self.top}/crates" else {"out", ".git"}
-        shutil.copytree(self.top, folder, ignore=gone)
-        lines = (self.top / "crates.txt").read_text().splitlines(True)
-        (folder / "crates.txt").write_text("".join(it for it in lines if it.split(":")[0] in kept))
-
     def library(self, name):
+        (self.top / "crates" / name / "out").mkdir(exist_ok=True)
         words = [*self.words("build", name), "--crate-type", "staticlib", "--backend", "llvm"]
         words += ["--toolchain", f"{self.kit}/toolchain", "-o", f"out/lib{name}.a"]
         return subprocess.run(words, cwd=self.top / "crates" / name).returncode
 
 
 if __name__ == "__main__":
-    verb, name, *folder = sys.argv[1:]
-    sys.exit(getattr(Crates(TOP), verb)(name, *map(Path, folder)))
+    sys.exit(Crates(TOP).library(sys.argv[2]))

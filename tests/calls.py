@@ -40,7 +40,7 @@ def shown(text, owner):
     text = re.sub(r"\s+", " ", text).strip()
     text = re.sub(r"^pub (?:const )?fn (\w+)(<.*?>)?\(", r"\1(", text)
     text = re.sub(r"\( | ?, ?\)", lambda it: it.group().strip(" ,"), text)
-    text = re.sub(r"'\w+,? |, Copies<N>", "", text)
+    text = re.sub(r"'\w+,? ", "", text)
     for long, short in PLAIN.items():
         text = text.replace(long, short)
     return f"{owner}::{text}" if owner else text

@@ -6,7 +6,7 @@ ghost use Rattle.mq_board.specs.Writers.{HasOnePending, posting};
 
 use crate::words::Words;
 use anyhow::Result;
-use mq_board::{BoardReader, BoardWriter, Copies, Naming, OpenedBoard, board};
+use mq_board::{BoardReader, BoardWriter, Naming, OpenedBoard, board};
 use mq_queue::{Event, Figures, MSGMNB, Notice};
 use std::alloc::{AllocError, Global};
 use std::marker::Brand;
@@ -33,7 +33,7 @@ const NONE: Figures = Figures {
 
 fn publish<J: Naming, R: Wait>(
     rt: &R,
-    writer: &mut BoardWriter<J, Copies<J>>,
+    writer: &mut BoardWriter<J>,
     event: Event,
     after: Figures,
 ) -> Result<(), AllocError>
@@ -48,10 +48,7 @@ fn publish<J: Naming, R: Wait>(
 }
 
 /// Publishes that a queue is made, and then that it is removed.
-fn come_and_go<J: Naming, R: Wait>(
-    rt: &R,
-    writer: &mut BoardWriter<J, Copies<J>>,
-) -> Result<(), AllocError>
+fn come_and_go<J: Naming, R: Wait>(rt: &R, writer: &mut BoardWriter<J>) -> Result<(), AllocError>
     requires length { length writer.old.events < 2 ^ 62 }
     requires idle { writer.old.pending ≡ [] }
     ensures { IfOk result (λ _. (length writer.new.events ≡ length writer.old.events + 2)
@@ -62,7 +59,7 @@ fn come_and_go<J: Naming, R: Wait>(
         moment: 3,
         key: 9,
     };
-    if writer.tell().row().made >= 1 << 25 {
+    if writer.row().made >= 1 << 25 {
         return Err(AllocError);
     }
     let after = Figures {
@@ -76,7 +73,7 @@ fn come_and_go<J: Naming, R: Wait>(
 
 fn publish_all<J: Naming, R: Wait>(
     rt: &R,
-    writer: &mut BoardWriter<J, Copies<J>>,
+    writer: &mut BoardWriter<J>,
     pairs: u32,
 ) -> Result<(), AllocError>
     requires empty { writer.old.events ≡ [] }
@@ -99,7 +96,7 @@ fn look_all<J: Naming>(reader: &mut BoardReader<J>, count: u32) -> u64 {
 
 fn measure<J: Naming, R: Wait>(
     rt: &R,
-    writer: &mut BoardWriter<J, Copies<J>>,
+    writer: &mut BoardWriter<J>,
     readers: &mut [BoardReader<J>],
     plan: Plan,
 ) -> Result<u64, AllocError>
@@ -121,19 +118,18 @@ fn measured<J: Naming, R: Wait>(
     opened: OpenedBoard,
     plan: Plan,
 ) -> Result<u64, AllocError>
-    requires named { (opened.history.seen.book ≡ J.board 0) × (opened.roll.seen.book ≡ J.roll 0) }
+    requires named { (opened.pass.table_id ≡ J.board 0) × (opened.roll.seen.book ≡ J.roll 0) }
     requires readers { (0 < plan.readers) × (plan.readers ≤ 16) }
 {
-    let (mut writer, mut readers) = board::<J, R>(alloc, rt, opened, 0, plan.readers)?;
+    let (mut writer, mut readers) = board::<J>(alloc, opened, 0, plan.readers)?;
     let seen = measure(rt, &mut writer, readers.as_mut_slice(), plan);
-    writer.close(rt);
     seen
 }
 
 fn seen_on<R: Wait>(rt: &R, alloc: Global, plan: Plan) -> Result<u64, AllocError>
     requires { (0 < plan.readers) × (plan.readers ≤ 16) }
 {
-    measured::<Brand, R>(rt, alloc, OpenedBoard::new(), plan)
+    measured::<Brand, R>(rt, alloc, OpenedBoard::new(alloc)?, plan)
 }
 
 /// `board WHAT READERS COUNT`, where WHAT is `events` or `looks` and READERS is 1 to 16: counts the

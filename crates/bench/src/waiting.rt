@@ -6,8 +6,7 @@ ghost use Rattle.std.specs.Prelude.{◌+◌, ◌<◌, All, OnOk};
 use crate::words::Words;
 use anyhow::Result;
 use mq_index::{ByType, IndexWaiting};
-use mq_message::{Message, VecBody};
-use mq_select::{ListWaiting, Selection, Waiting, discard};
+use mq_message::{ListWaiting, Message, Selection, VecBody, Waiting, discard};
 use std::alloc::{AllocError, Global};
 
 /// What is measured.

@@ -9,7 +9,8 @@ ghost use Rattle.mq_arena.specs.declared.limits.TheConstants.{LEDGER_PARTS};
 mod program;
 
 use mq_arena::LEDGER_PARTS;
-use mq_one_thread::{Config, Errno, MAX_SEATS, MAX_SEQ, OneThread, SysError};
+use mq_calls::{Config, Errno, MAX_SEATS, MAX_SEQ, SysError};
+use mq_one_thread::OneThread;
 use std::alloc::Global;
 use std::marker::Brand;
 use std::sync::ledger::{Blank, Ledger};

@@ -1,8 +1,8 @@
+use mq_arena::Text;
 use mq_face::{
     ANSWER_NUMBERS, Call, CallKind, Done, EIGHT_BYTES, ReceivedMessage, Refusal, Shown, control,
     cut_where_due, draft, from_bytes, get, receive, send, to_bytes, unknown,
 };
-use mq_message::Text;
 use mq_one_thread::OneThread;
 use std::sync::ledger::Ledger;
 

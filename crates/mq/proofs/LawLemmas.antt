@@ -23,7 +23,7 @@ use Rattle.mq_table.proofs.Removed.{stays}
 use Rattle.mq_table.specs.Ids.{seq_of}
 use Rattle.mq_table.specs.Slot.{ArePast, IsEndedLog}
 use Rattle.mq_table.specs.SlotList.{IsSlotList, Removed, joined, standing}
-use Rattle.mq_one_thread.specs.declared.errno.Errno.TheVariants.{EIDRM, EINVAL, ENOMEM}
+use Rattle.mq_calls.specs.declared.errno.Errno.TheVariants.{EIDRM, EINVAL, ENOMEM}
 use Rattle.mq_system.specs.Refusals.{out_of_slots}
 use Rattle.mq_system.specs.Seat.{SeatState, front_of}
 use Rattle.mq_system.specs.Seen.{Verdict, unless_refused, receive_verdict, remove_verdict, send_verdict, set_verdict}

@@ -1,19 +1,19 @@
 -- Bytes that one thread receives.
 use Rattle.std.proofs.Common.{◌≡◌, ℕ, ℤ, ◌≤◌, Bool, length, Result, Ok, Err, refl, ap, subst, arith}
 use Rattle.std.proofs.lemmas.List.{length-take}
-use Rattle.mq_message.specs.Text.{PlainText}
-use Rattle.mq_select.specs.Selection.{selection_of}
+use Rattle.mq_arena.specs.Text.{PlainText}
+use Rattle.mq_message.specs.Selection.{selection_of}
 use Rattle.mq_table.specs.Calls.{Receipt}
 use Rattle.mq_table.specs.Ids.{slot_of}
 use Rattle.mq_table.specs.KeptCalls.{KeptTurn, kept_receives}
-use Rattle.mq_one_thread.specs.Answer.{delivered, delivers, once}
-use Rattle.mq_one_thread.specs.Calls.{msgrcv}
-use Rattle.mq_one_thread.specs.Look.{Answer, in_slot, look}
-use Rattle.mq_one_thread.specs.Memory.{or_memory}
-use Rattle.mq_one_thread.specs.State.{QueuesState, slot_at}
-use Rattle.mq_one_thread.specs.Texts.{text_at}
-use Rattle.mq_one_thread.specs.declared.results.Delivered.{Delivered}
-use Rattle.mq_one_thread.specs.declared.results.Refused.{Refused}
+use Rattle.mq_calls.specs.Answer.{delivered, delivers, once}
+use Rattle.mq_calls.specs.Calls.{msgrcv}
+use Rattle.mq_calls.specs.Look.{Answer, in_slot, look}
+use Rattle.mq_calls.specs.Memory.{or_memory}
+use Rattle.mq_calls.specs.State.{QueuesState, slot_at}
+use Rattle.mq_calls.specs.Texts.{text_at}
+use Rattle.mq_calls.specs.declared.results.Delivered.{Delivered}
+use Rattle.mq_calls.specs.declared.results.Refused.{Refused}
 use Rattle.mq.specs.Bytes.{copied_out}
 
 -- what is handed out is no longer than there is room

@@ -1,18 +1,18 @@
 use Rattle.std.proofs.Common.{◌≡◌, ℕ, ℤ, List, length, slice_index_or, Some, Result, Ok, Err, IsOk, ◌<◌, ◌⊎◌, inl, inr, refl, sym, ap, ◌∙◌}
-use Rattle.mq_message.specs.Text.{PlainText}
-use Rattle.mq_message.specs.declared.order.TheConstants.{INLINE_LEN}
+use Rattle.mq_arena.specs.Text.{PlainText}
+use Rattle.mq_arena.specs.declared.order.TheConstants.{INLINE_LEN}
 use Rattle.mq_table.specs.Ids.{slot_of}
 use Rattle.mq_table.specs.Kept.{KeptSlot, entries_of}
 use Rattle.mq_table.specs.SlotParts.{empty_kept}
 use Rattle.mq_one_thread.proofs.DraftLemmas.{spent_after}
-use Rattle.mq_one_thread.specs.Calls.{msgsnd}
-use Rattle.mq_one_thread.specs.Look.{Answer, refused_early, refused_or_memory}
-use Rattle.mq_one_thread.specs.State.{QueuesState, with_arena}
-use Rattle.mq_one_thread.specs.Texts.{draft_errno, draft_refusal, drafts, drafts_of, spends, filled_with}
-use Rattle.mq_one_thread.specs.declared.draft_error.DraftError.{DraftError}
-use Rattle.mq_one_thread.specs.declared.draft_error.DraftError.TheVariants.{Memory}
-use Rattle.mq_one_thread.specs.declared.errno.Errno.TheVariants.{ENOMEM}
-use Rattle.mq_one_thread.specs.declared.results.Refused.{Refused}
+use Rattle.mq_calls.specs.Calls.{msgsnd}
+use Rattle.mq_calls.specs.Look.{Answer, refused_early, refused_or_memory}
+use Rattle.mq_calls.specs.State.{QueuesState, with_arena}
+use Rattle.mq_calls.specs.Texts.{draft_errno, draft_refusal, drafts, drafts_of, spends, filled_with}
+use Rattle.mq_calls.specs.declared.draft_error.DraftError.{DraftError}
+use Rattle.mq_calls.specs.declared.draft_error.DraftError.TheVariants.{Memory}
+use Rattle.mq_calls.specs.declared.errno.Errno.TheVariants.{ENOMEM}
+use Rattle.mq_calls.specs.declared.results.Refused.{Refused}
 use Rattle.mq.specs.Bytes.{MayLackMemory, sends_bytes, sends_draft}
 
 -- the queues once the text is spent

@@ -2,7 +2,7 @@
 use Rattle.std.proofs.Common.{◌≡◌, ℕ, zero, suc, ◌*◌, List, [], ◌∷◌, ◌++◌, length, take, replicate, Some, slice_get, slice_index, sum, refl, ap, ◌∙◌, arith, append_assoc}
 use Rattle.std.proofs.Math.Seq.{take-length}
 use Rattle.std.proofs.lemmas.List.Folds.{sum_by-replicate}
-use Rattle.mq_one_thread.specs.declared.close.ClosedSlot.{ClosedSlot}
+use Rattle.mq_calls.specs.declared.close.ClosedSlot.{ClosedSlot}
 use Rattle.mq_system.specs.Seat.{SeatState, counted_by, fresh_seat}
 use Rattle.mq_system.specs.Closed.{IsEnd, entries_in}
 use Rattle.mq_system.specs.Started.{AreFresh}

@@ -1,17 +1,17 @@
 -- Texts that are sent and received whole, as bytes.
 use Rattle.std.specs.Prelude.{◌≡◌, ◌⊎◌, ℕ, ℤ, ◌<◌, Bool, List, length, Result, Ok, Err, IsOk}
-use Rattle.mq_message.specs.Text.{PlainText}
-use Rattle.mq_message.specs.declared.order.TheConstants.{INLINE_LEN}
-use Rattle.mq_one_thread.specs.Calls.{msgrcv, msgsnd}
-use Rattle.mq_one_thread.specs.Look.{Answer, refused_early}
-use Rattle.mq_one_thread.specs.Memory.{or_memory}
-use Rattle.mq_one_thread.specs.State.{QueuesState, with_arena}
-use Rattle.mq_one_thread.specs.Texts.{draft_errno, drafts, spends}
-use Rattle.mq_one_thread.specs.declared.draft_error.DraftError.{DraftError}
-use Rattle.mq_one_thread.specs.declared.errno.Errno.{Errno}
-use Rattle.mq_one_thread.specs.declared.errno.Errno.TheVariants.{ENOMEM}
-use Rattle.mq_one_thread.specs.declared.results.Delivered.{Delivered}
-use Rattle.mq_one_thread.specs.declared.results.Refused.{Refused}
+use Rattle.mq_arena.specs.Text.{PlainText}
+use Rattle.mq_arena.specs.declared.order.TheConstants.{INLINE_LEN}
+use Rattle.mq_calls.specs.Calls.{msgrcv, msgsnd}
+use Rattle.mq_calls.specs.Look.{Answer, refused_early}
+use Rattle.mq_calls.specs.Memory.{or_memory}
+use Rattle.mq_calls.specs.State.{QueuesState, with_arena}
+use Rattle.mq_calls.specs.Texts.{draft_errno, drafts, spends}
+use Rattle.mq_calls.specs.declared.draft_error.DraftError.{DraftError}
+use Rattle.mq_calls.specs.declared.errno.Errno.{Errno}
+use Rattle.mq_calls.specs.declared.errno.Errno.TheVariants.{ENOMEM}
+use Rattle.mq_calls.specs.declared.results.Delivered.{Delivered}
+use Rattle.mq_calls.specs.declared.results.Refused.{Refused}
 
 -- a text that was drafted is sent with these bytes
 abbrev pub sends_draft : ℕ → ℕ → ℤ → ℕ → List ℕ → ℕ → Result (PlainText × QueuesState) DraftError

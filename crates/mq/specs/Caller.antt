@@ -1,14 +1,14 @@
 -- What a caller of bytes knows: of them, of its seat, and of why a call is refused.
 use Rattle.std.specs.Prelude.{◌≡◌, ◌⊎◌, ℕ, ℤ, ◌<◌, ◌≤◌, nat_lt, Bool, false, true, List, length, None, Option}
-use Rattle.mq_message.specs.Text.{PlainText, order_for}
-use Rattle.mq_message.specs.declared.order.TheConstants.{INLINE_LEN}
+use Rattle.mq_arena.specs.Text.{PlainText, order_for}
+use Rattle.mq_arena.specs.declared.order.TheConstants.{INLINE_LEN}
 use Rattle.mq_queue.specs.declared.limits.TheConstants.{MSGMAX}
-use Rattle.mq_select.specs.declared.selection.Selection.{Selection}
+use Rattle.mq_message.specs.declared.selection.Selection.{Selection}
 use Rattle.mq_table.specs.Ids.{seq_of, slot_of}
-use Rattle.mq_one_thread.specs.declared.errno.Errno.{Errno}
-use Rattle.mq_one_thread.specs.declared.errno.Errno.TheVariants.{EINVAL, ENOMEM}
-use Rattle.mq_one_thread.specs.declared.results.Delivered.{Delivered}
-use Rattle.mq_one_thread.specs.declared.results.GetFlags.{GetFlags}
+use Rattle.mq_calls.specs.declared.errno.Errno.{Errno}
+use Rattle.mq_calls.specs.declared.errno.Errno.TheVariants.{EINVAL, ENOMEM}
+use Rattle.mq_calls.specs.declared.results.Delivered.{Delivered}
+use Rattle.mq_calls.specs.declared.results.GetFlags.{GetFlags}
 use Rattle.mq_system.specs.Outcome.{IsLook, IsReceived, IsRefusal}
 use Rattle.mq_system.specs.Pledge.{Pledged}
 use Rattle.mq_system.specs.Refusals.{MayReceive, MaySend, never_sent, out_of_slots}

@@ -1,10 +1,10 @@
 -- What the queues of a program leave.
 use Rattle.std.specs.Prelude.{◌≡◌, ℕ, ◌^◌, ◌≤◌, All, List, length, map}
 use Rattle.mq_tree.specs.LentSet.{Lending, free_pages}
-use Rattle.mq_one_thread.specs.Closed.{IsClosed, all_home, ending_of, ends}
-use Rattle.mq_one_thread.specs.State.{QueuesState}
-use Rattle.mq_one_thread.specs.declared.close.ClosedSlot.{ClosedSlot}
-use Rattle.mq_one_thread.specs.declared.config.Config.{Config}
+use Rattle.mq_calls.specs.Closed.{IsClosed, all_home, ending_of, ends}
+use Rattle.mq_calls.specs.State.{QueuesState}
+use Rattle.mq_calls.specs.declared.close.ClosedSlot.{ClosedSlot}
+use Rattle.mq_calls.specs.declared.config.Config.{Config}
 use Rattle.mq_system.specs.Seat.{SeatState, counted_by}
 use Rattle.mq_system.specs.Closed.{AreDistinct, IsEnd, entries_in}
 use Rattle.mq.specs.declared.ended.Ended.{Ended}

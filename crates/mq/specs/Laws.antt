@@ -1,11 +1,11 @@
 -- What follows, for a seat's later calls, from what it knows of a slot.
 use Rattle.std.specs.Prelude.{◌≡◌, ℕ, ℤ, Bool, false, List, ◌++◌, slice_get, Some, Err}
 use Rattle.mq_queue.specs.declared.event.Event.{Event}
-use Rattle.mq_select.specs.declared.selection.Selection.{Selection}
+use Rattle.mq_message.specs.declared.selection.Selection.{Selection}
 use Rattle.mq_table.specs.Ids.{seq_of, slot_of}
 use Rattle.mq_table.specs.SlotList.{IsSlotList, Removed, standing}
-use Rattle.mq_one_thread.specs.declared.errno.Errno.{Errno}
-use Rattle.mq_one_thread.specs.declared.errno.Errno.TheVariants.{EIDRM}
+use Rattle.mq_calls.specs.declared.errno.Errno.{Errno}
+use Rattle.mq_calls.specs.declared.errno.Errno.TheVariants.{EIDRM}
 use Rattle.mq_system.specs.Refusals.{out_of_slots}
 use Rattle.mq_system.specs.Seat.{IsLater, SeatState, front_of}
 use Rattle.mq_system.specs.Seen.{IsDone, IsRefused, Verdict, receive_verdict, remove_verdict, send_verdict, set_verdict}

@@ -1,7 +1,7 @@
 -- What is known of the answers of workers, and of the seats that they leave.
 use Rattle.std.specs.Prelude.{◌≡◌, ℕ, List, [], ◌∷◌, Option, Some, IfSome, slice_get}
 use Rattle.mq_system.specs.Seat.{SeatState}
-use Rattle.mq_one_thread.specs.declared.close.ClosedSlot.{ClosedSlot}
+use Rattle.mq_calls.specs.declared.close.ClosedSlot.{ClosedSlot}
 use Rattle.mq.specs.Ended.{AreChanges}
 
 -- what is known after a worker's work holds of its seat and its answer, and these stand in the

@@ -2,7 +2,6 @@ ghost use Rattle.std.specs.Prelude.{◌≡◌, ◌≤◌, List, [], length, vec_
 ghost use Rattle.mq.specs.Workers.{AreAfterWork, IsOf};
 
 use crate::Worker;
-use mq_board::Copies;
 use mq_jobs::Job;
 use mq_system::{Names, Pledge, Seat, System};
 use std::alloc::{AllocError, Global};
@@ -90,11 +89,11 @@ impl<
     C: Crew<W> + Send + Sync,
     W: Worker<P> + Send,
 > Job for SeatJob<'a, P, N, C, W> {
-    type Shared = System<P, N, Copies<N>>;
+    type Shared = System<P, N>;
 
     type Answer = ();
 
-    fn run<R: Wait>(self, rt: &R, system: &System<P, N, Copies<N>>) {
+    fn run<R: Wait>(self, rt: &R, system: &System<P, N>) {
         let SeatJob { alloc, at } = self;
         let Some(worker) = at.worker.take() else {
             return;

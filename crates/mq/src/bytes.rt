@@ -1,11 +1,12 @@
 ghost use Rattle.std.specs.Prelude.{◌≡◌, ◌+◌, ◌<◌, ◌≤◌, ◌++◌, length};
 ghost use Rattle.std.specs.Prelude.{vec_len, vec_capacity};
-ghost use Rattle.mq_one_thread.specs.Look.{refused_at};
+ghost use Rattle.mq_calls.specs.Look.{refused_at};
 ghost use Rattle.mq.specs.Bytes.{AnswersBytes, MayLackMemory, receives_bytes};
 ghost use Rattle.mq.specs.Bytes.{sends_bytes, with_text};
 
-use mq_message::Text;
-use mq_one_thread::{Delivered, Errno, OneThread, SendRefused};
+use mq_arena::Text;
+use mq_calls::{Delivered, Errno, SendRefused};
+use mq_one_thread::OneThread;
 use mq_table::Id;
 use std::alloc::Global;
 use std::sync::ledger::Ledger;

@@ -1,8 +1,8 @@
 ghost use Rattle.std.specs.Prelude.{◌≡◌, ◌||◌, ◌<◌, false, length, slice_index, MatchResult};
-ghost use Rattle.mq_select.specs.Selection.{selection_of};
+ghost use Rattle.mq_message.specs.Selection.{selection_of};
 ghost use Rattle.mq_table.specs.Cut.{IsCutOf, cut_shown};
 ghost use Rattle.mq_table.specs.Ids.{seq_of, slot_of};
-ghost use Rattle.mq_one_thread.specs.declared.errno.Errno.TheVariants.{ENOMEM};
+ghost use Rattle.mq_calls.specs.declared.errno.Errno.TheVariants.{ENOMEM};
 ghost use Rattle.mq_system.specs.Outcome.{IsLook, IsRefusal, IsRemoved, IsSent};
 ghost use Rattle.mq_system.specs.Refusals.{MayRemove, MaySend, never_sent, out_of_slots};
 ghost use Rattle.mq_system.specs.Seat.{front_of};
@@ -12,7 +12,7 @@ ghost use Rattle.mq_system.specs.Get.{IsNotGot};
 ghost use Rattle.mq.specs.Caller.{creating, IsAsked, IsGotId, IsNotDrafted, IsNotDraftedWithin, IsNotReceivedInto, IsNotSentFrom, IsReceivedInto, IsTurnedBack};
 
 use crate::bytes::copy_out;
-use mq_one_thread::{Delivered, Errno, GetFlags, Removal, SendRefused, Usage};
+use mq_calls::{Delivered, Errno, GetFlags, Removal, SendRefused, Usage};
 use mq_system::{Forever, Names, Patience, Pledge, RecvFlags, Seat, SendFlags, System, TextOf};
 use mq_table::{Cut, Id};
 use std::alloc::Global;

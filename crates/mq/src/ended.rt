@@ -1,7 +1,7 @@
 ghost use Rattle.std.specs.Prelude.{◌≡◌};
 ghost use Rattle.mq_tree.specs.LentSet.{free_pages};
 
-use mq_one_thread::{Closed, ClosedSlot};
+use mq_calls::{Closed, ClosedSlot};
 use std::sync::ledger::Ledger;
 
 /// What a program answered, and what its queues left.

@@ -20,18 +20,18 @@ pub use bytes::{receive_bytes, send_bytes};
 pub use caller::Caller;
 pub use ended::Ended;
 pub use mq_arena::{
-    ArenaState, Block, Homecoming, INLINE_ORDER, INLINE_PAGES, LEDGER_PARTS, MAX_ORDER, PAGE_LEN,
-    Page, Parts, TakeError,
+    ArenaState, Block, Homecoming, INLINE_LEN, INLINE_ORDER, INLINE_PAGES, LEDGER_PARTS, MAX_ORDER,
+    PAGE_LEN, Page, Parts, TakeError, Text,
 };
-pub use mq_message::{Body, INLINE_LEN, Text};
-pub use mq_one_thread::{
+pub use mq_calls::{
     Closed, ClosedSlot, Config, DEFAULTS, Delivered, DraftError, Errno, GetFlags, Got, MAX_SEATS,
-    OneThread, Refused, Removal, SendRefused, SysError, Usage,
+    Refused, Removal, SendRefused, SysError, Usage,
 };
+pub use mq_message::{Body, Selection};
+pub use mq_one_thread::OneThread;
 pub use mq_queue::{
     Base, BaseEntries, BaseEntry, BoardRow, Event, Figures, Log, MSGMAX, MSGMNB, Received,
 };
-pub use mq_select::Selection;
 pub use mq_system::{
     Blanks, Forever, Names, NoWait, Pages, Patience, Pledge, RecvFlags, Seat, SendFlags, System,
     TextOf, Until,

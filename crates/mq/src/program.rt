@@ -1,12 +1,13 @@
 ghost use Rattle.std.specs.Prelude.{◌≡◌, ◌↔◌, ◌≤◌, true, false, IfOk, IsErrOf};
-ghost use Rattle.mq_one_thread.specs.Limits.{keeps_limits, empty_queues};
-ghost use Rattle.mq_one_thread.specs.State.{QueuesState};
-ghost use Rattle.mq_one_thread.specs.declared.config.Config.{Config as Sizes};
+ghost use Rattle.mq_calls.specs.Limits.{keeps_limits, empty_queues};
+ghost use Rattle.mq_calls.specs.State.{QueuesState};
+ghost use Rattle.mq_calls.specs.declared.config.Config.{Config as Sizes};
 ghost use Rattle.mq.specs.Ended.{Leaves};
 
 use crate::Ended;
 use mq_arena::LEDGER_PARTS;
-use mq_one_thread::{Closed, Config, OneThread, SysError};
+use mq_calls::{Closed, Config, SysError};
+use mq_one_thread::OneThread;
 use std::alloc::Global;
 use std::marker::Brand;
 use std::sync::ledger::{Blank, Ledger};

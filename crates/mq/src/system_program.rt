@@ -1,6 +1,6 @@
 ghost use Rattle.std.specs.Prelude.{◌≡◌, ◌↔◌, ◌≤◌, ℕ, List, true, false, length, IfOk, IsErrOf};
-ghost use Rattle.mq_one_thread.specs.Limits.{keeps_limits};
-ghost use Rattle.mq_one_thread.specs.declared.config.Config.{Config as Sizes};
+ghost use Rattle.mq_calls.specs.Limits.{keeps_limits};
+ghost use Rattle.mq_calls.specs.declared.config.Config.{Config as Sizes};
 ghost use Rattle.mq_system.specs.Seat.{SeatState, AreNumbered};
 ghost use Rattle.mq_system.specs.Sizes.{AreNames};
 ghost use Rattle.mq_system.specs.Started.{AreFresh};
@@ -8,7 +8,6 @@ ghost use Rattle.mq.specs.Ended.{IsAfterAll, IsEnded};
 
 use crate::Ended;
 use mq_arena::LEDGER_PARTS;
-use mq_board::Copies;
 use mq_system::{Blanks, Config, Names, Pledge, Seat, SysError, System};
 use std::alloc::Global;
 use std::marker::Brand;
@@ -78,7 +77,7 @@ fn run_system<P: Pledge, N: Names, Q: SystemProgram<P>, R: Wait>(
     ensures ended { IfOk result (IsEnded N.slots N.last_seq N.height) }
     ensures err { IsErrOf result SysError.Config ↔ (keeps_limits config ≡ false) }
 {
-    let (system, mut seats) = match System::<P, N, Copies<N>>::new(alloc, rt, config, blanks) {
+    let (system, mut seats) = match System::<P, N>::new(alloc, rt, config, blanks) {
         Ok(made) => made,
         Err(error) => return Err(error),
     };

@@ -1,6 +1,6 @@
 ghost use Rattle.std.specs.Prelude.{◌≡◌, ◌↔◌, ◌≤◌, ◌<◌, ◌⊎◌, true, false, length, IfOk, IfErr};
 ghost use Rattle.std.specs.Prelude.{IsErrOf, vec_len};
-ghost use Rattle.mq_one_thread.specs.Limits.{keeps_limits};
+ghost use Rattle.mq_calls.specs.Limits.{keeps_limits};
 ghost use Rattle.mq_system.specs.Sizes.{AreNames};
 ghost use Rattle.mq.specs.Ended.{IsEnded};
 ghost use Rattle.mq.specs.Workers.{AreAfterWork, AreOf};
@@ -9,7 +9,6 @@ ghost use Rattle.mq.specs.declared.workers_error.WorkersError.TheVariants.{Memor
 use crate::at_seat::{AtSeat, Crew, clear_seats, leave_seats, take_seats, turns};
 use crate::{Ended, Worker, WorkersError};
 use mq_arena::LEDGER_PARTS;
-use mq_board::Copies;
 use mq_jobs::{JobsError, run_jobs};
 use mq_system::{Blanks, Config, Names, Pledge, Seat, System};
 use std::alloc::Global;
@@ -76,7 +75,7 @@ fn run_workers<
     ensures ended { IfOk result (IsEnded N.slots N.last_seq N.height) }
     ensures err { IfErr result (λ e. (e ≡ Memory) ⊎ (e ≡ Thread)) }
 {
-    let Ok((system, mut seats)) = System::<P, N, Copies<N>>::new(alloc, rt, config, blanks) else {
+    let Ok((system, mut seats)) = System::<P, N>::new(alloc, rt, config, blanks) else {
         return Err(WorkersError::Memory);
     };
     if workers.is_empty() {

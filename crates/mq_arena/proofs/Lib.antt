@@ -1,7 +1,14 @@
 pub mod Cuts
+pub mod Drafts
 pub mod Filling
 pub mod Kept
+pub mod Loans
 pub mod Magazines
+pub mod Orders
 pub mod Overwriting
+pub mod Pages
 pub mod Shells
 pub mod Stock
+pub mod TextParts
+pub mod Texts
+pub mod Written

@@ -7,3 +7,6 @@ pub mod Lent
 pub mod Magazine
 pub mod OwnedBlock
 pub mod Stocked
+pub mod Text
+pub mod TextHeld
+pub mod TextLends

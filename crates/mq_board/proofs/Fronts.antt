@@ -1,9 +1,6 @@
 -- Beginnings of one list.
 use Rattle.std.proofs.Common.{◌≡◌, ℕ, ◌≤◌, List, [], ◌∷◌, ◌++◌, length, refl, ap, sym, ◌∙◌, arith, append_assoc}
 use mathlib.Core.List.{IsPrefix}
-use Rattle.mq_queue.specs.declared.event.Event.{Event}
-use Rattle.mq_board.specs.declared.history.Entry.{Entry}
-use Rattle.mq_board.specs.Entries.{entry, events_in}
 
 -- each list begins with itself
 pub prefix_self : {A : Type 0} (xs : List A) → IsPrefix xs xs
@@ -34,18 +31,3 @@ prefix_whole [] (y ∷ ys) p le = absurd (omega arith)
 prefix_whole (x ∷ xs) [] p le = absurd (cc (p.1))
 prefix_whole (x ∷ xs) (y ∷ ys) p le =
     let rest = prefix_whole xs ys (p.0, cc (p.1)) (omega arith) in cc (p.1, rest)
-
-pub events_append : (xs ys : List Entry) → events_in (xs ++ ys) ≡ events_in xs ++ events_in ys
-events_append [] ys = refl
-events_append (x ∷ xs) ys =
-    ap (λ w. x.events ++ w) (events_append xs ys)
-    ∙ sym (append_assoc x.events (events_in xs) (events_in ys))
-
--- the events of a beginning begin the events
-pub events_prefix : (xs ys : List Entry) → IsPrefix xs ys → IsPrefix (events_in xs) (events_in ys)
-events_prefix xs ys p = (events_in p.0, sym (events_append xs p.0) ∙ ap events_in p.1)
-
--- one entry more, with an event
-pub added_events : (log : List Entry) (event : Event) (next : ℕ)
-    → events_in (log ++ entry (event ∷ []) next ∷ []) ≡ events_in log ++ event ∷ []
-added_events log event next = events_append log (entry (event ∷ []) next ∷ [])

@@ -1,6 +1,6 @@
-pub mod Fronts
+pub mod CellSteps
 pub mod Cells
-pub mod Adding
+pub mod Fronts
 pub mod Names
 pub mod Rolling
 pub mod Rows

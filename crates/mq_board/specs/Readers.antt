@@ -1,8 +1,12 @@
 -- The readers of a board.
-use Rattle.std.specs.Prelude.{◌≡◌, ℕ, List, [], map}
+use Rattle.std.specs.Prelude.{◌≡◌, ℕ, false, List, [], map}
 use Rattle.std.specs.List.{range_with_len}
 use mathlib.Core.List.{IsPrefix}
+use Rattle.atomic_table.specs.Seated.{TableId}
 use Rattle.mq_queue.specs.declared.event.Event.{Event}
+use Rattle.mq_board.specs.declared.shown.Shown.{Shown}
+use Rattle.mq_board.specs.Histories.{IsRowKnown}
+use Rattle.mq_board.specs.Shown.{Pass, known}
 
 -- a reader: its board, its place there, and its front, the published events that it knows
 pub record ReaderState : Type 0 where
@@ -23,3 +27,9 @@ pub record HasSeenMore (old new : ReaderState) : Type 0 where
   pub board : new.board ≡ old.board
   pub place : new.place ≡ old.place
   pub front : IsPrefix old.events new.events
+
+-- what a reader keeps: the cell with its board's name, and the row of what it knows
+pub record IsReader (name cell : TableId) (shown : Shown) (pass : Pass) : Type 0 where
+  pub named : cell ≡ name
+  pub kept : IsRowKnown name shown pass
+  pub reads : (known pass).writes ≡ false

@@ -1,22 +1,27 @@
-//! Boards: the figures of each queue in two copies, of which readers take one without a lock, and
-//! the history of what was published.
+//! Boards: the row of each slot in words that readers take without a lock, and what of the
+//! published events each reader knows.
 
 #![tactic(auto)]
 
-mod bell;
-mod history;
+mod cell;
 mod making;
+mod naming;
+mod opened;
 mod posted;
 mod posting;
 mod reader;
 mod roll;
 mod row;
+mod shown;
 mod writer;
 
-pub use history::{Naming, Opened};
-pub use making::{OpenedBoard, board, next_board, open_boards};
-pub use posted::{Posted, PublishedList};
+pub use cell::{Cell, Known, Pass, Showing};
+pub use making::{board, next_board, open_boards};
+pub use naming::Naming;
+pub use opened::OpenedBoard;
+pub use posted::PublishedList;
 pub use posting::Posting;
 pub use reader::BoardReader;
 pub use roll::OpenedRoll;
-pub use writer::{BoardWriter, Copies};
+pub use shown::{News, Shown, WORDS};
+pub use writer::BoardWriter;

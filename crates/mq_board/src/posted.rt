@@ -1,94 +1,47 @@
-//! What a board shows, which is also what its writer tells.
+//! What a board's writer tells.
 
-ghost use Rattle.std.specs.Prelude.{◌≡◌, ◌≤◌, ◌↔◌, length, IsTrue};
-ghost use mathlib.Core.List.{IsPrefix};
+ghost use Rattle.std.specs.Prelude.{◌≡◌};
 ghost use Rattle.mq_queue.specs.Row.{row};
 
-use crate::history::{Front, Naming};
-use left_right::Absorb;
-use mq_queue::{BoardRow, Event};
-use std::alloc::AllocError;
-use std::marker::Model;
+use crate::cell::Pass;
+use crate::naming::Naming;
+use crate::shown::Shown;
+use mq_queue::BoardRow;
+use std::marker::{Model, PhantomData};
 
-/// A beginning of a board's published list, with its row. In memory it is the row, a count and the
-/// board's number.
+/// A beginning of a board's published list that the writer named. In memory it is the list's row
+/// and count, and the board's number.
 #[derive(Drop)]
-pub struct Posted<J: Naming> {
-    shown: BoardRow,
-    front: Front<J>,
+pub struct PublishedList<J: Naming> {
+    pub(crate) number: u8,
+    pub(crate) shown: Shown,
+    pub(crate) pass: Pass,
+    pub(crate) of: PhantomData<J>,
 }
 
-/// A published list that the writer named.
-pub type PublishedList<J> = Posted<J>;
-
-impl<J: Naming> Model for Posted<J> {
+impl<J: Naming> Model for PublishedList<J> {
     ghost use Rattle.std.specs.Prelude.{◌≡◌};
-    ghost use Rattle.mq_queue.specs.Row.{row};
-    ghost use Rattle.mq_board.specs.Histories.{History};
+    ghost use Rattle.mq_board.specs.Histories.{History, IsTold, history};
+    ghost use Rattle.mq_board.specs.Shown.{known};
 
     ghost Value = { History };
 
-    ghost view = { λ p. p.front };
+    ghost view = { λ p. history p.number (known p.pass).events };
 
-    ghost invariant = { λ p. p.shown ≡ row p.front.events };
+    ghost invariant = { λ p. IsTold (J.board p.number) p.shown p.pass };
 }
 
-impl<J: Naming> Posted<J> {
-    pub(crate) fn new(shown: BoardRow, front: Front<J>) -> Posted<J>
-        requires { shown ≡ row front.events }
-        ensures { result ≡ front }
-    {
-        Posted { shown, front }
-    }
-
+impl<J: Naming> PublishedList<J> {
     pub fn board(&self) -> u8
         ensures { result ≡ self.now.board }
     {
-        self.front.board()
+        self.number
     }
 
     /// The row of its list.
     pub fn row(&self) -> BoardRow
         ensures { result ≡ row self.now.events }
     {
-        self.shown
-    }
-
-    /// A copy, which takes no memory.
-    pub(crate) fn again(&self) -> Posted<J>
-        ensures { result ≡ self.now }
-    {
-        Posted {
-            shown: self.row(),
-            front: self.front.again(),
-        }
-    }
-
-    /// Its list, without the row.
-    pub(crate) fn front(&self) -> &Front<J>
-        ensures { result.now ≡ self.now }
-    {
-        &self.front
-    }
-}
-
-/// What is shown next takes the place of what was shown.
-impl<J: Naming> Absorb<Posted<J>> for Posted<J> {
-    /// A clause reads an array as a list of any length.
-    type State = [Event; 0];
-
-    ghost state = { λ shown. shown.events };
-
-    ghost applied = { λ _ next. next.events };
-
-    ghost never_fails = { Unit {0} };
-
-    fn absorb_first(
-        &mut self,
-        operation: &Posted<J>,
-        _other: &Posted<J>,
-    ) -> Result<(), AllocError> {
-        *self = operation.again();
-        Ok(())
+        self.shown.row
     }
 }

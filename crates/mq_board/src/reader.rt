@@ -1,61 +1,58 @@
 ghost use Rattle.std.specs.Prelude.{◌≡◌, ◌<◌, ◌≤◌, [], length, IfSome, MatchBool};
+ghost use Rattle.std.specs.Arc.{arc_value};
 ghost use Rattle.mq_queue.specs.Row.{row};
-ghost use Rattle.mq_board.specs.Readers.{HasSeenMore};
+ghost use Rattle.mq_board.specs.Readers.{HasSeenMore, seat};
+ghost use Rattle.mq_board.specs.Shown.{known};
 
-use crate::bell::Bell;
-use crate::history::Naming;
-use crate::posted::{Posted, PublishedList};
+use crate::cell::{Cell, Pass};
+use crate::naming::Naming;
+use crate::posted::PublishedList;
 use crate::roll::BoardPlace;
-use crossbeam_utils::rule::Unruled;
-use left_right::reader::Reader;
+use crate::shown::{NOTHING, Shown};
 use mq_queue::BoardRow;
+use std::alloc::Global;
 use std::marker::Model;
+use std::sync::Arc;
 
 /// A reader of a board, seen as its place and its front: the published events that it knows.
 #[derive(Drop)]
 pub struct BoardReader<J: Naming> {
-    /// It is away while the reader enters.
-    reader: Option<Reader<Posted<J>, (), Unruled>>,
+    cell: Arc<Cell, Global>,
     place: BoardPlace<J>,
-    /// Its front, with the row.
-    kept: Posted<J>,
-    bell: Bell,
+    /// Its front's row and count.
+    kept: Shown,
+    pass: Pass,
 }
 
 impl<J: Naming> Model for BoardReader<J> {
     ghost use Rattle.std.specs.Prelude.{◌≡◌};
-    ghost use Rattle.mq_board.specs.Readers.{ReaderState};
+    ghost use Rattle.std.specs.Arc.{arc_value};
+    ghost use Rattle.mq_board.specs.Readers.{IsReader, ReaderState};
+    ghost use Rattle.mq_board.specs.Shown.{known};
 
     ghost Value = { ReaderState };
 
     ghost view = { λ r. record {
-      board = r.kept.board;
+      board = r.place.board;
       place = r.place.number;
-      events = r.kept.events;
+      events = (known r.pass).events;
     } };
 
-    ghost invariant = { λ r. r.place.board ≡ r.kept.board };
+    ghost invariant = { λ r. IsReader (J.board r.place.board)
+        (arc_value r.cell).table.shared.table_id r.kept r.pass };
 }
 
 impl<J: Naming> BoardReader<J> {
-    pub(crate) fn new(
-        reader: Reader<Posted<J>, (), Unruled>,
-        place: BoardPlace<J>,
-        kept: Posted<J>,
-        bell: Bell,
-    ) -> BoardReader<J>
-        requires { place.board ≡ kept.board }
-        ensures { result ≡ record {
-          board = kept.board;
-          place = place.number;
-          events = kept.events;
-        } }
+    pub(crate) fn new(cell: Arc<Cell, Global>, place: BoardPlace<J>) -> BoardReader<J>
+        requires { (arc_value cell).table.shared.table_id ≡ J.board place.board }
+        ensures { result ≡ seat place.board place.number }
     {
+        let pass = cell.pass();
         BoardReader {
-            reader: Some(reader),
+            cell,
             place,
-            kept,
-            bell,
+            kept: NOTHING,
+            pass,
         }
     }
 
@@ -63,7 +60,7 @@ impl<J: Naming> BoardReader<J> {
     pub fn board(&self) -> u8
         ensures { result ≡ self.now.board }
     {
-        self.kept.board()
+        self.place.board()
     }
 
     /// Its place on the board.
@@ -74,14 +71,14 @@ impl<J: Naming> BoardReader<J> {
     }
 
     /// The row of a published list that begins with the front, and that is the front then. It waits
-    /// for nobody, takes no lock and no memory. Where the board can't be entered, as once it was
-    /// given up, the row of the front is answered.
+    /// for nobody, takes no lock and no memory. Where each of many looks finds that the row is just
+    /// being written, the row of the front is answered.
     pub fn figures(&mut self) -> BoardRow
         ensures later { HasSeenMore self.old self.new }
         ensures row { result ≡ row self.new.events }
     {
-        if self.kept.front().count() < self.bell.heard() {
-            self.enter();
+        if self.kept.count < self.cell.version() / 2 {
+            self.look();
         }
         self.known()
     }
@@ -90,15 +87,15 @@ impl<J: Naming> BoardReader<J> {
     pub fn known(&self) -> BoardRow
         ensures { result ≡ row self.now.events }
     {
-        self.kept.row()
+        self.kept.row
     }
 
-    /// Enters the board, and learns what it shows.
-    fn enter(&mut self)
+    /// Learns what the board shows.
+    fn look(&mut self)
         ensures { HasSeenMore self.old self.new }
     {
-        if let Some(seen) = self.look() {
-            self.take_in(seen);
+        if let Some(shown) = self.cell.look(&mut self.pass) {
+            self.kept = shown;
         }
     }
 
@@ -110,51 +107,34 @@ impl<J: Naming> BoardReader<J> {
             ((self.new.events ≡ told.events) × (length self.old.events ≤ length told.events))
             ((self.new ≡ self.old) × (length told.events < length self.old.events)) }
     {
-        if !self.kept.front().begins(told.front()) {
+        let PublishedList {
+            number: _,
+            shown,
+            pass,
+            of: _,
+        } = told;
+        if shown.count < self.kept.count {
             return false;
         }
-        self.kept = told;
+        self.cell.learn(&mut self.pass, pass);
+        self.kept = shown;
         true
     }
 
-    /// What the board shows now.
-    fn look(&mut self) -> Option<Posted<J>>
-        ensures { self.new ≡ self.old }
-    {
-        let reader = self.reader.take()?;
-        match reader.enter_as::<Unruled>() {
-            Ok(reading) => {
-                let seen = reading.get().again();
-                self.reader = Some(reading.leave());
-                Some(seen)
-            }
-            Err(reader) => {
-                self.reader = Some(reader);
-                None
-            }
-        }
-    }
-
-    /// Learns what the board showed. Each copy of a board is of that board: no run meets another.
-    fn take_in(&mut self, seen: Posted<J>)
-        ensures { HasSeenMore self.old self.new }
-    {
-        if self.board() == seen.board() {
-            self.learn(seen);
-        }
-    }
-
-    /// Its place and its front.
-    pub(crate) fn into_parts(self) -> (BoardPlace<J>, Posted<J>)
+    /// Its place, and a pass that knows its front.
+    pub(crate) fn into_parts(self) -> (BoardPlace<J>, Pass)
         ensures place { result.0 ≡ record { board = self.board; number = self.place } }
-        ensures front { result.1 ≡ record { board = self.board; events = self.events } }
+        ensures front { (known result.1).events ≡ self.events }
+        ensures cell { result.1.table_id ≡ J.board self.board }
+        ensures alone { result.1.me.1 ≡ [] }
     {
         let BoardReader {
-            reader: _,
+            cell,
             place,
-            kept,
-            bell: _,
+            kept: _,
+            mut pass,
         } = self;
-        (place, kept)
+        let told = cell.tell(&mut pass);
+        (place, told)
     }
 }

@@ -3,7 +3,7 @@ use Rattle.std.proofs.Common.{◌≡◌, ℕ, ◌+◌, if◌then◌else◌, List
 use Rattle.std.proofs.Common.{None, Some, Result, Ok, Err, Bool, true, false, refl, ap, rules, sym, subst}
 use Rattle.std.proofs.Common.{◌∙◌}
 use Rattle.std.specs.List.{AllZip, flat_map, range_with_len}
-use Rattle.mq_one_thread.specs.declared.config.Config.{Config}
+use Rattle.mq_calls.specs.declared.config.Config.{Config}
 use Rattle.mq_cli.specs.Commands.{AskedCall, reading}
 use Rattle.mq_cli.specs.declared.fault.Cause.{Cause}
 use Rattle.mq_cli.specs.Cuts.{asks_cut, is_cut, texts_from, texts_of_others, then_others}

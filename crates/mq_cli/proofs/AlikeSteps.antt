@@ -7,12 +7,12 @@ use Rattle.std.specs.List.{AllZip, flat_map, range_with_len}
 use Rattle.mq_tree.specs.Blocks.{PlainBlock}
 use Rattle.mq_tree.specs.LentSet.{Lending, free_pages}
 use Rattle.mq_arena.specs.Lent.{lend}
-use Rattle.mq_message.specs.Text.{PlainText, order_for}
+use Rattle.mq_arena.specs.Text.{PlainText, order_for}
 use Rattle.mq_message.specs.declared.message.Message.{Message}
 use Rattle.mq_queue.specs.declared.limits.TheConstants.{MSGMAX}
 use Rattle.mq_queue.specs.declared.event.Event.{Event}
 use Rattle.mq_queue.specs.declared.event.Event.TheVariants as event
-use Rattle.mq_select.specs.Selection.{selection_of}
+use Rattle.mq_message.specs.Selection.{selection_of}
 use Rattle.mq_table.specs.Calls.{Receipt}
 use Rattle.mq_table.specs.Cut.{kept_cuts}
 use Rattle.mq_table.specs.Ids.{slot_of}
@@ -23,23 +23,23 @@ use Rattle.mq_table.specs.Kept.{KeptSlot, base_now, entries_of}
 use Rattle.mq_table.specs.KeptCalls.{KeptTurn, kept_receives, kept_sends, kept_sets}
 use Rattle.mq_table.specs.KeptShown.{last_id_now, row_now}
 use Rattle.mq_table.specs.SlotParts.{empty_kept}
-use Rattle.mq_one_thread.specs.declared.draft_error.DraftError.{DraftError}
-use Rattle.mq_one_thread.specs.declared.errno.Errno.{Errno}
-use Rattle.mq_one_thread.specs.declared.results.Refused.{Refused}
-use Rattle.mq_one_thread.specs.declared.results.GetFlags.{GetFlags}
-use Rattle.mq_one_thread.specs.Calls.{delivers, msgrcv, msgsnd, removed}
-use Rattle.mq_one_thread.specs.Calls.{set as set_answer, figures_shown, stat as stat_answer}
+use Rattle.mq_calls.specs.declared.draft_error.DraftError.{DraftError}
+use Rattle.mq_calls.specs.declared.errno.Errno.{Errno}
+use Rattle.mq_calls.specs.declared.results.Refused.{Refused}
+use Rattle.mq_calls.specs.declared.results.GetFlags.{GetFlags}
+use Rattle.mq_calls.specs.Calls.{delivers, msgrcv, msgsnd, removed}
+use Rattle.mq_calls.specs.Calls.{set as set_answer, figures_shown, stat as stat_answer}
 use Rattle.mq_cli.specs.Commands.{AskedCall, sit, show, get, snd, rcv, set, rm, stat, cut, ipcs, info}
 use Rattle.mq_cli.specs.Commands.{AskedText}
 use Rattle.mq_cli.specs.Drafts.{by_draft_errno, bytes_of_text, draft}
 use Rattle.mq_cli.specs.Cuts.{is_cut}
-use Rattle.mq_one_thread.specs.Look.{look, once}
+use Rattle.mq_calls.specs.Look.{look, once}
 use Rattle.mq_cli.specs.Reports.{line_of_row, table_of}
 use Rattle.mq_cli.specs.Session.{SessionState, by_errno}
-use Rattle.mq_one_thread.specs.State.{QueuesState as System, slot_at}
-use Rattle.mq_one_thread.specs.Texts.{bytes_of, drafts, in_block, spends, spends_all, filled_with}
-use Rattle.mq_one_thread.specs.Usages.{no_usage, usage_of}
-use Rattle.mq_one_thread.proofs.UsageLemmas.{usage_same}
+use Rattle.mq_calls.specs.State.{QueuesState as System, slot_at}
+use Rattle.mq_calls.specs.Texts.{bytes_of, drafts, in_block, spends, spends_all, filled_with}
+use Rattle.mq_calls.specs.Usages.{no_usage, usage_of}
+use Rattle.mq_calls.proofs.UsageLemmas.{usage_same}
 use Rattle.mq_cli.specs.Transcript.{Reply, refused, at, gone, cut_step, arena as arena_told}
 use Rattle.mq_cli.specs.Transcript.{figures_reply, by_seat, get_step, output, receive_step}
 use Rattle.mq_cli.specs.Transcript.{remove_step, send_step, set_step, step, replied, usage}

@@ -8,7 +8,7 @@ use Rattle.std.proofs.lemmas.Bool.{and_parts, leb-true, not-true}
 use Rattle.std.proofs.lemmas.List.Elements.{length_all_zip}
 use Rattle.std.proofs.lemmas.List.Quantifiers.{position-Some}
 use Rattle.mq_tree.specs.LentSet.{Lending}
-use Rattle.mq_message.specs.Text.{PlainText}
+use Rattle.mq_arena.specs.Text.{PlainText}
 use Rattle.mq_queue.specs.Row.{is_live, made_count}
 use Rattle.mq_queue.specs.declared.event.Event.{Event}
 use Rattle.mq_table.specs.Ids.{seq_of, slot_of}
@@ -22,12 +22,12 @@ use Rattle.mq_table.specs.SlotList.{IsSlotList, is_free, standing}
 use Rattle.mq_table.specs.declared.refusal.IdRefusal.{IdRefusal}
 use Rattle.mq_table.proofs.Kepts.{is_free_is, standing_is}
 use Rattle.mq_table.proofs.KeptTurns.{none_kept}
-use Rattle.mq_one_thread.specs.declared.errno.Errno.TheVariants.{EINVAL}
-use Rattle.mq_one_thread.specs.declared.results.GetFlags.{GetFlags}
-use Rattle.mq_one_thread.specs.declared.results.Refused.{Refused}
-use Rattle.mq_one_thread.specs.Get.{by_key, free_slot, made_in, makes_one, msgget}
-use Rattle.mq_one_thread.specs.Look.{by_slot, in_queue, in_slot, look, once, refused_early}
-use Rattle.mq_one_thread.specs.State.{QueuesState, slot_at, with_arena, with_slot}
+use Rattle.mq_calls.specs.declared.errno.Errno.TheVariants.{EINVAL}
+use Rattle.mq_calls.specs.declared.results.GetFlags.{GetFlags}
+use Rattle.mq_calls.specs.declared.results.Refused.{Refused}
+use Rattle.mq_calls.specs.Get.{by_key, free_slot, made_in, makes_one, msgget}
+use Rattle.mq_calls.specs.Look.{by_slot, in_queue, in_slot, look, once, refused_early}
+use Rattle.mq_calls.specs.State.{QueuesState, slot_at, with_arena, with_slot}
 use Rattle.mq_cli.proofs.AlikeSlots.{AreAlike, TurnAlike, entries_alike, free_alike, made_alike}
 use Rattle.mq_cli.proofs.AlikeSlots.{next_id_alike, standing_alike}
 

@@ -1,7 +1,7 @@
 -- The lines that are told at the end, one after another.
 use Rattle.std.proofs.Common.{◌≡◌, ℕ, ◌+◌, ◌<◌, suc, Bool, List, [], ◌∷◌, ◌++◌, length, drop, refl, sym, ap, ◌∙◌, subst, append_assoc, arith, add-one, drop-cons}
 use Rattle.std.proofs.Math.ListN.{get_or}
-use Rattle.mq_one_thread.specs.declared.close.ClosedSlot.{ClosedSlot}
+use Rattle.mq_calls.specs.declared.close.ClosedSlot.{ClosedSlot}
 use Rattle.mq_cli.specs.declared.outcome.Outcome.{Outcome}
 use Rattle.mq_cli.specs.Closing.{slot_line, slot_lines, worker_line, worker_lines}
 

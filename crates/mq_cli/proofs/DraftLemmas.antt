@@ -2,19 +2,19 @@ use Rattle.std.proofs.Common.{◌≡◌, ◌≢◌, ℕ, ℤ, ◌<◌, ◌≤◌
 use Rattle.std.specs.List.{range_with_len}
 use Rattle.std.proofs.lemmas.List.FromFn.{length-map-range_with_len, take-map-range_with_len}
 use Rattle.std.specs.declared.alloc.AllocError.{AllocError}
-use Rattle.mq_message.specs.Text.{PlainText}
-use Rattle.mq_message.specs.declared.order.TheConstants.{INLINE_LEN}
+use Rattle.mq_arena.specs.Text.{PlainText}
+use Rattle.mq_arena.specs.declared.order.TheConstants.{INLINE_LEN}
 use Rattle.mq_queue.specs.declared.limits.TheConstants.{MSGMAX}
 use Rattle.mq_one_thread.proofs.DraftLemmas.{spent_after}
-use Rattle.mq_one_thread.specs.Calls.{msgsnd}
-use Rattle.mq_one_thread.specs.Look.{Answer, refused_or_memory}
+use Rattle.mq_calls.specs.Calls.{msgsnd}
+use Rattle.mq_calls.specs.Look.{Answer, refused_or_memory}
 use Rattle.mq_one_thread.specs.Outcome.{Answers}
-use Rattle.mq_one_thread.specs.State.{QueuesState}
-use Rattle.mq_one_thread.specs.Texts.{draft_errno, draft_refusal, drafts_of}
-use Rattle.mq_one_thread.specs.declared.draft_error.DraftError.{DraftError}
-use Rattle.mq_one_thread.specs.declared.draft_error.DraftError.TheVariants.{Memory}
-use Rattle.mq_one_thread.specs.declared.errno.Errno.TheVariants.{ENOMEM}
-use Rattle.mq_one_thread.specs.declared.results.Refused.{Refused}
+use Rattle.mq_calls.specs.State.{QueuesState}
+use Rattle.mq_calls.specs.Texts.{draft_errno, draft_refusal, drafts_of}
+use Rattle.mq_calls.specs.declared.draft_error.DraftError.{DraftError}
+use Rattle.mq_calls.specs.declared.draft_error.DraftError.TheVariants.{Memory}
+use Rattle.mq_calls.specs.declared.errno.Errno.TheVariants.{ENOMEM}
+use Rattle.mq_calls.specs.declared.results.Refused.{Refused}
 use Rattle.mq_cli.specs.Commands.{AskedText}
 use Rattle.mq_cli.specs.Drafts.{Drafts, by_draft_errno, bytes_of_text, draft, letter, spent}
 use Rattle.mq_cli.specs.Serial.{Answered}

@@ -3,7 +3,7 @@ use Rattle.std.proofs.Common.{◌≡◌, ℕ, ℤ, ◌+◌, ◌&&◌, Bool, repl
 use Rattle.std.proofs.lemmas.List.{reverse-append}
 use Rattle.std.specs.HashMap.{Updates, get}
 use Rattle.std.specs.Prelude.{reverse}
-use Rattle.mq_one_thread.specs.declared.errno.Errno.{Errno}
+use Rattle.mq_calls.specs.declared.errno.Errno.{Errno}
 use Rattle.mq_cli.specs.declared.notes.Notes.{Notes}
 use Rattle.mq_cli.specs.declared.notes.Stream.{Stream}
 use Rattle.mq_cli.specs.declared.outcome.Outcome.{Outcome}

@@ -2,7 +2,7 @@ use Rattle.std.proofs.Common.{◌≡◌, ℕ, ℤ, ◌+◌, ◌^◌, ◌≤◌, 
 use Rattle.std.specs.List.{list_all}
 use Rattle.std.specs.Str.{bytes_eq}
 use Rattle.mq_table.specs.declared.limits.TheConstants.{MAX_SLOTS}
-use Rattle.mq_one_thread.specs.declared.limits.TheConstants.{MAX_SEATS}
+use Rattle.mq_calls.specs.declared.limits.TheConstants.{MAX_SEATS}
 use Rattle.mq_cli.specs.declared.fault.Cause.{Cause}
 use Rattle.mq_cli.specs.declared.fault.Cause.TheVariants.{Words}
 use Rattle.mq_cli.specs.Commands.{AskedCall, sit, get, rcv, set, rm, stat, cut, is_filled, flags_asked, seat_asked, arena_asked, get_flags_asked, get_asked, set_asked, remove_asked, stat_asked, cutting_asked, ipcs_asked, info_asked, receive_asked, command_asked, command_named}

@@ -6,8 +6,8 @@ use Rattle.std.proofs.lemmas.Grind.{flat_map-append}
 use Rattle.std.specs.Io.KnownBytes.{Appends, Keeps}
 use Rattle.std.proofs.KnownBytes.{Appends-kept, Appends-nil, Appends-trans}
 use Rattle.std.specs.declared.alloc.AllocError.{AllocError}
-use Rattle.mq_one_thread.specs.declared.errno.Errno.{Errno}
-use Rattle.mq_one_thread.specs.declared.errno.Errno.TheVariants.{ENOMEM}
+use Rattle.mq_calls.specs.declared.errno.Errno.{Errno}
+use Rattle.mq_calls.specs.declared.errno.Errno.TheVariants.{ENOMEM}
 use Rattle.mq_system.specs.Seat.{SeatState}
 use Rattle.mq_cli.specs.declared.threads_script.MainCall.{MainCall}
 use Rattle.mq_cli.specs.MainPart.{AreReplies, IsReply, Replies, WroteAll, WroteSome, lines_replied}

@@ -1,6 +1,6 @@
 use Rattle.std.proofs.Common.{◌≡◌, ℕ, ◌||◌, Bool, true, false, refl}
-use Rattle.mq_one_thread.specs.declared.errno.Errno.{Errno}
-use Rattle.mq_one_thread.specs.declared.results.Refused.{Refused}
+use Rattle.mq_calls.specs.declared.errno.Errno.{Errno}
+use Rattle.mq_calls.specs.declared.results.Refused.{Refused}
 use Rattle.mq_system.specs.Outcome.{IsRefusal, IsTurnedAway}
 use Rattle.mq_system.specs.Seat.{SeatState}
 use Rattle.mq_system.specs.Seen.{Verdict}

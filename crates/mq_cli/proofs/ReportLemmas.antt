@@ -4,7 +4,7 @@ use Rattle.std.proofs.lemmas.Grind.{flat_map-append}
 use Rattle.std.proofs.lemmas.List.{map-id}
 use Rattle.std.proofs.lemmas.List.FromFn.{map-range_with_len_more}
 use Rattle.mq_table.specs.KeptShown.{row_now}
-use Rattle.mq_one_thread.specs.State.{QueuesState, slot_at}
+use Rattle.mq_calls.specs.State.{QueuesState, slot_at}
 use Rattle.mq_cli.specs.Reports.{line_of_row, lines_to}
 
 -- one more number from 0 on

@@ -1,6 +1,6 @@
 use Rattle.std.proofs.Common.{◌≡◌, ℕ, List, Result, Ok, Err, OnOk, ap, ◌∙◌}
 use Rattle.std.specs.declared.alloc.AllocError.{AllocError}
-use Rattle.mq_one_thread.specs.State.{QueuesState as System}
+use Rattle.mq_calls.specs.State.{QueuesState as System}
 use Rattle.mq_cli.specs.Serial.{Answered}
 use Rattle.mq_cli.specs.Session.{SessionState}
 use Rattle.mq_cli.specs.Transcript.{Reply, by_seat}

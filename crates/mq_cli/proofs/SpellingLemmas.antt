@@ -15,8 +15,8 @@ use Rattle.std.proofs.lemmas.Option.{cond_some, option_and_then_some}
 use Rattle.std.proofs.lemmas.Slice.Eq.{bytes_eq-Decides}
 use Rattle.std.proofs.lemmas.Str.Parse.{digit_from_value, not_in_digits}
 use Rattle.mq_table.specs.declared.limits.TheConstants.{MAX_SLOTS}
-use Rattle.mq_one_thread.specs.declared.limits.TheConstants.{MAX_SEATS}
-use Rattle.mq_one_thread.specs.declared.results.GetFlags.{GetFlags}
+use Rattle.mq_calls.specs.declared.limits.TheConstants.{MAX_SEATS}
+use Rattle.mq_calls.specs.declared.results.GetFlags.{GetFlags}
 use Rattle.mq_cli.specs.declared.limits.TheConstants.{LINE_LIMIT}
 use Rattle.mq_cli.specs.declared.fault.Cause.{Cause}
 use Rattle.mq_cli.specs.declared.fault.Cause.TheVariants.{Words}

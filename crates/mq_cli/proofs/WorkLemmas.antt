@@ -5,7 +5,7 @@ use Rattle.std.proofs.lemmas.List.FromFn.{map-range_with_len_more}
 use Rattle.std.proofs.lemmas.List.Sums.{sum_by-append}
 use Rattle.std.specs.List.{range_with_len}
 use Rattle.std.specs.Prelude.{count_by}
-use Rattle.mq_one_thread.specs.declared.errno.Errno.{Errno}
+use Rattle.mq_calls.specs.declared.errno.Errno.{Errno}
 use Rattle.mq_cli.specs.declared.step.Step.{Step}
 use Rattle.mq_cli.specs.declared.taken.Taken.{Taken}
 use Rattle.mq_cli.specs.Calls.{PortCall, TakenMessage, send, receive, calls_in, calls_of, is_send, sends_after}

@@ -4,10 +4,10 @@ use Rattle.std.specs.Prelude.{codes, count_by, Option, Some, None}
 use Rattle.std.specs.Fmt.{decimal}
 use Rattle.mq_queue.specs.declared.event.Event.{Event}
 use Rattle.mq_queue.specs.declared.event.Event.TheVariants.{Sent, Received}
-use Rattle.mq_one_thread.specs.Closed.{entries_at_end}
-use Rattle.mq_one_thread.specs.Names.{errno_name}
-use Rattle.mq_one_thread.specs.declared.close.ClosedSlot.{ClosedSlot}
-use Rattle.mq_one_thread.specs.declared.errno.Errno.{Errno}
+use Rattle.mq_calls.specs.Closed.{entries_at_end}
+use Rattle.mq_calls.specs.Names.{errno_name}
+use Rattle.mq_calls.specs.declared.close.ClosedSlot.{ClosedSlot}
+use Rattle.mq_calls.specs.declared.errno.Errno.{Errno}
 use Rattle.mq_cli.specs.declared.outcome.Outcome.{Outcome}
 
 abbrev pub yes_or_no : Bool → List ℕ

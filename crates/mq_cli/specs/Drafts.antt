@@ -2,14 +2,14 @@
 use Rattle.std.specs.Prelude.{◌≡◌, ℕ, ◌+◌, ◌%◌, ◌<◌, ◌↔◌, nat_lt, true, List, length, map, Result}
 use Rattle.std.specs.Prelude.{Ok, Err, IfOk, IsErrOf}
 use Rattle.std.specs.List.{range_with_len}
-use Rattle.mq_message.specs.Text.{PlainText}
-use Rattle.mq_message.specs.declared.order.TheConstants.{INLINE_LEN}
+use Rattle.mq_arena.specs.Text.{PlainText}
+use Rattle.mq_arena.specs.declared.order.TheConstants.{INLINE_LEN}
 use Rattle.mq_queue.specs.declared.limits.TheConstants.{MSGMAX}
-use Rattle.mq_one_thread.specs.State.{QueuesState, with_arena}
-use Rattle.mq_one_thread.specs.Texts.{drafts_of, draft_errno, draft_refusal, spends}
-use Rattle.mq_one_thread.specs.declared.draft_error.DraftError.{DraftError}
-use Rattle.mq_one_thread.specs.declared.draft_error.DraftError.TheVariants.{TooLong, NoRun, Memory}
-use Rattle.mq_one_thread.specs.declared.errno.Errno.{Errno}
+use Rattle.mq_calls.specs.State.{QueuesState, with_arena}
+use Rattle.mq_calls.specs.Texts.{drafts_of, draft_errno, draft_refusal, spends}
+use Rattle.mq_calls.specs.declared.draft_error.DraftError.{DraftError}
+use Rattle.mq_calls.specs.declared.draft_error.DraftError.TheVariants.{TooLong, NoRun, Memory}
+use Rattle.mq_calls.specs.declared.errno.Errno.{Errno}
 use Rattle.mq_cli.specs.Commands.{AskedText, plain, letters}
 
 -- the letters a to z, over and over

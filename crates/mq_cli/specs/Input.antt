@@ -3,8 +3,8 @@ use Rattle.std.specs.Prelude.{◌≡◌, ℕ, ◌<◌, ◌≤◌, true, List, le
 use Rattle.std.specs.Prelude.{Err}
 use Rattle.std.specs.Global.{Vec}
 use Rattle.std.specs.Io.KnownBytes.{Consumes, IsAtEnd}
-use Rattle.mq_one_thread.specs.Limits.{keeps_limits}
-use Rattle.mq_one_thread.specs.declared.config.Config.{Config}
+use Rattle.mq_calls.specs.Limits.{keeps_limits}
+use Rattle.mq_calls.specs.declared.config.Config.{Config}
 use Rattle.mq_cli.specs.declared.fault.RunFault.{RunFault}
 use Rattle.mq_cli.specs.declared.fault.RunFault.TheVariants.{Size, Read, Memory}
 use Rattle.mq_cli.specs.declared.limits.TheConstants.{SCRIPT_LIMIT}

@@ -5,8 +5,8 @@ use Rattle.std.specs.Fmt.{decimal, signed_decimal}
 use Rattle.std.specs.Int.{w32, w64}
 use Rattle.std.specs.List.{flat_map, list_all}
 use Rattle.mq_table.specs.declared.limits.TheConstants.{MAX_SLOTS}
-use Rattle.mq_one_thread.specs.declared.config.Config.{Config}
-use Rattle.mq_one_thread.specs.declared.limits.TheConstants.{MAX_SEATS}
+use Rattle.mq_calls.specs.declared.config.Config.{Config}
+use Rattle.mq_calls.specs.declared.limits.TheConstants.{MAX_SEATS}
 use Rattle.mq_cli.specs.declared.limits.TheConstants.{LINE_LIMIT}
 use Rattle.mq_cli.specs.Commands.{AskedCall, sit, show, get, snd, rcv, set, rm, stat, cut, ipcs, info}
 use Rattle.mq_cli.specs.Commands.{AskedText, plain, letters, reading}

@@ -3,9 +3,9 @@ use Rattle.std.specs.Prelude.{◌≡◌, ◌≢◌, ℕ, ℤ, List, [], ◌∷�
 use Rattle.std.specs.List.{flat_map}
 use Rattle.std.specs.Io.KnownBytes.{Appends}
 use Rattle.mq_table.specs.Ids.{seq_of, slot_of}
-use Rattle.mq_one_thread.specs.declared.errno.Errno.TheVariants.{ENOMEM}
-use Rattle.mq_one_thread.specs.declared.results.GetFlags.{GetFlags}
-use Rattle.mq_one_thread.specs.declared.results.Got.{Got}
+use Rattle.mq_calls.specs.declared.errno.Errno.TheVariants.{ENOMEM}
+use Rattle.mq_calls.specs.declared.results.GetFlags.{GetFlags}
+use Rattle.mq_calls.specs.declared.results.Got.{Got}
 use Rattle.mq_system.specs.Outcome.{IsRefusal, IsSet}
 use Rattle.mq_system.specs.Refusals.{MaySet, out_of_slots}
 use Rattle.mq_system.specs.Seat.{SeatState}

@@ -1,13 +1,13 @@
 -- What the calls of a worker's port do at its seat (msgop(2), msgctl(2)).
 use Rattle.std.specs.Prelude.{◌≡◌, ◌⊎◌, ℕ, ◌<◌, ◌≤◌, ℤ, Bool, false, Result, Ok, Err}
-use Rattle.mq_message.specs.Text.{PlainText}
+use Rattle.mq_arena.specs.Text.{PlainText}
 use Rattle.mq_queue.specs.declared.limits.TheConstants.{MSGMAX}
-use Rattle.mq_select.specs.Selection.{selection_of}
+use Rattle.mq_message.specs.Selection.{selection_of}
 use Rattle.mq_table.specs.Ids.{seq_of, slot_of}
-use Rattle.mq_one_thread.specs.declared.errno.Errno.{Errno}
-use Rattle.mq_one_thread.specs.declared.errno.Errno.TheVariants.{EINVAL, ENOMEM}
-use Rattle.mq_one_thread.specs.declared.results.Delivered.{Delivered}
-use Rattle.mq_one_thread.specs.declared.results.Removal.{Removal}
+use Rattle.mq_calls.specs.declared.errno.Errno.{Errno}
+use Rattle.mq_calls.specs.declared.errno.Errno.TheVariants.{EINVAL, ENOMEM}
+use Rattle.mq_calls.specs.declared.results.Delivered.{Delivered}
+use Rattle.mq_calls.specs.declared.results.Removal.{Removal}
 use Rattle.mq_system.specs.Outcome.{IsReceived, IsRefusal, IsRemoved, IsSent}
 use Rattle.mq_system.specs.Refusals.{MayReceive, MayRemove, MaySend, never_sent, out_of_slots}
 use Rattle.mq_system.specs.Seat.{SeatState}

@@ -2,7 +2,7 @@
 use Rattle.std.specs.Prelude.{◌≡◌, ℕ, ◌+◌, ◌^◌, ◌<◌, ◌≤◌, Bool, ◌&&◌, List, ◌++◌, length, reverse}
 use Rattle.std.specs.Prelude.{Option, None, Some, Result, Ok, Err, OnOk, OnErr}
 use Rattle.std.specs.HashMap.{Updates, get}
-use Rattle.mq_one_thread.specs.declared.errno.Errno.{Errno}
+use Rattle.mq_calls.specs.declared.errno.Errno.{Errno}
 use Rattle.mq_cli.specs.declared.notes.Notes.{Notes}
 use Rattle.mq_cli.specs.declared.notes.Stream.{Stream}
 use Rattle.mq_cli.specs.declared.outcome.Outcome.{Outcome}

@@ -4,7 +4,7 @@ use Rattle.std.specs.Prelude.{codes, Option, Some, IfSome, OnOk, Result, Ok, Err
 use Rattle.std.specs.Fmt.{decimal}
 use Rattle.std.specs.Io.BufRead.{drop_through}
 use Rattle.std.specs.Io.KnownBytes.{Appends}
-use Rattle.mq_one_thread.specs.declared.config.Config.{Config}
+use Rattle.mq_calls.specs.declared.config.Config.{Config}
 use Rattle.mq_cli.specs.declared.fault.Cause.{Cause}
 use Rattle.mq_cli.specs.declared.fault.Cause.TheVariants.{Long, Byte, Words, Number}
 use Rattle.mq_cli.specs.declared.fault.RunFault.{RunFault}

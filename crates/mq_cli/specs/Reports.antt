@@ -6,7 +6,7 @@ use Rattle.mq_queue.specs.declared.figures.BoardRow.{BoardRow}
 use Rattle.mq_table.specs.Ids.{id_of}
 use Rattle.mq_table.specs.KeptShown.{row_now}
 use Rattle.mq_table.specs.declared.limits.TheConstants.{MAX_SEQ, MAX_SLOTS}
-use Rattle.mq_one_thread.specs.State.{QueuesState, slot_at}
+use Rattle.mq_calls.specs.State.{QueuesState, slot_at}
 
 -- a text at the right end of its column
 abbrev pub right_aligned : ℕ → List ℕ → List ℕ

@@ -1,11 +1,11 @@
 -- What a run keeps.
 use Rattle.std.specs.Prelude.{◌≡◌, ℕ, ◌≤◌, Result, Ok, Err}
 use Rattle.mq_arena.specs.declared.limits.TheConstants.{LEDGER_PARTS}
-use Rattle.mq_one_thread.specs.Limits.{empty_queues as empty_system}
-use Rattle.mq_one_thread.specs.State.{QueuesState as System}
-use Rattle.mq_one_thread.specs.declared.config.Config.{Config}
-use Rattle.mq_one_thread.specs.declared.errno.Errno.{Errno}
-use Rattle.mq_one_thread.specs.declared.results.Refused.{Refused}
+use Rattle.mq_calls.specs.Limits.{empty_queues as empty_system}
+use Rattle.mq_calls.specs.State.{QueuesState as System}
+use Rattle.mq_calls.specs.declared.config.Config.{Config}
+use Rattle.mq_calls.specs.declared.errno.Errno.{Errno}
+use Rattle.mq_calls.specs.declared.results.Refused.{Refused}
 
 -- the queues, and the seat that makes the calls
 pub record SessionState : Type 0 where

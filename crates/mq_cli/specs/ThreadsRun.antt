@@ -4,8 +4,8 @@ use Rattle.std.specs.Prelude.{Ok, Err}
 use Rattle.std.specs.Global.{Vec}
 use Rattle.std.specs.Io.KnownBytes.{Keeps}
 use Rattle.mq_arena.specs.declared.limits.TheConstants.{LEDGER_PARTS}
-use Rattle.mq_one_thread.specs.Limits.{keeps_limits}
-use Rattle.mq_one_thread.specs.declared.config.Config.{Config}
+use Rattle.mq_calls.specs.Limits.{keeps_limits}
+use Rattle.mq_calls.specs.declared.config.Config.{Config}
 use Rattle.mq_cli.specs.declared.fault.RunFault.{RunFault}
 use Rattle.mq_cli.specs.declared.fault.RunFault.TheVariants.{Script, Size, Read, Write, Memory}
 use Rattle.mq_cli.specs.declared.fault.RunFault.TheVariants.{Thread}

@@ -4,22 +4,22 @@ use Rattle.std.specs.Prelude.{length, codes, Option, Some, None, Result, Ok, Err
 use Rattle.std.specs.Fmt.{decimal, signed_decimal}
 use Rattle.mq_tree.specs.Fit.{largest}
 use Rattle.mq_tree.specs.LentSet.{free_pages}
-use Rattle.mq_message.specs.Text.{PlainText}
+use Rattle.mq_arena.specs.Text.{PlainText}
 use Rattle.mq_queue.specs.declared.figures.Figures.{Figures}
 use Rattle.mq_queue.specs.declared.limits.TheConstants.{MSGMAX, MSGMNB}
 use Rattle.mq_table.specs.Kept.{entries_of}
-use Rattle.mq_one_thread.specs.Calls.{msgsnd, msgrcv, rmid, cut_log}
-use Rattle.mq_one_thread.specs.Calls.{set as set_answer, stat as stat_answer}
-use Rattle.mq_one_thread.specs.Get.{msgget}
-use Rattle.mq_one_thread.specs.Names.{errno_name}
-use Rattle.mq_one_thread.specs.State.{QueuesState as System, slot_at}
-use Rattle.mq_one_thread.specs.Usages.{usage_of}
-use Rattle.mq_one_thread.specs.declared.config.Config.{Config}
-use Rattle.mq_one_thread.specs.declared.errno.Errno.{Errno}
-use Rattle.mq_one_thread.specs.declared.errno.Errno.TheVariants.{EINVAL}
-use Rattle.mq_one_thread.specs.declared.results.Delivered.{Delivered}
-use Rattle.mq_one_thread.specs.declared.results.GetFlags.{GetFlags}
-use Rattle.mq_one_thread.specs.declared.usage.Usage.{Usage}
+use Rattle.mq_calls.specs.Calls.{msgsnd, msgrcv, rmid, cut_log}
+use Rattle.mq_calls.specs.Calls.{set as set_answer, stat as stat_answer}
+use Rattle.mq_calls.specs.Get.{msgget}
+use Rattle.mq_calls.specs.Names.{errno_name}
+use Rattle.mq_calls.specs.State.{QueuesState as System, slot_at}
+use Rattle.mq_calls.specs.Usages.{usage_of}
+use Rattle.mq_calls.specs.declared.config.Config.{Config}
+use Rattle.mq_calls.specs.declared.errno.Errno.{Errno}
+use Rattle.mq_calls.specs.declared.errno.Errno.TheVariants.{EINVAL}
+use Rattle.mq_calls.specs.declared.results.Delivered.{Delivered}
+use Rattle.mq_calls.specs.declared.results.GetFlags.{GetFlags}
+use Rattle.mq_calls.specs.declared.usage.Usage.{Usage}
 use Rattle.mq_cli.specs.declared.fault.Cause.{Cause}
 use Rattle.mq_cli.specs.Lines.{lines_of}
 use Rattle.mq_cli.specs.Commands.{AskedCall, sit, show, get, snd, rcv, set, rm, stat, cut, ipcs, info}

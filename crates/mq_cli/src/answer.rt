@@ -7,7 +7,7 @@ ghost use Rattle.mq_cli.specs.Serial.{Answered};
 ghost use Rattle.mq_cli.specs.Transcript.{arena_reply, output, figures_reply, step};
 ghost use Rattle.mq_cli.specs.Transcript.{cut_step, get_step, receive_step, remove_step, send_step};
 ghost use Rattle.mq_cli.specs.Transcript.{set_step};
-ghost use Rattle.mq_one_thread.specs.Calls.{stat as stat_answer};
+ghost use Rattle.mq_calls.specs.Calls.{stat as stat_answer};
 
 use crate::command::{Command, GetCall, ReceiveCall, ReceiveFlags, SendCall};
 use crate::draft::draft;
@@ -17,8 +17,9 @@ use crate::reply::{
 };
 use crate::report::write_report;
 use crate::session::Session;
-use mq_message::Text;
-use mq_one_thread::{Cut, Delivered, DraftError, Errno, OneThread, Removal, SendRefused};
+use mq_arena::Text;
+use mq_calls::{Cut, Delivered, DraftError, Errno, Removal, SendRefused};
+use mq_one_thread::OneThread;
 use mq_table::Id;
 use std::alloc::AllocError;
 use std::sync::ledger::Ledger;

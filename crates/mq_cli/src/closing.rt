@@ -1,7 +1,7 @@
 //! What a run of workers tells at its end.
 
 ghost use Rattle.std.specs.Prelude.{◌≡◌, ◌++◌, IfOk, OnOk};
-ghost use Rattle.mq_one_thread.specs.Closed.{entries_at_end};
+ghost use Rattle.mq_calls.specs.Closed.{entries_at_end};
 ghost use Rattle.mq_cli.specs.Closing.{closing, counts_told, end_name as name_of_end, end_told};
 ghost use Rattle.mq_cli.specs.Closing.{page_line, received_in, sent_in, slot_line};
 ghost use Rattle.mq_cli.specs.Closing.{slot_lines, slot_told, worker_line, worker_lines};
@@ -9,7 +9,7 @@ ghost use Rattle.mq_cli.specs.Closing.{yes_or_no as name_of_answer};
 
 use crate::Outcome;
 use crate::reply::{write_field, write_last};
-use mq_one_thread::{ClosedSlot, Errno};
+use mq_calls::{ClosedSlot, Errno};
 use mq_queue::Event;
 use std::alloc::{AllocError, Global};
 

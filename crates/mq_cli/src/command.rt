@@ -16,7 +16,7 @@ use crate::Cause;
 use crate::form::{are_filled, says_something};
 use crate::number::{integer, key, number};
 use crate::words::Words;
-use mq_one_thread::{GetFlags, MAX_SEATS, MAX_SLOTS};
+use mq_calls::{GetFlags, MAX_SEATS, MAX_SLOTS};
 
 /// The text of a message as a line spells it.
 #[derive(Clone, Copy, Drop)]

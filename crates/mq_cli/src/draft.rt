@@ -6,8 +6,9 @@ ghost use Rattle.mq_cli.specs.Drafts.{letter as letter_at};
 ghost use Rattle.mq_cli.specs.Seen.{text_seen};
 
 use crate::command::TextForm;
-use mq_message::Text;
-use mq_one_thread::{DraftError, OneThread};
+use mq_arena::Text;
+use mq_calls::DraftError;
+use mq_one_thread::OneThread;
 use mq_queue::MSGMAX;
 use std::alloc::{AllocError, Global};
 use std::sync::ledger::Ledger;

@@ -1,6 +1,6 @@
 ghost use Rattle.std.specs.Prelude.{◌≡◌};
 
-use mq_one_thread::{Config, DEFAULTS};
+use mq_calls::{Config, DEFAULTS};
 
 /// The size of the queue system of a script that is given none: an arena of 64 pages, whose
 /// `arena` lines can be followed by hand.

@@ -1,11 +1,11 @@
 ghost use Rattle.std.specs.Prelude.{◌≡◌, ◌<◌, [], MatchResult};
 ghost use Rattle.std.specs.HashMap.{spare};
-ghost use Rattle.mq_one_thread.specs.declared.errno.Errno.TheVariants.{ENOMEM};
+ghost use Rattle.mq_calls.specs.declared.errno.Errno.TheVariants.{ENOMEM};
 ghost use Rattle.mq_cli.specs.Calls.{stream_of};
 ghost use Rattle.mq_cli.specs.Progress.{AreNotes, NotesTag, HoldSame};
 
 use crate::Taken;
-use mq_one_thread::Errno;
+use mq_calls::Errno;
 use mq_table::Id;
 use std::alloc::Global;
 use std::collections::HashMap;

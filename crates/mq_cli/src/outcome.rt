@@ -1,4 +1,4 @@
-use mq_one_thread::Errno;
+use mq_calls::Errno;
 
 /// What became of a worker's plan.
 #[derive(Clone, Copy, Debug, PartialEq, Eq)]

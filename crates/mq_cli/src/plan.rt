@@ -7,7 +7,7 @@ ghost use Rattle.mq_cli.specs.Works.{HasWorked};
 
 use crate::notes::{Notes, Stream};
 use crate::{Outcome, Port, Step};
-use mq_one_thread::Errno;
+use mq_calls::Errno;
 use mq_system::{Forever, Patience, Until};
 use mq_table::Id;
 use std::alloc::Global;

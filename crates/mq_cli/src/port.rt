@@ -1,7 +1,7 @@
 ghost use Rattle.std.specs.Prelude.{◌≡◌, ◌+◌, ℕ, ℤ, MatchResult};
 
 use crate::Taken;
-use mq_one_thread::Errno;
+use mq_calls::Errno;
 use mq_system::Patience;
 use mq_table::Id;
 use std::sync::Wait;
@@ -11,7 +11,7 @@ use std::sync::Wait;
 /// it, what it was told, its answer, and the port after it.
 pub trait Port {
     ghost use Rattle.std.specs.Prelude.{Bool, Result};
-    ghost use Rattle.mq_one_thread.specs.declared.errno.Errno.{Errno};
+    ghost use Rattle.mq_calls.specs.declared.errno.Errno.{Errno};
     ghost use Rattle.mq_cli.specs.declared.taken.Taken.{Taken};
 
     /// What the ports of all workers have in common.

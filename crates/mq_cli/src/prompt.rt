@@ -15,7 +15,7 @@ use crate::serial::run_command;
 use crate::session::Session;
 use crate::{Cause, RunFault};
 use mq_arena::LEDGER_PARTS;
-use mq_one_thread::Config;
+use mq_calls::Config;
 use std::alloc::{AllocError, Global};
 use std::io::{BufRead, ErrorKind, Write};
 use std::marker::Brand;

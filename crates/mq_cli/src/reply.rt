@@ -6,8 +6,8 @@ ghost use Rattle.mq_cli.specs.Transcript.{output, refused, given, at, message, g
 ghost use Rattle.mq_cli.specs.Transcript.{cut_off, in_use, limits_of, usage};
 
 use itoa::{Buffer, Integer};
-use mq_message::Text;
-use mq_one_thread::{Delivered, Errno, Usage};
+use mq_arena::Text;
+use mq_calls::{Delivered, Errno, Usage};
 use mq_queue::{Figures, MSGMAX, MSGMNB};
 use std::alloc::AllocError;
 use std::sync::ledger::Ledger;

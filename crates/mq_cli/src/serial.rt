@@ -15,7 +15,7 @@ use crate::script::read_script;
 use crate::session::Session;
 use crate::{RunFault, SCRIPT_LIMIT};
 use mq_arena::LEDGER_PARTS;
-use mq_one_thread::Config;
+use mq_calls::Config;
 use std::alloc::{AllocError, Global};
 use std::io::{Read, Write};
 use std::marker::Brand;

@@ -2,7 +2,8 @@ ghost use Rattle.std.specs.Prelude.{◌≡◌, IfOk};
 ghost use Rattle.mq_cli.specs.Session.{CanOpen, first_session};
 
 use crate::draft::letters;
-use mq_one_thread::{Config, OneThread};
+use mq_calls::Config;
+use mq_one_thread::OneThread;
 use mq_queue::MSGMAX;
 use std::alloc::{AllocError, Global};
 use std::marker::Model;

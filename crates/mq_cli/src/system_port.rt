@@ -8,8 +8,7 @@ ghost use Rattle.mq_cli.specs.declared.system_port.TheConstants.{LETTERS};
 
 use crate::draft::letters;
 use crate::{Port, Taken};
-use mq_board::Copies;
-use mq_one_thread::{Delivered, DraftError, Errno, Removal, SendRefused};
+use mq_calls::{Delivered, DraftError, Errno, Removal, SendRefused};
 use mq_queue::MSGMAX;
 use mq_system::{Names, Patience, Pledge, RecvFlags, Seat, SendFlags, System, TextOf};
 use mq_table::Id;
@@ -80,7 +79,7 @@ fn bytes_of(letters: &[u8], seat: u16, tag: u64, count: u64) -> &[u8]
 /// The text of these bytes. With `pages` it waits for pages until the patience ends.
 fn draft<N: Names, R: Wait, T: Patience>(
     rt: &R,
-    system: &System<Letters, N, Copies<N>>,
+    system: &System<Letters, N>,
     seat: &Seat<N>,
     bytes: &[u8],
     pages: bool,
@@ -96,7 +95,7 @@ fn draft<N: Names, R: Wait, T: Patience>(
 }
 
 impl<'a, N: Names> Port for SystemPort<'a, N> {
-    type Shared = System<Letters, N, Copies<N>>;
+    type Shared = System<Letters, N>;
 
     ghost calls = { λ p. sum p.seat.now.by_slot };
 
@@ -112,7 +111,7 @@ impl<'a, N: Names> Port for SystemPort<'a, N> {
     fn put<R: Wait, T: Patience>(
         &mut self,
         rt: &R,
-        system: &System<Letters, N, Copies<N>>,
+        system: &System<Letters, N>,
         id: Id,
         mtype: i64,
         tag: u64,
@@ -143,7 +142,7 @@ impl<'a, N: Names> Port for SystemPort<'a, N> {
     fn take<R: Wait, T: Patience>(
         &mut self,
         rt: &R,
-        system: &System<Letters, N, Copies<N>>,
+        system: &System<Letters, N>,
         id: Id,
         msgtyp: i64,
         patience: &mut T,
@@ -179,7 +178,7 @@ impl<'a, N: Names> Port for SystemPort<'a, N> {
     fn remove<R: Wait>(
         &mut self,
         rt: &R,
-        system: &System<Letters, N, Copies<N>>,
+        system: &System<Letters, N>,
         id: Id,
         moment: u64,
     ) -> Result<u64, Errno> {

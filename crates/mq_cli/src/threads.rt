@@ -12,8 +12,7 @@ use crate::script::read_script;
 use crate::system_port::{Letters, letters_of_ports, ports_of};
 use crate::threads_script::{ThreadsScript, read_threads_script};
 use crate::{Outcome, RunFault, Step, run_workers};
-use mq_board::Copies;
-use mq_one_thread::{Closed, ClosedSlot, Config};
+use mq_calls::{Closed, ClosedSlot, Config};
 use mq_system::{Blanks, Names, Seat, System};
 use std::alloc::Global;
 use std::io::{Read, Write};
@@ -65,8 +64,7 @@ fn run_wanted<N: Names + Send + Sync, T: Threads + Wait + Clock + Sync, W: Write
         (W.contents writer.old) (W.contents writer.new) result }
 {
     let sized = Config { seats, ..config };
-    let Ok((system, mut seats)) = System::<Letters, N, Copies<N>>::new(alloc, rt, sized, blanks)
-    else {
+    let Ok((system, mut seats)) = System::<Letters, N>::new(alloc, rt, sized, blanks) else {
         return Err(RunFault::Memory);
     };
     let ran = match seats.split_first_mut() {

@@ -5,7 +5,7 @@ ghost use Rattle.mq_cli.specs.ThreadsScript.{nothing, wanted_of, with_line};
 use crate::lines::Lines;
 use crate::threads_line::read_threads_line;
 use crate::{RunFault, SCRIPT_LIMIT, Step};
-use mq_one_thread::GetFlags;
+use mq_calls::GetFlags;
 use mq_table::Id;
 use std::alloc::{AllocError, Global};
 

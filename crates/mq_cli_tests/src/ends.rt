@@ -4,8 +4,8 @@ ghost use Rattle.std.specs.Prelude.{◌≡◌};
 ghost use Rattle.mq_cli.specs.Plans.{puts_of, takes_of};
 
 use crate::plans::{Call, FOREVER, REMOVE, Wanting, put, put_call, remove, take};
+use mq_calls::Errno;
 use mq_cli::{Outcome, Step, work};
-use mq_one_thread::Errno;
 use mq_table::Id;
 use std::alloc::Global;
 use std::io;

@@ -2,8 +2,8 @@ ghost use Rattle.std.specs.Prelude.{◌≡◌, ◌+◌, length, All, IfOk};
 ghost use Rattle.mq_cli.specs.Plans.{IsCountable};
 
 use crate::plans::{Call, TAKE, one_take};
+use mq_calls::Errno;
 use mq_cli::{Outcome, Port, RunFault, Step, Taken, run_workers};
-use mq_one_thread::Errno;
 use mq_system::Patience;
 use mq_table::Id;
 use std::alloc::{AllocError, Global};

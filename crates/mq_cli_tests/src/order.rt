@@ -1,8 +1,8 @@
 ghost use Rattle.std.specs.Prelude.{◌≡◌, ◌+◌};
 
 use crate::plans::{Call, Stopped, TAKE, take};
+use mq_calls::Errno;
 use mq_cli::{Port, Taken, work};
-use mq_one_thread::Errno;
 use mq_system::Patience;
 use mq_table::Id;
 use std::alloc::Global;

@@ -3,8 +3,8 @@
 ghost use Rattle.std.specs.Prelude.{◌≡◌, ◌+◌, MatchResult, IfOk};
 ghost use Rattle.mq_cli.specs.Plans.{IsCountable, puts_of, takes_of};
 
+use mq_calls::Errno;
 use mq_cli::{Port, Step, Taken};
-use mq_one_thread::Errno;
 use mq_system::Patience;
 use mq_table::Id;
 use std::alloc::{AllocError, Global};

@@ -1,8 +1,8 @@
 use crate::plans::{
     Call, REMOVE, Stopped, TAKE, Wanting, long_put, long_put_call, put, put_call, remove, take,
 };
+use mq_calls::Errno;
 use mq_cli::{Outcome, work};
-use mq_one_thread::Errno;
 use std::alloc::Global;
 use std::sync::Wait;
 

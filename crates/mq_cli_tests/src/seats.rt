@@ -8,10 +8,9 @@ ghost use Rattle.mq_system.specs.Sizes.{AreNames};
 
 use crate::plans::{Call, FOREVER};
 use mq_arena::LEDGER_PARTS;
-use mq_board::Copies;
 use mq_cli::{Letters, Port, SystemPort, Taken, letters_of_ports};
+use mq_message::Selection;
 use mq_queue::{Event, MSGMAX};
-use mq_select::Selection;
 use mq_system::{
     Blanks, Closed, ClosedSlot, Config, Errno, Forever, GetFlags, Names, NoWait, Seat, SysError,
     System,
@@ -384,7 +383,7 @@ fn lived<N: Names, R: Abort + Wait>(
     requires names { AreNames N.Names.own N.Naming blanks config }
     requires enough { LEDGER_PARTS ≤ blanks.pages.parts }
 {
-    let (system, mut seats) = System::<Letters, N, Copies<N>>::new(alloc, rt, config, blanks)?;
+    let (system, mut seats) = System::<Letters, N>::new(alloc, rt, config, blanks)?;
     day(rt, alloc, &system, seats.as_mut_slice());
     let Closed { slots, arena } = system.close(rt, seats);
     Ok(Left {

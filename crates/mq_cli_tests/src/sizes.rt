@@ -1,5 +1,5 @@
-use mq_one_thread::Config;
-pub use mq_one_thread::DEFAULTS;
+use mq_calls::Config;
+pub use mq_calls::DEFAULTS;
 
 /// The same over one page, for runs that are repeated often.
 pub const ONE_PAGE: Config = Config {

@@ -1,13 +1,13 @@
 use Rattle.std.proofs.Common.{◌≡◌, ℕ, Bool, true, false, if◌then◌else◌, Ok, Err, None, refl, ap, sym, ◌∙◌}
 use Rattle.mq_table.specs.Ids.{slot_of}
-use Rattle.mq_one_thread.specs.Look.{Answer, refused_or_memory}
-use Rattle.mq_one_thread.specs.Memory.{or_memory}
-use Rattle.mq_one_thread.specs.State.{QueuesState}
-use Rattle.mq_one_thread.specs.declared.errno.Errno.TheVariants.{ENOMEM}
-use Rattle.mq_one_thread.specs.declared.results.Delivered.{Delivered}
-use Rattle.mq_one_thread.specs.declared.results.Refused.{Refused}
-use Rattle.mq_message.specs.Text.{PlainText}
-use Rattle.mq_one_thread.specs.Calls.{msgsnd, msgrcv}
+use Rattle.mq_calls.specs.Look.{Answer, refused_or_memory}
+use Rattle.mq_calls.specs.Memory.{or_memory}
+use Rattle.mq_calls.specs.State.{QueuesState}
+use Rattle.mq_calls.specs.declared.errno.Errno.TheVariants.{ENOMEM}
+use Rattle.mq_calls.specs.declared.results.Delivered.{Delivered}
+use Rattle.mq_calls.specs.declared.results.Refused.{Refused}
+use Rattle.mq_arena.specs.Text.{PlainText}
+use Rattle.mq_calls.specs.Calls.{msgsnd, msgrcv}
 use Rattle.mq_face.specs.Answers.{changed}
 use Rattle.mq_face.specs.Flags.{has}
 use Rattle.mq_face.specs.Refusals.{blocked, id_named, named, receive_fault, refusal, waits}

@@ -3,10 +3,10 @@
 use Rattle.std.specs.Prelude.{ℕ, ◌-◌, ◌^◌, List, [], ◌∷◌, length, is_some, Some}
 use Rattle.std.specs.Int.{cast_unsigned, from_bool, w32, w64}
 use Rattle.mq_arena.specs.declared.page.TheConstants.{PAGE_LEN}
-use Rattle.mq_message.specs.Text.{PlainText}
+use Rattle.mq_arena.specs.Text.{PlainText}
 use Rattle.mq_queue.specs.declared.figures.Figures.{Figures}
 use Rattle.mq_queue.specs.declared.limits.TheConstants.{MSGMAX, MSGMNB}
-use Rattle.mq_one_thread.specs.declared.usage.Usage.{Usage}
+use Rattle.mq_calls.specs.declared.usage.Usage.{Usage}
 use Rattle.mq_face.specs.declared.answer.Done.{Done}
 use Rattle.mq_face.specs.declared.answer.ReceivedMessage.{ReceivedMessage}
 use Rattle.mq_face.specs.declared.answer.Shown.{Shown}

@@ -5,10 +5,10 @@ use Rattle.mq_queue.specs.declared.figures.BoardRow.{BoardRow}
 use Rattle.mq_queue.specs.declared.figures.Figures.{Figures}
 use Rattle.mq_table.specs.Ids.{id_of, slot_of}
 use Rattle.mq_table.specs.KeptShown.{row_now}
-use Rattle.mq_one_thread.specs.State.{QueuesState, slot_at}
-use Rattle.mq_one_thread.specs.Usages.{usage_of}
-use Rattle.mq_one_thread.specs.declared.errno.Errno.{Errno}
-use Rattle.mq_one_thread.specs.declared.errno.Errno.TheVariants.{EINVAL}
+use Rattle.mq_calls.specs.State.{QueuesState, slot_at}
+use Rattle.mq_calls.specs.Usages.{usage_of}
+use Rattle.mq_calls.specs.declared.errno.Errno.{Errno}
+use Rattle.mq_calls.specs.declared.errno.Errno.TheVariants.{EINVAL}
 use Rattle.mq_face.specs.Refusals.{fault, gone, refusal}
 use Rattle.mq_face.specs.declared.answer.Done.{Done}
 use Rattle.mq_face.specs.declared.answer.Shown.{Shown}

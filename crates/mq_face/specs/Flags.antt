@@ -1,6 +1,6 @@
 -- The flags of a call.
 use Rattle.std.specs.Prelude.{ℕ, ◌==◌, bit_and, Bool, not}
-use Rattle.mq_one_thread.specs.declared.results.GetFlags.{GetFlags}
+use Rattle.mq_calls.specs.declared.results.GetFlags.{GetFlags}
 use Rattle.mq_face.specs.declared.manual.TheConstants.{IPC_CREAT, IPC_EXCL}
 
 -- whether the flags have this one

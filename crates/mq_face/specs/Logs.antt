@@ -1,8 +1,8 @@
 -- When a slot's log is cut off.
 use Rattle.std.specs.Prelude.{◌≡◌, ℕ, ◌==◌, ◌%◌, ◌-◌, nat_lt, Bool, true, false, ◌&&◌, length}
 use Rattle.std.specs.Prelude.{Option, Some, None}
-use Rattle.mq_one_thread.specs.Calls.{cut_log}
-use Rattle.mq_one_thread.specs.State.{QueuesState}
+use Rattle.mq_calls.specs.Calls.{cut_log}
+use Rattle.mq_calls.specs.State.{QueuesState}
 use Rattle.mq_face.specs.declared.log.TheConstants.{LOG_BOUND}
 
 -- after each so many entries of a slot that is there

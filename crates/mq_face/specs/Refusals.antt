@@ -2,9 +2,9 @@
 use Rattle.std.specs.Prelude.{ℕ, ℤ, pos, negsuc, nat_lt, Bool, false, not, ◌||◌}
 use Rattle.std.specs.Prelude.{if◌then◌else◌, Option, Some, None, Result, Ok, Err}
 use Rattle.mq_table.specs.Ids.{slot_of}
-use Rattle.mq_one_thread.specs.Names.{errno_number}
-use Rattle.mq_one_thread.specs.declared.errno.Errno.{Errno}
-use Rattle.mq_one_thread.specs.declared.errno.Errno.TheVariants.{EINVAL, EIDRM, EAGAIN, ENOMSG}
+use Rattle.mq_calls.specs.Names.{errno_number}
+use Rattle.mq_calls.specs.declared.errno.Errno.{Errno}
+use Rattle.mq_calls.specs.declared.errno.Errno.TheVariants.{EINVAL, EIDRM, EAGAIN, ENOMSG}
 use Rattle.mq_face.specs.Flags.{has}
 use Rattle.mq_face.specs.declared.call.Call.{Call}
 use Rattle.mq_face.specs.declared.manual.TheConstants.{EFAULT, ENOSYS, SSIZE_MAX}

@@ -2,22 +2,22 @@
 use Rattle.std.specs.Prelude.{ℕ, ℤ, pos, int_lt, nat_lt, ◌*◌, ◌^◌, ◌||◌, Bool, if◌then◌else◌}
 use Rattle.std.specs.Prelude.{Option, Some, None, Result, Ok, Err}
 use Rattle.mq_arena.specs.declared.page.TheConstants.{PAGE_LEN}
-use Rattle.mq_message.specs.Text.{PlainText}
+use Rattle.mq_arena.specs.Text.{PlainText}
 use Rattle.mq_queue.specs.declared.figures.Figures.{Figures}
 use Rattle.mq_table.specs.Ids.{slot_of}
-use Rattle.mq_one_thread.specs.Calls.{msgsnd, msgrcv, rmid, set, stat}
-use Rattle.mq_one_thread.specs.Get.{msgget}
-use Rattle.mq_one_thread.specs.Look.{Answer}
-use Rattle.mq_one_thread.specs.Names.{errno_number}
+use Rattle.mq_calls.specs.Calls.{msgsnd, msgrcv, rmid, set, stat}
+use Rattle.mq_calls.specs.Get.{msgget}
+use Rattle.mq_calls.specs.Look.{Answer}
+use Rattle.mq_calls.specs.Names.{errno_number}
 use Rattle.mq_one_thread.specs.Outcome.{Answers}
-use Rattle.mq_one_thread.specs.State.{QueuesState, with_arena}
-use Rattle.mq_one_thread.specs.Texts.{drafts, spends}
-use Rattle.mq_one_thread.specs.declared.draft_error.DraftError.{DraftError}
-use Rattle.mq_one_thread.specs.declared.draft_error.DraftError.TheVariants as draft
-use Rattle.mq_one_thread.specs.declared.errno.Errno.{Errno}
-use Rattle.mq_one_thread.specs.declared.errno.Errno.TheVariants.{EINVAL, ENOMEM}
-use Rattle.mq_one_thread.specs.declared.results.Delivered.{Delivered}
-use Rattle.mq_one_thread.specs.declared.results.Got.{Got}
+use Rattle.mq_calls.specs.State.{QueuesState, with_arena}
+use Rattle.mq_calls.specs.Texts.{drafts, spends}
+use Rattle.mq_calls.specs.declared.draft_error.DraftError.{DraftError}
+use Rattle.mq_calls.specs.declared.draft_error.DraftError.TheVariants as draft
+use Rattle.mq_calls.specs.declared.errno.Errno.{Errno}
+use Rattle.mq_calls.specs.declared.errno.Errno.TheVariants.{EINVAL, ENOMEM}
+use Rattle.mq_calls.specs.declared.results.Delivered.{Delivered}
+use Rattle.mq_calls.specs.declared.results.Got.{Got}
 use Rattle.mq_face.specs.Answers.{changed}
 use Rattle.mq_face.specs.Commands.{command_of, info_reply, slot_reply, stat_reply}
 use Rattle.mq_face.specs.Flags.{has, get_flags}

@@ -3,9 +3,9 @@ ghost use Rattle.mq_face.specs.Answers.{changed, done_numbers, received_numbers}
 ghost use Rattle.mq_face.specs.Answers.{refusal_numbers, shown_kind, shown_numbers};
 
 use crate::{Refusal, Wait};
-use mq_arena::PAGE_LEN;
-use mq_message::{Body, Text};
-use mq_one_thread::Usage;
+use mq_arena::{PAGE_LEN, Text};
+use mq_calls::Usage;
+use mq_message::Body;
 use mq_queue::{Figures, MSGMAX, MSGMNB};
 use std::sync::ledger::Ledger;
 

@@ -1,13 +1,14 @@
 ghost use Rattle.std.specs.Prelude.{◌≡◌, ◌<◌, ◌≤◌, ◌+◌};
 ghost use Rattle.mq_table.specs.declared.limits.TheConstants.{MAX_SEQ, MAX_SLOTS};
-ghost use Rattle.mq_one_thread.specs.Calls.{stat as stat_answer};
+ghost use Rattle.mq_calls.specs.Calls.{stat as stat_answer};
 ghost use Rattle.mq_face.specs.Turns.{AnswersTurn, control_turn, remove_turn, set_turn};
 ghost use Rattle.mq_face.specs.Commands.{info_reply, row_reply, show, slot_reply, stat_reply};
 
 use crate::manual::{EFAULT, SEAT};
 use crate::refusal::{gone, id_of};
 use crate::{Call, ControlCommand, Done, Refusal, Shown};
-use mq_one_thread::{Errno, OneThread, Removal};
+use mq_calls::{Errno, Removal};
+use mq_one_thread::OneThread;
 use mq_queue::BoardRow;
 use mq_table::{Id, MAX_SEQ, MAX_SLOTS};
 use std::sync::ledger::Ledger;

@@ -4,7 +4,8 @@ ghost use Rattle.mq_face.specs.Flags.{get_flags};
 
 use crate::manual::{IPC_CREAT, IPC_EXCL, SEAT};
 use crate::{Call, Done, Refusal, Shown};
-use mq_one_thread::{GetFlags, Got, OneThread};
+use mq_calls::{GetFlags, Got};
+use mq_one_thread::OneThread;
 use std::sync::ledger::Ledger;
 
 /// The id of the queue with this key, or of a new queue (msgget(2)).

@@ -6,7 +6,7 @@ ghost use Rattle.mq_face.specs.Bytes.{bytes_of_numbers, numbers_in};
 ghost use Rattle.mq_face.specs.Layout.{call_of, numbers_of};
 
 use crate::{Call, Done, Refusal};
-use mq_one_thread::Usage;
+use mq_calls::Usage;
 use mq_queue::Figures;
 
 /// Each call is read back from its numbers, and these from their bytes.

@@ -7,8 +7,9 @@ use crate::manual::{
 };
 use crate::refusal::{blocked, id_of};
 use crate::{Call, ReceivedMessage, Refusal};
-use mq_message::Text;
-use mq_one_thread::{Delivered, Errno, OneThread};
+use mq_arena::Text;
+use mq_calls::{Delivered, Errno};
+use mq_one_thread::OneThread;
 use mq_table::Id;
 use std::sync::ledger::Ledger;
 

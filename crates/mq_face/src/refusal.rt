@@ -6,7 +6,7 @@ ghost use Rattle.mq_face.specs.declared.manual.TheConstants.{ENOSYS, IPC_NOWAIT}
 
 use crate::Call;
 use crate::manual::{ENOSYS, IPC_NOWAIT};
-use mq_one_thread::Errno;
+use mq_calls::Errno;
 use mq_table::Id;
 
 /// For what a call that is refused waits, before it is made again.

@@ -1,14 +1,14 @@
 ghost use Rattle.std.specs.Prelude.{◌≡◌};
-ghost use Rattle.mq_one_thread.specs.Calls.{stat as stat_answer};
+ghost use Rattle.mq_calls.specs.Calls.{stat as stat_answer};
 ghost use Rattle.mq_face.specs.Turns.{AnswersTurn, draft_turn, never_fits};
 ghost use Rattle.mq_face.specs.Turns.{send_turn, with_text_spent, without_pages};
 
 use crate::manual::{EFAULT, IPC_NOWAIT, SEAT};
 use crate::refusal::{blocked, gone, id_of};
 use crate::{Call, Done, Refusal, Wait};
-use mq_arena::PAGE_LEN;
-use mq_message::Text;
-use mq_one_thread::{DraftError, Errno, OneThread, SendRefused};
+use mq_arena::{PAGE_LEN, Text};
+use mq_calls::{DraftError, Errno, SendRefused};
+use mq_one_thread::OneThread;
 use mq_table::Id;
 use std::sync::ledger::Ledger;
 

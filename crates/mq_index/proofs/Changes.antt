@@ -9,7 +9,7 @@ use Rattle.std.proofs.lemmas.Bool.Decides.{nat_tests}
 use Rattle.std.proofs.lemmas.List.{append-nil}
 use Rattle.std.proofs.lemmas.List.Elements.{filter-append}
 use Rattle.std.proofs.lemmas.List.Folds.{find-append}
-use Rattle.mq_select.specs.Waiting.{message_at}
+use Rattle.mq_message.specs.Waiting.{message_at}
 use Rattle.mq_index.specs.Index.{first_place, merged, of_type, queue_at, queue_of, unless_empty, IsIndex}
 use Rattle.mq_index.proofs.Merging.{at_is, int_eq-here, int_eq-same, merged_is, rising_append}
 

@@ -13,7 +13,7 @@ use Rattle.std.proofs.lemmas.List.Kept.{AllPairs-cons}
 use Rattle.std.proofs.lemmas.Map.Entries.{length-keys_of}
 use Rattle.std.proofs.lemmas.Map.Keys.{IsDistinct-cons}
 use Rattle.std.proofs.lemmas.Map.Made.{is_some-lookup, length-from_same_keys}
-use Rattle.mq_select.specs.Waiting.{message_at}
+use Rattle.mq_message.specs.Waiting.{message_at}
 use Rattle.mq_index.specs.Index.{IsRising}
 
 -- places that rise, by index

@@ -7,7 +7,7 @@ use Rattle.std.proofs.lemmas.Bool.Decides.{nat_tests}
 use Rattle.std.proofs.lemmas.List.{append-nil, append_assoc}
 use Rattle.std.proofs.lemmas.List.Elements.{All-nil, All-cons, All-head, All-tail, filter-append, recursion_from_All}
 use Rattle.std.proofs.lemmas.List.Folds.{find-append}
-use Rattle.mq_select.specs.Waiting.{message_at, without, Listed}
+use Rattle.mq_message.specs.Waiting.{message_at, without, Listed}
 use Rattle.mq_index.specs.Index.{some_wait, IsRising}
 use Rattle.mq_index.specs.Layered.{reaches, room_for}
 use Rattle.mq_index.specs.Same.{Same}

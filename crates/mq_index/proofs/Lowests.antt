@@ -10,11 +10,11 @@ use Rattle.std.proofs.lemmas.Int.{ints}
 use Rattle.std.proofs.lemmas.List.Elements.{All-head, All-tail}
 use Rattle.std.proofs.lemmas.List.{length-map}
 use Rattle.std.proofs.lemmas.Map.Keys.{sorted_head, sorted_tail}
-use Rattle.mq_select.specs.declared.selection.Selection.TheVariants.{UpTo}
-use Rattle.mq_select.specs.Laws.{IsLowest}
-use Rattle.mq_select.specs.Selection.{least_of, pick}
-use Rattle.mq_select.proofs.Lowest.{finds_lowest}
-use Rattle.mq_select.proofs.Places.{find_none}
+use Rattle.mq_message.specs.declared.selection.Selection.TheVariants.{UpTo}
+use Rattle.mq_message.specs.Laws.{IsLowest}
+use Rattle.mq_message.specs.Selection.{least_of, pick}
+use Rattle.mq_message.proofs.Lowest.{finds_lowest}
+use Rattle.mq_message.proofs.Places.{find_none}
 use Rattle.mq_index.specs.Index.{of_type, queue_of, some_wait, IsIndex}
 use Rattle.mq_index.proofs.Merging.{at_is, int_eq-here, int_eq-same}
 

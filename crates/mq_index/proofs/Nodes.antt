@@ -5,7 +5,7 @@ use Rattle.std.specs.Option.{option_map, option_map_or}
 use Rattle.std.proofs.lemmas.List.{length-map, map-append}
 use Rattle.std.proofs.lemmas.Option.{slice_get-map}
 use Rattle.indexmap.proofs.SetLemmas.{map-remove}
-use Rattle.mq_select.specs.Waiting.{message_at}
+use Rattle.mq_message.specs.Waiting.{message_at}
 use Rattle.mq_index.specs.Queue.{in_nodes}
 
 -- each node is filled

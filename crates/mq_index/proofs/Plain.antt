@@ -1,7 +1,7 @@
 -- Small facts of lists and options.
 use Rattle.std.proofs.Common.{◌≡◌, ℕ, ℤ, Option, IsSome, List, Bor, MutBor, arith}
 use Rattle.std.specs.Option.{option_copied, option_copied_mut}
-use Rattle.mq_select.specs.Waiting.{message_at}
+use Rattle.mq_message.specs.Waiting.{message_at}
 use Rattle.mq_index.specs.Index.{queue_at, queue_of}
 
 -- where a message waits in the queue of a type, there is such a queue

@@ -4,17 +4,17 @@ use Rattle.std.specs.Option.{option_map, option_map_or, option_or}
 use Rattle.std.specs.Ordering.{int_eq}
 use Rattle.std.proofs.lemmas.Int.{ints}
 use Rattle.std.proofs.lemmas.List.Elements.{All-nil, All-cons, All-head, All-tail, All-map, filter-append}
-use Rattle.mq_select.specs.declared.selection.Selection.{Selection}
-use Rattle.mq_select.specs.declared.selection.Selection.TheVariants.{Any, Exact, Except, UpTo}
-use Rattle.mq_select.specs.Selection.{eligible, least_of, lower_of, pick}
+use Rattle.mq_message.specs.declared.selection.Selection.{Selection}
+use Rattle.mq_message.specs.declared.selection.Selection.TheVariants.{Any, Exact, Except, UpTo}
+use Rattle.mq_message.specs.Selection.{eligible, least_of, lower_of, pick}
 use Rattle.mq_index.specs.Same.{picks}
 use Rattle.mq_index.proofs.Merging.{int_eq-here, int_eq-same}
 use Rattle.std.proofs.lemmas.List.{map-append}
 use Rattle.std.proofs.lemmas.List.Folds.{find-append}
 use Rattle.std.proofs.lemmas.List.Sums.{fold-append}
-use Rattle.mq_select.specs.Laws.{IsLowest}
-use Rattle.mq_select.proofs.Lowest.{finds_lowest}
-use Rattle.mq_select.proofs.Places.{find_none}
+use Rattle.mq_message.specs.Laws.{IsLowest}
+use Rattle.mq_message.proofs.Lowest.{finds_lowest}
+use Rattle.mq_message.proofs.Places.{find_none}
 use Rattle.mq_index.specs.Layered.{prefers}
 
 -- the types that are at most the bound

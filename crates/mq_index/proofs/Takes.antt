@@ -6,7 +6,7 @@ use Rattle.std.specs.Map.{keys_of}
 use Rattle.std.specs.Option.{option_map, IsSomeAnd}
 use Rattle.std.specs.Ordering.{int_cmp, int_eq}
 use Rattle.std.proofs.lemmas.Bool.Decides.{nat_tests}
-use Rattle.mq_select.specs.Waiting.{message_at, without}
+use Rattle.mq_message.specs.Waiting.{message_at, without}
 use Rattle.mq_index.specs.Index.{first_place, of_type, queue_at, queue_of, unless_empty, IsIndex, IsRising}
 use Rattle.mq_index.proofs.Changes.{settled, IsSettled}
 use Rattle.mq_index.proofs.Firsts.{filter_later, first_is, found_kept, none_kept}

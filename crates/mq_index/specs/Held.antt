@@ -1,6 +1,6 @@
 -- Waiting messages in a list or in a list by type.
 use Rattle.std.specs.Prelude.{ℕ, Bool, length, nat_lt}
-use Rattle.mq_select.specs.Waiting.{Listed}
+use Rattle.mq_message.specs.Waiting.{Listed}
 use Rattle.mq_index.specs.declared.index.WaitingForm.{WaitingForm}
 use Rattle.mq_index.specs.declared.index.WaitingForm.TheVariants.{Few, Many}
 

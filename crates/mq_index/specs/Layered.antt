@@ -4,10 +4,10 @@ use Rattle.std.specs.Prelude.{Option, Some, List, [], ◌∷◌}
 use Rattle.std.specs.Option.{option_map_or}
 use Rattle.std.specs.Ordering.{int_eq}
 use Rattle.mq_message.specs.declared.message.Message.{Message}
-use Rattle.mq_select.specs.declared.selection.Selection.{Selection}
-use Rattle.mq_select.specs.declared.selection.Selection.TheVariants.{Any, Exact, Except, UpTo}
-use Rattle.mq_select.specs.Selection.{least_of}
-use Rattle.mq_select.specs.Waiting.{Listed}
+use Rattle.mq_message.specs.declared.selection.Selection.{Selection}
+use Rattle.mq_message.specs.declared.selection.Selection.TheVariants.{Any, Exact, Except, UpTo}
+use Rattle.mq_message.specs.Selection.{least_of}
+use Rattle.mq_message.specs.Waiting.{Listed}
 use Rattle.mq_index.specs.Index.{some_wait, IsRising}
 use Rattle.mq_index.specs.Same.{Same}
 

@@ -2,7 +2,7 @@
 use Rattle.std.specs.Prelude.{◌≡◌, ℕ, ℤ, ◌<◌, ◌++◌, ◌∷◌, [], All, List, IfNone, OnErr, OnOk}
 use Rattle.std.specs.Prelude.{Option, Some, None, Result, option_to_list}
 use Rattle.mq_message.specs.declared.message.Message.{Message}
-use Rattle.mq_select.specs.Waiting.{message_at, without, Listed}
+use Rattle.mq_message.specs.Waiting.{message_at, without, Listed}
 
 -- nothing waits, and there is no room
 pub record IsFresh {B : Type 0} (new : Listed B) : Type 0 where

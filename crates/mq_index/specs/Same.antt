@@ -2,9 +2,9 @@
 use Rattle.std.specs.Prelude.{◌≡◌, ℕ, ℤ, pos, int_le, Bool, true, not, Option, List}
 use Rattle.std.specs.Ordering.{int_eq}
 use Rattle.mq_message.specs.declared.message.Message.{Message}
-use Rattle.mq_select.specs.declared.selection.Selection.{Selection}
-use Rattle.mq_select.specs.declared.selection.Selection.TheVariants.{Any, Exact, Except, UpTo}
-use Rattle.mq_select.specs.Waiting.{Listed}
+use Rattle.mq_message.specs.declared.selection.Selection.{Selection}
+use Rattle.mq_message.specs.declared.selection.Selection.TheVariants.{Any, Exact, Except, UpTo}
+use Rattle.mq_message.specs.Waiting.{Listed}
 
 -- the messages, the prepared type, if there is one, and the type that all of the messages have
 pub record Same (B : Type 0) : Type 0 where

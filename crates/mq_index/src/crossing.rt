@@ -8,8 +8,7 @@ ghost use Rattle.mq_index.specs.Crossing.{HaveMoved};
 ghost use Rattle.mq_index.specs.Outcome.{HasCrossed};
 
 use crate::Layered;
-use mq_message::Body;
-use mq_select::{ListWaiting, Placed, Selection, Waiting};
+use mq_message::{Body, ListWaiting, Placed, Selection, Waiting};
 use std::alloc::{AllocError, Global};
 use std::collections::VecDeque;
 

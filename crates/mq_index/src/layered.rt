@@ -1,14 +1,13 @@
 ghost use Rattle.std.specs.Prelude.{◌≡◌, ◌<◌, ◌++◌, [], All, AllPairs, OnErr, OnOk, Some};
 ghost use Rattle.std.specs.Prelude.{false, length, map, nat_lt};
 ghost use Rattle.std.specs.Option.{option_map};
-ghost use Rattle.mq_select.specs.Selection.{pick};
+ghost use Rattle.mq_message.specs.Selection.{pick};
 ghost use Rattle.mq_index.specs.Layered.{joins, prefers, reaches, room_for};
 ghost use Rattle.mq_index.specs.Outcome.{CanPut, HasCrossed, IsFresh, IsPopped, IsPut};
 
 use crate::ByType;
 use crate::same::SameType;
-use mq_message::{Body, Message};
-use mq_select::{Header, ListWaiting, Selection, Waiting};
+use mq_message::{Body, Header, ListWaiting, Message, Selection, Waiting};
 use std::alloc::{AllocError, Global};
 use std::marker::Model;
 
@@ -26,7 +25,7 @@ pub struct Layered<B> {
 
 impl<B> Model for Layered<B> {
     ghost use Rattle.std.specs.Prelude.{◌++◌};
-    ghost use Rattle.mq_select.specs.Waiting.{Listed};
+    ghost use Rattle.mq_message.specs.Waiting.{Listed};
     ghost use Rattle.mq_index.specs.Layered.{IsLayered};
 
     ghost Value = { Listed B };

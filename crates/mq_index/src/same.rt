@@ -1,12 +1,11 @@
 ghost use Rattle.std.specs.Prelude.{◌≡◌, [], All, IfOk, IfSome, IsSome, length};
 ghost use Rattle.std.specs.Option.{option_map, ForSome};
-ghost use Rattle.mq_select.specs.Selection.{pick};
-ghost use Rattle.mq_select.specs.Waiting.{headers_of, message_at};
+ghost use Rattle.mq_message.specs.Selection.{pick};
+ghost use Rattle.mq_message.specs.Waiting.{headers_of, message_at};
 ghost use Rattle.mq_index.specs.Outcome.{CanPut, IsFresh, IsPrepared, IsPut, IsTaken};
 ghost use Rattle.mq_index.specs.Same.{listed_of, picks, KeepsType};
 
-use mq_message::{Body, Message};
-use mq_select::{Header, ListWaiting, Selection, Waiting};
+use mq_message::{Body, Header, ListWaiting, Message, Selection, Waiting};
 use std::alloc::{AllocError, Global};
 use std::marker::Model;
 use std::mem;

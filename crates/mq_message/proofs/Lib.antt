@@ -1,7 +1,3 @@
-pub mod Drafts
-pub mod Loans
-pub mod Orders
-pub mod Pages
-pub mod Parts
-pub mod Texts
-pub mod Written
+pub mod FirstLowest
+pub mod Lowest
+pub mod Places

@@ -1,3 +1,5 @@
-pub mod Held
-pub mod Lends
-pub mod Text
+pub mod Laws
+pub mod Lowest
+pub mod Selection
+pub mod Waiting
+pub mod Worked

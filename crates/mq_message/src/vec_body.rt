@@ -1,4 +1,4 @@
-ghost use Rattle.std.specs.Prelude.{◌≡◌, None, IfOk, take};
+ghost use Rattle.std.specs.Prelude.{◌≡◌, IfOk, take};
 
 use crate::Body;
 use std::alloc::{AllocError, Global};
@@ -11,18 +11,17 @@ pub struct VecBody {
 }
 
 impl Model for VecBody {
-    ghost use Rattle.std.specs.Prelude.{None};
-    ghost use Rattle.mq_message.specs.Text.{PlainText};
+    ghost use Rattle.std.specs.Prelude.{List, ℕ};
 
-    ghost Value = { PlainText };
+    ghost Value = { List ℕ };
 
-    ghost view = { λ body. record { bytes = body.bytes.items; block = None } };
+    ghost view = { λ body. body.bytes.items };
 }
 
 impl VecBody {
     /// A body with a copy of these bytes.
     pub fn from_slice(alloc: Global, bytes: &[u8]) -> Result<VecBody, AllocError>
-        ensures ok { IfOk result (λ body. body ≡ record { bytes = bytes.now; block = None }) }
+        ensures ok { IfOk result (λ body. body ≡ bytes.now) }
     {
         Ok(VecBody {
             bytes: bytes.to_vec(alloc)?,
@@ -31,20 +30,20 @@ impl VecBody {
 
     /// A body of these very bytes.
     pub fn from_vec(bytes: Vec<u8>) -> VecBody
-        ensures { result ≡ record { bytes = bytes.items; block = None } }
+        ensures { result ≡ bytes.items }
     {
         VecBody { bytes }
     }
 
     pub fn bytes(&self) -> &[u8]
-        ensures { result.now ≡ self.now.bytes }
+        ensures { result.now ≡ self.now }
     {
         self.bytes.as_slice()
     }
 }
 
 impl Body for VecBody {
-    ghost bytes = { λ body. body.bytes };
+    ghost bytes = { λ body. body };
 
     ghost keeps = { λ _ _. Unit {0} };
 

@@ -11,14 +11,14 @@ use Rattle.mq_arena.specs.Lent.{lend, with_lent}
 use Rattle.mq_arena.specs.declared.limits.TheConstants.{INLINE_ORDER}
 use Rattle.mq_arena.specs.declared.take_error.TakeError.{TakeError}
 use Rattle.mq_arena.specs.declared.take_error.TakeError.TheVariants as take
-use Rattle.mq_message.specs.declared.order.TheConstants.{INLINE_LEN}
-use Rattle.mq_message.specs.Text.{PlainText, no_text, order_for, text_in}
+use Rattle.mq_arena.specs.declared.order.TheConstants.{INLINE_LEN}
+use Rattle.mq_arena.specs.Text.{PlainText, no_text, order_for, text_in}
 use Rattle.mq_queue.specs.declared.limits.TheConstants.{MSGMAX}
-use Rattle.mq_one_thread.specs.State.{QueuesState, with_arena}
-use Rattle.mq_one_thread.specs.Memory.{or_memory}
-use Rattle.mq_one_thread.specs.Texts.{by_take, in_block, drafts, drafts_of, spends, filled_with, zeros_lent}
-use Rattle.mq_one_thread.specs.declared.draft_error.DraftError.{DraftError}
-use Rattle.mq_one_thread.specs.declared.draft_error.DraftError.TheVariants.{TooLong, NoRun, Memory}
+use Rattle.mq_calls.specs.State.{QueuesState, with_arena}
+use Rattle.mq_calls.specs.Memory.{or_memory}
+use Rattle.mq_calls.specs.Texts.{by_take, in_block, drafts, drafts_of, spends, filled_with, zeros_lent}
+use Rattle.mq_calls.specs.declared.draft_error.DraftError.{DraftError}
+use Rattle.mq_calls.specs.declared.draft_error.DraftError.TheVariants.{TooLong, NoRun, Memory}
 
 -- what is answered where the arena answers this
 abbrev pub answer_of : QueuesState → Option (PlainText × Lending)

@@ -6,7 +6,7 @@ use Rattle.std.proofs.lemmas.List.Elements.{All-contains, All-contains_itself, A
 use Rattle.std.proofs.lemmas.List.Quantifiers.{any-set}
 use Rattle.std.proofs.lemmas.Bool.{cases_eq, ne_eqb}
 use Rattle.std.proofs.lemmas.Bool.Decides.{Decides-int_eq, nat_tests}
-use Rattle.mq_message.specs.Text.{PlainText}
+use Rattle.mq_arena.specs.Text.{PlainText}
 use Rattle.mq_queue.specs.declared.base.Base.{Base}
 use Rattle.mq_queue.specs.declared.event.Event.{Event}
 use Rattle.mq_queue.specs.Base.{base_after}
@@ -23,7 +23,7 @@ use Rattle.mq_table.proofs.OneMore.{IsOneMore}
 use Rattle.mq_table.proofs.Turned.{IsHeld, cuts_held, makes_held, more_held, removes_held}
 use Rattle.mq_one_thread.specs.Holds.{HasQueue, AreKeysOf}
 use Rattle.mq_one_thread.specs.Kept.{IsKept}
-use Rattle.mq_one_thread.specs.Texts.{bytes_of}
+use Rattle.mq_calls.specs.Texts.{bytes_of}
 
 -- a list in which t takes the place of the element at k
 module _ {X : Type 0} (P : X → Type 0) (xs : List X) (k : ℕ) (within : k < length xs) (old t d : X)

@@ -2,15 +2,15 @@
 use Rattle.std.proofs.Common.{◌≡◌, ℕ, false, [], refl, sym, ◌∙◌, true≢false, arith, All, Any}
 use Rattle.std.specs.List.{range_with_len}
 use Rattle.std.proofs.lemmas.List.Elements.{All-map}
-use Rattle.mq_message.specs.Text.{PlainText}
+use Rattle.mq_arena.specs.Text.{PlainText}
 use Rattle.mq_table.specs.Kept.{KeptSlot, is_live_kept}
 use Rattle.mq_table.specs.KeptPart.{IsLawfulSlot, WaitsNow}
 use Rattle.mq_table.specs.SlotList.{IsSlotList}
 use Rattle.mq_table.specs.SlotParts.{empty_kept}
 use Rattle.mq_table.proofs.KeptTurns.{none_kept}
 use Rattle.mq_one_thread.specs.Holds.{HasQueue, AreKeysOf}
-use Rattle.mq_one_thread.specs.Limits.{empty_slots}
-use Rattle.mq_one_thread.specs.Texts.{bytes_of}
+use Rattle.mq_calls.specs.Limits.{empty_slots}
+use Rattle.mq_calls.specs.Texts.{bytes_of}
 
 -- what holds of each empty slot, holds of all
 all_new : (P : KeptSlot PlainText → Type 0) → ((k : ℕ) → P (empty_kept k)) → (count : ℕ)

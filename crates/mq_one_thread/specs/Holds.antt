@@ -1,6 +1,6 @@
 -- What holds of the keys of a queue system.
 use Rattle.std.specs.Prelude.{◌≡◌, ◌≢◌, ◌↔◌, ℕ, ℤ, pos, true, List, Any, Contains}
-use Rattle.mq_message.specs.Text.{PlainText}
+use Rattle.mq_arena.specs.Text.{PlainText}
 use Rattle.mq_table.specs.Kept.{KeptSlot, is_live_kept}
 use Rattle.mq_table.specs.KeptShown.{last_id_now}
 

@@ -1,12 +1,12 @@
 -- What a queue system keeps true.
 use Rattle.std.specs.Prelude.{◌≡◌, ℕ, ℤ, ◌<◌, ◌≤◌, List, [], length, slice_index_or, All}
-use Rattle.mq_message.specs.Text.{PlainText}
+use Rattle.mq_arena.specs.Text.{PlainText}
 use Rattle.mq_table.specs.Kept.{KeptSlot}
 use Rattle.mq_table.specs.KeptPart.{IsLawfulSlot, WaitsNow}
 use Rattle.mq_table.specs.SlotParts.{empty_kept}
 use Rattle.mq_table.specs.declared.limits.TheConstants.{MAX_SLOTS, MAX_SEQ}
 use Rattle.mq_one_thread.specs.Holds.{AreKeysOf}
-use Rattle.mq_one_thread.specs.Texts.{bytes_of}
+use Rattle.mq_calls.specs.Texts.{bytes_of}
 
 -- each slot has the number of its index, keeps its part of a slot list up to the system's last seq,
 -- and has waiting what that part leaves waiting; the key table has the keys of the queues in the

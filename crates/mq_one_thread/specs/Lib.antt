@@ -1,14 +1,3 @@
-pub mod Answer
-pub mod Calls
-pub mod Closed
-pub mod Get
 pub mod Holds
 pub mod Kept
-pub mod Limits
-pub mod Look
-pub mod Memory
-pub mod Names
 pub mod Outcome
-pub mod State
-pub mod Texts
-pub mod Usages

@@ -1,15 +1,15 @@
 -- How a call turns out: it answers and leaves what its definition says, or it is refused.
 use Rattle.std.specs.Prelude.{◌≡◌, ℕ, Result, Ok, Err}
-use Rattle.mq_message.specs.Text.{PlainText}
+use Rattle.mq_arena.specs.Text.{PlainText}
 use Rattle.mq_table.specs.Cut.{cut_shown}
 use Rattle.mq_table.specs.declared.cut.Cut.{Cut}
-use Rattle.mq_one_thread.specs.Calls.{cut_log}
-use Rattle.mq_one_thread.specs.Look.{Answer, refused_in}
-use Rattle.mq_one_thread.specs.Memory.{or_memory}
-use Rattle.mq_one_thread.specs.State.{QueuesState}
-use Rattle.mq_one_thread.specs.declared.errno.Errno.TheVariants.{ENOMEM}
-use Rattle.mq_one_thread.specs.declared.results.Refused.{Refused}
-use Rattle.mq_one_thread.specs.declared.results.SendRefused.{SendRefused}
+use Rattle.mq_calls.specs.Calls.{cut_log}
+use Rattle.mq_calls.specs.Look.{Answer, refused_in}
+use Rattle.mq_calls.specs.Memory.{or_memory}
+use Rattle.mq_calls.specs.State.{QueuesState}
+use Rattle.mq_calls.specs.declared.errno.Errno.TheVariants.{ENOMEM}
+use Rattle.mq_calls.specs.declared.results.Refused.{Refused}
+use Rattle.mq_calls.specs.declared.results.SendRefused.{SendRefused}
 
 -- a call was refused as its definition says, or else for memory, and left all as it was
 pub record IsRefusalOf {T E : Type 0} (answer : Result (T × QueuesState) E) (memory : E)

@@ -1,12 +1,13 @@
 ghost use Rattle.std.specs.Prelude.{◌≡◌};
-ghost use Rattle.mq_one_thread.specs.Calls.{set as set_answer, rmid as rmid_answer};
-ghost use Rattle.mq_one_thread.specs.Calls.{stat as stat_answer};
-ghost use Rattle.mq_one_thread.specs.Look.{refused_at};
+ghost use Rattle.mq_calls.specs.Calls.{set as set_answer, rmid as rmid_answer};
+ghost use Rattle.mq_calls.specs.Calls.{stat as stat_answer};
+ghost use Rattle.mq_calls.specs.Look.{refused_at};
 ghost use Rattle.mq_one_thread.specs.Outcome.{Answers};
-ghost use Rattle.mq_one_thread.specs.Usages.{usage_of};
+ghost use Rattle.mq_calls.specs.Usages.{usage_of};
 
-use crate::home::take_home;
-use crate::{Errno, OneThread, Refused, Removal, Usage};
+use crate::OneThread;
+use mq_calls::home::take_home;
+use mq_calls::{Errno, Refused, Removal, Usage};
 use mq_queue::{Figures, NoNotice};
 use mq_table::{Id, remove_under};
 use std::sync::ledger::Ledger;
@@ -59,7 +60,7 @@ impl<L: Ledger> OneThread<L> {
     }
 
     /// What is in use, of all slots together (msgctl(2), IPC_INFO and MSG_INFO).
-    #[tactic(auto, using(crate::proofs::UsageLemmas::usages))]
+    #[tactic(auto, using(mq_calls::proofs::UsageLemmas::usages))]
     pub fn info(&self) -> Usage
         ensures { result ≡ usage_of self.now }
     {

@@ -1,7 +1,8 @@
 ghost use Rattle.std.specs.Prelude.{◌<◌, length};
 ghost use Rattle.mq_one_thread.specs.Outcome.{AnswersCut};
 
-use crate::{Errno, OneThread, Refused};
+use crate::OneThread;
+use mq_calls::{Errno, Refused};
 use mq_table::Cut;
 use std::sync::ledger::Ledger;
 

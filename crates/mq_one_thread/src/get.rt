@@ -1,10 +1,11 @@
 ghost use Rattle.std.specs.Prelude.{◌≡◌, ◌≢◌, pos, None, IfSome, OnErr};
 ghost use Rattle.mq_table.specs.Keys.{id_of_key};
-ghost use Rattle.mq_one_thread.specs.Get.{IsFreePlace, MayRunOut, free_slot, makes_one};
-ghost use Rattle.mq_one_thread.specs.Get.{msgget as msgget_answer};
+ghost use Rattle.mq_calls.specs.Get.{IsFreePlace, MayRunOut, free_slot, makes_one};
+ghost use Rattle.mq_calls.specs.Get.{msgget as msgget_answer};
 ghost use Rattle.mq_one_thread.specs.Outcome.{Answers};
 
-use crate::{Errno, GetFlags, Got, OneThread};
+use crate::OneThread;
+use mq_calls::{Errno, GetFlags, Got};
 use mq_queue::NoNotice;
 use mq_table::make_under;
 use std::sync::ledger::Ledger;

@@ -1,12 +1,13 @@
 ghost use Rattle.std.specs.Prelude.{◌≡◌, ◌<◌, Err, MatchResult, length};
-ghost use Rattle.mq_one_thread.specs.Calls.{msgsnd as msgsnd_answer, msgrcv as msgrcv_answer};
-ghost use Rattle.mq_one_thread.specs.Look.{IsPlace, look, refused_at, refused_in};
+ghost use Rattle.mq_calls.specs.Calls.{msgsnd as msgsnd_answer, msgrcv as msgrcv_answer};
+ghost use Rattle.mq_calls.specs.Look.{IsPlace, look, refused_at, refused_in};
 ghost use Rattle.mq_one_thread.specs.Outcome.{Answers, AnswersSend};
 
-use crate::{Delivered, Errno, OneThread, Refused, SendRefused};
-use mq_message::{Message, Text};
+use crate::OneThread;
+use mq_arena::Text;
+use mq_calls::{Delivered, Errno, Refused, SendRefused};
+use mq_message::{Message, Selection};
 use mq_queue::NoNotice;
-use mq_select::Selection;
 use mq_table::{Id, IdRefusal};
 use std::sync::ledger::Ledger;
 

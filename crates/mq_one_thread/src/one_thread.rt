@@ -5,29 +5,25 @@ ghost use Rattle.mq_tree.specs.Fit.{largest};
 ghost use Rattle.mq_tree.specs.LentSet.{free_pages};
 ghost use Rattle.mq_arena.specs.Lent.{place};
 ghost use Rattle.mq_arena.specs.declared.page.TheConstants.{PAGE_LEN};
-ghost use Rattle.mq_message.specs.Text.{order_for};
+ghost use Rattle.mq_arena.specs.Text.{order_for};
 ghost use Rattle.mq_table.specs.KeptPart.{IsLawfulSlot, WaitsNow};
 ghost use Rattle.mq_table.specs.KeptShown.{row_now};
 ghost use Rattle.mq_one_thread.specs.Holds.{AreKeysOf};
-ghost use Rattle.mq_one_thread.specs.Limits.{keeps_limits, empty_queues, empty_slots};
+ghost use Rattle.mq_calls.specs.Limits.{keeps_limits, empty_queues, empty_slots};
 ghost use Rattle.mq_one_thread.specs.Outcome.{Answers};
-ghost use Rattle.mq_one_thread.specs.State.{slot_at, with_arena};
-ghost use Rattle.mq_one_thread.specs.Texts.{bytes_of, comes_home, drafts, drafts_of, spends};
+ghost use Rattle.mq_calls.specs.State.{slot_at, with_arena};
+ghost use Rattle.mq_calls.specs.Texts.{bytes_of, comes_home, drafts, drafts_of, spends};
 
-use crate::close::ClosedSlot;
-use crate::home::take_back;
-use crate::{Config, DraftError, SysError};
-use mq_arena::{ArenaState, Block, Homecoming, LEDGER_PARTS, Unopened};
-use mq_index::IndexWaiting;
-use mq_message::{INLINE_LEN, Text, order_for};
+use mq_arena::{
+    ArenaState, Block, Homecoming, INLINE_LEN, LEDGER_PARTS, Text, Unopened, order_for,
+};
+use mq_calls::home::take_back;
+use mq_calls::{ClosedSlot, Config, DraftError, SysError, TextSlot};
 use mq_queue::{BoardRow, MSGMAX};
 use mq_table::{KeyTable, MAX_SEQ, MAX_SLOTS, Slot};
 use std::alloc::Global;
 use std::marker::Model;
 use std::sync::ledger::{Blank, Ledger};
-
-/// A slot whose messages are texts.
-pub type TextSlot<L> = Slot<Text<L>, IndexWaiting<Text<L>>>;
 
 /// The queues of one thread, by the calls of the manual, of which none waits: a full queue answers
 /// EAGAIN, and a queue with no message to hand out ENOMSG. `close` ends it.
@@ -42,7 +38,7 @@ pub struct OneThread<L: Ledger> {
 
 impl<L: Ledger> Model for OneThread<L> {
     ghost use Rattle.std.specs.Prelude.{vec_capacity};
-    ghost use Rattle.mq_one_thread.specs.State.{QueuesState};
+    ghost use Rattle.mq_calls.specs.State.{QueuesState};
     ghost use Rattle.mq_one_thread.specs.Kept.{IsKept};
 
     ghost Value = { QueuesState };

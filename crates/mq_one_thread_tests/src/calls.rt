@@ -1,12 +1,13 @@
 //! A system for a test, and its calls, each made once more where there was no memory.
 ghost use Rattle.std.specs.Prelude.{◌≡◌, ◌<◌};
 
-use mq_arena::Homecoming;
-use mq_message::{Body, Text};
-use mq_one_thread::{
-    Closed, Config, Delivered, DraftError, Errno, GetFlags, Got, OneThread, Refused, Removal,
-    SendRefused, SysError,
+use mq_arena::{Homecoming, Text};
+use mq_calls::{
+    Closed, Config, Delivered, DraftError, Errno, GetFlags, Got, Refused, Removal, SendRefused,
+    SysError,
 };
+use mq_message::Body;
+use mq_one_thread::OneThread;
 use mq_table::{Cut, Id};
 use std::alloc::Global;
 use std::process::Abort;

@@ -6,9 +6,10 @@ use crate::calls::{
     taken, written,
 };
 use crate::steps::{Answer, Step, plays};
-use mq_one_thread::{Closed, ClosedSlot, Delivered, Errno, Got, OneThread, Removal};
+use mq_calls::{Closed, ClosedSlot, Delivered, Errno, Got, Removal};
+use mq_message::Selection;
+use mq_one_thread::OneThread;
 use mq_queue::{Base, BaseEntry, BoardRow, Event, Figures};
-use mq_select::Selection;
 use mq_table::{Cut, Id};
 use std::alloc::Global;
 use std::marker::Brand;

@@ -2,9 +2,9 @@
 ghost use Rattle.std.specs.Prelude.{◌≡◌, ◌<◌};
 
 use crate::calls::{CREATE, PARTS, config, delivered, first, get, made, remove, taken, written};
-use mq_arena::{ArenaState, Homecoming};
-use mq_message::Text;
-use mq_one_thread::{Closed, ClosedSlot, Delivered, OneThread};
+use mq_arena::{ArenaState, Homecoming, Text};
+use mq_calls::{Closed, ClosedSlot, Delivered};
+use mq_one_thread::OneThread;
 use std::alloc::Global;
 use std::marker::Brand;
 use std::process::Abort;

@@ -1,7 +1,8 @@
 //! A first program: a queue that has a key, a message, and its receipt.
 ghost use Rattle.std.specs.Prelude.{◌≡◌, ◌<◌};
 
-use mq_one_thread::{Config, Delivered, Errno, GetFlags, OneThread};
+use mq_calls::{Config, Delivered, Errno, GetFlags};
+use mq_one_thread::OneThread;
 use std::alloc::Global;
 use std::marker::Brand;
 use std::process::Abort;

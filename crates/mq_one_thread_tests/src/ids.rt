@@ -1,6 +1,6 @@
 use crate::calls::{CREATE, NO_FLAG, config, first};
 use crate::steps::{Answer, Step, plays};
-use mq_one_thread::Errno;
+use mq_calls::Errno;
 
 #[test]
 fn an_id_is_never_given_then_live_then_removed(rt: HostRuntime) {

@@ -1,6 +1,6 @@
 use crate::calls::{CREATE, EXCLUSIVE, NEW, NO_FLAG, config};
 use crate::steps::{Answer, Step, plays};
-use mq_one_thread::Errno;
+use mq_calls::Errno;
 
 #[test]
 fn a_key_is_found_or_made_as_the_flags_say(rt: HostRuntime) {

@@ -5,8 +5,9 @@ use crate::calls::{
     NEW, NO_FLAG, PARTS, config, ended, first, get, has, made, receive, remove, send, taken,
     written,
 };
-use mq_message::Text;
-use mq_one_thread::{Closed, Errno, Got, OneThread, Refused, Removal, SendRefused};
+use mq_arena::Text;
+use mq_calls::{Closed, Errno, Got, Refused, Removal, SendRefused};
+use mq_one_thread::OneThread;
 use mq_queue::{BoardRow, Event, Figures};
 use mq_table::Id;
 use std::alloc::Global;

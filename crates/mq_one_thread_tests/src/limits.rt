@@ -2,7 +2,8 @@
 ghost use Rattle.std.specs.Prelude.{◌≡◌, ◌<◌};
 
 use crate::calls::PARTS;
-use mq_one_thread::{Closed, Config, MAX_SEATS, OneThread, SysError};
+use mq_calls::{Closed, Config, MAX_SEATS, SysError};
+use mq_one_thread::OneThread;
 use mq_table::{MAX_SEQ, MAX_SLOTS};
 use std::alloc::Global;
 use std::marker::Brand;

@@ -5,8 +5,9 @@ ghost use Rattle.std.specs.Prelude.{◌≡◌, ◌<◌};
 use crate::calls::{
     CREATE, PARTS, Wanted, config, cut, draft, ended, get, made, receive, remove, send, set, spent,
 };
+use mq_calls::{Delivered, Got, SendRefused};
 use mq_message::Body;
-use mq_one_thread::{Delivered, Got, OneThread, SendRefused};
+use mq_one_thread::OneThread;
 use mq_table::Id;
 use std::alloc::Global;
 use std::marker::Brand;

@@ -1,5 +1,5 @@
 use mq_arena::TakeError;
-use mq_one_thread::{DraftError, Errno, Refused, SendRefused, SysError};
+use mq_calls::{DraftError, Errno, Refused, SendRefused, SysError};
 use mq_queue::QueueError;
 use mq_table::IdRefusal;
 use std::alloc::Global;

@@ -3,8 +3,9 @@ ghost use Rattle.std.specs.Prelude.{◌≡◌, ◌<◌};
 
 use crate::calls::{PARTS, Wanted, cut, draft, ended, get, made, receive, remove, send, set};
 use mq_arena::Homecoming;
+use mq_calls::{Config, Delivered, Errno, GetFlags, Got, Refused, SendRefused};
 use mq_message::Body;
-use mq_one_thread::{Config, Delivered, Errno, GetFlags, Got, OneThread, Refused, SendRefused};
+use mq_one_thread::OneThread;
 use mq_table::{Cut, Id};
 use std::alloc::Global;
 use std::marker::Brand;

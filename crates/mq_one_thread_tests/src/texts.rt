@@ -6,8 +6,10 @@ use crate::calls::{
     taken, written,
 };
 use crate::steps::{Answer, Step, plays};
-use mq_message::{Body, Text};
-use mq_one_thread::{Delivered, DraftError, Errno, OneThread, Refused};
+use mq_arena::Text;
+use mq_calls::{Delivered, DraftError, Errno, Refused};
+use mq_message::Body;
+use mq_one_thread::OneThread;
 use std::alloc::Global;
 use std::marker::Brand;
 use std::process::Abort;

@@ -4,10 +4,10 @@ use Rattle.std.specs.Option.{option_map}
 use Rattle.std.proofs.lemmas.Bool.Decides.{nat_tests}
 use Rattle.std.proofs.lemmas.Option.{MatchOption-at_some}
 use Rattle.mq_message.specs.declared.message.Message.{Message}
-use Rattle.mq_select.specs.declared.selection.Selection.{Selection}
-use Rattle.mq_select.specs.Selection.{pick, eligible}
-use Rattle.mq_select.specs.declared.header.Header.{Header}
-use Rattle.mq_select.specs.Waiting.{header_of, headers_of, message_at, without}
+use Rattle.mq_message.specs.declared.selection.Selection.{Selection}
+use Rattle.mq_message.specs.Selection.{pick, eligible}
+use Rattle.mq_message.specs.declared.header.Header.{Header}
+use Rattle.mq_message.specs.Waiting.{header_of, headers_of, message_at, without}
 use Rattle.mq_queue.specs.declared.error.QueueError.TheVariants.{NoMessage}
 use Rattle.mq_queue.specs.declared.event.Event.{Event}
 use Rattle.mq_queue.specs.declared.figures.Figures.{Figures}

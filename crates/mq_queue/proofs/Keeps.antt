@@ -6,10 +6,10 @@ use Rattle.std.proofs.lemmas.Bool.Decides.{nat_tests}
 use Rattle.std.proofs.lemmas.Grind.{fold-append}
 use Rattle.std.proofs.lemmas.List.Sums.{sum_by_push}
 use Rattle.mq_message.specs.declared.message.Message.{Message}
-use Rattle.mq_select.specs.declared.header.Header.{Header}
-use Rattle.mq_select.specs.declared.selection.Selection.{Selection}
-use Rattle.mq_select.specs.Selection.{pick}
-use Rattle.mq_select.specs.Waiting.{header_of, headers_of, message_at, without}
+use Rattle.mq_message.specs.declared.header.Header.{Header}
+use Rattle.mq_message.specs.declared.selection.Selection.{Selection}
+use Rattle.mq_message.specs.Selection.{pick}
+use Rattle.mq_message.specs.Waiting.{header_of, headers_of, message_at, without}
 use Rattle.mq_queue.specs.declared.base.Base.{Base}
 use Rattle.mq_queue.specs.declared.error.QueueError.TheVariants.{Full, TooBig}
 use Rattle.mq_queue.specs.declared.event.Event.{Event}

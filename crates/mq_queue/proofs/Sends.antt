@@ -1,7 +1,7 @@
 -- What it takes to send a message.
 use Rattle.std.proofs.Common.{◌≡◌, ℕ, ℤ, pos, int_lt, nat_lt, None, List, [], ◌∷◌, ◌++◌, map, true, false, arith}
 use Rattle.std.proofs.lemmas.List.{map-append}
-use Rattle.mq_select.specs.declared.header.Header.{Header}
+use Rattle.mq_message.specs.declared.header.Header.{Header}
 use Rattle.mq_queue.specs.declared.limits.TheConstants.{MSGMAX}
 use Rattle.mq_queue.specs.Answer.{send_refusal}
 use Rattle.mq_queue.specs.Room.{has_room}

@@ -1,8 +1,8 @@
 -- A queue whose log has one event more.
 use Rattle.std.proofs.Common.{◌≡◌, ℕ, ◌<◌, List, [], ◌∷◌, ◌++◌, length, unwrap_or, All, false, refl, sym, subst, ◌∙◌}
 use Rattle.mq_message.specs.declared.message.Message.{Message}
-use Rattle.mq_select.specs.declared.header.Header.{Header}
-use Rattle.mq_select.specs.Waiting.{header_of, headers_of}
+use Rattle.mq_message.specs.declared.header.Header.{Header}
+use Rattle.mq_message.specs.Waiting.{header_of, headers_of}
 use Rattle.mq_queue.specs.declared.event.Event.{Event}
 use Rattle.mq_queue.specs.declared.figures.Figures.{Figures}
 use Rattle.mq_queue.specs.Figures.{live_figures, sender_told, sending_told, receiver_told, receipt_told, change_told}

@@ -2,7 +2,7 @@
 -- then leave.
 use Rattle.std.specs.Prelude.{ℕ, ◌+◌, ◌-◌, nat_lt, not, if◌then◌else◌, Option, None}
 use Rattle.std.specs.Prelude.{List, ◌++◌, length, filter, slice_get}
-use Rattle.mq_select.specs.declared.header.Header.{Header}
+use Rattle.mq_message.specs.declared.header.Header.{Header}
 use Rattle.mq_queue.specs.declared.base.Base.{Base}
 use Rattle.mq_queue.specs.declared.event.Event.{Event}
 use Rattle.mq_queue.specs.declared.figures.Figures.{Figures}

@@ -2,8 +2,8 @@
 -- msgop(2), msgctl(2)).
 use Rattle.std.specs.Prelude.{◌≡◌, ℕ, ℤ, ◌+◌, Bool, None, Ok, List, [], ◌∷◌, ◌++◌, length, min, take, IsSomeAnd}
 use Rattle.mq_message.specs.declared.message.Message.{Message}
-use Rattle.mq_select.specs.declared.selection.Selection.{Selection}
-use Rattle.mq_select.specs.Waiting.{header_of, message_at, without}
+use Rattle.mq_message.specs.declared.selection.Selection.{Selection}
+use Rattle.mq_message.specs.Waiting.{header_of, message_at, without}
 use Rattle.mq_queue.specs.declared.base.Base.{Base}
 use Rattle.mq_queue.specs.declared.error.QueueError.{QueueError}
 use Rattle.mq_queue.specs.declared.event.Event.{Event}

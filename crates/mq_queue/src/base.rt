@@ -13,7 +13,7 @@ pub struct BaseEntries {
 
 impl Model for BaseEntries {
     ghost use Rattle.std.specs.Prelude.{List};
-    ghost use Rattle.mq_select.specs.declared.header.Header.{Header};
+    ghost use Rattle.mq_message.specs.declared.header.Header.{Header};
 
     ghost Value = { List Header };
 

@@ -6,8 +6,7 @@ ghost use Rattle.mq_queue.specs.QueueCalls.{IsEndedQueue, IsQuotaSet, IsRefusedB
 
 use crate::log::{append, reserve, whole_count};
 use crate::{Event, Figures, Log, MSGMNB, NO_FIGURES, Notice, QueueError, QueueState};
-use mq_message::Body;
-use mq_select::Waiting;
+use mq_message::{Body, Waiting};
 
 impl<B: Body, W: Waiting<B>> QueueState<B, W> {
     /// Sets the quota, and answers the place of the event (msgctl(2), IPC_SET of msg_qbytes). What

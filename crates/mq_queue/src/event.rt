@@ -1,4 +1,4 @@
-use mq_select::Selection;
+use mq_message::Selection;
 
 /// A change of a queue, by the seat that called and at the moment that the caller named. A place
 /// is a position in the queue's log, from 0.

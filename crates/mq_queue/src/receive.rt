@@ -1,16 +1,15 @@
 ghost use Rattle.std.specs.Prelude.{◌≡◌, ◌||◌, length, nat_le, true, Err, Some, None};
 ghost use Rattle.std.specs.Prelude.{IfErr, IfOk, IfSome, MatchResult, OnOk};
 ghost use Rattle.std.specs.Option.{option_map};
-ghost use Rattle.mq_select.specs.Selection.{pick};
-ghost use Rattle.mq_select.specs.Waiting.{message_at};
+ghost use Rattle.mq_message.specs.Selection.{pick};
+ghost use Rattle.mq_message.specs.Waiting.{message_at};
 ghost use Rattle.mq_queue.specs.Answer.{receive_answer, receive_refusal, refusal_or_memory};
 ghost use Rattle.mq_queue.specs.Base.{figures_from, waiting_from};
 ghost use Rattle.mq_queue.specs.QueueCalls.{IsHandedOut, IsRefusedBy, IsWhatWaited};
 
 use crate::log::{append, reserve, whole_count};
 use crate::{Event, Figures, Notice, QueueError, QueueState, Received};
-use mq_message::Body;
-use mq_select::{Selection, Waiting};
+use mq_message::{Body, Selection, Waiting};
 
 /// Whether a receiver of this size is handed a text of this length.
 fn is_handed_out(length: u64, size: u64, noerror: bool) -> bool

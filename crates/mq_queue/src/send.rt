@@ -5,8 +5,7 @@ ghost use Rattle.mq_queue.specs.QueueCalls.{IsHandedBack, IsQueued, sending};
 
 use crate::log::{append, reserve, whole_count};
 use crate::{Event, Figures, MSGMAX, Notice, QueueError, QueueState};
-use mq_message::{Body, Message};
-use mq_select::Waiting;
+use mq_message::{Body, Message, Waiting};
 
 /// Whether a queue in which so many messages and bytes wait has room for a text of this length.
 fn has_room(count: u64, bytes: u64, length: u64, quota: u64) -> bool

@@ -6,8 +6,7 @@ ghost use Rattle.mq_queue.specs.declared.limits.TheConstants.{MAX_CUT};
 
 use crate::log::{append, event_at, whole_count};
 use crate::{Base, Event, Figures, Log, MSGMNB, Notice};
-use mq_message::Body;
-use mq_select::Waiting;
+use mq_message::{Body, Waiting};
 use std::alloc::{AllocError, Global};
 use std::marker::{Model, PhantomData};
 

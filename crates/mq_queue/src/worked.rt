@@ -1,7 +1,7 @@
 //! Examples of what a queue answers: each is proved of the definitions alone.
 
 ghost use Rattle.std.specs.Prelude.{◌≡◌, ◌∷◌, ◌++◌, [], drop, pos, true, false};
-ghost use Rattle.mq_select.specs.declared.selection.Selection.TheVariants.{Any, Exact, Except, UpTo};
+ghost use Rattle.mq_message.specs.declared.selection.Selection.TheVariants.{Any, Exact, Except, UpTo};
 ghost use Rattle.mq_queue.specs.declared.error.QueueError.TheVariants.{TypeInvalid, TooLong, Full, NoMessage, TooBig, OverLimit};
 ghost use Rattle.mq_queue.specs.Answer.{send_refusal, receive_answer, set_refusal};
 ghost use Rattle.mq_queue.specs.Base.{base_of, event_from, figures_from, quota_from, waiting_from};

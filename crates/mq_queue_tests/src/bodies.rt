@@ -1,7 +1,6 @@
 use crate::steps::{Step, places};
 use mq_index::{ByType, IndexWaiting, Layered};
-use mq_message::VecBody;
-use mq_select::{ListWaiting, Selection};
+use mq_message::{ListWaiting, Selection, VecBody};
 use std::alloc::{AllocError, Global};
 use std::process::Abort;
 use std::test::Fail;

@@ -1,6 +1,5 @@
-use mq_message::{Body, Message, VecBody};
+use mq_message::{Body, ListWaiting, Message, Selection, VecBody, discard};
 use mq_queue::{Log, NoNotice, QueueError, QueueState};
-use mq_select::{ListWaiting, Selection, discard};
 use std::alloc::{AllocError, Global};
 use std::process::Abort;
 use std::test::Fail;

@@ -1,8 +1,8 @@
 //! The same calls to two queues, of which the log of one is cut again and again.
 
 use crate::calls::{Answer, Queue, close, message, receive, send, set};
+use mq_message::Selection;
 use mq_queue::{Event, NoNotice};
-use mq_select::Selection;
 use std::alloc::{AllocError, Global};
 use std::test::Fail;
 

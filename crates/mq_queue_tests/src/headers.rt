@@ -1,7 +1,6 @@
 use mq_index::{ByType, IndexWaiting};
-use mq_message::{Message, VecBody};
+use mq_message::{Header, ListWaiting, Message, Selection, VecBody, Waiting, discard};
 use mq_queue::{Event, Log, NoNotice, QueueError, QueueState};
-use mq_select::{Header, ListWaiting, Selection, Waiting, discard};
 use std::alloc::{AllocError, Global};
 use std::process::Abort;
 use std::test::Fail;

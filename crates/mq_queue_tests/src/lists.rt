@@ -1,7 +1,6 @@
 ghost use Rattle.std.specs.Prelude.{◌+◌, ◌<◌, All, OnOk};
 
-use mq_message::{Body, Message, VecBody};
-use mq_select::{ListWaiting, Selection, Waiting, discard};
+use mq_message::{Body, ListWaiting, Message, Selection, VecBody, Waiting, discard};
 use std::alloc::{AllocError, Global};
 use std::test::Fail;
 

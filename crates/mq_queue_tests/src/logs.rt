@@ -1,6 +1,6 @@
 use crate::calls::{Answer, Queue, Step, check, close, message, receive, send, set};
+use mq_message::{Selection, discard};
 use mq_queue::{Event, Figures, Log, NoNotice, QueueError};
-use mq_select::{Selection, discard};
 use std::alloc::{AllocError, Global};
 use std::test::Fail;
 

@@ -1,9 +1,8 @@
 //! A notice takes in each event with the figures after it, or the call is refused and leaves all.
 
 use crate::calls::{Queue, close, message};
-use mq_message::{Message, VecBody};
+use mq_message::{Message, Selection, VecBody, discard};
 use mq_queue::{Event, Figures, NO_FIGURES, Notice, QueueError};
-use mq_select::{Selection, discard};
 use std::alloc::{AllocError, Global};
 use std::process::Abort;
 use std::test::Fail;

@@ -1,6 +1,5 @@
-use mq_message::{Message, VecBody};
+use mq_message::{Message, Selection, VecBody, Waiting, discard};
 use mq_queue::{NoNotice, QueueError, QueueState};
-use mq_select::{Selection, Waiting, discard};
 use std::alloc::{AllocError, Global};
 
 /// What is done to a queue.

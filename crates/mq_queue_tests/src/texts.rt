@@ -1,11 +1,10 @@
 //! A text that is sent on and on stays in its own block.
 ghost use Rattle.std.specs.Prelude.{◌≡◌, ◌^◌, ◌<◌, length};
-ghost use Rattle.mq_message.specs.Text.{count_of};
+ghost use Rattle.mq_arena.specs.Text.{count_of};
 
-use mq_arena::{ArenaState, Homecoming, LEDGER_PARTS, PAGE_LEN, Page, Unopened, fill};
-use mq_message::{Body, Message, Text};
+use mq_arena::{ArenaState, Homecoming, LEDGER_PARTS, PAGE_LEN, Page, Text, Unopened, fill};
+use mq_message::{Body, ListWaiting, Message, Selection, Waiting};
 use mq_queue::{NoNotice, QueueError, QueueState, Received};
-use mq_select::{ListWaiting, Selection, Waiting};
 use std::alloc::Global;
 use std::marker::Brand;
 use std::process::Abort;
@@ -171,7 +170,7 @@ fn a_text_is_sent_and_received_in_its_own_block(rt: HostRuntime) -> Result<(), F
     Ok(())
 }
 
-#[tactic(auto, using(mq_message::proofs::Loans::left_length))]
+#[tactic(auto, using(mq_arena::proofs::Loans::left_length))]
 fn part_copied<L: Ledger>(rt: &impl Abort, copy: &mut Text<L>, text: &Text<L>, i: usize)
     requires within { i < count_of (length text.now.bytes) }
     requires same { length copy.old.bytes ≡ length text.now.bytes }

@@ -1,7 +1,7 @@
 -- What a call under a slot's lock answers, where its queue answered so.
 use Rattle.std.proofs.Common.{◌≡◌, ℕ, ℤ, if◌then◌else◌, ◌&&◌, Bool, List, length, Option, None, Some, Result, Ok, Err, refl, ap, sym, ◌∙◌}
 use Rattle.std.specs.Ordering.{int_eq}
-use Rattle.mq_message.specs.Text.{PlainText}
+use Rattle.mq_arena.specs.Text.{PlainText}
 use Rattle.mq_message.specs.declared.message.Message.{Message}
 use Rattle.mq_queue.specs.declared.error.QueueError.{QueueError}
 use Rattle.mq_queue.specs.Queue.{rest_of}
@@ -13,10 +13,10 @@ use Rattle.mq_table.specs.KeptPart.{IsKeptPart, whole}
 use Rattle.mq_table.specs.KeptShown.{last_id_now}
 use Rattle.mq_table.specs.Slot.{SlotState}
 use Rattle.mq_table.proofs.Kepts.{last_id_is, live_is}
-use Rattle.mq_one_thread.specs.Calls.{delivers}
-use Rattle.mq_one_thread.specs.Look.{errno_of, once}
-use Rattle.mq_one_thread.specs.declared.results.Refused.{Refused}
-use Rattle.mq_one_thread.specs.declared.results.Removal.{Removal}
+use Rattle.mq_calls.specs.Calls.{delivers}
+use Rattle.mq_calls.specs.Look.{errno_of, once}
+use Rattle.mq_calls.specs.declared.results.Refused.{Refused}
+use Rattle.mq_calls.specs.declared.results.Removal.{Removal}
 use Rattle.mq_system.specs.Answer.{answered_in_slot, id_with_key, refused_here}
 use Rattle.mq_system.specs.Answer.{refused_or_memory_in_slot, removal}
 

@@ -7,8 +7,8 @@ use Rattle.std.proofs.lemmas.List.{get_or-reverse, get_or_append_left, length-dr
 use Rattle.std.proofs.lemmas.List.Sums.{sum_by-cons}
 use Rattle.mq_queue.specs.declared.event.Event.{Event}
 use Rattle.mq_table.specs.Cut.{IsCutOf}
-use Rattle.mq_one_thread.specs.Closed.{IsEndOf, cut_in, entries_at_end}
-use Rattle.mq_one_thread.specs.declared.close.ClosedSlot.{ClosedSlot}
+use Rattle.mq_calls.specs.Closed.{IsEndOf, cut_in, entries_at_end}
+use Rattle.mq_calls.specs.declared.close.ClosedSlot.{ClosedSlot}
 use Rattle.mq_system.specs.Seat.{SeatState, front_of}
 use Rattle.mq_system.specs.Closed.{AreEnds, entries_in}
 use Rattle.mq_system.proofs.StartLemmas.{Each, each_push}

@@ -17,7 +17,7 @@ use Rattle.mq_table.proofs.Logs.{begun, last_log_is, made_more}
 use Rattle.mq_table.specs.Ids.{seq_of}
 use Rattle.mq_table.specs.Slot.{SlotState, last_id}
 use Rattle.mq_table.specs.declared.limits.TheConstants.{MAX_SLOTS}
-use Rattle.mq_message.specs.Text.{PlainText}
+use Rattle.mq_arena.specs.Text.{PlainText}
 use Rattle.mq_system.specs.Answer.{id_with_key}
 use Rattle.mq_system.specs.Making.{HoldsMade, IsKeyed, IsThere, Lacks}
 use Rattle.mq_system.proofs.KeysLemmas.{seq_of_last, slot_of_last}

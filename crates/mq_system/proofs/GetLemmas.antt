@@ -8,10 +8,10 @@ use Rattle.mq_queue.specs.declared.event.Event.{Event}
 use Rattle.mq_queue.specs.declared.event.Event.TheVariants as event
 use Rattle.mq_table.specs.Ids.{seq_of, slot_of}
 use Rattle.mq_board.proofs.Fronts.{prefix_self, prefix_trans}
-use Rattle.mq_one_thread.specs.declared.errno.Errno.{Errno}
-use Rattle.mq_one_thread.specs.declared.errno.Errno.TheVariants.{ENOMEM, ENOSPC}
-use Rattle.mq_one_thread.specs.declared.results.GetFlags.{GetFlags}
-use Rattle.mq_one_thread.specs.declared.results.Got.{Got}
+use Rattle.mq_calls.specs.declared.errno.Errno.{Errno}
+use Rattle.mq_calls.specs.declared.errno.Errno.TheVariants.{ENOMEM, ENOSPC}
+use Rattle.mq_calls.specs.declared.results.GetFlags.{GetFlags}
+use Rattle.mq_calls.specs.declared.results.Got.{Got}
 use Rattle.mq_system.specs.Making.{IsMade, IsNotMade, IsThere, Lacks, make_verdict}
 use Rattle.mq_system.specs.Outcome.{IsLook}
 use Rattle.mq_system.specs.Seat.{IsLater, SeatState, front_of}

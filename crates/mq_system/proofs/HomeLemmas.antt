@@ -289,6 +289,6 @@ all_counted slots seats lists count recorded distinct seen total slot d low =
     prefixes i e within k below = seen i k e [] within (omega (arith, below, count))
 
 -- a writer that took one reader back after the other stays as it was but for these
-pub back_again : {C : Type 0} (a b c : Desk C) → b ≡ record a { home = b.home }
+pub back_again : (a b c : Desk) → b ≡ record a { home = b.home }
     → c ≡ record b { home = c.home } → c ≡ record a { home = c.home }
-back_again {C = C} a b c first second = second ∙ ap (λ (w : Desk C). record w { home = c.home }) first
+back_again a b c first second = second ∙ ap (λ (w : Desk). record w { home = c.home }) first

@@ -3,7 +3,7 @@ use Rattle.std.proofs.Common.{◌≡◌, ℕ, ℤ, pos, ◌-◌, ◌<◌, Bool, 
 use Rattle.std.specs.Prelude.{IfSome}
 use Rattle.std.specs.Ordering.{int_eq}
 use Rattle.std.proofs.lemmas.List.Elements.{All-filter, All-push, All-tail}
-use Rattle.mq_message.specs.Text.{PlainText}
+use Rattle.mq_arena.specs.Text.{PlainText}
 use Rattle.mq_table.specs.Ids.{id_of, seq_of, slot_of}
 use Rattle.mq_table.specs.Keys.{entered, id_of_key}
 use Rattle.mq_table.specs.Slot.{SlotState, last_id, next_id}

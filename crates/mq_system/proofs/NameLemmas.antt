@@ -1,9 +1,9 @@
 -- The names of a system that a caller picks: those of its ledgers and boards, and its size.
 use Rattle.std.proofs.Common.{◌≡◌, ℕ, ◌+◌, vec_len, refl}
-use Rattle.mq_board.specs.declared.history.Naming as naming
+use Rattle.mq_board.specs.declared.naming.Naming as naming
 use Rattle.mq_board.specs.Named.{board_of, roll_of}
 use Rattle.mq_board.proofs.Names.{named}
-use Rattle.mq_one_thread.specs.declared.config.Config.{Config}
+use Rattle.mq_calls.specs.declared.config.Config.{Config}
 use Rattle.mq_system.specs.Sizes.{AreNames}
 use Rattle.mq_system.specs.declared.blanks.Blanks.{Blanks}
 use Rattle.mq_system.specs.declared.names.Names as names

@@ -5,12 +5,12 @@ use Rattle.std.proofs.lemmas.Bool.{leb-true}
 use Rattle.std.proofs.lemmas.List.{take_all}
 use Rattle.std.proofs.lemmas.List.Elements.{All-tail}
 use Rattle.std.specs.Option.{option_map_or}
-use Rattle.mq_message.specs.Text.{PlainText, no_text}
+use Rattle.mq_arena.specs.Text.{PlainText, no_text}
 use Rattle.mq_message.specs.declared.message.Message.{Message}
-use Rattle.mq_select.specs.declared.selection.Selection.{Selection}
-use Rattle.mq_select.specs.Selection.{pick}
-use Rattle.mq_select.specs.declared.header.Header.{Header}
-use Rattle.mq_select.specs.Waiting.{header_of, message_at}
+use Rattle.mq_message.specs.declared.selection.Selection.{Selection}
+use Rattle.mq_message.specs.Selection.{pick}
+use Rattle.mq_message.specs.declared.header.Header.{Header}
+use Rattle.mq_message.specs.Waiting.{header_of, message_at}
 use Rattle.mq_queue.specs.declared.error.QueueError.{QueueError}
 use Rattle.mq_queue.specs.declared.event.Event.TheVariants as event
 use Rattle.mq_queue.specs.declared.received.Received.{Received}
@@ -19,9 +19,9 @@ use Rattle.mq_queue.specs.Row.{last_log}
 use Rattle.mq_queue.specs.Waiting.{waiting}
 use Rattle.mq_table.specs.Calls.{Receipt, SlotTurn, receipt_of, received, receives}
 use Rattle.mq_table.specs.Slot.{SlotState}
-use Rattle.mq_one_thread.specs.Calls.{delivered, delivers}
-use Rattle.mq_one_thread.specs.Texts.{bytes_of, cut_to}
-use Rattle.mq_one_thread.specs.declared.results.Delivered.{Delivered}
+use Rattle.mq_calls.specs.Calls.{delivered, delivers}
+use Rattle.mq_calls.specs.Texts.{bytes_of, cut_to}
+use Rattle.mq_calls.specs.declared.results.Delivered.{Delivered}
 use Rattle.mq_system.specs.Pledge.{IsPledged, MeetsPledge, MeetsWhole, Pledged}
 
 -- what is handed out of what was received

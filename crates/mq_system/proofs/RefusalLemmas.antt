@@ -4,11 +4,11 @@ use Rattle.std.specs.Prelude.{IsSome}
 use Rattle.std.proofs.lemmas.Bool.Decides.{nat_tests}
 use Rattle.std.proofs.lemmas.List.{length_push}
 use Rattle.std.proofs.lemmas.List.Sums.{fold-append}
-use Rattle.mq_message.specs.Text.{PlainText}
+use Rattle.mq_arena.specs.Text.{PlainText}
 use Rattle.mq_message.specs.declared.message.Message.{Message}
-use Rattle.mq_select.specs.Selection.{pick}
-use Rattle.mq_select.specs.declared.header.Header.{Header}
-use Rattle.mq_select.specs.declared.selection.Selection.{Selection}
+use Rattle.mq_message.specs.Selection.{pick}
+use Rattle.mq_message.specs.declared.header.Header.{Header}
+use Rattle.mq_message.specs.declared.selection.Selection.{Selection}
 use Rattle.mq_queue.specs.Answer.{handed_out, send_refusal}
 use Rattle.mq_queue.specs.Log.{is_removed}
 use Rattle.mq_queue.specs.Room.{has_room, quota}
@@ -27,13 +27,13 @@ use Rattle.mq_table.specs.Slot.{SlotState}
 use Rattle.mq_table.specs.SlotList.{IsSlotList, standing}
 use Rattle.mq_table.specs.declared.refusal.IdRefusal.{IdRefusal}
 use Rattle.mq_table.specs.declared.refusal.IdRefusal.TheVariants.{Never, Removed}
-use Rattle.mq_one_thread.specs.Calls.{delivers}
-use Rattle.mq_one_thread.specs.Look.{once}
-use Rattle.mq_one_thread.specs.Texts.{bytes_of}
-use Rattle.mq_one_thread.specs.declared.errno.Errno.{Errno}
-use Rattle.mq_one_thread.specs.declared.errno.Errno.TheVariants.{EAGAIN, ENOMSG}
-use Rattle.mq_one_thread.specs.declared.results.Refused.{Refused}
-use Rattle.mq_one_thread.specs.declared.results.Removal.{Removal}
+use Rattle.mq_calls.specs.Calls.{delivers}
+use Rattle.mq_calls.specs.Look.{once}
+use Rattle.mq_calls.specs.Texts.{bytes_of}
+use Rattle.mq_calls.specs.declared.errno.Errno.{Errno}
+use Rattle.mq_calls.specs.declared.errno.Errno.TheVariants.{EAGAIN, ENOMSG}
+use Rattle.mq_calls.specs.declared.results.Refused.{Refused}
+use Rattle.mq_calls.specs.declared.results.Removal.{Removal}
 use Rattle.mq_system.specs.Answer.{SlotAnswer, answered_in_slot, by_id_in_slot, in_slot_queue, looks_in_slot, receive_in_slot, refused_or_memory_in_slot, remove_in_slot, send_in_slot}
 use Rattle.mq_system.specs.Outcome.{IsLook, IsTurnedAway}
 use Rattle.mq_system.specs.Refusals.{MayReceive, MaySend, Refuses, never_sent, out_of_slots}

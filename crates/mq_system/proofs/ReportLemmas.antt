@@ -4,8 +4,8 @@ use Rattle.std.proofs.lemmas.Bool.Decides.{eqb_tells}
 use Rattle.mq_queue.specs.Row.{row}
 use Rattle.mq_queue.specs.declared.event.Event.{Event}
 use Rattle.mq_queue.specs.declared.figures.BoardRow.{BoardRow}
-use Rattle.mq_one_thread.specs.Usages.{no_usage, usage_to, used}
-use Rattle.mq_one_thread.proofs.UsageLemmas.{usage_more, usage_same}
+use Rattle.mq_calls.specs.Usages.{no_usage, usage_to, used}
+use Rattle.mq_calls.proofs.UsageLemmas.{usage_more, usage_same}
 use Rattle.mq_system.specs.Seat.{SeatState, front_of}
 use Rattle.mq_system.specs.Shown.{known_usage}
 

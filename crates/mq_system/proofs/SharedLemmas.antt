@@ -2,11 +2,11 @@
 use Rattle.std.proofs.Common.{◌≡◌, ℕ, ℤ, ◌+◌, ◌-◌, ◌<◌, ◌≤◌, ◌^◌, Bool, true, false, not, ◌==◌, List, [], ◌∷◌, ◌++◌, length, map, Result, Ok, Err, refl, ap, sym, ◌∙◌, arith, subst, All}
 use Rattle.std.proofs.lemmas.List.{length_push}
 use Rattle.std.proofs.lemmas.List.Elements.{All-filter, All-push}
-use Rattle.mq_message.specs.Text.{PlainText}
+use Rattle.mq_arena.specs.Text.{PlainText}
 use Rattle.mq_message.specs.declared.message.Message.{Message}
-use Rattle.mq_select.specs.declared.selection.Selection.{Selection}
-use Rattle.mq_select.specs.declared.header.Header.{Header}
-use Rattle.mq_select.specs.Waiting.{without}
+use Rattle.mq_message.specs.declared.selection.Selection.{Selection}
+use Rattle.mq_message.specs.declared.header.Header.{Header}
+use Rattle.mq_message.specs.Waiting.{without}
 use Rattle.mq_queue.specs.declared.error.QueueError.{QueueError}
 use Rattle.mq_queue.specs.declared.event.Event.{Event}
 use Rattle.mq_queue.specs.declared.event.Event.TheVariants as event
@@ -25,7 +25,7 @@ use Rattle.mq_table.proofs.Kepts.{figures_is}
 use Rattle.mq_table.proofs.Stays.{left_is}
 use Rattle.mq_table.proofs.Turned.{IsTurned, made_turned, received_turned, removed_turned, sent_turned, set_turned}
 use Rattle.mq_table.proofs.Whole.{receives_whole, sends_whole, sets_whole}
-use Rattle.mq_one_thread.specs.Texts.{bytes_of}
+use Rattle.mq_calls.specs.Texts.{bytes_of}
 use Rattle.mq_board.specs.Writers.{Desk, posting}
 use Rattle.mq_system.specs.Answer.{SlotAnswer}
 use Rattle.mq_system.specs.Held.{HasChanged, HasNoted}
@@ -86,7 +86,7 @@ none_pledged kept k d low = absurd (omega (arith, low))
 
 -- a call changed the slot by an event of this seat, which is to be published: so it is left as the
 -- call leaves the whole slot
-pub record IsChange (kept : Pledged) (slots last_seq seat : ℕ) {C : Type 0} (old now : Desk C)
+pub record IsChange (kept : Pledged) (slots last_seq seat : ℕ) (old now : Desk)
     (s t : KeptSlot PlainText) (parts amount : ℕ) (leaves : SlotState PlainText → Type 0)
     : Type 0 where
   pub due : IsDue kept slots last_seq seat now.board now.events now.pending t parts amount
@@ -94,7 +94,7 @@ pub record IsChange (kept : Pledged) (slots last_seq seat : ℕ) {C : Type 0} (o
   pub known : now.events ≡ old.events
   pub left : leaves (whole (with_pending now.events now.pending) t)
 
-module _ (kept : Pledged) (slots last_seq parts amount : ℕ) {C : Type 0} (desk due : Desk C)
+module _ (kept : Pledged) (slots last_seq parts amount : ℕ) (desk due : Desk)
     (s t : KeptSlot PlainText)
     (h : IsShared kept slots last_seq desk.board desk.events desk.pending s parts amount)
     (short : length desk.events < 2 ^ 64 - 1) (few : made_count desk.events ≤ MAX_SEQ + 1)
@@ -114,7 +114,7 @@ module _ (kept : Pledged) (slots last_seq parts amount : ℕ) {C : Type 0} (desk
           ap (λ p. with_pending desk.events (p ++ posting e (kept_figures t) ∷ [])) h.published.none
 
       next_is : with_pending due.events due.pending ≡ desk.events ++ e ∷ []
-      next_is = ap (λ (w : Desk C). with_pending w.events w.pending) took ∙ list_is
+      next_is = ap (λ (w : Desk). with_pending w.events w.pending) took ∙ list_is
 
       changes : (seat : ℕ) → seat_of e ≡ seat → AllPledged kept t.messages
           → (leaves : SlotState PlainText → Type 0) → leaves (whole (desk.events ++ e ∷ []) t)
@@ -145,7 +145,7 @@ module _ (kept : Pledged) (slots last_seq parts amount : ℕ) {C : Type 0} (desk
               };
             });
         number = turn.number;
-        known = ap (λ (w : Desk C). w.events) took;
+        known = ap (λ (w : Desk). w.events) took;
         left = rw next_is left;
       }
 
@@ -217,25 +217,24 @@ module _ (kept : Pledged) (slots last_seq parts amount : ℕ) {C : Type 0} (desk
           (λ x. x ≡ removes (whole desk.events s) seat moment) (rw is refl)
 
 -- what is so once a change is published
-module _ (kept : Pledged) (slots last_seq seat parts amount : ℕ) {C : Type 0} (old new : Desk C)
+module _ (kept : Pledged) (slots last_seq seat parts amount : ℕ) (old new : Desk)
     (slot : KeptSlot PlainText)
     (due : IsDue kept slots last_seq seat old.board old.events old.pending slot parts amount)
     (published : new ≡ record old {
       events = old.events ++ map (λ p. p.event) old.pending;
       pending = [];
-      copies = new.copies;
     })
   where
     pub events_are : new.events ≡ with_pending old.events old.pending
-    events_are = ap (λ (w : Desk C). w.events) published
+    events_are = ap (λ (w : Desk). w.events) published
 
     pub board_is : new.board ≡ slot.number
-    board_is = ap (λ (w : Desk C). w.board) published ∙ due.shared.published.numbered
+    board_is = ap (λ (w : Desk). w.board) published ∙ due.shared.published.numbered
 
     pub shared_is : (now_parts now_amount : ℕ) → now_parts ≡ parts → now_amount ≡ amount + 1
         → IsShared kept slots last_seq new.board new.events new.pending slot now_parts now_amount
     shared_is now_parts now_amount part noted =
-        subst (λ (w : Desk C).
+        subst (λ (w : Desk).
         IsShared kept slots last_seq w.board w.events w.pending slot now_parts now_amount)
         (sym published) (rw (part, noted) due.shared)
 
@@ -250,7 +249,7 @@ module _ (kept : Pledged) (slots last_seq seat parts amount : ℕ) {C : Type 0} 
     }
 
 -- a change that is published and noted: the call has changed the slot as it answers
-module _ (kept : Pledged) (slots last_seq seat parts amount : ℕ) {C : Type 0} (old now : Desk C)
+module _ (kept : Pledged) (slots last_seq seat parts amount : ℕ) (old now : Desk)
     (s t : KeptSlot PlainText) (leaves : SlotState PlainText → Type 0)
     (its : IsChange kept slots last_seq seat old now s t parts amount leaves)
     (events : List Event) (published : events ≡ with_pending now.events now.pending)

@@ -3,8 +3,8 @@ use Rattle.std.proofs.Common.{◌≡◌, ◌+◌, List, [], ◌∷◌, ◌++◌,
 use Rattle.std.specs.List.{sum}
 use Rattle.std.proofs.lemmas.Grind.{reverse_onto}
 use Rattle.std.proofs.lemmas.List.Sums.{sum_by-cons, sum_by_push}
-use Rattle.mq_one_thread.specs.Closed.{entries_at_end}
-use Rattle.mq_one_thread.specs.declared.close.ClosedSlot.{ClosedSlot}
+use Rattle.mq_calls.specs.Closed.{entries_at_end}
+use Rattle.mq_calls.specs.declared.close.ClosedSlot.{ClosedSlot}
 use Rattle.mq_system.specs.Closed.{entries_in}
 use Rattle.mq_system.specs.Seat.{SeatState, counted_by}
 

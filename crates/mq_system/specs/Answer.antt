@@ -2,27 +2,27 @@
 use Rattle.std.specs.Prelude.{ℕ, ℤ, if◌then◌else◌, ◌&&◌, Bool, length, Option, None, Some}
 use Rattle.std.specs.Prelude.{Result, Ok}
 use Rattle.std.specs.Ordering.{int_eq}
-use Rattle.mq_message.specs.Text.{PlainText}
+use Rattle.mq_arena.specs.Text.{PlainText}
 use Rattle.mq_message.specs.declared.message.Message.{Message}
 use Rattle.mq_queue.specs.Figures.{figures}
 use Rattle.mq_queue.specs.Queue.{rest_of}
 use Rattle.mq_queue.specs.Row.{is_live, last_log, live_key}
 use Rattle.mq_queue.specs.declared.figures.Figures.{Figures}
-use Rattle.mq_select.specs.declared.selection.Selection.{Selection}
+use Rattle.mq_message.specs.declared.selection.Selection.{Selection}
 use Rattle.mq_table.specs.Calls.{SlotTurn, sends, receives, sets, removes}
 use Rattle.mq_table.specs.Ids.{seq_of}
 use Rattle.mq_table.specs.Shown.{by_standing}
 use Rattle.mq_table.specs.Slot.{SlotState, last_id}
 use Rattle.mq_table.specs.SlotList.{standing}
 use Rattle.mq_table.specs.declared.refusal.IdRefusal.{IdRefusal}
-use Rattle.mq_one_thread.specs.Answer as call
-use Rattle.mq_one_thread.specs.Memory.{or_memory}
-use Rattle.mq_one_thread.specs.Texts.{bytes_of}
-use Rattle.mq_one_thread.specs.declared.errno.Errno.{Errno}
-use Rattle.mq_one_thread.specs.declared.errno.Errno.TheVariants.{ENOMEM}
-use Rattle.mq_one_thread.specs.declared.results.Delivered.{Delivered}
-use Rattle.mq_one_thread.specs.declared.results.Refused.{Refused}
-use Rattle.mq_one_thread.specs.declared.results.Removal.{Removal}
+use Rattle.mq_calls.specs.Answer as call
+use Rattle.mq_calls.specs.Memory.{or_memory}
+use Rattle.mq_calls.specs.Texts.{bytes_of}
+use Rattle.mq_calls.specs.declared.errno.Errno.{Errno}
+use Rattle.mq_calls.specs.declared.errno.Errno.TheVariants.{ENOMEM}
+use Rattle.mq_calls.specs.declared.results.Delivered.{Delivered}
+use Rattle.mq_calls.specs.declared.results.Refused.{Refused}
+use Rattle.mq_calls.specs.declared.results.Removal.{Removal}
 
 -- what a call answers, with the slot that it leaves, or why it is refused
 abbrev pub SlotAnswer : Type 0 → Type 0

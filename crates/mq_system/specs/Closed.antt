@@ -4,8 +4,8 @@ use Rattle.std.specs.Prelude.{slice_index, slice_index_or}
 use Rattle.std.specs.List.{AllPairs, sum_by}
 use mathlib.Core.List.{IsPrefix}
 use Rattle.mq_queue.specs.declared.event.Event.{Event}
-use Rattle.mq_one_thread.specs.Closed.{IsEndOf, entries_at_end}
-use Rattle.mq_one_thread.specs.declared.close.ClosedSlot.{ClosedSlot}
+use Rattle.mq_calls.specs.Closed.{IsEndOf, entries_at_end}
+use Rattle.mq_calls.specs.declared.close.ClosedSlot.{ClosedSlot}
 use Rattle.mq_system.specs.Fronts.{FrontsState}
 use Rattle.mq_system.specs.Seat.{AreKnown, SeatState, front_of}
 

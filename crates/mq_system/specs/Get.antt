@@ -5,10 +5,10 @@ use mathlib.Core.List.{IsPrefix}
 use Rattle.mq_queue.specs.declared.event.Event.{Event}
 use Rattle.mq_table.specs.Ids.{seq_of, slot_of}
 use Rattle.mq_table.specs.SlotList.{is_free}
-use Rattle.mq_one_thread.specs.declared.errno.Errno.{Errno}
-use Rattle.mq_one_thread.specs.declared.errno.Errno.TheVariants.{ENOMEM, EEXIST, ENOENT, ENOSPC}
-use Rattle.mq_one_thread.specs.declared.results.GetFlags.{GetFlags}
-use Rattle.mq_one_thread.specs.declared.results.Got.{Got}
+use Rattle.mq_calls.specs.declared.errno.Errno.{Errno}
+use Rattle.mq_calls.specs.declared.errno.Errno.TheVariants.{ENOMEM, EEXIST, ENOENT, ENOSPC}
+use Rattle.mq_calls.specs.declared.results.GetFlags.{GetFlags}
+use Rattle.mq_calls.specs.declared.results.Got.{Got}
 use Rattle.mq_system.specs.Making.{HoldsMade, IsKeyed, IsMade, Lacks}
 use Rattle.mq_system.specs.Outcome.{IsLook}
 use Rattle.mq_system.specs.Seat.{SeatState, IsCounted, IsLater, IsSame, front_of}

@@ -1,13 +1,13 @@
 -- What a call of a slot under its lock leaves, of the slot and of its caller's seat.
 use Rattle.std.specs.Prelude.{◌≡◌, ℕ, ℤ, List, length, slice_set, Some, Ok}
-use Rattle.mq_message.specs.Text.{PlainText}
+use Rattle.mq_arena.specs.Text.{PlainText}
 use Rattle.mq_queue.specs.declared.event.Event.{Event}
 use Rattle.mq_table.specs.Calls.{makes}
 use Rattle.mq_table.specs.Ids.{slot_of}
 use Rattle.mq_table.specs.Keys.{entered}
 use Rattle.mq_table.specs.Slot.{SlotState, next_id}
-use Rattle.mq_one_thread.specs.declared.results.Got.{Got}
-use Rattle.mq_one_thread.specs.declared.results.Refused.{Refused}
+use Rattle.mq_calls.specs.declared.results.Got.{Got}
+use Rattle.mq_calls.specs.declared.results.Refused.{Refused}
 use Rattle.mq_system.specs.Answer.{SlotAnswer, refused_or_memory_in_slot}
 use Rattle.mq_system.specs.Seat.{IsCounted, SeatState, front_of}
 

@@ -1,17 +1,17 @@
 -- What a call of a queue did, as its caller's seat shows it (msgop(2), msgctl(2)).
 use Rattle.std.specs.Prelude.{◌≡◌, ◌+◌, ◌<◌, ◌≤◌, ℕ, ℤ, Bool, false, length, take, Option}
-use Rattle.mq_message.specs.Text.{PlainText}
+use Rattle.mq_arena.specs.Text.{PlainText}
 use Rattle.mq_queue.specs.Queue.{rest_of}
 use Rattle.mq_queue.specs.Row.{last_log}
 use Rattle.mq_queue.specs.declared.event.Event.TheVariants.{Changed, Removed, Sent}
 use Rattle.mq_queue.specs.declared.limits.TheConstants.{MSGMNB}
-use Rattle.mq_select.specs.declared.selection.Selection.{Selection}
+use Rattle.mq_message.specs.declared.selection.Selection.{Selection}
 use Rattle.mq_table.specs.Ids.{seq_of, slot_of}
 use Rattle.mq_table.specs.Slot.{SlotState}
-use Rattle.mq_one_thread.specs.declared.errno.Errno.{Errno}
-use Rattle.mq_one_thread.specs.declared.results.Delivered.{Delivered}
-use Rattle.mq_one_thread.specs.declared.results.Refused.{Refused}
-use Rattle.mq_one_thread.specs.declared.results.Removal.{Removal}
+use Rattle.mq_calls.specs.declared.errno.Errno.{Errno}
+use Rattle.mq_calls.specs.declared.results.Delivered.{Delivered}
+use Rattle.mq_calls.specs.declared.results.Refused.{Refused}
+use Rattle.mq_calls.specs.declared.results.Removal.{Removal}
 use Rattle.mq_system.specs.Pledge.{MeetsPledge, MeetsWhole, Pledged}
 use Rattle.mq_system.specs.Refusals.{MayReceive, MayRemove, MaySend, MaySet, Refuses, never_sent, out_of_slots}
 use Rattle.mq_system.specs.Seat.{IsCounted, IsLater, IsSame, SeatState, front_of}

@@ -1,8 +1,8 @@
 -- What the senders of a system pledge of their texts.
 use Rattle.std.specs.Prelude.{◌≡◌, ℕ, ℤ, Bool, false, List, length, take}
-use Rattle.mq_message.specs.Text.{PlainText}
+use Rattle.mq_arena.specs.Text.{PlainText}
 use Rattle.mq_message.specs.declared.message.Message.{Message}
-use Rattle.mq_one_thread.specs.declared.results.Delivered.{Delivered}
+use Rattle.mq_calls.specs.declared.results.Delivered.{Delivered}
 
 -- a fact of a sender's seat, its tag, the type and the text's bytes
 abbrev pub Pledged : Type 1

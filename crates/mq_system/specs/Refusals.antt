@@ -3,10 +3,10 @@
 use Rattle.std.specs.Prelude.{◌≡◌, ℕ, ℤ, ◌<◌, pos, int_lt, nat_le, ◌||◌, Bool, true, false, IsSome}
 use Rattle.mq_queue.specs.declared.limits.TheConstants.{MSGMNB}
 use Rattle.mq_table.specs.Ids.{slot_of}
-use Rattle.mq_one_thread.specs.Look.{refused_early}
-use Rattle.mq_one_thread.specs.declared.errno.Errno.{Errno}
-use Rattle.mq_one_thread.specs.declared.errno.Errno.TheVariants.{EINVAL, EIDRM, EAGAIN, ENOMEM, ENOMSG, E2BIG, EPERM}
-use Rattle.mq_one_thread.specs.declared.results.Refused.{Refused}
+use Rattle.mq_calls.specs.Look.{refused_early}
+use Rattle.mq_calls.specs.declared.errno.Errno.{Errno}
+use Rattle.mq_calls.specs.declared.errno.Errno.TheVariants.{EINVAL, EIDRM, EAGAIN, ENOMEM, ENOMSG, E2BIG, EPERM}
+use Rattle.mq_calls.specs.declared.results.Refused.{Refused}
 
 -- the number of slots alone refuses an id
 abbrev pub out_of_slots : ℕ → ℕ → Bool

@@ -1,9 +1,9 @@
 -- What a seat's front decides of its calls: after which events of a slot a change was made, and why
 -- a call was refused.
 use Rattle.std.specs.Prelude.{◌≡◌, ℕ, ℤ, ◌≤◌, Bool, List, length, take, slice_get, Option, None, Some, MatchOption, unwrap_or, Result, Ok, Err}
-use Rattle.mq_message.specs.Text.{PlainText}
-use Rattle.mq_select.specs.declared.header.Header.{Header}
-use Rattle.mq_select.specs.declared.selection.Selection.{Selection}
+use Rattle.mq_arena.specs.Text.{PlainText}
+use Rattle.mq_message.specs.declared.header.Header.{Header}
+use Rattle.mq_message.specs.declared.selection.Selection.{Selection}
 use Rattle.mq_queue.specs.Answer.{receive_answer, receive_refusal, send_refusal, set_refusal}
 use Rattle.mq_queue.specs.Room.{quota}
 use Rattle.mq_queue.specs.Row.{last_log}
@@ -12,11 +12,11 @@ use Rattle.mq_queue.specs.declared.error.QueueError.{QueueError}
 use Rattle.mq_queue.specs.declared.event.Event.{Event}
 use Rattle.mq_queue.specs.declared.event.Event.TheVariants.{Received}
 use Rattle.mq_table.specs.SlotList.{Standing, Never, Live, Removed, standing}
-use Rattle.mq_one_thread.specs.Look.{errno_of}
-use Rattle.mq_one_thread.specs.declared.errno.Errno.{Errno}
-use Rattle.mq_one_thread.specs.declared.errno.Errno.TheVariants.{EIDRM, EINVAL, ENOMEM}
-use Rattle.mq_one_thread.specs.declared.results.Delivered.{Delivered}
-use Rattle.mq_one_thread.specs.declared.results.Refused.{Refused}
+use Rattle.mq_calls.specs.Look.{errno_of}
+use Rattle.mq_calls.specs.declared.errno.Errno.{Errno}
+use Rattle.mq_calls.specs.declared.errno.Errno.TheVariants.{EIDRM, EINVAL, ENOMEM}
+use Rattle.mq_calls.specs.declared.results.Delivered.{Delivered}
+use Rattle.mq_calls.specs.declared.results.Refused.{Refused}
 use Rattle.mq_system.specs.Seat.{SeatState, front_of}
 
 -- why a call is refused after some events of its slot, or None where at most memory can be wanted

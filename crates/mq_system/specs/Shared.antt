@@ -1,6 +1,6 @@
 -- What the locks of a system protect.
 use Rattle.std.specs.Prelude.{◌≡◌, ℕ, ℤ, ◌+◌, ◌<◌, List, [], ◌++◌, All, length, map}
-use Rattle.mq_message.specs.Text.{PlainText}
+use Rattle.mq_arena.specs.Text.{PlainText}
 use Rattle.mq_queue.specs.declared.event.Event.{Event}
 use Rattle.mq_table.specs.Ids.{slot_of}
 use Rattle.mq_table.specs.Kept.{KeptSlot}

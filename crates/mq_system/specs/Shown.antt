@@ -10,12 +10,12 @@ use Rattle.mq_table.specs.Ids.{seq_of}
 use Rattle.mq_table.specs.SlotList.{IsSlotList, Standing, Never, Live, Removed, standing}
 use Rattle.mq_table.specs.declared.refusal.IdRefusal.TheVariants as refusal
 use Rattle.mq_table.specs.declared.refusal.IdRefusal.{IdRefusal}
-use Rattle.mq_one_thread.specs.Look.{errno_of_id}
-use Rattle.mq_one_thread.specs.Usages.{no_usage, usage_to}
-use Rattle.mq_one_thread.specs.declared.errno.Errno.TheVariants.{EINVAL}
-use Rattle.mq_one_thread.specs.declared.errno.Errno.{Errno}
-use Rattle.mq_one_thread.specs.declared.results.Removal.{Removal}
-use Rattle.mq_one_thread.specs.declared.usage.Usage.{Usage}
+use Rattle.mq_calls.specs.Look.{errno_of_id}
+use Rattle.mq_calls.specs.Usages.{no_usage, usage_to}
+use Rattle.mq_calls.specs.declared.errno.Errno.TheVariants.{EINVAL}
+use Rattle.mq_calls.specs.declared.errno.Errno.{Errno}
+use Rattle.mq_calls.specs.declared.results.Removal.{Removal}
+use Rattle.mq_calls.specs.declared.usage.Usage.{Usage}
 use Rattle.mq_system.specs.Refusals.{out_of_slots}
 use Rattle.mq_system.specs.Seat.{SeatState, front_of}
 

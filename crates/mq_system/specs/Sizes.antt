@@ -1,9 +1,9 @@
 -- The sizes of a system, and how its names are those of its parts.
 use Rattle.std.specs.Prelude.{◌≡◌, ℕ, ◌+◌, ◌*◌, ◌^◌, ◌<◌, ◌≤◌, List, [], vec_len}
-use Rattle.mq_board.specs.declared.history.Naming as naming
+use Rattle.mq_board.specs.declared.naming.Naming as naming
 use Rattle.mq_board.specs.Named as boards
 use Rattle.mq_table.specs.declared.limits.TheConstants.{MAX_SLOTS, MAX_SEQ}
-use Rattle.mq_one_thread.specs.declared.config.Config.{Config}
+use Rattle.mq_calls.specs.declared.config.Config.{Config}
 use Rattle.mq_system.specs.declared.blanks.Blanks.{Blanks}
 use Rattle.mq_system.specs.declared.names.Names.{Ghosts}
 use Rattle.mq_system.specs.declared.seat.TheConstants.{MAX_COUNT}

@@ -1,6 +1,6 @@
 -- A system in which nothing has happened.
 use Rattle.std.specs.Prelude.{◌≡◌, ℕ, ◌+◌, ◌<◌, List, length, slice_index_or}
-use Rattle.mq_message.specs.Text.{PlainText}
+use Rattle.mq_arena.specs.Text.{PlainText}
 use Rattle.mq_table.specs.Slot.{SlotState, empty_slot}
 use Rattle.mq_system.specs.Seat.{SeatState, fresh_seat}
 

@@ -1,9 +1,9 @@
 ghost use Rattle.std.specs.Prelude.{◌≡◌, ◌↔◌, ◌+◌, false, vec_len, IfOk, IsErrOf};
-ghost use Rattle.mq_one_thread.specs.Limits.{keeps_limits};
+ghost use Rattle.mq_calls.specs.Limits.{keeps_limits};
 
 use mq_arena::LEDGER_PARTS;
 use mq_board::{OpenedBoard, open_boards};
-use mq_one_thread::{Config, SysError};
+use mq_calls::{Config, SysError};
 use std::alloc::Global;
 use std::sync::ledger::Blank;
 

@@ -14,10 +14,9 @@ ghost use Rattle.mq_system.specs.Seat.{front_of};
 ghost use Rattle.mq_system.specs.Shared.{IsDue, IsShared, with_pending};
 
 use crate::{Entries, Keys, Names, Pledge, Seat, SharedSlot, SlotOf, TextOf, WaitingOf};
-use mq_board::{BoardWriter, Copies};
-use mq_message::Message;
-use mq_one_thread::{Delivered, Errno, Got, Refused, Removal, SendRefused};
-use mq_select::Selection;
+use mq_board::BoardWriter;
+use mq_calls::{Delivered, Errno, Got, Refused, Removal, SendRefused};
+use mq_message::{Message, Selection};
 use mq_table::{Id, make_under, remove_under};
 use std::alloc::AllocError;
 use std::sync::Wait;
@@ -27,7 +26,7 @@ use std::sync::ledger::Share;
 fn publish<P: Pledge, N: Names, R: Wait>(
     rt: &R,
     slot: &SlotOf<N>,
-    writer: &mut BoardWriter<N, Copies<N>>,
+    writer: &mut BoardWriter<N>,
     entries: &mut Share<Entries<N>>,
     seat: &mut Seat<N>,
 )
@@ -43,7 +42,7 @@ fn publish<P: Pledge, N: Names, R: Wait>(
     seat.note(entries, slot.number(), writer.tell());
 }
 
-impl<P: Pledge, N: Names> SharedSlot<P, N, Copies<N>> {
+impl<P: Pledge, N: Names> SharedSlot<P, N> {
     /// Sends a text as this seat (msgop(2), msgsnd with IPC_NOWAIT), and answers the entry. EINVAL
     /// for the type, EINVAL for the id, EIDRM, EAGAIN, then ENOMEM; the text is then handed back.
     pub fn send<R: Wait>(

@@ -5,8 +5,8 @@ ghost use Rattle.mq_system.specs.Sizes.{all_changes};
 ghost use Rattle.mq_table.specs.KeptPart.{IsKeptPart, whole};
 ghost use Rattle.mq_table.specs.Slot.{Waits};
 ghost use Rattle.mq_table.specs.SlotList.{IsSlotList};
-ghost use Rattle.mq_one_thread.specs.Closed.{IsClosed, IsEndOf};
-ghost use Rattle.mq_one_thread.specs.Texts.{bytes_of};
+ghost use Rattle.mq_calls.specs.Closed.{IsClosed, IsEndOf};
+ghost use Rattle.mq_calls.specs.Texts.{bytes_of};
 ghost use Rattle.mq_system.specs.Closed.{AreDistinct, AreWithout, IsEnd, IsRecorded, entries_in};
 ghost use Rattle.mq_system.specs.Closed.{known_by};
 
@@ -15,8 +15,8 @@ use crate::{
     System,
 };
 use mq_arena::ArenaState;
-use mq_board::{BoardWriter, Copies};
-use mq_one_thread::end_slot;
+use mq_board::BoardWriter;
+use mq_calls::end_slot;
 use std::hint::spin_loop;
 use std::marker::Model;
 use std::sync::Wait;
@@ -39,7 +39,7 @@ impl<N: Names> Model for Rest<N> {
     ghost invariant = { λ r. (length r.fronts.items ≡ 0) × (N.seats ≤ vec_capacity r.fronts) };
 }
 
-impl<P: Pledge, N: Names> System<P, N, Copies<N>> {
+impl<P: Pledge, N: Names> System<P, N> {
     /// Ends the system, once all seats are back. It takes no memory. What the seats kept back goes
     /// home, and so do the texts that waited; one that is still outside is put into the arena by
     /// its block.
@@ -79,7 +79,7 @@ impl<P: Pledge, N: Names> System<P, N, Copies<N>> {
             } = with_number(rt, place.into_slot(), places.len() as u8).into_parts();
             come_home(&mut writer, &mut fronts);
             parts.merge(entries);
-            closed.push_reserved(end_place(rt, &mut arena, slot, writer));
+            closed.push_reserved(end_place(&mut arena, slot, writer));
         }
         places.destroy_empty();
         settle(&total, &mut parts);
@@ -131,7 +131,7 @@ fn with_number<P: Pledge, N: Names, R: Wait>(
 }
 
 /// The readers of this board, the last in each seat's fronts, come home.
-fn come_home<N: Names>(writer: &mut BoardWriter<N, Copies<N>>, fronts: &mut Vec<Fronts<N>>)
+fn come_home<N: Names>(writer: &mut BoardWriter<N>, fronts: &mut Vec<Fronts<N>>)
     requires number { All (λ f. length f.fronts ≡ writer.old.board + 1) fronts.old.items }
     ensures same { writer.new ≡ record writer.old { home = writer.new.home } }
     ensures left { AreWithout writer.old.events fronts.old.items fronts.new.items }
@@ -147,11 +147,10 @@ fn come_home<N: Names>(writer: &mut BoardWriter<N, Copies<N>>, fronts: &mut Vec<
 
 /// Gives up the board of a slot that nobody uses any more, ends the slot, and spends the texts that
 /// wait in it.
-fn end_place<N: Names, R: Wait>(
-    rt: &R,
+fn end_place<N: Names>(
     arena: &mut ArenaState<Pages<N>>,
     slot: SlotOf<N>,
-    writer: BoardWriter<N, Copies<N>>,
+    writer: BoardWriter<N>,
 ) -> ClosedSlot
     requires kept { IsKeptPart writer.events slot }
     requires lawful { IsSlotList N.last_seq writer.events }
@@ -159,7 +158,6 @@ fn end_place<N: Names, R: Wait>(
     ensures ends { IsEndOf N.last_seq writer.events result }
     ensures height { arena.new.height ≡ arena.old.height }
 {
-    writer.close(rt);
     end_slot(arena, slot)
 }
 

@@ -8,14 +8,13 @@ ghost use Rattle.mq_system.specs.Shown.{known_usage, stat_of};
 
 use crate::messages::too_early;
 use crate::{Errno, Names, Pledge, Refused, Removal, Seat, System, WaitingOf};
-use mq_board::Copies;
-use mq_one_thread::Usage;
+use mq_calls::Usage;
+use mq_message::Waiting;
 use mq_queue::{BoardRow, Figures};
-use mq_select::Waiting;
 use mq_table::Id;
 use std::sync::{MutexGuard, Wait};
 
-impl<P: Pledge, N: Names> System<P, N, Copies<N>> {
+impl<P: Pledge, N: Names> System<P, N> {
     /// Sets the quota (msgctl(2), IPC_SET of msg_qbytes), and answers the entry. EINVAL, EIDRM,
     /// EPERM over MSGMNB, then ENOMEM.
     #[tactic(auto, using(crate::proofs::LaterLemmas::look_self))]

@@ -2,15 +2,14 @@
 
 ghost use Rattle.std.specs.Prelude.{◌≡◌, ◌<◌, Some, length, MatchResult};
 ghost use Rattle.mq_table.specs.Cut.{IsCutOf, cut_shown};
-ghost use Rattle.mq_one_thread.specs.declared.errno.Errno.TheVariants.{ENOMEM};
+ghost use Rattle.mq_calls.specs.declared.errno.Errno.TheVariants.{ENOMEM};
 ghost use Rattle.mq_system.specs.Outcome.{IsLook};
 ghost use Rattle.mq_system.specs.Seat.{front_of};
 
 use crate::{Cut, Names, Pledge, Refused, Seat, System};
-use mq_board::Copies;
 use std::sync::{MutexGuard, Wait};
 
-impl<P: Pledge, N: Names> System<P, N, Copies<N>> {
+impl<P: Pledge, N: Names> System<P, N> {
     /// Cuts the slot's list off where it ends now, and hands out what was kept of it, to be stored
     /// or dropped: of the front that the seat then has, the items from the cut's `first` to the
     /// end, with what is known of the items before. All calls go on as before, and count on from

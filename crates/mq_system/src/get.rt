@@ -6,11 +6,10 @@ ghost use Rattle.mq_system.specs.Outcome.{IsLook};
 ghost use Rattle.mq_system.specs.Get.{IsFound, IsGot, IsNew, IsNotGot, IsNotNew, WasBelow};
 
 use crate::{Errno, GetFlags, Got, Keys, Names, Pledge, Seat, System};
-use mq_board::Copies;
 use mq_table::Id;
 use std::sync::{MutexGuard, Wait};
 
-impl<P: Pledge, N: Names> System<P, N, Copies<N>> {
+impl<P: Pledge, N: Names> System<P, N> {
     /// The id of the queue with this key, or of a new queue (msgget(2)). Key 0 is IPC_PRIVATE.
     /// EEXIST, ENOENT, ENOSPC, then ENOMEM.
     pub fn msgget<R: Wait>(

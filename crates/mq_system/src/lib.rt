@@ -62,9 +62,9 @@ pub use blanks::Blanks;
 pub use flags::{RecvFlags, SendFlags};
 pub use fronts::Fronts;
 pub use keys::Keys;
-pub use mq_one_thread::{
+pub use mq_calls::{
     Closed, ClosedSlot, Config, DEFAULTS, Delivered, DraftError, Errno, GetFlags, Got, MAX_HEIGHT,
-    MAX_SEATS, MAX_SEQ, MAX_SLOTS, OneThread, Refused, Removal, SendRefused, SysError,
+    MAX_SEATS, MAX_SEQ, MAX_SLOTS, Refused, Removal, SendRefused, SysError, Usage,
 };
 pub use mq_table::Cut;
 pub use names::{Entries, Names, Pages, SlotOf, TextOf, WaitingOf};

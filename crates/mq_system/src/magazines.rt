@@ -1,20 +1,29 @@
 //! What the seats have spent, kept back for their next drafts.
 ghost use Rattle.std.specs.Prelude.{◌≡◌, ◌<◌, ◌≤◌, ◌⊎◌, true, IfErr, IfOk, IfSome, IsErrOf};
+ghost use Rattle.mq_tree.specs.declared.limits.TheConstants.{MAX_HEIGHT};
 
 use crate::{Names, Pages, Patience, Waiters};
 use crossbeam_utils::CachePadded;
 use mq_arena::{Arena, Block, INLINE_ORDER, MAX_ORDER, Magazine, TakeError};
 use std::alloc::{AllocError, Global};
 use std::marker::Model;
+use std::sync::atomic::{AtomicU16, Ordering};
 use std::sync::{Mutex, MutexGuard, Wait};
 
 /// A seat's magazine under its lock, which another seat takes only where the arena has no run.
 type Own<N> = CachePadded<Mutex<Magazine<Pages<N>>>>;
 
+/// The drafter of a block with which no seat has drafted.
+const NOBODY: u16 = u16::MAX;
+
 /// A magazine for each seat. The lock of a magazine is taken before the arena's; who takes those of
 /// several takes them in the order of their seats.
 pub(crate) struct Magazines<N: Names> {
     each: Vec<Own<N>>,
+    /// At the page that a block begins at, the index of the seat that last drafted with it, if one
+    /// did. Who spends what another has drafted gives it back to that one, so that neither takes
+    /// the arena's lock.
+    drafters: Vec<AtomicU16>,
     /// Those who wait for pages: woken where a text was spent, whether its pages went home or are
     /// kept back.
     waiters: CachePadded<Waiters>,
@@ -41,13 +50,16 @@ impl<N: Names> Magazines<N> {
         count: u16,
         height: u8,
     ) -> Result<Magazines<N>, AllocError>
-        requires { height ≡ N.height }
+        requires height { height ≡ N.height }
+        requires within { height ≤ MAX_HEIGHT }
     {
+        let drafters = no_drafters(alloc, 1usize << height)?;
         let mut each = Vec::with_capacity(alloc, count as usize)?;
         for _ in 0..count {
             let Ok(magazine) = Magazine::new(alloc) else {
                 let made = Magazines {
                     each,
+                    drafters,
                     waiters: CachePadded::new(Waiters::new()),
                     height,
                 };
@@ -58,6 +70,7 @@ impl<N: Names> Magazines<N> {
         }
         Ok(Magazines {
             each,
+            drafters,
             waiters: CachePadded::new(Waiters::new()),
             height,
         })
@@ -67,6 +80,7 @@ impl<N: Names> Magazines<N> {
     pub(crate) fn end<R: Wait>(self, rt: &R, arena: &Arena<Pages<N>>) {
         let Magazines {
             mut each,
+            drafters: _,
             waiters: _,
             height: _,
         } = self;
@@ -95,19 +109,38 @@ impl<N: Names> Magazines<N> {
         ensures ended { IsErrOf result TakeError.NoRun →
             (T.ends ≡ true) ⊎ (N.height < order) }
     {
-        match self.take_kept(rt, seat, order) {
-            Some(block) => Ok(block),
-            None => self.take_any(rt, arena, order, patience),
+        let own = seat - 1;
+        let block = match self.take_kept(rt, own, order) {
+            Some(block) => block,
+            None => self.take_any(rt, arena, order, patience)?,
+        };
+        self.note(block.start(), own);
+        Ok(block)
+    }
+
+    /// Notes who drafts with the block that begins there. What is so already is not written.
+    fn note(&self, start: u32, seat: u16) {
+        if let Some(drafter) = self.drafters.get(start as usize) {
+            if drafter.load(Ordering::Relaxed) != seat {
+                drafter.store(seat, Ordering::Relaxed);
+            }
         }
     }
 
-    /// A block of that order that this seat keeps back.
+    /// Who last drafted with the block that begins there.
+    fn drafter(&self, start: u32) -> u16 {
+        match self.drafters.get(start as usize) {
+            Some(drafter) => drafter.load(Ordering::Relaxed),
+            None => NOBODY,
+        }
+    }
+
+    /// A block of that order that the seat at this index keeps back.
     fn take_kept<R: Wait>(&self, rt: &R, seat: u16, order: u8) -> Option<Block<Pages<N>>>
-        requires seat { 1 ≤ seat }
-        requires order { order ≤ MAX_ORDER }
+        requires { order ≤ MAX_ORDER }
         ensures { IfSome result (λ b. b.order ≡ order) }
     {
-        let own = self.each.get(seat as usize - 1)?;
+        let own = self.each.get(seat as usize)?;
         let mut magazine = own.lock(rt);
         let found = magazine.take(order);
         MutexGuard::unlock(magazine);
@@ -190,8 +223,8 @@ impl<N: Names> Magazines<N> {
         self.waiters.wake();
     }
 
-    /// Keeps a block in the magazine of the seat with this number, while it has room; else the
-    /// block goes home.
+    /// Keeps a block in the magazine of the seat with this number, while it has room, or of the
+    /// seat that drafted with it; else the block goes home.
     pub(crate) fn put<R: Wait>(
         &self,
         rt: &R,
@@ -201,23 +234,26 @@ impl<N: Names> Magazines<N> {
     )
         requires { 1 ≤ seat }
     {
-        if let Err(block) = self.keep(rt, seat, block) {
-            arena.put(rt, block);
+        if let Err(block) = self.keep(rt, seat - 1, block) {
+            let drafter = self.drafter(block.start());
+            if let Err(block) = self.keep(rt, drafter, block) {
+                arena.put(rt, block);
+            }
         }
         self.wake();
     }
 
-    /// Keeps a block in the magazine of this seat, or hands it back where that has no room.
+    /// Keeps a block in the magazine of the seat at this index, or hands it back where that has no
+    /// room.
     fn keep<R: Wait>(
         &self,
         rt: &R,
         seat: u16,
         block: Block<Pages<N>>,
     ) -> Result<(), Block<Pages<N>>>
-        requires { 1 ≤ seat }
         ensures { IfErr result (λ b. b ≡ block) }
     {
-        let Some(own) = self.each.get(seat as usize - 1) else {
+        let Some(own) = self.each.get(seat as usize) else {
             return Err(block);
         };
         let mut magazine = own.lock(rt);
@@ -225,6 +261,15 @@ impl<N: Names> Magazines<N> {
         MutexGuard::unlock(magazine);
         kept
     }
+}
+
+/// Nobody has drafted with a block of these pages. An `Err` means that memory ran out.
+fn no_drafters(alloc: Global, pages: usize) -> Result<Vec<AtomicU16>, AllocError> {
+    let mut drafters = Vec::with_capacity(alloc, pages)?;
+    for _ in 0..pages {
+        drafters.push_reserved(AtomicU16::new(NOBODY));
+    }
+    Ok(drafters)
 }
 
 /// A block of the arena, once what these magazines keep is home. Their locks are held until it is

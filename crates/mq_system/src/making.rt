@@ -7,12 +7,11 @@ ghost use Rattle.mq_system.specs.Outcome.{IsLook};
 ghost use Rattle.mq_system.specs.Seat.{front_of};
 
 use crate::{Keys, Names, Pledge, Seat, SlotMonitor};
-use mq_board::Copies;
-use mq_one_thread::{Errno, Got};
+use mq_calls::{Errno, Got};
 use mq_table::Id;
 use std::sync::{MutexGuard, Wait};
 
-impl<P: Pledge, N: Names> SlotMonitor<P, N, Copies<N>> {
+impl<P: Pledge, N: Names> SlotMonitor<P, N> {
     /// The id of the queue in the slot, where it is there and has this key, which is not 0.
     pub(crate) fn with_key<R: Wait>(
         &self,

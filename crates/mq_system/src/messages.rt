@@ -1,20 +1,19 @@
 //! The calls that wait for a message or for room.
 ghost use Rattle.std.specs.Prelude.{◌≡◌, ◌||◌, length, IfErr, MatchResult};
-ghost use Rattle.mq_select.specs.Selection.{selection_of};
-ghost use Rattle.mq_one_thread.specs.Look.{refused_early};
-ghost use Rattle.mq_one_thread.specs.declared.errno.Errno.TheVariants.{EINVAL};
+ghost use Rattle.mq_message.specs.Selection.{selection_of};
+ghost use Rattle.mq_calls.specs.Look.{refused_early};
+ghost use Rattle.mq_calls.specs.declared.errno.Errno.TheVariants.{EINVAL};
 ghost use Rattle.mq_system.specs.Outcome.{IsNotReceived, IsNotSent, IsReceived, IsSent};
 
 use crate::{
     Delivered, Errno, Forever, Names, Patience, Pledge, RecvFlags, Refused, Seat, SendFlags,
     SendRefused, System, TextOf,
 };
-use mq_board::Copies;
-use mq_select::Selection;
+use mq_message::Selection;
 use mq_table::Id;
 use std::sync::{MutexGuard, Wait};
 
-impl<P: Pledge, N: Names> System<P, N, Copies<N>> {
+impl<P: Pledge, N: Names> System<P, N> {
     /// Sends a text (msgop(2), msgsnd), and answers the entry. Where the queue is full it waits for
     /// room, unless the flags say not to. EINVAL for the type, EINVAL for the id, EIDRM, EAGAIN,
     /// then ENOMEM; the text is then handed back.

@@ -1,10 +1,9 @@
 ghost use Rattle.std.specs.Prelude.{ℕ, ◌+◌};
 
-use mq_arena::OfHeight;
+use mq_arena::{OfHeight, Text};
 use mq_board::Naming;
+use mq_calls::TextSlot;
 use mq_index::IndexWaiting;
-use mq_message::Text;
-use mq_one_thread::TextSlot;
 use std::marker::{Brand, PhantomData};
 use std::sync::ledger::Ledger;
 

@@ -11,19 +11,17 @@ use crate::{
 };
 use mq_arena::ArenaState;
 use mq_board::{BoardReader, OpenedBoard, next_board};
-use mq_one_thread::end_slot;
+use mq_calls::end_slot;
 use mq_table::Slot;
 use std::alloc::{AllocError, Global};
-use std::sync::Wait;
 
 /// The readers of each board.
 pub(crate) type ReadersOf<N> = Vec<Vec<BoardReader<N>>>;
 
 /// The slots, in which no queue was made, with their boards, and the readers of each board. An
 /// `Err` means that memory ran out, and then those that were made are given up.
-pub(crate) fn make_slots<P: Pledge, N: Names, R: Wait>(
+pub(crate) fn make_slots<P: Pledge, N: Names>(
     alloc: Global,
-    rt: &R,
     arena: &mut ArenaState<Pages<N>>,
     boards: Vec<OpenedBoard>,
     tally: &mut Tally<N>,
@@ -49,8 +47,8 @@ pub(crate) fn make_slots<P: Pledge, N: Names, R: Wait>(
         return Err(AllocError);
     };
     for number in 0..count {
-        let Ok((writer, readers)) = next_board::<N, R>(alloc, rt, &mut boards, number, seats) else {
-            give_up(rt, arena, slots);
+        let Ok((writer, readers)) = next_board::<N>(alloc, &mut boards, number, seats) else {
+            give_up(arena, slots);
             return Err(AllocError);
         };
         let slot = Slot::new(alloc, number);
@@ -61,8 +59,7 @@ pub(crate) fn make_slots<P: Pledge, N: Names, R: Wait>(
 }
 
 /// Gives up slots and their boards.
-pub(crate) fn give_up<P: Pledge, N: Names, R: Wait>(
-    rt: &R,
+pub(crate) fn give_up<P: Pledge, N: Names>(
     arena: &mut ArenaState<Pages<N>>,
     slots: Vec<SharedSlot<P, N>>,
 ) {
@@ -70,10 +67,9 @@ pub(crate) fn give_up<P: Pledge, N: Names, R: Wait>(
     while let Some(slot) = slots.pop() {
         let SlotParts {
             slot,
-            writer,
+            writer: _,
             entries: _,
         } = slot.into_parts();
-        writer.close(rt);
         end_slot(arena, slot);
     }
     slots.destroy_empty();

@@ -4,7 +4,6 @@ ghost use Rattle.mq_system.specs.Outcome.{IsUnderLock};
 
 use crate::{Names, Pledge, Seat, SharedSlot, Waiters};
 use crossbeam_utils::{Backoff, CachePadded};
-use mq_board::Copies;
 use std::hint::spin_loop;
 use std::sync::{Mutex, MutexGuard, Wait};
 
@@ -56,14 +55,14 @@ impl Pauses {
 
 /// A slot's lock, and those who wait: senders for room, receivers for what arrives. They look at
 /// lines of their own, which no change of the slot takes away from them.
-pub(crate) struct SlotMonitor<P: Pledge, N: Names, C = Copies<N>> {
-    held: Mutex<SharedSlot<P, N, C>>,
+pub(crate) struct SlotMonitor<P: Pledge, N: Names> {
+    held: Mutex<SharedSlot<P, N>>,
     pub(crate) room: CachePadded<Waiters>,
     pub(crate) arrived: CachePadded<Waiters>,
 }
 
-impl<P: Pledge, N: Names, C> SlotMonitor<P, N, C> {
-    pub(crate) fn new(slot: SharedSlot<P, N, C>) -> SlotMonitor<P, N, C> {
+impl<P: Pledge, N: Names> SlotMonitor<P, N> {
+    pub(crate) fn new(slot: SharedSlot<P, N>) -> SlotMonitor<P, N> {
         SlotMonitor {
             held: Mutex::new(slot),
             room: CachePadded::new(Waiters::new()),
@@ -72,7 +71,7 @@ impl<P: Pledge, N: Names, C> SlotMonitor<P, N, C> {
     }
 
     /// The slot alone. No thread has the place any more.
-    pub(crate) fn into_slot(self) -> SharedSlot<P, N, C> {
+    pub(crate) fn into_slot(self) -> SharedSlot<P, N> {
         let SlotMonitor {
             held,
             room: _,
@@ -80,9 +79,7 @@ impl<P: Pledge, N: Names, C> SlotMonitor<P, N, C> {
         } = self;
         held.into_inner()
     }
-}
 
-impl<P: Pledge, N: Names> SlotMonitor<P, N, Copies<N>> {
     /// Takes the lock for a seat, which then knows all that happened in the slot. A slot of another
     /// number, or one of which the seat knew more, would be let go, and looked at again: no run
     /// meets either.
@@ -92,14 +89,14 @@ impl<P: Pledge, N: Names> SlotMonitor<P, N, Copies<N>> {
         rt: &R,
         seat: &mut Seat<N>,
         number: u8,
-    ) -> MutexGuard<'s, SharedSlot<P, N, Copies<N>>>
+    ) -> MutexGuard<'s, SharedSlot<P, N>>
         requires within { number < N.slots }
         ensures { IsUnderLock seat.old seat.new number (mutex_guard_value result) }
     {
         seat.holds();
         let pauses = Pauses::of(seat, number);
         for _try in 0..TRIES {
-            if let Some(held) = self.held.try_lock() {
+            if let Some(mut held) = self.held.try_lock() {
                 if held.enter(seat, number) {
                     return held;
                 }
@@ -108,7 +105,7 @@ impl<P: Pledge, N: Names> SlotMonitor<P, N, Copies<N>> {
             pauses.pause();
         }
         for _ in rt.forever() {
-            let held = self.held.lock(rt);
+            let mut held = self.held.lock(rt);
             if held.enter(seat, number) {
                 return held;
             }

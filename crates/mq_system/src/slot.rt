@@ -7,8 +7,8 @@ ghost use Rattle.mq_table.specs.Slot.{empty_slot, Waits};
 ghost use Rattle.mq_table.specs.SlotList.{is_free, IsSlotList};
 ghost use Rattle.mq_table.specs.SlotParts.{empty_kept};
 ghost use Rattle.mq_table.specs.declared.limits.TheConstants.{MAX_SEQ, MAX_SLOTS};
-ghost use Rattle.mq_one_thread.specs.Texts.{bytes_of};
-ghost use Rattle.mq_one_thread.specs.declared.errno.Errno.TheVariants.{ENOMEM};
+ghost use Rattle.mq_calls.specs.Texts.{bytes_of};
+ghost use Rattle.mq_calls.specs.declared.errno.Errno.TheVariants.{ENOMEM};
 ghost use Rattle.mq_system.specs.Answer.{id_with_key, looks_in_slot, refused_here};
 ghost use Rattle.mq_system.specs.Pledge.{IsPledged};
 ghost use Rattle.mq_system.specs.Outcome.{IsLook};
@@ -16,33 +16,32 @@ ghost use Rattle.mq_system.specs.Seat.{front_of};
 ghost use Rattle.mq_system.specs.Shared.{IsShared};
 
 use crate::{Entries, Names, Pledge, Seat, SlotOf};
-use mq_board::{BoardWriter, Copies};
-use mq_one_thread::{Errno, Refused};
+use mq_board::BoardWriter;
+use mq_calls::{Errno, Refused};
 use mq_table::{Cut, Id, MAX_SLOTS};
 use std::marker::{Model, PhantomData};
 use std::sync::ledger::Share;
 
 /// A slot of a system, under its lock, with the writer of its board, which has published all that
 /// happened in the slot and nothing else, also what was cut off of the slot's list since then. It
-/// is seen as the whole slot; the pledge holds of each message that waits in it. `C` is the type of
-/// the board's copies.
-pub struct SharedSlot<P: Pledge, N: Names, C = Copies<N>> {
+/// is seen as the whole slot; the pledge holds of each message that waits in it.
+pub struct SharedSlot<P: Pledge, N: Names> {
     pub(crate) slot: SlotOf<N>,
-    pub(crate) writer: BoardWriter<N, C>,
+    pub(crate) writer: BoardWriter<N>,
     /// As much as its whole list has entries.
     pub(crate) entries: Share<Entries<N>>,
     pledge: PhantomData<P>,
 }
 
 /// What a slot under its lock is made of.
-pub struct SlotParts<N: Names, C = Copies<N>> {
+pub struct SlotParts<N: Names> {
     pub slot: SlotOf<N>,
-    pub writer: BoardWriter<N, C>,
+    pub writer: BoardWriter<N>,
     pub entries: Share<Entries<N>>,
 }
 
-impl<P: Pledge, N: Names, C> Model for SharedSlot<P, N, C> {
-    ghost use Rattle.mq_message.specs.Text.{PlainText};
+impl<P: Pledge, N: Names> Model for SharedSlot<P, N> {
+    ghost use Rattle.mq_arena.specs.Text.{PlainText};
     ghost use Rattle.mq_table.specs.KeptPart.{whole};
     ghost use Rattle.mq_table.specs.Slot.{SlotState};
     ghost use Rattle.mq_system.specs.Shared.{IsShared};
@@ -55,14 +54,14 @@ impl<P: Pledge, N: Names, C> Model for SharedSlot<P, N, C> {
         s.writer.pending s.slot s.entries.parts s.entries.amount };
 }
 
-impl<P: Pledge, N: Names, C> SharedSlot<P, N, C> {
+impl<P: Pledge, N: Names> SharedSlot<P, N> {
     /// A slot in which no queue was made, and its board, of the same number, on which nothing is
     /// published.
     pub fn new(
         slot: SlotOf<N>,
-        writer: BoardWriter<N, C>,
+        writer: BoardWriter<N>,
         entries: Share<Entries<N>>,
-    ) -> SharedSlot<P, N, C>
+    ) -> SharedSlot<P, N>
         requires within { slot.number < N.slots }
         requires board { writer.board ≡ slot.number }
         requires empty { slot ≡ empty_kept slot.number }
@@ -105,11 +104,12 @@ impl<P: Pledge, N: Names, C> SharedSlot<P, N, C> {
     /// The seat learns what happened in this slot. Whether this is its number, and the seat did not
     /// know more: no run meets a slot of another number, or of which a seat knows more than that
     /// under its lock.
-    pub fn enter(&self, seat: &mut Seat<N>, number: u8) -> bool
+    pub fn enter(&mut self, seat: &mut Seat<N>, number: u8) -> bool
         requires within { number < N.slots }
         ensures look { IsLook seat.old seat.new }
-        ensures known { IsTrue result → (self.now.number ≡ number)
-            × (front_of seat.new number ≡ self.now.events) }
+        ensures known { IsTrue result → (self.old.number ≡ number)
+            × (front_of seat.new number ≡ self.old.events) }
+        ensures same { self.new ≡ self.old }
     {
         self.is_number(number) && seat.learn(number, self.writer.tell())
     }
@@ -171,7 +171,7 @@ impl<P: Pledge, N: Names, C> SharedSlot<P, N, C> {
     }
 
     /// What it is made of, at the end.
-    pub fn into_parts(self) -> SlotParts<N, C>
+    pub fn into_parts(self) -> SlotParts<N>
         ensures slot { whole result.writer.events result.slot ≡ self }
         ensures shared { IsShared P.kept N.slots N.last_seq result.writer.board
             result.writer.events result.writer.pending result.slot result.entries.parts

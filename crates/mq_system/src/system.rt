@@ -1,7 +1,7 @@
 ghost use Rattle.std.specs.Prelude.{◌≡◌, ◌↔◌, ◌⊎◌, ◌<◌, ◌≤◌, ℕ, true, false, length, nat_lt, replicate};
 ghost use Rattle.std.specs.Prelude.{None, vec_len, IfOk, IsErrOf};
-ghost use Rattle.mq_message.specs.Text.{order_for};
-ghost use Rattle.mq_one_thread.specs.Limits.{keeps_limits};
+ghost use Rattle.mq_arena.specs.Text.{order_for};
+ghost use Rattle.mq_calls.specs.Limits.{keeps_limits};
 ghost use Rattle.mq_system.specs.Sizes.{AreNames};
 ghost use Rattle.mq_system.specs.Started.{AreFresh};
 
@@ -12,10 +12,10 @@ use crate::{
     Blanks, Config, DraftError, Entries, Keys, Names, NoWait, Pages, Patience, Pledge, Seat,
     SlotMonitor, SysError, Tally, TextOf,
 };
-use mq_arena::{Arena, Block, Homecoming, LEDGER_PARTS, TakeError, Unopened};
-use mq_board::Copies;
-use mq_message::{INLINE_LEN, Text, order_for};
-use mq_one_thread::ClosedSlot;
+use mq_arena::{
+    Arena, Block, Homecoming, INLINE_LEN, LEDGER_PARTS, TakeError, Text, Unopened, order_for,
+};
+use mq_calls::ClosedSlot;
 use mq_queue::MSGMAX;
 use mq_table::MAX_SLOTS;
 use std::alloc::Global;
@@ -24,8 +24,8 @@ use std::sync::ledger::Total;
 use std::sync::{Mutex, Wait};
 
 /// The queues of several threads, by the calls of the manual. `close` ends it.
-pub struct System<P: Pledge, N: Names, C = Copies<N>> {
-    pub(crate) places: Vec<SlotMonitor<P, N, C>>,
+pub struct System<P: Pledge, N: Names> {
+    pub(crate) places: Vec<SlotMonitor<P, N>>,
     pub(crate) keys: Mutex<Keys<N>>,
     /// What the parts of all slots and seats have together.
     pub(crate) total: Total<Entries<N>>,
@@ -40,7 +40,7 @@ pub struct System<P: Pledge, N: Names, C = Copies<N>> {
     pub(crate) closed: Vec<ClosedSlot>,
 }
 
-impl<P: Pledge, N: Names, C> Model for System<P, N, C> {
+impl<P: Pledge, N: Names> Model for System<P, N> {
     ghost use Rattle.std.specs.Prelude.{ℕ, vec_len, vec_capacity};
     ghost use Rattle.mq_system.specs.Sizes.{IsSystem};
 
@@ -52,7 +52,7 @@ impl<P: Pledge, N: Names, C> Model for System<P, N, C> {
         s.last_seq s.pages s.closed.items (vec_capacity s.closed) s.total.parts s.total.amount };
 }
 
-impl<P: Pledge, N: Names> System<P, N, Copies<N>> {
+impl<P: Pledge, N: Names> System<P, N> {
     /// A system in which no queue is made and nothing is lent, and its seats in the order of their
     /// numbers. `Blanks::of` has the ledgers and boards that it wants. `Config` where a number is
     /// out of its limits, then `Memory`.
@@ -61,7 +61,7 @@ impl<P: Pledge, N: Names> System<P, N, Copies<N>> {
         rt: &R,
         config: Config,
         blanks: Blanks,
-    ) -> Result<(System<P, N, Copies<N>>, Vec<Seat<N>>), SysError>
+    ) -> Result<(System<P, N>, Vec<Seat<N>>), SysError>
         requires names { AreNames N.Names.own N.Naming blanks config }
         requires enough { LEDGER_PARTS ≤ blanks.pages.parts }
         ensures seats { IfOk result (λ r. vec_len r.1 ≡ N.seats) }
@@ -87,9 +87,8 @@ impl<P: Pledge, N: Names> System<P, N, Copies<N>> {
         } = blanks;
         let mut arena = arena.open::<Pages<N>>(ledger);
         let mut tally = Tally::new(entries);
-        let Ok((slots, mut rows)) = make_slots::<P, N, R>(
+        let Ok((slots, mut rows)) = make_slots::<P, N>(
             alloc,
-            rt,
             &mut arena,
             boards,
             &mut tally,
@@ -99,18 +98,18 @@ impl<P: Pledge, N: Names> System<P, N, Copies<N>> {
             return Err(SysError::Memory);
         };
         let Ok(seats) = make_seats(alloc, rows.as_mut_slice(), &mut tally, config.seats) else {
-            give_up(rt, &mut arena, slots);
+            give_up(&mut arena, slots);
             return Err(SysError::Memory);
         };
         let Ok(mut places) = Vec::with_capacity(alloc, config.slots as usize) else {
-            give_up(rt, &mut arena, slots);
+            give_up(&mut arena, slots);
             leave(seats);
             return Err(SysError::Memory);
         };
         let pages = arena.pages();
         let arena = Arena::new(arena);
         let Ok(magazines) = Magazines::new(alloc, rt, &arena, config.seats, config.height) else {
-            give_up(rt, &mut arena.into_state(), slots);
+            give_up(&mut arena.into_state(), slots);
             leave(seats);
             places.destroy_empty();
             return Err(SysError::Memory);
@@ -130,9 +129,7 @@ impl<P: Pledge, N: Names> System<P, N, Copies<N>> {
         };
         Ok((system, seats))
     }
-}
 
-impl<P: Pledge, N: Names, C> System<P, N, C> {
     /// How many slots there are.
     pub fn slots(&self) -> u8
         ensures count { result ≡ N.slots }

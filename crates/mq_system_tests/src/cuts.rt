@@ -5,8 +5,8 @@ use crate::calls::{CREATE, NEW, NO_FLAG, TAG, counts, cut, first, has, is_first,
 use crate::day::{Anything, Day, config, left_by};
 use crate::table::{Answer, Step, plays};
 use crate::{granted, holds};
+use mq_message::Selection;
 use mq_queue::{Base, BaseEntry, BoardRow, Event, Figures};
-use mq_select::Selection;
 use mq_system::{ClosedSlot, Config, Errno, Names, Removal, Seat, System};
 use mq_table::Cut;
 use std::alloc::Global;

@@ -3,7 +3,6 @@ ghost use Rattle.std.specs.Prelude.{◌≡◌, ◌≤◌};
 ghost use Rattle.mq_system.specs.Sizes.{AreNames};
 
 use mq_arena::LEDGER_PARTS;
-use mq_board::Copies;
 use mq_system::{Blanks, Closed, ClosedSlot, Config, Names, Pledge, Seat, SysError, System};
 use std::alloc::Global;
 use std::marker::Brand;
@@ -48,7 +47,7 @@ fn lived<P: Pledge, N: Names, D: Day<P>, R: Abort + Threads + Wait>(
     requires names { AreNames N.Names.own N.Naming blanks config }
     requires enough { LEDGER_PARTS ≤ blanks.pages.parts }
 {
-    let (system, mut seats) = System::<P, N, Copies<N>>::new(alloc, rt, config, blanks)?;
+    let (system, mut seats) = System::<P, N>::new(alloc, rt, config, blanks)?;
     day.spend(rt, alloc, config, &system, seats.as_mut_slice());
     let Closed { slots, arena } = system.close(rt, seats);
     Ok(Left {

@@ -151,3 +151,39 @@ fn a_seat_drafts_the_block_that_it_has_spent(rt: HostRuntime) -> Result<(), Fail
     holds(&rt, left.free_pages == 8, "all pages are home");
     Ok(())
 }
+
+/// A seat keeps back what it spends of another, and gives it back where its magazine is full.
+struct GoesBack;
+
+impl Day<Anything> for GoesBack {
+    fn spend<N: Names, R: Abort + Threads + Wait>(
+        &self,
+        rt: &R,
+        _alloc: Global,
+        _config: Config,
+        system: &System<Anything, N>,
+        seats: &mut [Seat<N>],
+    ) {
+        let page = drafted(rt, system, seats, 1, b"page");
+        let least = page.start();
+        spent(rt, system, seats, 2, page);
+        let page = drafted(rt, system, seats, 2, b"page");
+        holds(rt, page.start() == least, "the page that it has spent");
+        let other = drafted(rt, system, seats, 1, b"other");
+        let whole = drafted(rt, system, seats, 2, front(8192));
+        spent(rt, system, seats, 2, whole);
+        system.spend(rt, page);
+        let start = other.start();
+        spent(rt, system, seats, 2, other);
+        let other = drafted(rt, system, seats, 1, b"other");
+        holds(rt, other.start() == start, "the page that came back");
+        spent(rt, system, seats, 1, other);
+    }
+}
+
+#[test]
+fn what_another_seat_spends_goes_back_where_it_has_no_room(rt: HostRuntime) -> Result<(), Fail> {
+    let left = left_by(&rt, rt.alloc(), config(4, 1, 9), &GoesBack);
+    holds(&rt, left.free_pages == 16, "all pages are home");
+    Ok(())
+}

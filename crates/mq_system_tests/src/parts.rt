@@ -4,11 +4,10 @@ ghost use Rattle.mq_board.specs.Readers.{seats};
 ghost use Rattle.mq_system.specs.Fronts.{AreRows};
 
 use crate::holds;
-use mq_arena::{ArenaState, Homecoming};
-use mq_board::{BoardReader, BoardWriter, Copies};
-use mq_message::Text;
+use mq_arena::{ArenaState, Homecoming, Text};
+use mq_board::{BoardReader, BoardWriter};
+use mq_message::Waiting;
 use mq_queue::Figures;
-use mq_select::Waiting;
 use mq_system::{Fronts, Names, Pages, Seat, Tally, TextOf, WaitingOf};
 use mq_table::{Id, IdRefusal};
 use std::alloc::{AllocError, Global};
@@ -109,11 +108,7 @@ pub(crate) fn figures_of<N: Names>(rt: &impl Abort, seat: &mut Seat<N>) -> Figur
 }
 
 /// The seat learns what was published of the slot, which is known of no other way.
-pub(crate) fn told<N: Names>(
-    rt: &impl Abort,
-    writer: &BoardWriter<N, Copies<N>>,
-    seat: &mut Seat<N>,
-)
+pub(crate) fn told<N: Names>(rt: &impl Abort, writer: &mut BoardWriter<N>, seat: &mut Seat<N>)
     requires slots { N.slots ≡ 1 }
 {
     let told = writer.tell();
@@ -123,11 +118,7 @@ pub(crate) fn told<N: Names>(
 }
 
 /// The seat's only reader comes home.
-pub(crate) fn come_home<N: Names>(
-    rt: &impl Abort,
-    writer: &mut BoardWriter<N, Copies<N>>,
-    fronts: Fronts<N>,
-) {
+pub(crate) fn come_home<N: Names>(rt: &impl Abort, writer: &mut BoardWriter<N>, fronts: Fronts<N>) {
     let mut fronts = fronts;
     let Some(reader) = fronts.hand_out() else {
         panic!(rt; "a seat has no reader")

@@ -4,7 +4,7 @@ use crate::calls::{
 };
 use crate::day::{Anything, Day, config, left_by};
 use crate::{granted, holds};
-use mq_one_thread::{Delivered, Errno, Removal, SendRefused};
+use mq_calls::{Delivered, Errno, Removal, SendRefused};
 use mq_system::{Config, GetFlags, Names, RecvFlags, Seat, SendFlags, System, TextOf};
 use mq_table::Id;
 use std::alloc::Global;

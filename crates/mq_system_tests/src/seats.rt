@@ -8,7 +8,7 @@ use crate::parts::{drafted, figures_of, not_shown, spent};
 use crate::shared::{Day, apart_once};
 use crate::slot_calls::{cut, entered, made, received, removed, sent};
 use mq_arena::ArenaState;
-use mq_one_thread::Config;
+use mq_calls::Config;
 use mq_system::{Keys, Names, Pages, Seat, SharedSlot};
 use mq_table::{Id, IdRefusal, MAX_SEQ};
 use std::process::Abort;

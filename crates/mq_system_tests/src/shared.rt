@@ -9,7 +9,7 @@ use crate::seats::followed;
 use crate::slot_calls::{changed, cut, made, nothing_shown, received, removed, sent, shown};
 use mq_arena::{ArenaState, LEDGER_PARTS, Unopened};
 use mq_board::next_board;
-use mq_one_thread::{Config, SysError};
+use mq_calls::{Config, SysError};
 use mq_system::{Blanks, Keys, Names, Pages, Seat, SharedSlot, SlotOf, SlotParts, Tally};
 use mq_table::{MAX_SEQ, Slot};
 use std::alloc::Global;
@@ -55,7 +55,7 @@ fn taken_apart<N: Names, R: Abort + Wait>(
         entries: mut parts,
     } = slot.into_parts();
     let mut second = second;
-    told(rt, &writer, &mut second);
+    told(rt, &mut writer, &mut second);
     let (left, fronts) = first.into_parts();
     parts.merge(left);
     come_home(rt, &mut writer, fronts);
@@ -63,7 +63,6 @@ fn taken_apart<N: Names, R: Abort + Wait>(
     parts.merge(left);
     come_home(rt, &mut writer, fronts);
     total.audit(&mut parts);
-    writer.close(rt);
     is_over(rt, slot);
 }
 
@@ -103,7 +102,7 @@ fn slot_day<N: Names, R: Abort + Wait>(
     made(rt, &mut slot, keys, first, last_seq);
     let text = drafted(rt, arena);
     sent(rt, &mut slot, first, text);
-    shown(rt, &slot, second);
+    shown(rt, &mut slot, second);
     cut(rt, &mut slot);
     let text = received(rt, &mut slot, second);
     spent(rt, arena, text);
@@ -148,7 +147,7 @@ fn apart<N: Names, R: Abort + Wait>(rt: &R, alloc: Global, config: Config, blank
     let Ok(unopened) = Unopened::new(alloc, config.height) else {
         panic!(rt; "out of memory")
     };
-    let Ok((writer, readers)) = next_board::<N, R>(alloc, rt, &mut boards, 0, 2) else {
+    let Ok((writer, readers)) = next_board::<N>(alloc, &mut boards, 0, 2) else {
         panic!(rt; "out of memory")
     };
     let mut tally = Tally::<N>::new(entries);

@@ -4,7 +4,7 @@ ghost use Rattle.std.specs.Prelude.{◌≡◌};
 use crate::calls::{CREATE, seat};
 use crate::day::{Anything, Day, config, left_by};
 use crate::{granted, holds};
-use mq_one_thread::Usage;
+use mq_calls::Usage;
 use mq_queue::{BoardRow, Figures};
 use mq_system::{Config, Names, Seat, System};
 use std::alloc::Global;

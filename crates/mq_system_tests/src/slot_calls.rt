@@ -6,8 +6,8 @@ use crate::calls::{has, is_first, is_second};
 use crate::day::Anything;
 use crate::holds;
 use crate::parts::{emptied, figures_of, not_shown};
-use mq_one_thread::{Delivered, Errno, Refused, Removal};
-use mq_select::Selection;
+use mq_calls::{Delivered, Errno, Refused, Removal};
+use mq_message::Selection;
 use mq_system::{Keys, Names, Seat, SharedSlot, TextOf};
 use mq_table::{Cut, Id, IdRefusal, MAX_SEQ};
 use std::process::Abort;
@@ -35,9 +35,14 @@ fn has_slot<N: Names>(slot: &SharedSlot<Anything, N>)
 }
 
 /// The seat learns all that happened in the slot, as it does once it has the slot's lock.
-pub(crate) fn entered<N: Names>(rt: &impl Abort, slot: &SharedSlot<Anything, N>, seat: &mut Seat<N>)
-    requires number { slot.now.number ≡ 0 }
-    ensures known { front_of seat.new slot.now.number ≡ slot.now.events }
+pub(crate) fn entered<N: Names>(
+    rt: &impl Abort,
+    slot: &mut SharedSlot<Anything, N>,
+    seat: &mut Seat<N>,
+)
+    requires number { slot.old.number ≡ 0 }
+    ensures known { front_of seat.new slot.old.number ≡ slot.old.events }
+    ensures same { slot.new ≡ slot.old }
 {
     has_slot(slot);
     if !slot.enter(seat, 0) {
@@ -132,8 +137,13 @@ pub(crate) fn cut<N: Names>(rt: &impl Abort, slot: &mut SharedSlot<Anything, N>)
 }
 
 /// What the other seat is shown before it enters is no more than what it knows then.
-pub(crate) fn shown<N: Names>(rt: &impl Abort, slot: &SharedSlot<Anything, N>, seat: &mut Seat<N>)
-    requires number { slot.now.number ≡ 0 }
+pub(crate) fn shown<N: Names>(
+    rt: &impl Abort,
+    slot: &mut SharedSlot<Anything, N>,
+    seat: &mut Seat<N>,
+)
+    requires number { slot.old.number ≡ 0 }
+    ensures same { slot.new ≡ slot.old }
 {
     has_slot(slot);
     let before = seat.row(0);

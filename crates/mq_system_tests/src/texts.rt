@@ -1,6 +1,6 @@
 //! Texts that go through two queues, that are left at the end, and for which there is no memory.
 ghost use Rattle.std.specs.Prelude.{◌≡◌, ◌≤◌, IfOk, length};
-ghost use Rattle.mq_message.specs.Text.{count_of};
+ghost use Rattle.mq_arena.specs.Text.{count_of};
 
 use crate::calls::{CREATE, draft, first};
 use crate::day::{Anything, Day, config, left_by};

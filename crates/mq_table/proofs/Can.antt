@@ -1,8 +1,8 @@
 -- What is answered can happen.
 use Rattle.std.proofs.Common.{◌≡◌, ℕ, ℤ, None, Ok, List, Bool, sym, arith}
 use Rattle.std.proofs.lemmas.Grind.{common_steps}
-use Rattle.mq_select.specs.declared.header.Header.{Header}
-use Rattle.mq_select.specs.declared.selection.Selection.{Selection}
+use Rattle.mq_message.specs.declared.header.Header.{Header}
+use Rattle.mq_message.specs.declared.selection.Selection.{Selection}
 use Rattle.mq_queue.specs.declared.event.Event.TheVariants.{Sent, Received, Changed}
 use Rattle.mq_queue.specs.Answer.{receive_answer, send_refusal, set_refusal}
 use Rattle.mq_queue.specs.Lawful.{CanHappen}

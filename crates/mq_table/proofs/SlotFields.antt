@@ -1,9 +1,9 @@
 -- What the calls of the queue in a slot leave is a slot, by its fields.
 use Rattle.std.proofs.Common.{◌≡◌, ℕ, ℤ, List, [], ◌∷◌, ◌++◌, length, Option, None, Some, unwrap_or, Bool, false, not, refl, ap, sym, ◌∙◌, arith}
 use Rattle.mq_message.specs.declared.message.Message.{Message}
-use Rattle.mq_select.specs.declared.header.Header.{Header}
-use Rattle.mq_select.specs.declared.selection.Selection.{Selection}
-use Rattle.mq_select.specs.Waiting.{headers_of}
+use Rattle.mq_message.specs.declared.header.Header.{Header}
+use Rattle.mq_message.specs.declared.selection.Selection.{Selection}
+use Rattle.mq_message.specs.Waiting.{headers_of}
 use Rattle.mq_queue.specs.declared.base.Base.{Base}
 use Rattle.mq_queue.specs.declared.error.QueueError.{QueueError}
 use Rattle.mq_queue.specs.declared.error.QueueError.TheVariants.{Memory}

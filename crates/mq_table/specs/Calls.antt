@@ -1,9 +1,9 @@
 -- What the calls of a slot answer and leave (msgget(2), msgop(2), msgctl(2)).
 use Rattle.std.specs.Prelude.{ℕ, ℤ, Bool, Option, Some, None, Result, Ok, Err, List, [], ◌∷◌, ◌++◌, length}
 use Rattle.mq_message.specs.declared.message.Message.{Message}
-use Rattle.mq_select.specs.declared.selection.Selection.{Selection}
-use Rattle.mq_select.specs.declared.header.Header.{Header}
-use Rattle.mq_select.specs.Waiting.{without}
+use Rattle.mq_message.specs.declared.selection.Selection.{Selection}
+use Rattle.mq_message.specs.declared.header.Header.{Header}
+use Rattle.mq_message.specs.Waiting.{without}
 use Rattle.mq_queue.specs.declared.error.QueueError.{QueueError}
 use Rattle.mq_queue.specs.declared.error.QueueError.TheVariants.{Memory}
 use Rattle.mq_queue.specs.declared.event.Event.{Event}

@@ -1,6 +1,6 @@
 -- What a slot keeps is a part of its whole list.
 use Rattle.std.specs.Prelude.{◌≡◌, ℕ, if◌then◌else◌, Option, Some, None, List, ◌++◌, length}
-use Rattle.mq_select.specs.Waiting.{headers_of}
+use Rattle.mq_message.specs.Waiting.{headers_of}
 use Rattle.mq_queue.specs.declared.base.Base.{Base}
 use Rattle.mq_queue.specs.declared.event.Event.{Event}
 use Rattle.mq_queue.specs.Base.{base_of}

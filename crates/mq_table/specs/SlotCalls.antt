@@ -2,7 +2,7 @@
 -- msgctl(2)).
 use Rattle.std.specs.Prelude.{◌≡◌, ℕ, ℤ, Bool, Ok, List}
 use Rattle.mq_message.specs.declared.message.Message.{Message}
-use Rattle.mq_select.specs.declared.selection.Selection.{Selection}
+use Rattle.mq_message.specs.declared.selection.Selection.{Selection}
 use Rattle.mq_queue.specs.declared.received.Received.{Received}
 use Rattle.mq_queue.specs.Queue.{CutLog}
 use Rattle.mq_queue.specs.QueueCalls.{IsWhatWaited}

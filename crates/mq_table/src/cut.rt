@@ -5,9 +5,8 @@ ghost use Rattle.mq_table.specs.SlotParts.{live_base, slot_with, tail_of};
 
 use crate::turnover::either;
 use crate::{MAX_PAST, Slot};
-use mq_message::Body;
+use mq_message::{Body, Waiting};
 use mq_queue::{Base, Event, QueueState};
-use mq_select::Waiting;
 use std::alloc::{AllocError, Global};
 use std::mem;
 

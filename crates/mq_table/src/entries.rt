@@ -3,9 +3,8 @@ ghost use Rattle.mq_table.specs.Kept.{entries_of, offset_now};
 ghost use Rattle.mq_table.specs.KeptShown.{event_now};
 
 use crate::Slot;
-use mq_message::Body;
+use mq_message::{Body, Waiting};
 use mq_queue::{Event, QueueState};
-use mq_select::Waiting;
 
 /// The event at this place of those that are kept of a queue's log.
 fn kept_event<B: Body, W: Waiting<B>>(queue: &QueueState<B, W>, i: u64) -> Option<Event>

@@ -6,9 +6,8 @@ ghost use Rattle.mq_table.specs.KeptCalls.{kept_receives, kept_refusal_of, kept_
 ghost use Rattle.mq_table.specs.SlotCalls.{IsTakenIn};
 
 use crate::Slot;
-use mq_message::{Body, Message};
+use mq_message::{Body, Message, Selection, Waiting};
 use mq_queue::{Event, Figures, Notice, QueueError, Received};
-use mq_select::{Selection, Waiting};
 
 impl<B: Body, W: Waiting<B>> Slot<B, W> {
     /// Why a message of this type and length would be refused now (msgop(2), msgsnd with

@@ -7,9 +7,8 @@ ghost use Rattle.mq_table.specs.Shown.{by_standing};
 ghost use Rattle.mq_table.specs.SlotParts.{empty_kept};
 
 use crate::{Id, IdRefusal, MAX_SEQ, MAX_SLOTS};
-use mq_message::Body;
+use mq_message::{Body, Waiting};
 use mq_queue::{Base, BoardRow, Event, NO_FIGURES, QueueState};
-use mq_select::Waiting;
 use std::alloc::Global;
 use std::marker::Model;
 

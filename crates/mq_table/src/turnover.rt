@@ -6,9 +6,8 @@ ghost use Rattle.mq_table.specs.SlotCalls.{IsTakenOut};
 ghost use Rattle.mq_table.specs.SlotParts.{either, some_base};
 
 use crate::{MAX_PAST, MAX_SEQ, Slot};
-use mq_message::Body;
+use mq_message::{Body, Waiting};
 use mq_queue::{Base, Event, Log, Notice, QueueState};
-use mq_select::Waiting;
 use std::alloc::{AllocError, Global};
 
 /// Puts a queue where none is.

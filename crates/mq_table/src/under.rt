@@ -5,9 +5,8 @@ ghost use Rattle.mq_table.specs.Kept.{is_live_kept, kept_figures, made_of};
 ghost use Rattle.mq_table.specs.SlotCalls.{IsMadeUnder, IsRemovedUnder};
 
 use crate::{Id, KeyTable, MAX_SEQ, Slot};
-use mq_message::Body;
+use mq_message::{Body, Waiting};
 use mq_queue::{Event, Log, Notice, QueueState};
-use mq_select::Waiting;
 use std::alloc::AllocError;
 
 /// Makes a queue in the slot, and enters its key, which is new or 0 (msgget(2), IPC_CREAT). An

@@ -40,37 +40,37 @@ ready events log event after is lawful same short = record {
 }
 
 -- so it may be where a writer that had nothing pending took it in
-pub taken : {C : Type 0} (old new : Desk C) (log : List Event) (event : Event) → old.pending ≡ []
+pub taken : (old new : Desk) (log : List Event) (event : Event) → old.pending ≡ []
     → new ≡ record old { pending = old.pending ++ posting event (figures log) ∷ [] }
     → log ≡ old.events ++ event ∷ [] → Lawful log → length old.events < 2 ^ 63
     → HasOnePending new.events new.pending
-taken {C} old new log event idle took is lawful short =
-    let Ready : Desk C → Type 0 = λ desk. HasOnePending desk.events desk.pending in
+taken old new log event idle took is lawful short =
+    let Ready : Desk → Type 0 = λ desk. HasOnePending desk.events desk.pending in
     subst Ready (sym took)
     (rw idle (ready old.events log event (figures log) is lawful refl short))
 
 -- so it may be of a queue whose log was not cut
-pub taken_from : {C : Type 0} (base : Base) (old new : Desk C) (log : List Event) (event : Event)
+pub taken_from : (base : Base) (old new : Desk) (log : List Event) (event : Event)
     → base ≡ base_of [] → old.pending ≡ []
     → new ≡ record old { pending = old.pending ++ posting event (figures_from base log) ∷ [] }
     → log ≡ old.events ++ event ∷ [] → LawfulFrom base log → length old.events < 2 ^ 63
     → HasOnePending new.events new.pending
-taken_from {C} base old new log event none idle took is lawful short =
+taken_from base old new log event none idle took is lawful short =
     taken old new log event idle
     (subst (λ (b : Base). new ≡ record old { pending = old.pending ++ posting event (figures_from b log) ∷ [] }) none took)
     is (lawful_uncut log (subst (λ (b : Base). LawfulFrom b log) none lawful)) short
 
 -- and it is what is pending then
-pub pending : {C : Type 0} (base base' : Base) (before log : List Event) (old new : Desk C)
+pub pending : (base base' : Base) (before log : List Event) (old new : Desk)
     (event : Event) → base' ≡ base → IsShown base before old
     → new ≡ record old { pending = old.pending ++ posting event (figures_from base' log) ∷ [] }
     → log ≡ before ++ event ∷ [] → LawfulFrom base' log → length before < 2 ^ 63
     → IsPending base' log new
-pending {C} base base' before log old new event same shown took is lawful short =
+pending base base' before log old new event same shown took is lawful short =
     let none : base' ≡ base_of [] = same ∙ shown.0 in
     let is' : log ≡ old.events ++ event ∷ [] = rw shown.1 is in
     let short' : length old.events < 2 ^ 63 = rw shown.1 short in
-    let Whole : Desk C → Type 0 = λ desk. desk.events ++ map (λ p. p.event) desk.pending ≡ log in (
+    let Whole : Desk → Type 0 = λ desk. desk.events ++ map (λ p. p.event) desk.pending ≡ log in (
       none,
       taken_from base' old new log event none shown.2 took is' lawful short',
       subst Whole (sym took) (rw shown.2 (sym is')),

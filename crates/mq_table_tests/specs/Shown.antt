@@ -6,10 +6,10 @@ use Rattle.mq_queue.specs.Base.{base_of}
 use Rattle.mq_board.specs.Writers.{Desk, HasOnePending}
 
 -- nothing of the log was cut off, all its events are published, and none is pending
-abbrev pub IsShown : {C : Type 0} → Base → List Event → Desk C → Type 0
+abbrev pub IsShown : Base → List Event → Desk → Type 0
 IsShown base log desk = (base ≡ base_of []) × (desk.events ≡ log) × (desk.pending ≡ [])
 
 -- nothing of the log was cut off, its last event is pending, and those before it are published
-abbrev pub IsPending : {C : Type 0} → Base → List Event → Desk C → Type 0
+abbrev pub IsPending : Base → List Event → Desk → Type 0
 IsPending base log desk = (base ≡ base_of []) × HasOnePending desk.events desk.pending
     × (desk.events ++ map (λ p. p.event) desk.pending ≡ log)

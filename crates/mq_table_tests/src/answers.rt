@@ -1,9 +1,8 @@
 //! What the calls of a list answer, and what is shown after them, by a plain count. The event of a
 //! call has the place of the call in the list, and its moment too; the making has the moment 10.
 
-use mq_message::VecBody;
+use mq_message::{Selection, VecBody};
 use mq_queue::{BoardRow, Figures, MSGMNB, NO_FIGURES, Received};
-use mq_select::Selection;
 
 /// The place of the last message that is sent: eight of each of five types.
 pub(crate) const SENT: u64 = 40;

@@ -5,10 +5,9 @@ ghost use Rattle.std.specs.Prelude.{◌≡◌, []};
 ghost use Rattle.mq_table_tests.specs.Shown.{IsPending, IsShown};
 
 use crate::posts::{Queue, close, open};
-use mq_board::{BoardReader, BoardWriter, Copies, Naming};
-use mq_message::{Message, VecBody};
+use mq_board::{BoardReader, BoardWriter, Naming};
+use mq_message::{ListWaiting, Message, Selection, VecBody};
 use mq_queue::{BoardRow, Log, Received};
-use mq_select::{ListWaiting, Selection};
 use std::alloc::Global;
 use std::process::Abort;
 use std::sync::Wait;
@@ -32,7 +31,7 @@ pub(crate) fn text(rt: &impl Abort, alloc: Global, bytes: &[u8]) -> VecBody {
 pub(crate) fn make<J: Naming, R: Abort + Wait>(
     rt: &R,
     alloc: Global,
-    writer: &mut BoardWriter<J, Copies<J>>,
+    writer: &mut BoardWriter<J>,
     reader: &mut BoardReader<J>,
 ) -> Queue
     requires empty { writer.old.events ≡ [] }
@@ -53,7 +52,7 @@ pub(crate) fn make<J: Naming, R: Abort + Wait>(
 pub(crate) fn send<J: Naming>(
     rt: &impl Abort,
     queue: &mut Queue,
-    writer: &mut BoardWriter<J, Copies<J>>,
+    writer: &mut BoardWriter<J>,
     reader: &mut BoardReader<J>,
     message: Message<VecBody>,
     moment: u64,
@@ -84,7 +83,7 @@ pub(crate) fn send<J: Naming>(
 pub(crate) fn receive<J: Naming>(
     rt: &impl Abort,
     queue: &mut Queue,
-    writer: &mut BoardWriter<J, Copies<J>>,
+    writer: &mut BoardWriter<J>,
     reader: &mut BoardReader<J>,
     selection: Selection,
     moment: u64,
@@ -111,7 +110,7 @@ pub(crate) fn receive<J: Naming>(
 pub(crate) fn set<J: Naming>(
     rt: &impl Abort,
     queue: &mut Queue,
-    writer: &mut BoardWriter<J, Copies<J>>,
+    writer: &mut BoardWriter<J>,
     reader: &mut BoardReader<J>,
     qbytes: u64,
     moment: u64,
@@ -139,7 +138,7 @@ pub(crate) fn set<J: Naming>(
 pub(crate) fn remove<J: Naming>(
     rt: &impl Abort,
     queue: Queue,
-    writer: &mut BoardWriter<J, Copies<J>>,
+    writer: &mut BoardWriter<J>,
     reader: &mut BoardReader<J>,
     moment: u64,
 ) -> (Log, ListWaiting<VecBody>)

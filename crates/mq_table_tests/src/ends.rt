@@ -3,7 +3,7 @@
 ghost use Rattle.std.specs.Prelude.{◌≡◌, ◌<◌, ◌≤◌, []};
 
 use crate::posts::{close, of_board, open, send};
-use mq_board::{BoardReader, BoardWriter, Copies, Naming, OpenedBoard, board};
+use mq_board::{BoardReader, BoardWriter, Naming, OpenedBoard, board};
 use std::alloc::{AllocError, Global};
 use std::marker::Brand;
 use std::process::Abort;
@@ -14,7 +14,7 @@ use std::test::*;
 fn look_all<J: Naming, R: Wait>(
     rt: &R,
     alloc: Global,
-    writer: &mut BoardWriter<J, Copies<J>>,
+    writer: &mut BoardWriter<J>,
     readers: &mut Vec<BoardReader<J>>,
 ) -> Result<bool, AllocError>
     requires empty { writer.old.events ≡ [] }
@@ -42,24 +42,23 @@ fn ended<J: Naming, R: Wait>(
     opened: OpenedBoard,
     count: usize,
 ) -> Result<bool, AllocError>
-    requires named { (opened.history.seen.book ≡ J.board 0) × (opened.roll.seen.book ≡ J.roll 0) }
+    requires named { (opened.pass.table_id ≡ J.board 0) × (opened.roll.seen.book ≡ J.roll 0) }
     requires readers { (0 < count) × (count ≤ 16) }
 {
-    let (mut writer, mut readers) = board::<J, R>(alloc, rt, opened, 0, count)?;
+    let (mut writer, mut readers) = board::<J>(alloc, opened, 0, count)?;
     let looked = look_all(rt, alloc, &mut writer, &mut readers);
     let Ok(ours) = of_board(alloc, readers, writer.board()) else {
-        writer.close(rt);
         return Err(AllocError);
     };
     let whole = ours.len() == count;
-    writer.end(rt, ours);
+    writer.end(ours);
     Ok(looked? && whole)
 }
 
 fn ends<R: Wait>(rt: &R, alloc: Global, count: usize) -> Result<bool, AllocError>
     requires { (0 < count) × (count ≤ 16) }
 {
-    ended::<Brand, R>(rt, alloc, OpenedBoard::new(), count)
+    ended::<Brand, R>(rt, alloc, OpenedBoard::new(alloc)?, count)
 }
 
 #[test]

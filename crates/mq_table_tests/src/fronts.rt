@@ -3,7 +3,7 @@
 ghost use Rattle.std.specs.Prelude.{◌≡◌, [], length};
 
 use crate::posts::{close, learns, open, send};
-use mq_board::{BoardReader, BoardWriter, Copies, Naming, OpenedBoard, board};
+use mq_board::{BoardReader, BoardWriter, Naming, OpenedBoard, board};
 use mq_queue::BoardRow;
 use std::alloc::{AllocError, Global};
 use std::marker::Brand;
@@ -29,7 +29,7 @@ struct Seen {
 fn follow<J: Naming, R: Wait>(
     rt: &R,
     alloc: Global,
-    writer: &mut BoardWriter<J, Copies<J>>,
+    writer: &mut BoardWriter<J>,
     readers: &mut [BoardReader<J>],
 ) -> Result<Seen, AllocError>
     requires empty { writer.old.events ≡ [] }
@@ -47,7 +47,7 @@ fn follow<J: Naming, R: Wait>(
         before,
         made,
         sent: readers[0].figures(),
-        told: writer.tell().row(),
+        told: writer.row(),
         shorter: learns(&mut readers[0], nothing),
         same: learns(&mut readers[0], writer.tell()),
         longer: learns(&mut readers[1], writer.tell()),
@@ -69,11 +69,10 @@ fn followed<J: Naming, R: Wait>(
     alloc: Global,
     opened: OpenedBoard,
 ) -> Result<(Seen, Left), AllocError>
-    requires { (opened.history.seen.book ≡ J.board 0) × (opened.roll.seen.book ≡ J.roll 0) }
+    requires { (opened.pass.table_id ≡ J.board 0) × (opened.roll.seen.book ≡ J.roll 0) }
 {
-    let (mut writer, mut readers) = board::<J, R>(alloc, rt, opened, 0, 3)?;
+    let (mut writer, mut readers) = board::<J>(alloc, opened, 0, 3)?;
     let seen = follow(rt, alloc, &mut writer, readers.as_mut_slice());
-    writer.close(rt);
     let left = Left {
         saw_all: readers[0].figures(),
         never_looked: readers[2].figures(),
@@ -82,7 +81,7 @@ fn followed<J: Naming, R: Wait>(
 }
 
 fn run<R: Wait>(rt: &R, alloc: Global) -> Result<(Seen, Left), AllocError> {
-    followed::<Brand, R>(rt, alloc, OpenedBoard::new())
+    followed::<Brand, R>(rt, alloc, OpenedBoard::new(alloc)?)
 }
 
 #[test]
@@ -105,9 +104,9 @@ fn a_list_is_learned_that_is_not_shorter(rt: HostRuntime) -> Result<(), Fail> {
 }
 
 #[test]
-fn a_reader_of_a_board_given_up_answers_its_front(rt: HostRuntime) -> Result<(), Fail> {
+fn a_reader_of_a_board_given_up_finds_what_was_published(rt: HostRuntime) -> Result<(), Fail> {
     let (seen, left) = run(&rt, rt.alloc())?;
     holds!(rt; left.saw_all == seen.told);
-    holds!(rt; left.never_looked == seen.before);
+    holds!(rt; left.never_looked == seen.told);
     Ok(())
 }

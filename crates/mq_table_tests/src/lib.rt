@@ -32,13 +32,13 @@ macro_rules! holds {
 #[cfg(test)]
 mod answers;
 #[cfg(test)]
-mod bells;
-#[cfg(test)]
 mod calls;
 #[cfg(test)]
 mod cuts;
 #[cfg(test)]
 mod ends;
+#[cfg(test)]
+mod entering;
 #[cfg(test)]
 mod fronts;
 #[cfg(test)]

@@ -10,9 +10,8 @@ use crate::answers::{
 };
 use crate::calls::{make, receive, remove, send, set, text};
 use crate::posts::Queue;
-use mq_board::{BoardReader, BoardWriter, Copies, Naming, OpenedBoard, board};
-use mq_message::Message;
-use mq_select::discard;
+use mq_board::{BoardReader, BoardWriter, Naming, OpenedBoard, board};
+use mq_message::{Message, discard};
 use std::alloc::{AllocError, Global};
 use std::marker::Brand;
 use std::process::Abort;
@@ -26,7 +25,7 @@ fn sends<J: Naming>(
     rt: &impl Abort,
     alloc: Global,
     queue: &mut Queue,
-    writer: &mut BoardWriter<J, Copies<J>>,
+    writer: &mut BoardWriter<J>,
     reader: &mut BoardReader<J>,
     place: u64,
 )
@@ -46,7 +45,7 @@ fn sends<J: Naming>(
 fn sets<J: Naming>(
     rt: &impl Abort,
     queue: &mut Queue,
-    writer: &mut BoardWriter<J, Copies<J>>,
+    writer: &mut BoardWriter<J>,
     reader: &mut BoardReader<J>,
     place: u64,
 )
@@ -60,7 +59,7 @@ fn sets<J: Naming>(
 fn receives<J: Naming>(
     rt: &impl Abort,
     queue: &mut Queue,
-    writer: &mut BoardWriter<J, Copies<J>>,
+    writer: &mut BoardWriter<J>,
     reader: &mut BoardReader<J>,
     place: u64,
 )
@@ -81,7 +80,7 @@ fn calls<J: Naming>(
     rt: &impl Abort,
     alloc: Global,
     queue: &mut Queue,
-    writer: &mut BoardWriter<J, Copies<J>>,
+    writer: &mut BoardWriter<J>,
     reader: &mut BoardReader<J>,
     place: u64,
 )
@@ -101,7 +100,7 @@ fn calls<J: Naming>(
 fn follow<J: Naming, R: Abort + Wait>(
     rt: &R,
     alloc: Global,
-    writer: &mut BoardWriter<J, Copies<J>>,
+    writer: &mut BoardWriter<J>,
     reader: &mut BoardReader<J>,
 )
     requires empty { writer.old.events ≡ [] }
@@ -134,16 +133,15 @@ fn listed<J: Naming, R: Abort + Wait>(
     alloc: Global,
     opened: OpenedBoard,
 ) -> Result<(), AllocError>
-    requires named { (opened.history.seen.book ≡ J.board 0) × (opened.roll.seen.book ≡ J.roll 0) }
+    requires named { (opened.pass.table_id ≡ J.board 0) × (opened.roll.seen.book ≡ J.roll 0) }
 {
-    let (mut writer, mut readers) = board::<J, R>(alloc, rt, opened, 0, 2)?;
+    let (mut writer, mut readers) = board::<J>(alloc, opened, 0, 2)?;
     follow(rt, alloc, &mut writer, &mut readers[0]);
     shows(rt, &mut readers[1], REMOVED);
-    let told = writer.tell().row();
+    let told = writer.row();
     if are_of(readers.as_slice(), writer.board()) {
-        writer.end(rt, readers);
+        writer.end(readers);
     } else {
-        writer.close(rt);
         panic!(rt; "readers of another board");
     }
     holds!(rt; told == row_after(REMOVED));
@@ -151,7 +149,7 @@ fn listed<J: Naming, R: Abort + Wait>(
 }
 
 fn run<R: Abort + Wait>(rt: &R, alloc: Global) -> Result<(), AllocError> {
-    listed::<Brand, R>(rt, alloc, OpenedBoard::new())
+    listed::<Brand, R>(rt, alloc, OpenedBoard::new(alloc)?)
 }
 
 #[test]

@@ -3,7 +3,7 @@
 ghost use Rattle.std.specs.Prelude.{◌≡◌, ◌+◌, ◌<◌, ◌^◌, [], length, IfOk};
 
 use crate::posts::publish;
-use mq_board::{BoardWriter, Copies, Naming, OpenedBoard, board};
+use mq_board::{BoardWriter, Naming, OpenedBoard, board};
 use mq_queue::{BoardRow, Event, Figures, MSGMNB};
 use std::alloc::{AllocError, Global};
 use std::marker::Brand;
@@ -23,10 +23,7 @@ const NONE: Figures = Figures {
 };
 
 /// Publishes that a queue is made, and then that it is removed.
-fn come_and_go<J: Naming, R: Wait>(
-    rt: &R,
-    writer: &mut BoardWriter<J, Copies<J>>,
-) -> Result<(), AllocError>
+fn come_and_go<J: Naming, R: Wait>(rt: &R, writer: &mut BoardWriter<J>) -> Result<(), AllocError>
     requires length { length writer.old.events < 2 ^ 62 }
     requires idle { writer.old.pending ≡ [] }
     ensures { IfOk result (λ _. (length writer.new.events ≡ length writer.old.events + 2)
@@ -37,7 +34,7 @@ fn come_and_go<J: Naming, R: Wait>(
         moment: 3,
         key: 9,
     };
-    if writer.tell().row().made >= 1 << 20 {
+    if writer.row().made >= 1 << 20 {
         return Err(AllocError);
     }
     publish(
@@ -54,10 +51,7 @@ fn come_and_go<J: Naming, R: Wait>(
     publish(rt, writer, removed, NONE)
 }
 
-fn run_long<J: Naming, R: Wait>(
-    rt: &R,
-    writer: &mut BoardWriter<J, Copies<J>>,
-) -> Result<(), AllocError>
+fn run_long<J: Naming, R: Wait>(rt: &R, writer: &mut BoardWriter<J>) -> Result<(), AllocError>
     requires empty { writer.old.events ≡ [] }
     requires idle { writer.old.pending ≡ [] }
 {
@@ -72,18 +66,17 @@ fn ran<J: Naming, R: Wait>(
     alloc: Global,
     opened: OpenedBoard,
 ) -> Result<BoardRow, AllocError>
-    requires { (opened.history.seen.book ≡ J.board 0) × (opened.roll.seen.book ≡ J.roll 0) }
+    requires { (opened.pass.table_id ≡ J.board 0) × (opened.roll.seen.book ≡ J.roll 0) }
 {
-    let (mut writer, mut readers) = board::<J, R>(alloc, rt, opened, 0, 2)?;
+    let (mut writer, mut readers) = board::<J>(alloc, opened, 0, 2)?;
     let ran = run_long(rt, &mut writer);
     let row = readers[0].figures();
-    writer.close(rt);
     ran?;
     Ok(row)
 }
 
 fn run<R: Wait>(rt: &R, alloc: Global) -> Result<BoardRow, AllocError> {
-    ran::<Brand, R>(rt, alloc, OpenedBoard::new())
+    ran::<Brand, R>(rt, alloc, OpenedBoard::new(alloc)?)
 }
 
 #[test]

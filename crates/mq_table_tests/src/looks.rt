@@ -3,7 +3,7 @@
 ghost use Rattle.std.specs.Prelude.{◌≡◌, ◌<◌, ◌≤◌, []};
 
 use crate::posts::{close, learns, open, send};
-use mq_board::{BoardReader, BoardWriter, Copies, Naming, OpenedBoard, board};
+use mq_board::{BoardReader, BoardWriter, Naming, OpenedBoard, board};
 use std::alloc::{AllocError, Global};
 use std::marker::Brand;
 use std::process::Abort;
@@ -36,7 +36,7 @@ fn look_often<J: Naming>(reader: BoardReader<J>) -> Looked<J> {
 fn publish_often<J: Naming, R: Wait>(
     rt: &R,
     alloc: Global,
-    writer: &mut BoardWriter<J, Copies<J>>,
+    writer: &mut BoardWriter<J>,
 ) -> Result<(), AllocError>
     requires empty { writer.old.events ≡ [] }
     requires idle { writer.old.pending ≡ [] }
@@ -54,7 +54,7 @@ fn publish_often<J: Naming, R: Wait>(
 
 /// Whether each reader saw no count fall, entered once more and then learned what is told, with a
 /// hundred messages both times.
-fn all_saw<J: Naming>(writer: &BoardWriter<J, Copies<J>>, looked: Vec<Looked<J>>) -> bool {
+fn all_saw<J: Naming>(writer: &mut BoardWriter<J>, looked: Vec<Looked<J>>) -> bool {
     let mut right = true;
     for Looked { reader, fell } in looked {
         let mut reader = reader;
@@ -74,20 +74,19 @@ fn watched<J: Naming + Send + Sync, R: Threads + Wait + Sync>(
     opened: OpenedBoard,
     readers: usize,
 ) -> Result<bool, AllocError>
-    requires named { (opened.history.seen.book ≡ J.board 0) × (opened.roll.seen.book ≡ J.roll 0) }
+    requires named { (opened.pass.table_id ≡ J.board 0) × (opened.roll.seen.book ≡ J.roll 0) }
     requires readers { (0 < readers) × (readers ≤ 16) }
 {
-    let (mut writer, readers) = board::<J, R>(alloc, rt, opened, 0, readers)?;
+    let (mut writer, readers) = board::<J>(alloc, opened, 0, readers)?;
     let (published, looked) = join(
         rt,
         || publish_often(rt, alloc, &mut writer),
         || map_vec(rt, readers, &|reader| look_often(reader)),
     );
     let right = match looked {
-        Ok(looked) => Ok(all_saw(&writer, looked)),
+        Ok(looked) => Ok(all_saw(&mut writer, looked)),
         Err(refused) => Err(refused),
     };
-    writer.close(rt);
     published?;
     right
 }
@@ -99,7 +98,7 @@ fn watched_by<R: Threads + Wait + Sync>(
 ) -> Result<bool, AllocError>
     requires { (0 < readers) × (readers ≤ 16) }
 {
-    watched::<Brand, R>(rt, alloc, OpenedBoard::new(), readers)
+    watched::<Brand, R>(rt, alloc, OpenedBoard::new(alloc)?, readers)
 }
 
 #[test]

@@ -2,9 +2,8 @@
 //! leaves slot and keys.
 
 use crate::slots::{Place, close, message};
-use mq_message::{Message, VecBody};
+use mq_message::{Message, Selection, VecBody, discard};
 use mq_queue::{Event, Figures, NO_FIGURES, Notice, QueueError};
-use mq_select::{Selection, discard};
 use mq_table::{KeyTable, MAX_SEQ, make_under, remove_under};
 use std::alloc::AllocError;
 use std::process::Abort;

@@ -1,7 +1,6 @@
 use crate::slots::{Place, close, cut, make, message, remove};
-use mq_message::{Body, Message, VecBody};
+use mq_message::{Body, Message, Selection, VecBody};
 use mq_queue::{NoNotice, QueueError};
-use mq_select::Selection;
 use mq_table::{Cut, KeyTable, MAX_SLOTS};
 use std::alloc::{AllocError, Global};
 use std::process::Abort;

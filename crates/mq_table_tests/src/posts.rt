@@ -5,10 +5,9 @@ ghost use Rattle.std.specs.List.{All};
 ghost use Rattle.mq_queue.specs.Base.{base_of};
 ghost use Rattle.mq_board.specs.Writers.{HasOnePending, posting};
 
-use mq_board::{BoardReader, BoardWriter, Copies, Naming, PublishedList};
-use mq_message::{Message, VecBody};
+use mq_board::{BoardReader, BoardWriter, Naming, PublishedList};
+use mq_message::{ListWaiting, Message, VecBody, discard};
 use mq_queue::{Event, Figures, Notice, QueueState};
-use mq_select::{ListWaiting, discard};
 use std::alloc::{AllocError, Global};
 use std::sync::Wait;
 
@@ -17,7 +16,7 @@ pub(crate) type Queue = QueueState<VecBody, ListWaiting<VecBody>>;
 /// Publishes an event. `Err` means that memory was wanted twice.
 pub(crate) fn publish<J: Naming, R: Wait>(
     rt: &R,
-    writer: &mut BoardWriter<J, Copies<J>>,
+    writer: &mut BoardWriter<J>,
     event: Event,
     after: Figures,
 ) -> Result<(), AllocError>
@@ -37,7 +36,7 @@ pub(crate) fn publish<J: Naming, R: Wait>(
 pub(crate) fn open<J: Naming, R: Wait>(
     rt: &R,
     alloc: Global,
-    writer: &mut BoardWriter<J, Copies<J>>,
+    writer: &mut BoardWriter<J>,
 ) -> Result<Queue, AllocError>
     requires empty { writer.old.events ≡ [] }
     requires idle { writer.old.pending ≡ [] }
@@ -56,7 +55,7 @@ pub(crate) fn send<J: Naming, R: Wait>(
     rt: &R,
     alloc: Global,
     queue: &mut Queue,
-    writer: &mut BoardWriter<J, Copies<J>>,
+    writer: &mut BoardWriter<J>,
 ) -> Result<(), AllocError>
     requires whole { queue.old.base ≡ base_of [] }
     requires same { writer.old.events ≡ queue.old.tail }

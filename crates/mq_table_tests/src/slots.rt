@@ -1,7 +1,6 @@
 use crate::plays::{Answer, sent};
-use mq_message::{Message, VecBody};
+use mq_message::{ListWaiting, Message, VecBody, discard};
 use mq_queue::{BoardRow, Event, Figures, Log, NoNotice};
-use mq_select::{ListWaiting, discard};
 use mq_table::{Cut, Id, IdRefusal, KeyEntry, KeyTable, MAX_SEQ, Slot, make_under, remove_under};
 use std::alloc::{AllocError, Global};
 use std::process::Abort;

@@ -3,8 +3,10 @@
 //! want of it.
 ghost use Rattle.std.specs.Prelude.{◌≡◌, ◌*◌, ◌^◌, ◌<◌, ◌≤◌, length, replicate, IfOk};
 
-use mq_arena::{ArenaState, Block, INLINE_ORDER, MAX_ORDER, PAGE_LEN, TakeError};
-use mq_message::{INLINE_LEN, TEXT_LEN, Text, order_for};
+use mq_arena::{
+    ArenaState, Block, INLINE_LEN, INLINE_ORDER, MAX_ORDER, PAGE_LEN, TEXT_LEN, TakeError, Text,
+    order_for,
+};
 use std::process::Abort;
 use std::sync::ledger::Ledger;
 

@@ -1,10 +1,12 @@
 //! Tests of what no clause says: that calls succeed, and what a text shows at last.
 ghost use Rattle.std.specs.Prelude.{◌≡◌, ◌^◌, ◌<◌, ◌≤◌, length, replicate};
-ghost use Rattle.mq_message.specs.Text.{count_of, text_part, with_part};
+ghost use Rattle.mq_arena.specs.Text.{count_of, text_part, with_part};
 
 use crate::taking::{drafted, taken, text_of};
-use mq_arena::{ArenaState, Homecoming, LEDGER_PARTS, PAGE_LEN, Page, Unopened, fill};
-use mq_message::{Body, TEXT_LEN, Text, VecBody, order_for};
+use mq_arena::{
+    ArenaState, Homecoming, LEDGER_PARTS, PAGE_LEN, Page, TEXT_LEN, Text, Unopened, fill, order_for,
+};
+use mq_message::{Body, VecBody};
 use std::marker::Brand;
 use std::process::Abort;
 use std::sync::ledger::{Blank, Ledger};
@@ -53,7 +55,7 @@ fn filled_at<L: Ledger, R: Abort + Threads>(rt: &R, text: &mut Text<L>, i: usize
     shows(rt, text, bytes);
 }
 
-#[tactic(auto, using(mq_message::proofs::Loans::left_length))]
+#[tactic(auto, using(mq_arena::proofs::Loans::left_length))]
 fn part_filled<L: Ledger>(text: &mut Text<L>, i: usize, letter: u8)
     requires { i < count_of (length text.old.bytes) }
     ensures len { length text.new.bytes ≡ length text.old.bytes }

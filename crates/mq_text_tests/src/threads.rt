@@ -4,8 +4,7 @@ ghost use Rattle.mq_arena.specs.Bytes.{AreWhole};
 
 use crate::taking::drafted;
 use crate::texts::{home, repeats};
-use mq_arena::{LEDGER_PARTS, PAGE_LEN, Page, Unopened, fill};
-use mq_message::Text;
+use mq_arena::{LEDGER_PARTS, PAGE_LEN, Page, Text, Unopened, fill};
 use std::fs;
 use std::fs::Files;
 use std::marker::Brand;

@@ -5,7 +5,7 @@ use Rattle.mq_cli.specs.Serial.{RanSerial, WritesSerial}
 use Rattle.mq_cli.specs.ThreadsRun.{RanThreads, WritesThreads}
 use Rattle.mq_cli.specs.declared.fault.RunFault.{RunFault}
 use Rattle.mq_cli.specs.declared.fault.RunFault.TheVariants.{Script, Size, Read, Write, Memory, Thread}
-use Rattle.mq_one_thread.specs.declared.config.Config.{Config}
+use Rattle.mq_calls.specs.declared.config.Config.{Config}
 use Rattle.mqsim.specs.Runs.{RanKind, Tells}
 use Rattle.mqsim.specs.declared.command_line.Kind.{Kind}
 use Rattle.mqsim.specs.declared.command_line.Kind.TheVariants.{Serial, Threads}

@@ -3,7 +3,7 @@ use Rattle.std.specs.Prelude.{◌≡◌, ◌≤◌, ℕ, List, Option, Some, Non
 use Rattle.std.specs.Prelude.{false}
 use Rattle.std.specs.Str.{bytes_eq}
 use Rattle.std.specs.Str.Parse.{IsNumeral, digits_value, without_leading_plus}
-use Rattle.mq_one_thread.specs.declared.config.Config.{Config}
+use Rattle.mq_calls.specs.declared.config.Config.{Config}
 use Rattle.mqsim.specs.declared.command_line.Kind.TheVariants.{Serial}
 use Rattle.mqsim.specs.declared.command_line.Request.{Request}
 

@@ -6,7 +6,7 @@ use Rattle.mq_cli.specs.Transcript.{fault_of}
 use Rattle.mq_cli.specs.declared.fault.Cause.{Cause}
 use Rattle.mq_cli.specs.declared.fault.RunFault.{RunFault}
 use Rattle.mq_cli.specs.declared.fault.RunFault.TheVariants.{Script}
-use Rattle.mq_one_thread.specs.declared.config.Config.{Config}
+use Rattle.mq_calls.specs.declared.config.Config.{Config}
 use Rattle.mqsim.specs.declared.command_line.Kind.{Kind}
 use Rattle.mqsim.specs.declared.command_line.Kind.TheVariants.{Serial, Threads}
 

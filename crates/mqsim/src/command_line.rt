@@ -8,8 +8,8 @@ ghost use Rattle.mqsim.specs.Options.{AreOptions, Means, bare_request, file_name
 
 use crate::help::{NOTES, SERIAL_NOTES, THREADS_NOTES};
 use clap::{Arg, ArgAction, ArgMatches, Command, Error, value_parser};
+use mq_calls::{Config, MAX_HEIGHT, MAX_SEATS, MAX_SEQ, MAX_SLOTS};
 use mq_cli::SCRIPT_DEFAULTS;
-use mq_one_thread::{Config, MAX_HEIGHT, MAX_SEATS, MAX_SEQ, MAX_SLOTS};
 use std::alloc::{AllocError, Global};
 
 /// The two kinds of scripts.

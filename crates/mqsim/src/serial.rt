@@ -4,8 +4,8 @@ ghost use Rattle.mq_cli.specs.Input.{IsRunSize};
 ghost use Rattle.mqsim.specs.Runs.{RanKind};
 
 use crate::command_line::Kind;
+use mq_calls::Config;
 use mq_cli::{RunFault, run_serial};
-use mq_one_thread::Config;
 use std::alloc::Global;
 use std::io::{BufWriter, Read, Write};
 

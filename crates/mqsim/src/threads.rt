@@ -5,8 +5,8 @@ ghost use Rattle.mqsim.specs.Runs.{RanKind};
 
 use crate::command_line::Kind;
 use crate::serial::OUTPUT_LEN;
+use mq_calls::Config;
 use mq_cli::{RunFault, run_threads};
-use mq_one_thread::Config;
 use std::alloc::Global;
 use std::io::{BufWriter, Read, Write};
 use std::sync::Wait;

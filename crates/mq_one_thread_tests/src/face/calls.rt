@@ -1,10 +1,11 @@
 //! A system for a test, and its calls, each made once more where there was no memory.
 ghost use Rattle.std.specs.Prelude.{◌≡◌, ◌<◌};
 
-use mq_arena::Homecoming;
+use mq_arena::{Homecoming, Text};
+use mq_calls::{Closed, Config, Errno, SysError};
 use mq_face::{Call, CallKind, Done, ReceivedMessage, Refusal, control, draft, get, receive, send};
-use mq_message::{Body, Text};
-use mq_one_thread::{Closed, Config, Errno, OneThread, SysError};
+use mq_message::Body;
+use mq_one_thread::OneThread;
 use std::alloc::Global;
 use std::process::Abort;
 use std::sync::ledger::{Blank, Ledger};

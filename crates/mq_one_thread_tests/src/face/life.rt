@@ -5,11 +5,12 @@ use crate::face::calls::{
     PARTS, call, control_again, ended, get_again, made, receive_again, receiving, send_again,
     sending, spent,
 };
+use mq_calls::Usage;
 use mq_face::{
     Call, CallKind, Done, IPC_CREAT, IPC_INFO, IPC_RMID, IPC_SET, IPC_STAT, MSG_EXCEPT,
     MSG_NOERROR, MSG_STAT, Shown,
 };
-use mq_one_thread::{OneThread, Usage};
+use mq_one_thread::OneThread;
 use mq_queue::Figures;
 use std::alloc::Global;
 use std::marker::Brand;

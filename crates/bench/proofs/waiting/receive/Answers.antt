@@ -2,8 +2,8 @@ use Rattle.std.proofs.Common.{◌<◌, ◌==◌, ℕ, not, sym}
 use Rattle.std.proofs.lemmas.List.Elements.{All-filter, All-same}
 use Rattle.mq_message.specs.declared.message.Message.{Message}
 use Rattle.mq_message.specs.declared.vec_body.VecBody.{VecBody}
-use Rattle.mq_select.proofs.Places.{picked_waits}
-use Rattle.mq_select.specs.Waiting.{without}
+use Rattle.mq_message.proofs.Places.{picked_waits}
+use Rattle.mq_message.specs.Waiting.{without}
 use Rattle.bench.proofs.waiting.receive.Goals as goal
 
 pub length_of-length-requires : goal.length_of-length-requires

@@ -1,8 +1,8 @@
 use Rattle.std.proofs.Common.{◌≤◌, arith, inl, length}
 use Rattle.std.proofs.lemmas.Int.{to_z-of_z}
-use Rattle.mq_one_thread.specs.Calls.{msgrcv}
-use Rattle.mq_one_thread.specs.Look.{refused_at}
-use Rattle.mq_one_thread.specs.declared.errno.Errno.TheVariants.{ENOMEM}
+use Rattle.mq_calls.specs.Calls.{msgrcv}
+use Rattle.mq_calls.specs.Look.{refused_at}
+use Rattle.mq_calls.specs.declared.errno.Errno.TheVariants.{ENOMEM}
 use Rattle.mq.proofs.ReceiveLemmas.{copied_memory, received_fits}
 use Rattle.mq.proofs.bytes.receive_bytes.Goals as goal
 

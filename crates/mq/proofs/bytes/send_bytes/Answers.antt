@@ -1,10 +1,10 @@
 use Rattle.std.proofs.Common.{rules, ap, inl, ◌∙◌, w64}
 use Rattle.std.proofs.lemmas.Int.{to_z-of_z}
 use mir.Val.{SFits}
-use Rattle.mq_message.specs.Text.{PlainText}
+use Rattle.mq_arena.specs.Text.{PlainText}
 use Rattle.mq_one_thread.proofs.DraftLemmas.{spent_after}
-use Rattle.mq_one_thread.specs.State.{QueuesState}
-use Rattle.mq_one_thread.specs.declared.results.Refused.{Refused}
+use Rattle.mq_calls.specs.State.{QueuesState}
+use Rattle.mq_calls.specs.declared.results.Refused.{Refused}
 use Rattle.mq.proofs.SendLemmas.{refused_whole, spent}
 use Rattle.mq.proofs.bytes.send_bytes.Goals as goal
 

@@ -5,7 +5,7 @@ use Rattle.mq_board.proofs.making.seat_all.Goals as goal
 
 pub loop-given-preserved : goal.loop-given-preserved
 loop-given-preserved g c =
-    let board = c.args.first.now.board in
+    let board = c.args.roll.now.board in
     let given = c.loop-given.given in
     c.in_ok-push.ensures.items
     ∙ (ap (λ (r : ReaderState). c.loop-given.readers.items ++ r ∷ []) c.in_ok-reader.ensures

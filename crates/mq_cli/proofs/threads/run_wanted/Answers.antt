@@ -1,6 +1,6 @@
 use Rattle.std.proofs.Common.{◌≡◌, ℕ, suc, ◌-◌, ◌<◌, ◌^◌, ◌∷◌, ◌++◌, List, length, take, drop, ap, arith, rules, sym, subst, ◌∙◌}
 use Rattle.std.specs.List.{All}
-use Rattle.mq_one_thread.specs.Closed.{IsClosed}
+use Rattle.mq_calls.specs.Closed.{IsClosed}
 use Rattle.mq_system.specs.Seat.{SeatState}
 use Rattle.mq_system.specs.Closed.{IsEnd}
 use Rattle.mq_cli.specs.Threads.{AreClosed, RanParts, main_seat}

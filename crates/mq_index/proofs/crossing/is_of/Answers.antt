@@ -1,7 +1,7 @@
 use Rattle.std.proofs.Common.{◌≡◌, rules, arith, None}
 use Rattle.std.proofs.lemmas.Int.{to_z-of_z}
-use Rattle.mq_select.specs.declared.selection.Selection.TheVariants.{Except}
-use Rattle.mq_select.specs.Selection.{pick}
+use Rattle.mq_message.specs.declared.selection.Selection.TheVariants.{Except}
+use Rattle.mq_message.specs.Selection.{pick}
 use Rattle.mq_index.proofs.Sames.{all_same, none_is}
 use Rattle.mq_index.proofs.crossing.is_of.Goals as goal
 

@@ -1,7 +1,7 @@
 use Rattle.std.proofs.Common.{rules, arith}
 use Rattle.std.proofs.lemmas.List.FromFn.{map-range_with_len_more}
 use Rattle.mq_table.specs.SlotParts.{empty_kept}
-use Rattle.mq_one_thread.proofs.SlotLemmas.{length_new}
+use Rattle.mq_calls.proofs.SlotLemmas.{length_new}
 use Rattle.mq_one_thread.proofs.one_thread.fill.Goals as goal
 
 pub push_reserved-requires : goal.push_reserved-requires

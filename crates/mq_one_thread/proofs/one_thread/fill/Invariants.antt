@@ -1,5 +1,5 @@
 use Rattle.std.proofs.Common.{◌≡◌, ◌≤◌, vec_capacity}
-use Rattle.mq_one_thread.specs.Limits.{empty_slots}
+use Rattle.mq_calls.specs.Limits.{empty_slots}
 use Rattle.mq_one_thread.proofs.one_thread.fill.Given as goal
 
 -- the slots so far, and the room for the others

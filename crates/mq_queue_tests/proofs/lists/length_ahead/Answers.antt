@@ -1,5 +1,5 @@
 use Rattle.std.proofs.Common.{◌∙◌, sym}
-use Rattle.mq_select.proofs.Places.{picked_waits}
+use Rattle.mq_message.proofs.Places.{picked_waits}
 use Rattle.mq_queue_tests.proofs.lists.length_ahead.Goals as goal
 
 pub length_of-requires : goal.length_of-requires

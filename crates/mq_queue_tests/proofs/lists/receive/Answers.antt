@@ -1,5 +1,5 @@
 use Rattle.std.proofs.Common.{◌∙◌, sym}
-use Rattle.mq_select.proofs.Places.{picked_waits}
+use Rattle.mq_message.proofs.Places.{picked_waits}
 use Rattle.mq_queue_tests.proofs.lists.receive.Goals as goal
 
 pub take-requires : goal.take-requires

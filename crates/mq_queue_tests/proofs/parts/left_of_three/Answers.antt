@@ -1,6 +1,6 @@
 use Rattle.std.proofs.Common.{◌≡◌, ℕ, List, [], ◌∷◌, map, IsSome, OnOk, Result, Ok, Err, true, refl}
 use Rattle.std.specs.Result.{is_ok}
-use Rattle.mq_select.specs.Waiting.{message_at}
+use Rattle.mq_message.specs.Waiting.{message_at}
 use Rattle.mq_queue_tests.proofs.parts.left_of_three.Goals as goal
 
 -- of three messages at the places 0, 1 and 2, one waits at 1

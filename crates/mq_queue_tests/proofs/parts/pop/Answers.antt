@@ -1,7 +1,7 @@
 use Rattle.std.proofs.Common.{◌≡◌, ◌<◌, ◌≤◌, ◌==◌, ◌∙◌, ℕ, List, [], ◌∷◌, length, filter, find, not, slice_get, cond, Some, None, IsSome, Bool, true, false, refl, sym, eq-eqb, arith}
 use Rattle.std.specs.Option.{option_map}
 use Rattle.std.proofs.lemmas.Option.{same_Some}
-use Rattle.mq_select.specs.Waiting.{message_at, without}
+use Rattle.mq_message.specs.Waiting.{message_at, without}
 use Rattle.mq_queue_tests.proofs.parts.pop.Goals as goal
 
 nothing_first : {X : Type 0} (xs : List (ℕ × X)) → option_map (λ m. m.0) (slice_get xs 0) ≡ None → xs ≡ []

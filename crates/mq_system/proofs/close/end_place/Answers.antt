@@ -1,8 +1,8 @@
 use Rattle.std.proofs.Common.{ap, sym, ◌∙◌, rules}
 use Rattle.mq_tree.specs.LentSet.{Lending}
 use Rattle.mq_table.proofs.Kepts.{waiting_is}
-use Rattle.mq_one_thread.specs.Closed.{IsEndOf}
-use Rattle.mq_one_thread.proofs.CloseLemmas.{ends_with_list}
+use Rattle.mq_calls.specs.Closed.{IsEndOf}
+use Rattle.mq_calls.proofs.CloseLemmas.{ends_with_list}
 use Rattle.mq_system.proofs.close.end_place.Goals as goal
 
 pub returns-clause-ends : goal.returns-clause-ends

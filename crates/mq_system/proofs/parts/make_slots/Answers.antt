@@ -1,7 +1,7 @@
 use Rattle.std.proofs.Common.{ℕ, ◌≡◌, ◌∙◌, arith, rules, ap, sym, length, length-append, ◌∷◌, []}
 use Rattle.std.specs.Global.{Vec}
 use Rattle.mq_board.specs.Readers.{ReaderState, seats}
-use Rattle.mq_message.specs.Text.{PlainText}
+use Rattle.mq_arena.specs.Text.{PlainText}
 use Rattle.mq_table.specs.Slot.{SlotState, empty_slot}
 use Rattle.mq_system.proofs.StartLemmas.{each_push}
 use Rattle.mq_system.proofs.parts.make_slots.Goals as goal

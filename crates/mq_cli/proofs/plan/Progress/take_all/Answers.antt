@@ -1,6 +1,6 @@
 use Rattle.std.proofs.Common.{rules, ◌≡◌, ◌+◌, ◌++◌, replicate, length, Some, Err, refl, inl, inr, arith}
 use Rattle.std.proofs.lemmas.Int.{to_z-of_z}
-use Rattle.mq_one_thread.specs.declared.errno.Errno.TheVariants.{ENOMEM}
+use Rattle.mq_calls.specs.declared.errno.Errno.TheVariants.{ENOMEM}
 use Rattle.mq_cli.specs.declared.notes.Stream.{Stream}
 use Rattle.mq_cli.specs.Calls.{TakenMessage, receive, same_stream, stream_of}
 use Rattle.mq_cli.specs.contracts.notes.StreamPartialEq.TheImpl.{eq-value}

@@ -1,7 +1,7 @@
 use Rattle.std.proofs.Common.{false}
 use Rattle.std.proofs.lemmas.Int.{to_z-of_z}
 use Rattle.mq_queue.specs.declared.limits.TheConstants.{MSGMAX}
-use Rattle.mq_select.specs.Selection.{selection_of}
+use Rattle.mq_message.specs.Selection.{selection_of}
 use Rattle.mq_table.specs.Ids.{seq_of, slot_of}
 use Rattle.mq_system.specs.Refusals.{MayReceive, out_of_slots}
 use Rattle.mq_system.specs.Seen.{receive_verdict}

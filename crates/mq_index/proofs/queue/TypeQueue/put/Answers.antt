@@ -1,4 +1,4 @@
-use Rattle.mq_select.proofs.Places.{rising_push}
+use Rattle.mq_message.proofs.Places.{rising_push}
 use Rattle.mq_index.proofs.Nodes.{all_filled, filled_is, pushed}
 use Rattle.mq_index.proofs.queue.TypeQueue.put.Goals as goal
 

@@ -1,7 +1,7 @@
 use Rattle.std.proofs.Common.{◌∙◌, ℕ, Some, ap, sym}
 use Rattle.mq_message.specs.declared.message.Message.{Message}
 use Rattle.std.proofs.lemmas.Option.{get_or_from_slice_get}
-use Rattle.mq_select.proofs.Places.{has_index, at_index, without_is, rising_remove}
+use Rattle.mq_message.proofs.Places.{has_index, at_index, without_is, rising_remove}
 use Rattle.mq_index.specs.Queue.{in_nodes}
 use Rattle.mq_index.proofs.Nodes.{all_filled, filled_is, index_is, node_is, node_not_empty, removed}
 use Rattle.mq_index.proofs.queue.TypeQueue.take.Goals as goal

@@ -1,12 +1,12 @@
 use Rattle.std.proofs.Common.{◌∷◌, [], arith, length, map, sym, ap, subst, ◌∙◌, length-append, All}
 use Rattle.std.proofs.lemmas.List.{nil_from_length}
 use Rattle.mq_tree.specs.LentSet.{Lending}
-use Rattle.mq_one_thread.specs.Closed.{all_home, ends}
+use Rattle.mq_calls.specs.Closed.{all_home, ends}
 use Rattle.mq_table.specs.KeptPart.{IsLawfulSlot, WaitsNow}
-use Rattle.mq_one_thread.specs.State.{QueuesState}
-use Rattle.mq_one_thread.specs.Texts.{bytes_of}
-use Rattle.mq_one_thread.proofs.CloseLemmas.{all_closed}
-use Rattle.mq_one_thread.proofs.HomeLemmas.{last_home, endings_kept, none_home, reversed}
+use Rattle.mq_calls.specs.State.{QueuesState}
+use Rattle.mq_calls.specs.Texts.{bytes_of}
+use Rattle.mq_calls.proofs.CloseLemmas.{all_closed}
+use Rattle.mq_calls.proofs.HomeLemmas.{last_home, endings_kept, none_home, reversed}
 use Rattle.mq_one_thread.proofs.one_thread.OneThread.close.Goals as goal
 
 pub loop-slot-preserved : goal.loop-slot-preserved

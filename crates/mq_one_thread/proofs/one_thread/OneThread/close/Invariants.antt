@@ -1,5 +1,5 @@
 use Rattle.std.proofs.Common.{◌≡◌, ◌≤◌, ◌+◌, ◌++◌, length, map, reverse, vec_capacity}
-use Rattle.mq_one_thread.specs.Closed.{all_home, ending_of, ends}
+use Rattle.mq_calls.specs.Closed.{all_home, ending_of, ends}
 use Rattle.mq_one_thread.proofs.one_thread.OneThread.close.Given as goal
 
 abbrev pub decreases-loop-slot : goal.decreases-loop-slot

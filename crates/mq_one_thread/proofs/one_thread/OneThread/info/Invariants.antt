@@ -1,5 +1,5 @@
 use Rattle.std.proofs.Common.{◌≡◌}
-use Rattle.mq_one_thread.specs.Usages.{first_usage}
+use Rattle.mq_calls.specs.Usages.{first_usage}
 use Rattle.mq_one_thread.proofs.one_thread.OneThread.info.Given as goal
 
 -- the slots so far

@@ -2,7 +2,7 @@ use Rattle.std.proofs.Common.{refl, rules}
 use mir.Val.{SFits}
 use mir.Syntax.{w64}
 use Rattle.std.proofs.lemmas.Int.{to_z-of_z}
-use Rattle.mq_one_thread.specs.Texts.{bytes_of}
+use Rattle.mq_calls.specs.Texts.{bytes_of}
 use Rattle.mq_table.proofs.OneMore.{sent_more}
 use Rattle.mq_one_thread.proofs.KeptLemmas.{kept_on, kept_same}
 use Rattle.mq_one_thread.proofs.one_thread.OneThread.msgsnd.Goals as goal

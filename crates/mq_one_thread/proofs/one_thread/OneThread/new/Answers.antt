@@ -1,8 +1,8 @@
 use Rattle.std.proofs.Common.{rules, arith, ◌≡◌, ◌≤◌, ◌^◌, ap, ◌∙◌, length}
 use Rattle.mq_tree.proofs.Powers.{pow_le}
-use Rattle.mq_one_thread.specs.Limits.{IsWithin}
+use Rattle.mq_calls.specs.Limits.{IsWithin}
 use Rattle.mq_one_thread.proofs.NewLemmas.{keyed_new, lawful_new, waits_new}
-use Rattle.mq_one_thread.proofs.SlotLemmas.{length_new, placed_new}
+use Rattle.mq_calls.proofs.SlotLemmas.{length_new, placed_new}
 use Rattle.mq_one_thread.proofs.one_thread.OneThread.new.Goals as goal
 
 pub open-requires-clause-enough : goal.open-requires-clause-enough

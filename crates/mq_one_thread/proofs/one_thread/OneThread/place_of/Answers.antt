@@ -1,6 +1,6 @@
 use Rattle.std.proofs.Common.{rules, sym, ap, ◌∙◌, ◌<◌, length}
 use Rattle.std.proofs.lemmas.List.{get_or_default}
-use Rattle.mq_message.specs.Text.{PlainText}
+use Rattle.mq_arena.specs.Text.{PlainText}
 use Rattle.mq_table.specs.Kept.{KeptSlot}
 use Rattle.mq_table.specs.SlotParts.{empty_kept}
 use Rattle.mq_one_thread.proofs.one_thread.OneThread.place_of.Goals as goal

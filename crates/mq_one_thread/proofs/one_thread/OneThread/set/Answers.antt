@@ -1,5 +1,5 @@
 use Rattle.std.proofs.Common.{refl}
-use Rattle.mq_one_thread.specs.Texts.{bytes_of}
+use Rattle.mq_calls.specs.Texts.{bytes_of}
 use Rattle.mq_table.proofs.OneMore.{set_more}
 use Rattle.mq_one_thread.proofs.KeptLemmas.{kept_on, kept_same}
 use Rattle.mq_one_thread.proofs.one_thread.OneThread.set.Goals as goal

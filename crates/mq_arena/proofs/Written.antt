@@ -1,0 +1,33 @@
+-- A text after its bytes were written.
+use Rattle.std.proofs.Common.{◌≡◌, ◌≤◌, ◌*◌, ◌^◌, ℕ, List, ◌++◌, length, take, Some, refl, sym, ◌∙◌, ap, subst}
+use Rattle.std.proofs.lemmas.List.{take_at}
+use Rattle.std.specs.List.{concat}
+use Rattle.mq_arena.specs.OwnedBlock.{OwnedBlock, IsBlock}
+use Rattle.mq_arena.specs.declared.page.TheConstants.{PAGE_LEN}
+use Rattle.mq_arena.specs.Lent.{place}
+use Rattle.mq_arena.specs.Text.{PlainText, ArePagesOf}
+use Rattle.mq_arena.specs.TextHeld.{text_of}
+use Rattle.mq_arena.proofs.Texts.{text_length}
+use Rattle.mq_arena.proofs.TextParts.{IsHeld, held_by}
+
+-- bytes as many as the text had, written over the first ones of its block
+pub filled_text : (len : ℕ) (b new : OwnedBlock) (bytes rest : List ℕ) → length bytes ≡ len
+    → new.start ≡ b.start → new.order ≡ b.order → concat new.pages ≡ bytes ++ rest
+    → text_of len (Some new) ≡ record { bytes = bytes; block = Some (place b) }
+filled_text len b new bytes rest long same_start same_order now =
+    let cut : take len (concat new.pages) ≡ bytes = ap (take len) now ∙ take_at bytes rest len long in
+    rw (cut, same_start, same_order) refl
+
+-- the pages of a text are those of its block
+pub pages_of : {text : PlainText} {len : ℕ} {b : OwnedBlock} → IsHeld text len b → ArePagesOf text b.pages
+pages_of {len = len} {b = b} h =
+    subst (λ t. ArePagesOf t b.pages) h.same (record {
+      whole = h.held.0.whole;
+      count = h.held.0.count;
+      bytes = ap (λ n. take n (concat b.pages)) (sym (text_length len (Some b) h.held));
+    })
+
+-- whatever is in its block at the end, it is a text of as many bytes as before
+pub still_held : {text : PlainText} {len : ℕ} {b : OwnedBlock} (new : OwnedBlock) → IsHeld text len b → IsBlock new → new.order ≡ b.order → IsHeld (text_of len (Some new)) len new
+still_held {len = len} new h whole same_order =
+    held_by {block = Some new} len refl refl (whole, subst (λ order. len ≤ PAGE_LEN * 2 ^ order) (sym same_order) h.held.1)

@@ -1,0 +1,4 @@
+pub mod CloseLemmas
+pub mod HomeLemmas
+pub mod SlotLemmas
+pub mod UsageLemmas

@@ -1,0 +1,11 @@
+use Rattle.std.proofs.Common.{◌≡◌, length}
+use Rattle.mq_calls.specs.Texts.{spends_all}
+use Rattle.mq_calls.proofs.home.take_home.Given as goal
+
+abbrev pub decreases-loop-message : goal.decreases-loop-message
+decreases-loop-message g l = length l.waiting.messages
+
+-- once all that is left is home, all that waited is
+abbrev pub invariant-loop-message : goal.invariant-loop-message
+invariant-loop-message g l =
+    spends_all l.waiting.messages l.arena ≡ spends_all l.initial.waiting.messages l.initial.arena

@@ -1,0 +1,11 @@
+pub mod Answer
+pub mod Calls
+pub mod Closed
+pub mod Get
+pub mod Limits
+pub mod Look
+pub mod Memory
+pub mod Names
+pub mod State
+pub mod Texts
+pub mod Usages

@@ -1,0 +1,87 @@
+//! How a slot ends, and what it leaves.
+
+ghost use Rattle.std.specs.Prelude.{◌≡◌};
+ghost use Rattle.mq_table.specs.SlotParts.{either, some_base};
+ghost use Rattle.mq_calls.specs.Closed.{ending_of, ends};
+ghost use Rattle.mq_calls.specs.Texts.{spends_all};
+
+use crate::TextSlot;
+use crate::home::take_home;
+use mq_arena::ArenaState;
+use mq_queue::{Base, Event};
+use mq_table::Cut;
+use std::sync::ledger::Ledger;
+
+/// What a slot leaves at the end.
+#[derive(Drop)]
+pub struct ClosedSlot {
+    /// How many entries of its list were cut off before.
+    pub first: u64,
+    /// How many of these are makings.
+    pub made: u32,
+    /// What is kept of the queue that they leave live, if they leave one.
+    pub base: Option<Base>,
+    /// The events since then of the queues that were removed.
+    pub past: Vec<Event>,
+    /// Those of the live queue, if one was there.
+    pub last: Vec<Event>,
+    /// How many messages were waiting in it.
+    pub left: u64,
+}
+
+/// What a system leaves at the end. The blocks of all texts that waited are home.
+#[derive(Drop)]
+pub struct Closed<L: Ledger> {
+    /// In the order of their numbers.
+    pub slots: Vec<ClosedSlot>,
+    pub arena: ArenaState<L>,
+}
+
+/// What is kept of the queue that the entries which were cut off leave live: the live queue, where
+/// that is one of which something was cut off, or else one that was removed since.
+fn base_told(own: Base, removed: Option<Base>) -> Option<Base>
+    ensures { result ≡ either (some_base own) removed }
+{
+    if own.places == 0 { removed } else { Some(own) }
+}
+
+/// Ends a slot, and spends the texts that wait in it.
+pub fn end_slot<L: Ledger>(arena: &mut ArenaState<L>, slot: TextSlot<L>) -> ClosedSlot
+    ensures slot { ending_of result ≡ ends slot }
+    ensures arena { arena.new ≡ spends_all slot.messages arena.old }
+{
+    let (cut, live) = slot.into_parts();
+    let Cut {
+        first,
+        made,
+        base,
+        past,
+        last,
+    } = cut;
+    match live {
+        Some(queue) => {
+            queue.holds();
+            let left = queue.figures().qnum;
+            let (log, waiting) = queue.into_parts();
+            take_home(arena, waiting);
+            let (own, last) = log.into_parts();
+            let base = base_told(own, base);
+            ClosedSlot {
+                first,
+                made,
+                base,
+                past,
+                last,
+                left,
+            }
+        }
+        None => ClosedSlot {
+            first,
+            made,
+            base,
+            past,
+            last,
+            left: 0,
+        },
+    }
+}

@@ -1,0 +1,57 @@
+//! The sizes of a queue system.
+
+ghost use Rattle.std.specs.Prelude.{◌≡◌, IsTrue};
+ghost use Rattle.mq_calls.specs.Limits.{keeps_limits, IsWithin};
+
+use crate::MAX_SEATS;
+use mq_table::{MAX_SEQ, MAX_SLOTS};
+use mq_tree::MAX_HEIGHT;
+use thiserror::Error;
+
+/// The size of a queue system.
+#[derive(Clone, Copy, Debug, PartialEq, Eq)]
+pub struct Config {
+    /// The arena has `2 ^ height` pages of 1,024 bytes: 0 to `MAX_HEIGHT`.
+    pub height: u8,
+    /// The number of queues at a time: 1 to `MAX_SLOTS`.
+    pub slots: u8,
+    /// The number of seats: 1 to `MAX_SEATS`. `OneThread` only checks it: its calls take any seat,
+    /// and where a queue's figures name the seat that sent or received last, 0 means nobody yet.
+    pub seats: u16,
+    /// The greatest seq of an id, 0 to `MAX_SEQ`: each slot has `last_seq + 1` queues, one after
+    /// another, and is then used up.
+    pub last_seq: u32,
+}
+
+/// Why a queue system is not made, in the order of the tests.
+#[derive(Clone, Copy, Debug, PartialEq, Eq, Error)]
+pub enum SysError {
+    #[error("a value of the configuration is out of its limits")]
+    Config,
+    #[error("out of memory")]
+    Memory,
+}
+
+/// The size of a queue system for whoever needs no other. A text takes at least a page, however
+/// short it is, so the arena is the highest: 1,024 texts may be outside or wait.
+pub const DEFAULTS: Config = Config {
+    height: MAX_HEIGHT,
+    slots: 16,
+    seats: MAX_SEATS,
+    last_seq: MAX_SEQ,
+};
+
+impl Config {
+    /// Whether each value is within its limits.
+    pub fn is_valid(self) -> bool
+        ensures value { result ≡ keeps_limits self }
+        ensures limits { IsTrue result → IsWithin self }
+    {
+        self.height <= MAX_HEIGHT
+            && 1 <= self.slots
+            && self.slots <= MAX_SLOTS
+            && 1 <= self.seats
+            && self.seats <= MAX_SEATS
+            && self.last_seq <= MAX_SEQ
+    }
+}

@@ -1,0 +1,32 @@
+//! Texts that are spent: their blocks go home.
+
+ghost use Rattle.std.specs.Prelude.{◌≡◌};
+ghost use Rattle.mq_calls.specs.Texts.{comes_home, spends, spends_all};
+
+use mq_arena::{ArenaState, Homecoming, Text};
+use mq_index::IndexWaiting;
+use mq_message::Waiting;
+use std::sync::ledger::Ledger;
+
+/// Spends a text: its block goes home.
+// Inlined for the same reason as `ArenaState::put`.
+#[inline(always)]
+pub fn take_back<L: Ledger>(arena: &mut ArenaState<L>, text: Text<L>) -> Homecoming
+    ensures back { arena.new ≡ spends text arena.old }
+    ensures home { result ≡ comes_home text arena.old }
+{
+    match text.into_block() {
+        Some(block) => arena.put(block),
+        None => Homecoming::Home,
+    }
+}
+
+/// Spends the texts of all that waits.
+pub fn take_home<L: Ledger>(arena: &mut ArenaState<L>, mut waiting: IndexWaiting<Text<L>>)
+    ensures { arena.new ≡ spends_all waiting.messages arena.old }
+{
+    while let Some(message) = waiting.pop_any() {
+        take_back(arena, message.into_body());
+    }
+    waiting.end();
+}

@@ -1,0 +1,34 @@
+ghost use Rattle.std.specs.Prelude.{◌≡◌};
+
+/// Which of the waiting messages a receiver wants, by their types (msgop(2), msgrcv).
+#[derive(Clone, Copy, Debug, PartialEq, Eq)]
+pub enum Selection {
+    /// The first message.
+    Any,
+    /// The first message of this type.
+    Exact(i64),
+    /// The first message of any other type.
+    Except(i64),
+    /// The first message of the lowest type that is at most this.
+    UpTo(u64),
+}
+
+impl Selection {
+    ghost use Rattle.mq_message.specs.Selection.{selection_of};
+
+    /// What `msgtyp` selects, where `except` is the flag `MSG_EXCEPT` (msgop(2), msgrcv). The flag
+    /// changes nothing where `msgtyp` is 0 or below.
+    pub fn read(msgtyp: i64, except: bool) -> Selection
+        ensures { result ≡ selection_of msgtyp except }
+    {
+        if msgtyp == 0 {
+            Selection::Any
+        } else if msgtyp < 0 {
+            Selection::UpTo(msgtyp.unsigned_abs())
+        } else if except {
+            Selection::Except(msgtyp)
+        } else {
+            Selection::Exact(msgtyp)
+        }
+    }
+}

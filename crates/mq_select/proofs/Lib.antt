@@ -1,3 +1,0 @@
-pub mod FirstLowest
-pub mod Lowest
-pub mod Places

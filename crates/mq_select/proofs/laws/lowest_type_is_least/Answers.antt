@@ -1,5 +1,0 @@
-use Rattle.mq_select.proofs.Lowest.{finds_lowest}
-use Rattle.mq_select.proofs.laws.lowest_type_is_least.Goals as goal
-
-pub returns : goal.returns
-returns c = finds_lowest

@@ -1,5 +1,0 @@
-use Rattle.std.proofs.Common.{length}
-use Rattle.mq_system.proofs.control.System+P+N+Copies+N.take_home.Given as goal
-
-abbrev pub decreases-loop-message : goal.decreases-loop-message
-decreases-loop-message g l = length l.waiting.messages

@@ -1,0 +1,89 @@
+use Rattle.std.proofs.Common.{◌≡◌, refl, rules, ◌∙◌}
+use Rattle.mq_table.specs.Calls.{receipt_of, receives}
+use Rattle.mq_table.specs.KeptPart.{whole}
+use Rattle.mq_table.proofs.Kepts.{live_is}
+use Rattle.mq_table.proofs.Whole.{receive_refused}
+use Rattle.mq_calls.specs.Look.{errno_of}
+use Rattle.mq_system.specs.Answer.{refused_here}
+use Rattle.mq_system.proofs.AnswerLemmas.{answered_by, not_delivered, refused_by}
+use Rattle.mq_system.proofs.PledgeLemmas.{delivers_it, found_pledged, meets, meets_whole, receipt_fits}
+use Rattle.mq_system.proofs.SharedLemmas.{has_changed, receive_changes}
+use Rattle.mq_system.proofs.slot.SharedSlot.receive.Goals as goal
+
+pub receive-requires : goal.receive-requires
+receive-requires g c = record {
+  live = live_is _ _ c.self.invariant.published.kept ∙ (rw (← c.self.view_is) at c.in_ok-look.ensures.live);
+}
+
+pub publish-requires-clause-due : goal.publish-requires-clause-due
+publish-requires-clause-due g c =
+    let live = rw (← c.self.view_is) at c.in_ok-look.ensures.live in
+    let short = rw (← c.self.view_is) at c.holds.ensures.few in
+    let few = rw (← c.self.view_is) at c.holds.ensures.made in
+    rw (← c.number-number.ensures) (receive_changes _ _ _ _ _ c.self.inside.writer _ _ c.receive.new.self c.self.invariant short few live c.args.size
+    c.args.selection c.args.noerror c.number-number.result c.args.moment (receipt_of c.in-Ok.received) (cc (c.in-Ok.ensures.answer.ok))
+    c.in-Ok.ensures.noticed).due
+
+pub publish-requires-clause-known : goal.publish-requires-clause-known
+publish-requires-clause-known g c =
+    let live = rw (← c.self.view_is) at c.in_ok-look.ensures.live in
+    let short = rw (← c.self.view_is) at c.holds.ensures.few in
+    let few = rw (← c.self.view_is) at c.holds.ensures.made in
+    let its = receive_changes _ _ _ _ _ c.self.inside.writer _ _ _ c.self.invariant short few live c.args.size
+    c.args.selection c.args.noerror c.number-number.result c.args.moment _ c.in-Ok.ensures.answer.ok
+    c.in-Ok.ensures.noticed in
+    rw (its.number, its.known) (rw (← c.self.view_is) at c.requires.begun.known)
+
+pub returns-in-Ok-clause-answer : goal.returns-in-Ok-clause-answer
+returns-in-Ok-clause-answer g c =
+    let live = rw (← c.self.view_is) at c.in_ok-look.ensures.live in
+    let short = rw (← c.self.view_is) at c.holds.ensures.few in
+    let few = rw (← c.self.view_is) at c.holds.ensures.made in
+    let its = receive_changes _ _ _ _ _ c.self.inside.writer _ _ _ c.self.invariant short few live c.args.size
+    c.args.selection c.args.noerror c.number-number.result c.args.moment _ c.in-Ok.ensures.answer.ok
+    c.in-Ok.ensures.noticed in
+    let there = rw (← c.self.view_is) at c.in_ok-look.ensures.value in
+    let turn = delivers_it c.self.inside.slot.messages c.args.size c.in-Ok.received _ _ its.left c.in-Ok.ensures.answer.waited.body in
+    let ok = rw c.number-number.ensures at (answered_by (whole c.self.inside.writer.events c.self.inside.slot) _ there _ _ _ turn) in
+    rw (← c.self.view_is, c.of.ensures)
+    (has_changed _ _ _ _ _ _ c.self.inside.writer _ _ _ _ its _ c.publish.ensures.events _ _
+    c.publish.ensures.noted _ _ ok)
+
+pub returns-in-Ok-clause-pledge : goal.returns-in-Ok-clause-pledge
+returns-in-Ok-clause-pledge g c =
+    let live = rw (← c.self.view_is) at c.in_ok-look.ensures.live in
+    let short = rw (← c.self.view_is) at c.holds.ensures.few in
+    let few = rw (← c.self.view_is) at c.holds.ensures.made in
+    let its = receive_changes _ _ _ _ _ c.self.inside.writer _ _ _ c.self.invariant short few live c.args.size
+    c.args.selection c.args.noerror c.number-number.result c.args.moment _ c.in-Ok.ensures.answer.ok
+    c.in-Ok.ensures.noticed in
+    let r = c.in-Ok.received in
+    let met = meets g.P.Pledge.kept c.args.size r _
+    (found_pledged g.P.Pledge.kept c.self.inside.slot.messages r.place c.self.invariant.pledged)
+    c.in-Ok.ensures.answer.waited.sent c.in-Ok.ensures.answer.waited.body in
+    rw c.of.ensures
+    (record {
+      part = met;
+      uncut =
+          λ cut. meets_whole g.P.Pledge.kept c.args.size r met
+          (receipt_fits (whole c.self.inside.writer.events c.self.inside.slot) _ c.args.size c.args.selection c.number-number.result c.args.moment _
+          c.args.noerror cut its.left);
+    })
+
+pub returns-in-Err-clause-answer : goal.returns-in-Err-clause-answer
+returns-in-Err-clause-answer g c =
+    let live = rw (← c.self.view_is) at c.in_ok-look.ensures.live in
+    let there = rw (← c.self.view_is) at c.in_ok-look.ensures.value in
+    let why = c.in-Err.ensures.answer.refused
+    ∙ receive_refused _ _ c.self.invariant.published.kept live c.args.size c.args.selection
+    c.args.noerror c.number-number.result c.args.moment
+    ∙ not_delivered c.self.inside.slot.messages c.args.size
+    (receives (whole c.self.inside.writer.events c.self.inside.slot) c.args.size c.args.selection c.args.noerror c.number-number.result c.args.moment) in
+    let s = whole c.self.inside.writer.events c.self.inside.slot in
+    let is : c.refused.result ≡ refused_here s (errno_of c.in-Err.refusal) = search rules in
+    rw (← c.self.view_is)
+    (record {
+      why = rw (← c.number-number.ensures) (refused_by s _ there _ _ _ why is);
+      unchanged = search rules;
+      same = refl;
+    })
