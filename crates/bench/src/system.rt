@@ -3,8 +3,8 @@
 use crate::words::Words;
 use anyhow::{Result, bail};
 use mq::{
-    Config, DEFAULTS, Delivered, Errno, GetFlags, Id, MAX_HEIGHT, MSGMAX, Names, Pledge, RecvFlags,
-    Seat, SendFlags, SendRefused, System, Worker, with_workers,
+    Config, DEFAULTS, Delivered, Errno, Forever, GetFlags, Id, MAX_HEIGHT, MSGMAX, Names, Pledge,
+    RecvFlags, Seat, SendFlags, SendRefused, System, Worker, with_workers,
 };
 use std::alloc::{AllocError, Global};
 use std::sync::Wait;
@@ -110,7 +110,7 @@ pub(crate) fn send<N: Names, R: Wait>(
     mtype: u32,
     bytes: &[u8],
 ) -> Result<(), Errno> {
-    let text = match system.draft_by(rt, seat, bytes) {
+    let text = match system.draft_by_within(rt, seat, bytes, &mut Forever) {
         Ok(text) => text,
         Err(refused) => return Err(refused.errno()),
     };

@@ -1,7 +1,7 @@
 -- The steps of a board's cell keep its rule, and tell what they say.
-use Rattle.std.proofs.Common.{◌≡◌, ◌≢◌, ℕ, zero, suc, ◌+◌, ◌%◌, ◌<◌, ◌≤◌, Bool, true, false, List, [], ◌∷◌, ◌++◌, map, length, get_or, set, refl, ap, sym, ◌∙◌, subst, ⊎_elim, arith, rules}
+use Rattle.std.proofs.Common.{◌≡◌, ◌≢◌, ℕ, zero, suc, ◌+◌, ◌%◌, ◌<◌, true, false, List, [], ◌∷◌, ◌++◌, length, get_or, set, refl, ap, sym, ◌∙◌, subst, ⊎_elim, arith, rules}
 use Rattle.std.proofs.lemmas.List.{ext_get_or}
-use mathlib.Core.Option.{Option, none, some, some-injective, some-ne-none}
+use mathlib.Core.Option.{none, some, some-injective, some-ne-none}
 use mathlib.Core.List.{IsPrefix}
 use lib.ListN.{get_elem?}
 use Rattle.atomic_table.proofs.Lists.{at_map, at_set, at_snoc, set_else}
@@ -11,7 +11,7 @@ use Rattle.crossbeam_utils.specs.Register.{Admits, Forks, Merges, Turns, TurnsAt
 use Rattle.crossbeam_utils.specs.Seq.{Gathered, HasRead, IsValidRead, Knows, Versioned, client, idle, wrote}
 use Rattle.crossbeam_utils.specs.declared.atomic.seq_cell.Doing.{Doing}
 use Rattle.crossbeam_utils.specs.declared.atomic.seq_cell.Stage.{Stage}
-use Rattle.crossbeam_utils.specs.declared.atomic.seq_cell.Stage.TheVariants.{Reading, Writing}
+use Rattle.crossbeam_utils.specs.declared.atomic.seq_cell.Stage.TheVariants.{Writing}
 use Rattle.mq_queue.specs.declared.event.Event.{Event}
 use Rattle.mq_queue.specs.declared.event.Event.TheVariants.{Removed}
 use Rattle.mq_queue.specs.Row.{row}

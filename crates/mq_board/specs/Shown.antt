@@ -1,5 +1,5 @@
 -- What a board shows, in words.
-use Rattle.std.specs.Prelude.{◌≡◌, ℕ, ◌<◌, ◌≤◌, ◌^◌, if◌then◌else◌, true, false, List, [], ◌∷◌, ◌++◌, length, slice_index}
+use Rattle.std.specs.Prelude.{◌≡◌, ℕ, ◌<◌, ◌≤◌, ◌^◌, if◌then◌else◌, true, false, List, [], ◌∷◌, ◌++◌, length, slice_index, Option, IfSome, IfNone}
 use Rattle.core.specs.Int.{w32, cast_unsigned}
 use mir.Val.{SFits}
 use mathlib.Core.Option.{some}
@@ -9,7 +9,7 @@ use Rattle.atomic_table.specs.Table.{Me, Step}
 use Rattle.atomic_table.specs.declared.shared.Seat.{Seat}
 use Rattle.crossbeam_utils.specs.declared.atomic.seq_cell.Doing.{Doing}
 use Rattle.crossbeam_utils.specs.declared.atomic.seq_cell.Stage.TheVariants.{Writing}
-use Rattle.crossbeam_utils.specs.Seq.{IsSameView}
+use Rattle.crossbeam_utils.specs.Seq.{IsSamePass, IsSameView}
 use Rattle.mq_queue.specs.declared.event.Event.{Event}
 use Rattle.mq_queue.specs.Row.{row}
 use Rattle.mq_board.specs.declared.cell.Known.{Known}
@@ -85,6 +85,14 @@ told_of k = record { writes = false; events = k.events; beside = [] }
 abbrev pub Sees : Known → News → News → Known → Type 0
 Sees k news same l = (l.writes ≡ k.writes) × IsPrefix k.events l.events
     × IsRowOf same.shown l.events × IsInRange same.shown
+
+-- what a pass knows after a look, which found this row or none
+pub record HasLooked (before after : Pass) (found : Option Shown) : Type 0 where
+  pub same : IsSamePass before after
+  pub reads : (known after).writes ≡ (known before).writes
+  pub later : IsPrefix (known before).events (known after).events
+  pub seen : IfSome found (λ s. IsRowOf s (known after).events)
+  pub none : IfNone found (known after ≡ known before)
 
 -- the event was added
 abbrev pub Adds : Known → News → News → Known → Type 0

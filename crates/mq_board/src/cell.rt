@@ -3,12 +3,12 @@
 //! `SeqCell` of `crossbeam_utils`, whose rule and proofs it keeps, but that a look which finds
 //! another version does not wait for a lock, and that a word which stays is not written.
 
-ghost use Rattle.std.specs.Prelude.{◌≡◌, ◌+◌, ◌<◌, ◌^◌, ◌++◌, ◌∷◌, ◌≤◌, [], length, true, false, IfOk, IfSome, IfNone};
+ghost use Rattle.std.specs.Prelude.{◌≡◌, ◌+◌, ◌<◌, ◌^◌, ◌++◌, ◌∷◌, ◌≤◌, [], length, true, false, IfOk};
 ghost use mathlib.Core.List.{IsPrefix};
 ghost use Rattle.crossbeam_utils.specs.declared.atomic.seq_cell.Stage.TheVariants.{Writing};
 ghost use Rattle.crossbeam_utils.specs.Seq.{Gathered, IsSamePass, Stays};
 ghost use Rattle.mq_board.specs.declared.shown.TheConstants.{WORDS};
-ghost use Rattle.mq_board.specs.Shown.{Adds, IsInRange, IsLocked, IsRowOf, first_known, known, none_known, told_of, words_in};
+ghost use Rattle.mq_board.specs.Shown.{Adds, HasLooked, IsInRange, IsLocked, IsRowOf, first_known, known, none_known, told_of, words_in};
 
 use crate::shown::{News, Shown, WORDS};
 use atomic_table::{Join, Play, Seat, Split, Table, TableRule};
@@ -152,11 +152,16 @@ pub type Pass = Seat<News, Doing<News, Known>>;
 #[derive(Drop)]
 pub struct Cell {
     pub(crate) table: Table<News, Doing<News, Known>, (), Showing, Global>,
+    /// Memory before the table's, which nobody writes: so no line has words of two boards.
+    gap: Vec<u64>,
     ghost wide: { table.shared.table_id.words ≡ WORDS + 1 },
 }
 
 /// As many words as a cell has, with the version.
 const CELLS: usize = WORDS + 1;
+
+/// As many words as two lines of memory have, which processors take together.
+const LINES: usize = 16;
 
 /// How often a look is tried that finds words which are being written.
 const ATTEMPTS: u32 = 200;
@@ -167,8 +172,9 @@ impl Cell {
         ensures cell { IfOk result (λ c. c.1.table_id ≡ c.0.table.shared.table_id) }
         ensures first { IfOk result (λ c. known c.1 ≡ first_known) }
     {
+        let gap = Vec::with_capacity(alloc, LINES)?;
         let (table, pass) = Table::of_words(alloc, &[0; CELLS], &())?;
-        Ok((Cell { table }, pass))
+        Ok((Cell { table, gap }, pass))
     }
 
     /// A pass that knows nothing.
@@ -188,11 +194,7 @@ impl Cell {
     /// and again.
     pub(crate) fn look(&self, pass: &mut Pass) -> Option<Shown>
         requires { pass.old.table_id ≡ self.now.table.shared.table_id }
-        ensures same { IsSamePass pass.old pass.new }
-        ensures reads { (known pass.new).writes ≡ (known pass.old).writes }
-        ensures seen { IfSome result (λ s. IsRowOf s (known pass.new).events) }
-        ensures later { IsPrefix (known pass.old).events (known pass.new).events }
-        ensures none { IfNone result (known pass.new ≡ known pass.old) }
+        ensures looked { HasLooked pass.old pass.new result }
     {
         let backoff = Backoff::new();
         for _look in 0..ATTEMPTS {
@@ -207,11 +209,7 @@ impl Cell {
     /// What is shown now. `None` where it was written meanwhile.
     fn look_once(&self, pass: &mut Pass) -> Option<Shown>
         requires { pass.old.table_id ≡ self.now.table.shared.table_id }
-        ensures same { IsSamePass pass.old pass.new }
-        ensures reads { (known pass.new).writes ≡ (known pass.old).writes }
-        ensures seen { IfSome result (λ s. IsRowOf s (known pass.new).events) }
-        ensures later { IsPrefix (known pass.old).events (known pass.new).events }
-        ensures none { IfNone result (known pass.new ≡ known pass.old) }
+        ensures looked { HasLooked pass.old pass.new result }
     {
         let version = self.table.shared.load::<Look>(pass, 0);
         if version % 2 != 0 {

@@ -1,5 +1,17 @@
 use mq_queue::{BaseEntries, BaseEntry};
+use std::process::Abort;
 use std::test::Fail;
+
+/// Checks that a base tells these messages, and none behind them.
+fn told(rt: &impl Abort, entries: &BaseEntries, wanted: &[BaseEntry]) {
+    let count = wanted.len() as u64;
+    holds!(rt; entries.len() == count);
+    for i in 0..wanted.len() {
+        holds!(rt; entries.get(i as u64) == Some(wanted[i]));
+    }
+    holds!(rt; entries.get(count) == None);
+    holds!(rt; entries.get(u64::MAX) == None);
+}
 
 #[test]
 fn the_messages_of_a_base_are_read_one_by_one(rt: HostRuntime) -> Result<(), Fail> {
@@ -16,13 +28,9 @@ fn the_messages_of_a_base_are_read_one_by_one(rt: HostRuntime) -> Result<(), Fai
         ..first
     };
     let mut headers = Vec::new(rt.alloc());
-    let none = BaseEntries::of(Vec::new(rt.alloc()));
     headers.push(first)?;
     headers.push(second)?;
-    let entries = BaseEntries::of(headers);
-    holds!(rt; none.len() == 0 && none.get(0) == None);
-    holds!(rt; entries.len() == 2);
-    holds!(rt; entries.get(0) == Some(first) && entries.get(1) == Some(second));
-    holds!(rt; entries.get(2) == None && entries.get(u64::MAX) == None);
+    told(&rt, &BaseEntries::of(Vec::new(rt.alloc())), &[]);
+    told(&rt, &BaseEntries::of(headers), &[first, second]);
     Ok(())
 }

@@ -1,6 +1,6 @@
 use crate::steps::{Step, places};
 use mq_index::{ByType, IndexWaiting, Layered};
-use mq_message::{ListWaiting, Selection, VecBody};
+use mq_message::{ListWaiting, Selection, VecBody, Waiting};
 use std::alloc::{AllocError, Global};
 use std::process::Abort;
 use std::test::Fail;
@@ -16,18 +16,29 @@ type Index = IndexWaiting<VecBody>;
 /// The quota of a queue that is filled with empty messages: how many fit into it.
 const MOST: u64 = 16_384;
 
-/// Checks what each body tells, step by step.
+/// Checks what one body tells, step by step.
+fn check_body<W: Waiting<VecBody>>(
+    rt: &impl Abort,
+    alloc: Global,
+    steps: &[Step],
+    wanted: &[Option<u64>],
+) -> Result<(), AllocError> {
+    let told = places::<W>(alloc, steps)?;
+    holds!(rt; told.as_slice() == wanted);
+    Ok(())
+}
+
+/// Checks what each body tells.
 fn check(
     rt: &impl Abort,
     alloc: Global,
     steps: &[Step],
     wanted: &[Option<u64>],
 ) -> Result<(), AllocError> {
-    holds!(rt; places::<List>(alloc, steps)?.as_slice() == wanted);
-    holds!(rt; places::<Typed>(alloc, steps)?.as_slice() == wanted);
-    holds!(rt; places::<Layers>(alloc, steps)?.as_slice() == wanted);
-    holds!(rt; places::<Index>(alloc, steps)?.as_slice() == wanted);
-    Ok(())
+    check_body::<List>(rt, alloc, steps, wanted)?;
+    check_body::<Typed>(rt, alloc, steps, wanted)?;
+    check_body::<Layers>(rt, alloc, steps, wanted)?;
+    check_body::<Index>(rt, alloc, steps, wanted)
 }
 
 #[test]
@@ -245,7 +256,7 @@ fn behind_one_type_the_bodies_give_the_same_answers(rt: HostRuntime) -> Result<(
             return Err("the bodies differ".into());
         };
         let wanted = places::<List>(rt.alloc(), &steps)?;
-        holds!(rt; places::<Layers>(rt.alloc(), &steps)?.as_slice() == wanted.as_slice());
+        check_body::<Layers>(&rt, rt.alloc(), &steps, &wanted)?;
         crossed = crossed.wrapping_add(u64::from(crosses));
     }
     holds!(rt; 100 < crossed);
@@ -321,42 +332,64 @@ fn emptied(alloc: Global, selection_of: &[Selection]) -> Result<Vec<Option<u64>>
     places::<Index>(alloc, &steps)
 }
 
+/// The same selection for each of as many messages as fit.
+fn repeated(alloc: Global, selection: Selection) -> Result<Vec<Selection>, AllocError> {
+    let mut selections = Vec::new(alloc);
+    for _ in 0..MOST {
+        selections.push(selection)?;
+    }
+    Ok(selections)
+}
+
+/// For each of these messages, in the order of sending, the selection of its type.
+fn each_type(alloc: Global) -> Result<Vec<Selection>, AllocError> {
+    let mut selections = Vec::new(alloc);
+    for i in 0..MOST {
+        selections.push(Selection::Exact(type_of(i + 2)))?;
+    }
+    Ok(selections)
+}
+
+/// Checks that the quota is set and each of these messages sent, and not the one more.
+fn all_sent(rt: &impl Abort, told: &[Option<u64>]) {
+    for i in 0..MOST + 1 {
+        holds!(rt; told.get(i as usize).copied() == Some(Some(i + 1)));
+    }
+    holds!(rt; told.get(MOST as usize + 1).copied() == Some(None), "one more is sent");
+}
+
+/// Checks that the messages are received in the order of sending, from this place on.
+fn received_from(rt: &impl Abort, told: &[Option<u64>], first: u64) {
+    for i in 0..MOST {
+        let place = first.wrapping_add(i);
+        let wanted = if place < MOST + 2 { Some(place) } else { None };
+        holds!(rt; told.get((MOST + 2 + i) as usize).copied() == Some(wanted));
+    }
+}
+
+/// Checks that each message that is received has a higher type than the one before.
+fn received_by_type(rt: &impl Abort, told: &[Option<u64>]) {
+    let mut last = 0;
+    for i in 0..MOST {
+        let Some(Some(place)) = told.get((MOST + 2 + i) as usize).copied() else {
+            panic!(rt; "nothing waits");
+        };
+        holds!(rt; last < type_of(place));
+        last = type_of(place);
+    }
+}
+
 #[test]
 fn a_full_queue_of_as_many_types_is_emptied(rt: HostRuntime) -> Result<(), Fail> {
     let alloc = rt.alloc();
-    let mut any = Vec::new(alloc);
-    let mut exact = Vec::new(alloc);
-    let mut except = Vec::new(alloc);
-    let mut lowest = Vec::new(alloc);
-    for i in 0..MOST {
-        any.push(Selection::Any)?;
-        exact.push(Selection::Exact(type_of(i + 2)))?;
-        except.push(Selection::Except(type_of(2)))?;
-        lowest.push(Selection::UpTo(u64::MAX))?;
-    }
-    let by_any = emptied(alloc, &any)?;
-    let by_exact = emptied(alloc, &exact)?;
-    let by_except = emptied(alloc, &except)?;
-    let by_lowest = emptied(alloc, &lowest)?;
-    holds!(rt; by_any.get(0).copied() == Some(Some(1)));
-    holds!(rt;
-        by_any.get(MOST as usize + 1).copied() == Some(None),
-        "one more is sent"
-    );
-    let mut last = 0;
-    for i in 0..MOST as usize {
-        let place = i as u64 + 2;
-        let at = MOST as usize + 2 + i;
-        holds!(rt; by_any.get(i + 1).copied() == Some(Some(place)));
-        holds!(rt; by_any.get(at).copied() == Some(Some(place)));
-        holds!(rt; by_exact.get(at).copied() == Some(Some(place)));
-        let other = if place <= MOST { Some(place + 1) } else { None };
-        holds!(rt; by_except.get(at).copied() == Some(other));
-        let Some(Some(low)) = by_lowest.get(at).copied() else {
-            return Err("nothing waits".into());
-        };
-        holds!(rt; last < type_of(low));
-        last = type_of(low);
-    }
+    let by_any = emptied(alloc, &repeated(alloc, Selection::Any)?)?;
+    let by_exact = emptied(alloc, &each_type(alloc)?)?;
+    let by_except = emptied(alloc, &repeated(alloc, Selection::Except(type_of(2)))?)?;
+    let by_lowest = emptied(alloc, &repeated(alloc, Selection::UpTo(u64::MAX))?)?;
+    all_sent(&rt, &by_any);
+    received_from(&rt, &by_any, 2);
+    received_from(&rt, &by_exact, 2);
+    received_from(&rt, &by_except, 3);
+    received_by_type(&rt, &by_lowest);
     Ok(())
 }

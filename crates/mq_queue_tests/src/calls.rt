@@ -1,5 +1,5 @@
 use mq_message::{Body, ListWaiting, Message, Selection, VecBody, discard};
-use mq_queue::{Log, NoNotice, QueueError, QueueState};
+use mq_queue::{Log, NoNotice, QueueError, QueueState, Received};
 use std::alloc::{AllocError, Global};
 use std::process::Abort;
 use std::test::Fail;
@@ -281,16 +281,26 @@ fn handed_back(queue: &mut Queue, message: Message<VecBody>) -> Option<Message<V
     }
 }
 
+/// Checks that the message that is too long is whole.
+fn check_whole(rt: &impl Abort, back: &Message<VecBody>) {
+    holds!(rt; (back.mtype, back.sender, back.tag) == (5, 3, 70));
+    holds!(rt; back.body.bytes().len() == 65_537);
+}
+
 #[test]
 fn a_text_that_is_too_long_is_handed_back(rt: HostRuntime) -> Result<(), Fail> {
     let long = message(rt.alloc(), 5, 65_537)?;
     let mut queue = Queue::made(rt.alloc(), 7, 2, 50, &mut NoNotice)?;
     let back = handed_back(&mut queue, long);
     close(queue);
-    let back = back.ok_or("it was taken")?;
-    holds!(rt; back.mtype == 5 && back.sender == 3 && back.tag == 70);
-    holds!(rt; back.body.bytes().len() == 65_537);
+    check_whole(&rt, &back.ok_or("it was taken")?);
     Ok(())
+}
+
+/// Checks that the text "hello" came, cut to two bytes.
+fn check_front(rt: &impl Abort, got: &Received<VecBody>) {
+    holds!(rt; got.body.bytes() == b"he".as_slice());
+    holds!(rt; (got.mtype, got.sender, got.tag, got.length) == (5, 3, 70, 5));
 }
 
 #[test]
@@ -306,9 +316,7 @@ fn a_received_text_is_the_front_of_what_was_sent(rt: HostRuntime) -> Result<(), 
     let got = queue.receive(2, Selection::Any, true, 4, 80, &mut NoNotice);
     close(queue);
     holds!(rt; sent == Answer::At(1));
-    let got = got?;
-    holds!(rt; got.body.bytes() == b"he".as_slice());
-    holds!(rt; got.mtype == 5 && got.sender == 3 && got.tag == 70 && got.length == 5);
+    check_front(&rt, &got?);
     Ok(())
 }
 

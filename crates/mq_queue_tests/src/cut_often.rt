@@ -4,6 +4,7 @@ use crate::calls::{Answer, Queue, close, message, receive, send, set};
 use mq_message::Selection;
 use mq_queue::{Event, NoNotice};
 use std::alloc::{AllocError, Global};
+use std::process::Abort;
 use std::test::Fail;
 
 /// The next number of a row that looks random.
@@ -36,8 +37,22 @@ fn keep(all: &mut Vec<Event>, tail: Vec<Event>) -> Result<(), AllocError> {
     Ok(())
 }
 
-/// Makes so many calls of both queues, cuts the log of one after each so many, and gathers what is
-/// cut off. Answers at which call the two differ, or `None`.
+/// Cuts the log, and adds what is cut off to what was before. Answers whether it stood right behind
+/// that.
+fn cut_off(queue: &mut Queue, all: &mut Vec<Event>) -> Result<bool, AllocError> {
+    let (base, tail) = queue.cut()?;
+    let follows = base.places == all.len() as u64;
+    keep(all, tail)?;
+    Ok(follows)
+}
+
+/// Whether both queues show the same, and the log of the second begins after so many events.
+fn same(whole: &Queue, cut: &Queue, first: u64) -> bool {
+    cut.figures() == whole.figures() && cut.log_len() == whole.log_len() && cut.first() == first
+}
+
+/// Makes 300 calls of both queues, cuts the log of the second after each so many, and gathers what
+/// is cut off. Answers at which call the two differ, or `None`.
 fn differ(
     alloc: Global,
     queues: (&mut Queue, &mut Queue),
@@ -50,41 +65,45 @@ fn differ(
         number = next(number);
         let wanted = call(alloc, whole, number, moment)?;
         let answer = call(alloc, cut, number, moment)?;
-        if moment.checked_rem(every) == Some(0) {
-            let Ok((base, tail)) = cut.cut() else {
-                return Err(AllocError);
-            };
-            if base.places != all.len() as u64 {
-                return Ok(Some(moment));
-            }
-            keep(all, tail)?;
+        if moment.checked_rem(every) == Some(0) && !cut_off(cut, all)? {
+            return Ok(Some(moment));
         }
-        let same = answer == wanted && cut.figures() == whole.figures();
-        if !same || cut.log_len() != whole.log_len() || cut.first() != all.len() as u64 {
+        if answer != wanted || !same(whole, cut, all.len() as u64) {
             return Ok(Some(moment));
         }
     }
     Ok(None)
 }
 
+/// Two queues that are alike.
+fn two_queues(alloc: Global) -> Result<(Queue, Queue), AllocError> {
+    let one = Queue::made(alloc, 7, 2, 50, &mut NoNotice)?;
+    match Queue::made(alloc, 7, 2, 50, &mut NoNotice) {
+        Ok(other) => Ok((one, other)),
+        Err(refused) => {
+            close(one);
+            Err(refused)
+        }
+    }
+}
+
+/// Checks the answers of a queue that is cut after every so many calls, and all its events.
+fn check(rt: &impl Abort, alloc: Global, every: u64) -> Result<(), AllocError> {
+    let (mut whole, mut cut) = two_queues(alloc)?;
+    let mut all = Vec::new(alloc);
+    let differs = differ(alloc, (&mut whole, &mut cut), &mut all, every);
+    let (wanted, log) = (close(whole), close(cut));
+    let differs = differs?;
+    assert!(rt; differs == None, "cut after every {every}");
+    keep(&mut all, log.into_parts().1)?;
+    holds!(rt; all.as_slice() == wanted.into_parts().1.as_slice());
+    Ok(())
+}
+
 #[test]
 fn a_queue_that_is_cut_answers_as_one_that_is_not(rt: HostRuntime) -> Result<(), Fail> {
     for every in [1, 2, 7, 50, 1000] {
-        let mut whole = Queue::made(rt.alloc(), 7, 2, 50, &mut NoNotice)?;
-        let mut cut = match Queue::made(rt.alloc(), 7, 2, 50, &mut NoNotice) {
-            Ok(cut) => cut,
-            Err(refused) => {
-                close(whole);
-                return Err(refused.into());
-            }
-        };
-        let mut all = Vec::new(rt.alloc());
-        let differs = differ(rt.alloc(), (&mut whole, &mut cut), &mut all, every);
-        let (wanted, log) = (close(whole), close(cut));
-        let differs = differs?;
-        assert!(rt; differs == None, "cut after every {every}");
-        keep(&mut all, log.into_parts().1)?;
-        holds!(rt; all.as_slice() == wanted.into_parts().1.as_slice());
+        check(&rt, rt.alloc(), every)?;
     }
     Ok(())
 }

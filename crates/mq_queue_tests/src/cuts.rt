@@ -24,18 +24,42 @@ fn cut(rt: &impl Abort, queue: &mut QueueState<VecBody, List>) -> (Base, Vec<Eve
     }
 }
 
-/// The place and the length of each message that a base tells.
-fn places<const N: usize>(waiting: &BaseEntries) -> [Option<(u64, u64)>; N] {
-    let mut told = [None; N];
-    for i in 0..N {
-        told[i] = waiting
-            .get(i as u64)
-            .map(|entry| (entry.place, entry.length));
+/// Checks the place and the length of each message that a base tells.
+fn check_waiting(rt: &impl Abort, waiting: &BaseEntries, wanted: &[(u64, u64)]) {
+    holds!(rt; waiting.len() == wanted.len() as u64);
+    for i in 0..wanted.len() {
+        let Some(entry) = waiting.get(i as u64) else {
+            panic!(rt; "a message is missing");
+        };
+        holds!(rt; (entry.place, entry.length) == wanted[i]);
     }
-    told
+    holds!(rt; waiting.get(wanted.len() as u64).is_none());
 }
 
-/// Three messages wait, of types 5, 6 and 7 and of 1, 2 and 3 bytes, and the second is received.
+/// Checks the base of a queue after its beginning.
+fn check_begun(rt: &impl Abort, base: &Base) {
+    holds!(rt; base.places == 5);
+    holds!(rt; base.figures == FIGURES);
+    check_waiting(rt, &base.waiting, &[(1, 1), (3, 3)]);
+}
+
+/// Checks what a cut hands out of a queue after its beginning, with so many events since then.
+fn check_cut(rt: &impl Abort, cut: &(Base, Vec<Event>), events: usize) {
+    let (base, tail) = cut;
+    check_begun(rt, base);
+    holds!(rt; tail.len() == events);
+}
+
+/// Checks what the first cut hands out: all events, and nothing before them.
+fn check_first(rt: &impl Abort, cut: &(Base, Vec<Event>)) {
+    let (base, tail) = cut;
+    holds!(rt; base.places == 0);
+    holds!(rt; base.figures == NO_FIGURES);
+    check_waiting(rt, &base.waiting, &[]);
+    holds!(rt; tail.len() == 5);
+}
+
+/// Three messages are sent, of types 5, 6 and 7 and of 1, 2 and 3 bytes, and the second is received.
 fn begin(alloc: Global, queue: &mut Queue) -> Result<[Answer; 4], AllocError> {
     Ok([
         send(queue, message(alloc, 5, 1)?, 60),
@@ -65,58 +89,52 @@ const FIGURES: Figures = Figures {
     lrpid: 4,
 };
 
+/// A queue after this beginning.
+fn begun(rt: &impl Abort, alloc: Global) -> Result<Queue, AllocError> {
+    let mut queue = Queue::made(alloc, 7, 2, 50, &mut NoNotice)?;
+    match begin(alloc, &mut queue) {
+        Ok(answers) => {
+            holds!(rt; answers == BEGUN);
+            Ok(queue)
+        }
+        Err(refused) => {
+            close(queue);
+            Err(refused)
+        }
+    }
+}
+
+/// Checks what a queue shows once its beginning was cut off.
+fn check_kept(rt: &impl Abort, queue: &Queue) {
+    check_begun(rt, queue.base());
+    holds!(rt; (queue.first(), queue.log_len()) == (5, 5));
+    holds!(rt; queue.event(4) == None);
+    holds!(rt; queue.figures() == FIGURES);
+}
+
 #[test]
 fn a_cut_hands_out_the_log_and_keeps_what_waits(rt: HostRuntime) -> Result<(), Fail> {
-    let mut queue = Queue::made(rt.alloc(), 7, 2, 50, &mut NoNotice)?;
-    let begun = begin(rt.alloc(), &mut queue);
-    let first = cut(&rt, &mut queue);
-    let kept = (queue.base().places, queue.base().figures);
-    let waiting = places(&queue.base().waiting);
-    let seen = (
-        queue.first(),
-        queue.log_len(),
-        queue.event(4),
-        queue.figures(),
-    );
+    let mut queue = begun(&rt, rt.alloc())?;
+    check_first(&rt, &cut(&rt, &mut queue));
+    check_kept(&rt, &queue);
     let received = receive(&mut queue, 9, Selection::Any, false, 64);
-    let last = (queue.log_len(), queue.event(5).is_some(), queue.event(6));
-    let second = cut(&rt, &mut queue);
-    let left = places(&queue.base().waiting);
-    close(queue);
-    holds!(rt; begun? == BEGUN);
-    let (base, tail) = first;
-    holds!(rt; (base.places, base.figures) == (0, NO_FIGURES));
-    holds!(rt; base.waiting.len() == 0);
-    holds!(rt; tail.len() == 5);
-    holds!(rt; kept == (5, FIGURES));
-    holds!(rt; waiting == [Some((1, 1)), Some((3, 3)), None]);
-    holds!(rt; seen == (5, 5, None, FIGURES));
     holds!(rt; received == Answer::Got(5, 1, 1, 1));
-    holds!(rt; last == (6, true, None));
-    let (base, tail) = second;
-    holds!(rt; (base.places, base.figures) == (5, FIGURES));
-    holds!(rt; places(&base.waiting) == waiting);
-    holds!(rt; tail.len() == 1);
-    holds!(rt; left == [Some((3, 3)), None]);
+    holds!(rt; queue.log_len() == 6);
+    holds!(rt; queue.event(5).is_some());
+    holds!(rt; queue.event(6) == None);
+    check_cut(&rt, &cut(&rt, &mut queue), 1);
+    check_waiting(&rt, &queue.base().waiting, &[(3, 3)]);
+    close(queue);
     Ok(())
 }
 
 #[test]
 fn a_second_cut_at_once_hands_out_no_event(rt: HostRuntime) -> Result<(), Fail> {
-    let mut queue = Queue::made(rt.alloc(), 7, 2, 50, &mut NoNotice)?;
-    let begun = begin(rt.alloc(), &mut queue);
-    let first = cut(&rt, &mut queue);
-    let second = cut(&rt, &mut queue);
-    let third = cut(&rt, &mut queue);
+    let mut queue = begun(&rt, rt.alloc())?;
+    check_first(&rt, &cut(&rt, &mut queue));
+    check_cut(&rt, &cut(&rt, &mut queue), 0);
+    check_cut(&rt, &cut(&rt, &mut queue), 0);
     close(queue);
-    holds!(rt; begun? == BEGUN);
-    holds!(rt; first.1.len() == 5);
-    for cut in [second, third] {
-        let (base, tail) = cut;
-        holds!(rt; (base.places, base.figures) == (5, FIGURES));
-        holds!(rt; places(&base.waiting) == [Some((1, 1)), Some((3, 3)), None]);
-        holds!(rt; tail.len() == 0);
-    }
     Ok(())
 }
 
@@ -135,29 +153,28 @@ fn removed(queue: Queue) -> Log {
     }
 }
 
-#[test]
-fn a_removed_queue_hands_out_its_base(rt: HostRuntime) -> Result<(), Fail> {
-    let mut queue = Queue::made(rt.alloc(), 7, 2, 50, &mut NoNotice)?;
-    let begun = begin(rt.alloc(), &mut queue);
-    let _ = cut(&rt, &mut queue);
-    let quota = set(&mut queue, 3, 70);
-    let full = match message(rt.alloc(), 5, 0) {
-        Ok(text) => queue.refuses_send(text.mtype, 0),
-        Err(_) => None,
-    };
-    let log = removed(queue);
-    holds!(rt; begun? == BEGUN);
-    holds!(rt; quota == Answer::At(5));
-    holds!(rt; full.is_some(), "four bytes wait, and three may");
+/// Checks the log of a queue that is removed after its beginning was cut off and a quota set.
+fn check_removed(rt: &impl Abort, log: Log) {
     holds!(rt; (log.first(), log.len()) == (5, 7));
-    holds!(rt; (log.get(4), log.get(7)) == (None, None));
+    holds!(rt; log.get(4) == None);
     let removal = Event::Removed {
         seat: 2,
         moment: 90,
     };
     holds!(rt; log.get(6) == Some(removal));
-    let (base, tail) = log.into_parts();
-    holds!(rt; (base.places, base.figures) == (5, FIGURES));
-    holds!(rt; tail.len() == 2);
+    holds!(rt; log.get(7) == None);
+    check_cut(rt, &log.into_parts(), 2);
+}
+
+#[test]
+fn a_removed_queue_hands_out_its_base(rt: HostRuntime) -> Result<(), Fail> {
+    let mut queue = begun(&rt, rt.alloc())?;
+    let _ = cut(&rt, &mut queue);
+    let quota = set(&mut queue, 3, 70);
+    let full = queue.refuses_send(5, 0);
+    let log = removed(queue);
+    holds!(rt; quota == Answer::At(5));
+    holds!(rt; full.is_some(), "four bytes wait, and three may");
+    check_removed(&rt, log);
     Ok(())
 }

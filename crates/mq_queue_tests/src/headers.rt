@@ -7,20 +7,24 @@ use std::test::Fail;
 
 type Queue<W> = QueueState<VecBody, W>;
 
-/// Sends a message for each type, from seat 3, with its index as its tag and the length of its
-/// text. What finds no memory is sent once more.
+/// A message from seat 3, with its index as its tag and the length of its text.
+fn message(alloc: Global, index: usize, mtype: i64) -> Result<Message<VecBody>, AllocError> {
+    Ok(Message {
+        mtype,
+        sender: 3,
+        tag: index as u64,
+        body: VecBody::from_vec(vec![in alloc; b'a'; index]?),
+    })
+}
+
+/// Sends a message for each type. What finds no memory is sent once more.
 fn send_each<W: Waiting<VecBody>>(
     alloc: Global,
     queue: &mut Queue<W>,
     types: &[i64],
 ) -> Result<(), AllocError> {
     for i in 0..types.len() {
-        let message = Message {
-            mtype: types[i],
-            sender: 3,
-            tag: i as u64,
-            body: VecBody::from_vec(vec![in alloc; b'a'; i]?),
-        };
+        let message = message(alloc, i, types[i])?;
         if let Err((QueueError::Memory, message)) = queue.send(message, 60, &mut NoNotice) {
             let _answer = queue.send(message, 60, &mut NoNotice);
         }
@@ -28,9 +32,28 @@ fn send_each<W: Waiting<VecBody>>(
     Ok(())
 }
 
+/// Receives a message by each selection. What finds no memory is received once more.
+fn receive_each<W: Waiting<VecBody>>(queue: &mut Queue<W>, selections: &[Selection]) {
+    for selection in selections {
+        let answer = queue.receive(8192, *selection, false, 4, 80, &mut NoNotice);
+        if let Err(QueueError::Memory) = answer {
+            let _answer = queue.receive(8192, *selection, false, 4, 80, &mut NoNotice);
+        }
+    }
+}
+
+/// The headers that a waiting list tells at its end, at the second try where there was no memory.
+fn headers_of<W: Waiting<VecBody>>(alloc: Global, waiting: W) -> Result<Vec<Header>, AllocError> {
+    let headers = match waiting.headers(alloc) {
+        Err(AllocError) => waiting.headers(alloc),
+        told => told,
+    };
+    discard(waiting);
+    headers
+}
+
 /// The log of a queue to which a message of each type is sent and out of which one is received by
-/// each selection, and the headers that its waiting list tells then. What finds no memory is called
-/// once more.
+/// each selection, and the headers that its waiting list tells then.
 fn left<W: Waiting<VecBody>>(
     alloc: Global,
     types: &[i64],
@@ -38,18 +61,9 @@ fn left<W: Waiting<VecBody>>(
 ) -> Result<(Log, Vec<Header>), AllocError> {
     let mut queue: Queue<W> = QueueState::made(alloc, 7, 2, 50, &mut NoNotice)?;
     let sent = send_each(alloc, &mut queue, types);
-    for selection in selections {
-        let answer = queue.receive(8192, *selection, false, 4, 80, &mut NoNotice);
-        if let Err(QueueError::Memory) = answer {
-            let _answer = queue.receive(8192, *selection, false, 4, 80, &mut NoNotice);
-        }
-    }
+    receive_each(&mut queue, selections);
     let (log, waiting) = queue.into_parts();
-    let headers = match waiting.headers(alloc) {
-        Err(AllocError) => waiting.headers(alloc),
-        told => told,
-    };
-    discard(waiting);
+    let headers = headers_of(alloc, waiting);
     sent?;
     Ok((log, headers?))
 }
@@ -94,25 +108,19 @@ fn header(index: u16, mtype: i64) -> Header {
 #[test]
 fn headers_stand_in_the_order_of_sending_whatever_their_types(rt: HostRuntime) -> Result<(), Fail> {
     let alloc = rt.alloc();
+    let all = [
+        header(0, 5),
+        header(1, i64::MAX),
+        header(2, 1),
+        header(3, 5),
+        header(4, 2),
+    ];
+    let types = [5, i64::MAX, 1, 5, 2];
+    let received = [Selection::UpTo(4), Selection::Exact(5)];
     check_each(&rt, alloc, &[], &[], &[])?;
     check_each(&rt, alloc, &[4], &[Selection::Any], &[])?;
-    let types = [5, i64::MAX, 1, 5, 2];
-    check_each(
-        &rt,
-        alloc,
-        &types,
-        &[],
-        &[
-            header(0, 5),
-            header(1, i64::MAX),
-            header(2, 1),
-            header(3, 5),
-            header(4, 2),
-        ],
-    )?;
-    let received = [Selection::UpTo(4), Selection::Exact(5)];
-    let wanted = [header(1, i64::MAX), header(3, 5), header(4, 2)];
-    check_each(&rt, alloc, &types, &received, &wanted)?;
+    check_each(&rt, alloc, &types, &[], &all)?;
+    check_each(&rt, alloc, &types, &received, &[all[1], all[3], all[4]])?;
     Ok(())
 }
 
@@ -189,6 +197,21 @@ fn picking(alloc: Global, count: u32) -> Result<Vec<Selection>, AllocError> {
     Ok(selections)
 }
 
+/// Checks that after so many receipts each list tells just as many headers as wanted.
+fn check_left(
+    rt: &impl Abort,
+    alloc: Global,
+    types: &[i64],
+    received: u32,
+    count: usize,
+) -> Result<(), AllocError> {
+    let picked = picking(alloc, received)?;
+    holds!(rt; agrees::<ListWaiting<VecBody>>(alloc, types, &picked, count)?);
+    holds!(rt; agrees::<ByType<VecBody>>(alloc, types, &picked, count)?);
+    holds!(rt; agrees::<IndexWaiting<VecBody>>(alloc, types, &picked, count)?);
+    Ok(())
+}
+
 #[test]
 fn headers_are_those_that_the_log_leaves_waiting(rt: HostRuntime) -> Result<(), Fail> {
     let alloc = rt.alloc();
@@ -202,10 +225,7 @@ fn headers_are_those_that_the_log_leaves_waiting(rt: HostRuntime) -> Result<(), 
         (50, 10),
         (52, 8),
     ] {
-        let picked = picking(alloc, received)?;
-        holds!(rt; agrees::<ListWaiting<VecBody>>(alloc, &types, &picked, count)?);
-        holds!(rt; agrees::<ByType<VecBody>>(alloc, &types, &picked, count)?);
-        holds!(rt; agrees::<IndexWaiting<VecBody>>(alloc, &types, &picked, count)?);
+        check_left(&rt, alloc, &types, received, count)?;
     }
     Ok(())
 }

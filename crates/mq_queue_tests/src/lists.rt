@@ -1,7 +1,9 @@
 ghost use Rattle.std.specs.Prelude.{◌+◌, ◌<◌, All, OnOk};
 
+use mq_message::Selection::{Any, Exact, Except, UpTo};
 use mq_message::{Body, ListWaiting, Message, Selection, VecBody, Waiting, discard};
 use std::alloc::{AllocError, Global};
+use std::process::Abort;
 use std::test::Fail;
 
 /// Puts a message at the end, with its place as its tag too.
@@ -89,56 +91,56 @@ fn popped<W: Waiting<VecBody>>(alloc: Global, list: &mut W) -> Result<Vec<u64>, 
     Ok(tags)
 }
 
+/// The types of messages, selections, and which of the messages these hand out by their places.
+const CASES: [(&[i64], &[Selection], &[Option<u64>]); 9] = [
+    (
+        &[],
+        &[Any, UpTo(u64::MAX), Exact(0), Except(0)],
+        &[None, None, None, None],
+    ),
+    (&[2, 1], &[Any, Any, Any], &[Some(0), Some(1), None]),
+    (
+        &[3, 1, 2, 1],
+        &[UpTo(2), UpTo(2), UpTo(2), UpTo(2)],
+        &[Some(1), Some(3), Some(2), None],
+    ),
+    (
+        &[7, 5, 7, 4],
+        &[Except(7), Except(7), Except(7), Any],
+        &[Some(1), Some(3), None, Some(0)],
+    ),
+    // A bound below every type; the lowest type twice, with others between.
+    (
+        &[5, 6],
+        &[UpTo(4), UpTo(0), UpTo(5)],
+        &[None, None, Some(0)],
+    ),
+    (
+        &[9, 4, 6, 4, 4],
+        &[UpTo(9), UpTo(9), UpTo(9), UpTo(9)],
+        &[Some(1), Some(3), Some(4), Some(2)],
+    ),
+    // A type that is not there, and one that alone is there.
+    (
+        &[3, 3],
+        &[Except(4), Except(3), Exact(4)],
+        &[Some(0), None, None],
+    ),
+    (
+        &[i64::MAX, 8],
+        &[UpTo(1 << 63), UpTo(1 << 63), UpTo(1 << 63)],
+        &[Some(1), Some(0), None],
+    ),
+    (
+        &[i64::MAX, -1, i64::MIN],
+        &[UpTo(0), Exact(i64::MIN), Except(i64::MAX)],
+        &[Some(2), None, Some(1)],
+    ),
+];
+
 #[test]
 fn a_selection_hands_out_the_message_that_the_manual_names(rt: HostRuntime) -> Result<(), Fail> {
-    use Selection::{Any, Except, Exact, UpTo};
-
-    let cases: [(&[i64], &[Selection], &[Option<u64>]); 9] = [
-        (
-            &[],
-            &[Any, UpTo(u64::MAX), Exact(0), Except(0)],
-            &[None, None, None, None],
-        ),
-        (&[2, 1], &[Any, Any, Any], &[Some(0), Some(1), None]),
-        (
-            &[3, 1, 2, 1],
-            &[UpTo(2), UpTo(2), UpTo(2), UpTo(2)],
-            &[Some(1), Some(3), Some(2), None],
-        ),
-        (
-            &[7, 5, 7, 4],
-            &[Except(7), Except(7), Except(7), Any],
-            &[Some(1), Some(3), None, Some(0)],
-        ),
-        // A bound below every type; the lowest type twice, with others between.
-        (
-            &[5, 6],
-            &[UpTo(4), UpTo(0), UpTo(5)],
-            &[None, None, Some(0)],
-        ),
-        (
-            &[9, 4, 6, 4, 4],
-            &[UpTo(9), UpTo(9), UpTo(9), UpTo(9)],
-            &[Some(1), Some(3), Some(4), Some(2)],
-        ),
-        // A type that is not there, and one that alone is there.
-        (
-            &[3, 3],
-            &[Except(4), Except(3), Exact(4)],
-            &[Some(0), None, None],
-        ),
-        (
-            &[i64::MAX, 8],
-            &[UpTo(1 << 63), UpTo(1 << 63), UpTo(1 << 63)],
-            &[Some(1), Some(0), None],
-        ),
-        (
-            &[i64::MAX, -1, i64::MIN],
-            &[UpTo(0), Exact(i64::MIN), Except(i64::MAX)],
-            &[Some(2), None, Some(1)],
-        ),
-    ];
-    for (types, selections, places) in cases {
+    for (types, selections, places) in CASES {
         let got = places_of::<ListWaiting<VecBody>>(rt.alloc(), types, selections)?;
         holds!(rt; got.as_slice() == places);
     }
@@ -173,6 +175,12 @@ fn a_msgtyp_is_read_as_the_manual_says(rt: HostRuntime) {
     }
 }
 
+/// Checks that this is the message that was put at place 3.
+fn check_first(rt: &impl Abort, message: &Message<VecBody>) {
+    holds!(rt; (message.mtype, message.sender, message.tag) == (5, 1, 3));
+    holds!(rt; message.body.bytes() == b"first".as_slice());
+}
+
 #[test]
 fn a_message_comes_back_whole(rt: HostRuntime) -> Result<(), Fail> {
     let mut list = ListWaiting::<VecBody>::fresh(rt.alloc());
@@ -183,12 +191,10 @@ fn a_message_comes_back_whole(rt: HostRuntime) -> Result<(), Fail> {
     let more = list.find(Selection::Any);
     discard(list);
     put?;
-    let message = message.ok_or("nothing waits")?;
     holds!(rt; length == Some(5));
     holds!(rt; other == None);
-    holds!(rt; message.mtype == 5 && message.sender == 1 && message.tag == 3);
-    holds!(rt; message.body.bytes() == b"first".as_slice());
     holds!(rt; more == None);
+    check_first(&rt, &message.ok_or("nothing waits")?);
     Ok(())
 }
 

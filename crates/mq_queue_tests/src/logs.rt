@@ -2,6 +2,7 @@ use crate::calls::{Answer, Queue, Step, check, close, message, receive, send, se
 use mq_message::{Selection, discard};
 use mq_queue::{Event, Figures, Log, NoNotice, QueueError};
 use std::alloc::{AllocError, Global};
+use std::process::Abort;
 use std::test::Fail;
 
 /// A sending at the first moment, a receipt and a new quota at the second, and the same quota once
@@ -26,6 +27,28 @@ const VISITED: [Answer; 5] = [
     Answer::At(4),
 ];
 
+/// Checks the answers of a visit, and the figures after it.
+fn check_visit(rt: &impl Abort, alloc: Global, moments: [u64; 3]) -> Result<(), AllocError> {
+    let mut queue = Queue::made(alloc, 7, 2, 50, &mut NoNotice)?;
+    let visited = visit(alloc, &mut queue, moments);
+    let figures = queue.figures();
+    close(queue);
+    holds!(rt; visited? == VISITED);
+    let [stime, rtime, ctime] = moments;
+    let wanted = Figures {
+        qnum: 0,
+        cbytes: 0,
+        qbytes: 100,
+        stime,
+        rtime,
+        ctime,
+        lspid: 3,
+        lrpid: 4,
+    };
+    holds!(rt; figures == wanted);
+    Ok(())
+}
+
 #[test]
 fn figures_show_the_last_moment_whatever_it_is(rt: HostRuntime) -> Result<(), Fail> {
     let cases: [[u64; 3]; 4] = [
@@ -35,23 +58,7 @@ fn figures_show_the_last_moment_whatever_it_is(rt: HostRuntime) -> Result<(), Fa
         [u64::MAX, u64::MAX, 1],
     ];
     for moments in cases {
-        let [stime, rtime, ctime] = moments;
-        let mut queue = Queue::made(rt.alloc(), 7, 2, 50, &mut NoNotice)?;
-        let visited = visit(rt.alloc(), &mut queue, moments);
-        let figures = queue.figures();
-        close(queue);
-        holds!(rt; visited? == VISITED);
-        let wanted = Figures {
-            qnum: 0,
-            cbytes: 0,
-            qbytes: 100,
-            stime,
-            rtime,
-            ctime,
-            lspid: 3,
-            lrpid: 4,
-        };
-        holds!(rt; figures == wanted);
+        check_visit(&rt, rt.alloc(), moments)?;
     }
     Ok(())
 }
@@ -94,12 +101,53 @@ fn removed(queue: Queue, moment: u64) -> Log {
     }
 }
 
-fn changed(moment: u64) -> Event {
+const LAST_CHANGE: Event = Event::Changed {
+    seat: 5,
+    moment: 80,
+    qbytes: 100,
+};
+
+/// The log of a queue that is visited at the moments 60, 70 and 80 and then removed.
+const EVENTS: [Event; 6] = [
+    Event::Made {
+        seat: 2,
+        moment: 50,
+        key: 7,
+    },
+    Event::Sent {
+        seat: 3,
+        moment: 60,
+        tag: 70,
+        mtype: 5,
+        length: 5,
+    },
+    Event::Received {
+        seat: 4,
+        moment: 70,
+        place: 1,
+        selection: Selection::Any,
+        size: 9,
+        noerror: false,
+    },
     Event::Changed {
         seat: 5,
-        moment,
+        moment: 70,
         qbytes: 100,
-    }
+    },
+    LAST_CHANGE,
+    Event::Removed {
+        seat: 2,
+        moment: 90,
+    },
+];
+
+/// Checks that the log has these events, and no other.
+fn check_log(rt: &impl Abort, log: Log) {
+    let events = EVENTS;
+    holds!(rt; log.len() == 6);
+    holds!(rt; log.get(0) == Some(events[0]));
+    holds!(rt; log.get(6) == None);
+    holds!(rt; log.into_parts().1.as_slice() == events.as_slice());
 }
 
 #[test]
@@ -110,39 +158,9 @@ fn the_log_of_a_removed_queue_tells_all(rt: HostRuntime) -> Result<(), Fail> {
     let beyond = (queue.event(5), queue.event(u64::MAX));
     let log = removed(queue, 90);
     holds!(rt; visited? == VISITED);
-    let events = [
-        Event::Made {
-            seat: 2,
-            moment: 50,
-            key: 7,
-        },
-        Event::Sent {
-            seat: 3,
-            moment: 60,
-            tag: 70,
-            mtype: 5,
-            length: 5,
-        },
-        Event::Received {
-            seat: 4,
-            moment: 70,
-            place: 1,
-            selection: Selection::Any,
-            size: 9,
-            noerror: false,
-        },
-        changed(70),
-        changed(80),
-        Event::Removed {
-            seat: 2,
-            moment: 90,
-        },
-    ];
-    holds!(rt; last == Some(changed(80)));
+    holds!(rt; last == Some(LAST_CHANGE));
     holds!(rt; beyond == (None, None));
-    holds!(rt; log.len() == 6);
-    holds!(rt; (log.get(0), log.get(6)) == (Some(events[0]), None));
-    holds!(rt; log.into_parts().1.as_slice() == events.as_slice());
+    check_log(&rt, log);
     Ok(())
 }
 

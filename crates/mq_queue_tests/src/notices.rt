@@ -71,19 +71,24 @@ fn tells_each(
     Ok(made && sent && received && is_told(queue, notice))
 }
 
-#[test]
-fn each_event_is_noticed_with_the_figures_after_it(rt: HostRuntime) -> Result<(), Fail> {
-    let text = message(rt.alloc(), 5, 3)?;
-    let mut notice = TAKES;
-    let mut queue = Queue::made(rt.alloc(), 7, 2, 50, &mut notice)?;
-    let told = tells_each(&mut queue, text, &mut notice);
-    match queue.remove(2, 90, &mut notice) {
+/// Removes the queue, as the notice takes in.
+fn remove(rt: &impl Abort, queue: Queue, notice: &mut Last) {
+    match queue.remove(2, 90, notice) {
         Ok((_log, waiting)) => discard(waiting),
         Err(queue) => {
             close(queue);
             panic!(rt; "out of memory");
         }
     }
+}
+
+#[test]
+fn each_event_is_noticed_with_the_figures_after_it(rt: HostRuntime) -> Result<(), Fail> {
+    let text = message(rt.alloc(), 5, 3)?;
+    let mut notice = TAKES;
+    let mut queue = Queue::made(rt.alloc(), 7, 2, 50, &mut notice)?;
+    let told = tells_each(&mut queue, text, &mut notice);
+    remove(&rt, queue, &mut notice);
     holds!(rt; told?);
     let event = Event::Removed {
         seat: 2,
@@ -113,13 +118,27 @@ fn refusals(queue: &mut Queue, text: Message<VecBody>) -> [Option<QueueError>; 3
     ]
 }
 
-fn is_made(alloc: Global, notice: &mut Last) -> bool {
-    match Queue::made(alloc, 7, 2, 50, notice) {
+/// Whether a queue is made whose notice refuses it.
+fn is_made(alloc: Global) -> bool {
+    let mut notice = REFUSES;
+    match Queue::made(alloc, 7, 2, 50, &mut notice) {
         Ok(queue) => {
             close(queue);
             true
         }
         Err(_) => false,
+    }
+}
+
+/// The queue, whose removal the notice refuses.
+fn not_removed(rt: &impl Abort, queue: Queue) -> Queue {
+    let mut notice = REFUSES;
+    match queue.remove(2, 80, &mut notice) {
+        Err(queue) => queue,
+        Ok((_log, waiting)) => {
+            discard(waiting);
+            panic!(rt; "removed");
+        }
     }
 }
 
@@ -129,21 +148,14 @@ fn a_notice_that_refuses_leaves_the_queue(rt: HostRuntime) -> Result<(), Fail> {
     let first = message(rt.alloc(), 5, 3)?;
     let second = message(rt.alloc(), 5, 4)?;
     let mut takes = TAKES;
-    let mut refuses = REFUSES;
     let mut queue = Queue::made(rt.alloc(), 7, 2, 50, &mut takes)?;
     let sent = queue.send(first, 60, &mut takes).is_ok();
     let before = (queue.figures(), queue.log_len());
     let refused = refusals(&mut queue, second);
-    let queue = match queue.remove(2, 80, &mut refuses) {
-        Err(queue) => queue,
-        Ok((_log, waiting)) => {
-            discard(waiting);
-            panic!(rt; "removed");
-        }
-    };
+    let queue = not_removed(&rt, queue);
     let after = (queue.figures(), queue.log_len());
     close(queue);
-    holds!(rt; !is_made(rt.alloc(), &mut refuses));
+    holds!(rt; !is_made(rt.alloc()));
     holds!(rt; sent, "out of memory");
     holds!(rt; refused == [Some(QueueError::Memory); 3]);
     holds!(rt; before == after && after.1 == 2);

@@ -133,9 +133,13 @@ fn written_over<L: Ledger>(rt: &impl Threads, text: &mut Text<L>, letter: u8) {
     );
 }
 
-fn handed_on<L: Ledger>(rt: &impl Abort, queue: &mut Queue<L>, text: Text<L>) -> Text<L> {
-    sent(rt, queue, text);
-    received(rt, queue)
+/// The text once it was sent to a new queue and received from it.
+fn handed_on<L: Ledger>(rt: &impl Abort, alloc: Global, text: Text<L>) -> Text<L> {
+    let mut queue = made(rt, alloc);
+    sent(rt, &mut queue, text);
+    let text = received(rt, &mut queue);
+    ended(rt, queue);
+    text
 }
 
 fn sent_on<L: Ledger, R: Abort + Threads>(rt: &R, alloc: Global, unopened: Unopened, ledger: Blank)
@@ -144,23 +148,18 @@ fn sent_on<L: Ledger, R: Abort + Threads>(rt: &R, alloc: Global, unopened: Unope
     requires enough { 2 ^ unopened < ledger.parts }
 {
     let mut arena = unopened.open::<L>(ledger);
-    let mut first = made(rt, alloc);
-    let mut second = made(rt, alloc);
     let text = filled(rt, &mut arena);
     let start = text.start();
     holds!(rt; start == Some(4));
-    let text = handed_on(rt, &mut first, text);
+    let text = handed_on(rt, alloc, text);
     holds!(rt; is_as_filled(&text, start));
-    let text = handed_on(rt, &mut second, text);
+    let mut text = handed_on(rt, alloc, text);
     holds!(rt; is_as_filled(&text, start));
     holds!(rt; arena.free_pages() == 60);
-    let mut text = text;
     written_over(rt, &mut text, b'C');
     holds!(rt; has_letters(&text, b'C', b'C'));
     spent(rt, &mut arena, text);
     holds!(rt; arena.free_pages() == 64);
-    ended(rt, first);
-    ended(rt, second);
 }
 
 #[test]
@@ -204,19 +203,15 @@ fn copied_on_its_way<L: Ledger, R: Abort + Threads>(
     requires enough { 2 ^ unopened < ledger.parts }
 {
     let mut arena = unopened.open::<L>(ledger);
-    let mut first = made(rt, alloc);
-    let mut second = made(rt, alloc);
     let text = filled(rt, &mut arena);
     let start = text.start();
-    let text = handed_on(rt, &mut first, text);
+    let text = handed_on(rt, alloc, text);
     let text = copied(rt, &mut arena, text);
-    let text = handed_on(rt, &mut second, text);
+    let text = handed_on(rt, alloc, text);
     holds!(rt; !is_as_filled(&text, start));
     holds!(rt; is_as_filled(&text, text.start()));
     spent(rt, &mut arena, text);
     holds!(rt; arena.free_pages() == 64);
-    ended(rt, first);
-    ended(rt, second);
 }
 
 #[test]

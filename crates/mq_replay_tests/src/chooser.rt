@@ -223,11 +223,7 @@ impl Chooser {
                     *made = (*id / 64).wrapping_add(1);
                 }
             }
-            Answer::Rows(rows) => {
-                for (made, row) in self.made.iter_mut().zip(rows) {
-                    *made = row.made;
-                }
-            }
+            Answer::Rows(rows) => self.made = [rows[0].made, rows[1].made, rows[2].made],
             Answer::Refused(Errno::EIDRM | Errno::EINVAL, _) => self.lost = true,
             _ => (),
         }

@@ -1,11 +1,15 @@
 //! That the judge finds wrong cuts: the list of the other mistakes, whose queue is removed at the
 //! end, is cut off by both seats, and then each time one thing is told otherwise.
 
-use crate::calls::{Answer, Asked, Call, Kept, KeptCut, KeptLog, SLOTS};
+use crate::calls::{Answer, Asked, Call};
 use crate::flaws::{Fault, Flaw};
-use crate::judge::{Told, judge};
-use crate::mistakes::{BOTH, EVENTS, FIRST_SEAT, SECOND_SEAT, closed};
-use mq::{Base, BaseEntries, BaseEntry, ClosedSlot, Cut, Event, Figures};
+use crate::judge::Told;
+use crate::mistakes::{
+    BOTH, CHANGED, FINDING, MADE, MAKING, RECEIVED, RECEIVING, RECEIVING_NONE, RECEIVING_SHORT,
+    REPORTING, SENDING, SENDING_TOO, SENT, SENT_TOO, SETTING, SHOWING,
+};
+use crate::scenes::{Known, NOTHING, Piece, Removed, Tale, found_in, told};
+use mq::{BaseEntry, Event, Figures};
 use std::alloc::{AllocError, Global};
 
 /// The last event, by seat 2.
@@ -18,6 +22,13 @@ const REMOVAL: Call = Call {
     moment: 26,
     asked: Asked::Remove { id: 0 },
     answer: Answer::Removed(5),
+};
+
+/// A cut behind the first four events.
+const CUT: Call = Call {
+    moment: 0,
+    asked: Asked::Cut { slot: 0 },
+    answer: Answer::Cut(4),
 };
 
 /// The message that waits after the receipt.
@@ -39,12 +50,26 @@ const SECOND: BaseEntry = BaseEntry {
 };
 
 /// What is shown after the receipt.
-const RECEIVED: Figures = Figures {
+const BEHIND: Figures = Figures {
     qnum: 1,
     cbytes: 3,
     rtime: 23,
     lrpid: 2,
     ..BOTH
+};
+
+/// What is known behind the first three events.
+const AFTER_THREE: Known<'static> = Known {
+    places: 3,
+    figures: BOTH,
+    waiting: &[FIRST, SECOND],
+};
+
+/// What is known behind the first four.
+const AFTER_FOUR: Known<'static> = Known {
+    places: 4,
+    figures: BEHIND,
+    waiting: &[FIRST],
 };
 
 /// What is told otherwise.
@@ -94,236 +119,176 @@ const MISTAKES: [(Mistake, Flaw); 15] = [
     (Mistake::NoEntry, Flaw::Call(1, 2, Fault::NoEntry)),
 ];
 
-/// What is told of slot 0.
-#[derive(Drop)]
-struct Tale {
-    /// The cut of seat 1, and after how many entries it was answered.
-    first: Cut,
-    entries: u64,
-    /// Those of seat 2, of which the second has no entry.
-    second: Cut,
-    third: Cut,
-    /// The log of the queue that seat 2 removed.
-    log: KeptLog,
-    end: ClosedSlot,
+const FIRST_CUT: Piece<'static> = Piece {
+    last: &[MADE, SENT, SENT_TOO],
+    ..NOTHING
+};
+
+const SECOND_CUT: Piece<'static> = Piece {
+    first: 3,
+    made: 1,
+    known: Some(AFTER_THREE),
+    past: &[],
+    last: &[RECEIVED],
+};
+
+const THIRD_CUT: Piece<'static> = Piece {
+    first: 4,
+    known: Some(AFTER_FOUR),
+    last: &[],
+    ..SECOND_CUT
+};
+
+const LOG: Removed<'static> = Removed {
+    known: AFTER_FOUR,
+    tail: &[CHANGED, REMOVED],
+};
+
+/// The slot as it is closed.
+const END: Piece<'static> = Piece {
+    past: &[CHANGED, REMOVED],
+    ..THIRD_CUT
+};
+
+/// What the cut of seat 1 handed out.
+fn first_cut(mistake: Mistake) -> Piece<'static> {
+    match mistake {
+        Mistake::Forgets => Piece {
+            last: &[MADE, SENT],
+            ..FIRST_CUT
+        },
+        Mistake::Twice => Piece {
+            last: &[MADE, SENT, SENT_TOO, SENT_TOO],
+            ..FIRST_CUT
+        },
+        Mistake::NoQueue => Piece {
+            known: Some(Known {
+                places: 0,
+                figures: BOTH,
+                waiting: &[],
+            }),
+            ..FIRST_CUT
+        },
+        _ => FIRST_CUT,
+    }
 }
 
-/// What the judge is given.
-#[derive(Drop)]
-struct Scene {
-    slots: Vec<ClosedSlot>,
-    all: Vec<Told>,
+/// After how many entries it was answered.
+fn entries(mistake: Mistake) -> u64 {
+    match mistake {
+        Mistake::GoesBack => 1,
+        Mistake::NoEntry => 7,
+        _ => 3,
+    }
 }
 
-fn base(
-    alloc: Global,
-    places: u64,
-    figures: Figures,
-    waiting: &[BaseEntry],
-) -> Result<Base, AllocError> {
-    Ok(Base {
-        places,
-        figures,
-        waiting: BaseEntries::of(waiting.to_vec(alloc)?),
-    })
+/// What the cuts of seat 2 handed out, of which the second has no entry.
+fn later_cuts(mistake: Mistake) -> [Piece<'static>; 2] {
+    let (mut second, mut third) = (SECOND_CUT, THIRD_CUT);
+    match mistake {
+        Mistake::Lacks => {
+            second.known = Some(Known {
+                waiting: &[FIRST],
+                ..AFTER_THREE
+            });
+        }
+        Mistake::Other => {
+            third.known = Some(Known {
+                waiting: &[SECOND],
+                ..AFTER_FOUR
+            });
+        }
+        Mistake::Made => third.made = 0,
+        _ => (),
+    }
+    [second, third]
 }
 
-/// A cut of a queue of which so much is known.
-fn cut_behind(alloc: Global, base: Base, last: &[Event]) -> Result<Cut, AllocError> {
-    Ok(Cut {
-        first: base.places,
-        made: 1,
-        base: Some(base),
-        past: Vec::new(alloc),
-        last: last.to_vec(alloc)?,
-    })
-}
-
-fn right(alloc: Global) -> Result<Tale, AllocError> {
-    let both = base(alloc, 3, BOTH, &[FIRST, SECOND])?;
-    let second = cut_behind(alloc, both, &EVENTS[3..4])?;
-    let third = cut_behind(alloc, after_four(alloc)?, &[])?;
-    Ok(Tale {
-        first: first_cut(alloc)?,
-        entries: 3,
-        second,
-        third,
-        log: kept_log(alloc)?,
-        end: end(alloc)?,
-    })
-}
-
-/// What the first three events leave out of the log.
-fn first_cut(alloc: Global) -> Result<Cut, AllocError> {
-    let last = EVENTS[..3].to_vec(alloc)?;
-    Ok(Cut {
-        first: 0,
-        made: 0,
-        base: None,
-        past: Vec::new(alloc),
-        last,
-    })
-}
-
-/// The base behind the first four.
-fn after_four(alloc: Global) -> Result<Base, AllocError> {
-    base(alloc, 4, RECEIVED, &[FIRST])
-}
-
-/// The log that the removal hands out.
-fn kept_log(alloc: Global) -> Result<KeptLog, AllocError> {
-    let base = after_four(alloc)?;
-    let tail = [EVENTS[4], REMOVED].to_vec(alloc)?;
-    Ok(KeptLog { base, tail })
+/// The log of the queue that seat 2 removed.
+fn log(mistake: Mistake) -> Removed<'static> {
+    match mistake {
+        Mistake::LogLacks => Removed {
+            known: Known {
+                waiting: &[],
+                ..AFTER_FOUR
+            },
+            ..LOG
+        },
+        Mistake::LogForgets => Removed {
+            tail: &[CHANGED],
+            ..LOG
+        },
+        Mistake::LogPlaces => Removed {
+            known: Known {
+                places: 3,
+                ..AFTER_FOUR
+            },
+            ..LOG
+        },
+        _ => LOG,
+    }
 }
 
 /// The slot as it is closed.
-fn end(alloc: Global) -> Result<ClosedSlot, AllocError> {
-    let mut end = closed(alloc, &[], 0)?;
-    end.first = 4;
-    end.made = 1;
-    end.base = Some(after_four(alloc)?);
-    end.past = [EVENTS[4], REMOVED].to_vec(alloc)?;
-    Ok(end)
-}
-
-/// Tells one thing otherwise.
-fn tell(alloc: Global, tale: &mut Tale, mistake: Mistake) -> Result<(), AllocError> {
+fn end(mistake: Mistake) -> Piece<'static> {
     match mistake {
-        Mistake::Nothing => (),
-        Mistake::Forgets => {
-            let _ = tale.first.last.pop();
-        }
-        Mistake::Twice => tale.first.last.push(EVENTS[2])?,
-        Mistake::Made => tale.third.made = 0,
-        Mistake::Lacks => tale.second.base = Some(base(alloc, 3, BOTH, &[FIRST])?),
-        Mistake::Other => tale.third.base = Some(base(alloc, 4, RECEIVED, &[SECOND])?),
-        Mistake::NoQueue => tale.first.base = Some(base(alloc, 0, BOTH, &[])?),
-        Mistake::EndsEarly => tale.end.first = 3,
-        Mistake::EndsBare => tale.end.base = None,
-        Mistake::EndsLive => {
-            tale.end.past = Vec::new(alloc);
-            tale.end.last = [EVENTS[4], REMOVED].to_vec(alloc)?;
-        }
-        Mistake::Left => tale.end.left = 1,
-        Mistake::LogLacks => tale.log.base = base(alloc, 4, RECEIVED, &[])?,
-        Mistake::LogForgets => {
-            let _ = tale.log.tail.pop();
-        }
-        Mistake::LogPlaces => tale.log.base.places = 3,
-        Mistake::GoesBack => tale.entries = 1,
-        Mistake::NoEntry => tale.entries = 7,
-    }
-    Ok(())
-}
-
-/// These calls, and before the one at this place a cut that was answered after so many entries.
-fn with_cut(
-    alloc: Global,
-    calls: &[Call],
-    at: usize,
-    entries: u64,
-) -> Result<Vec<Call>, AllocError> {
-    let mut all = Vec::new(alloc);
-    for (place, call) in calls.iter().enumerate() {
-        if place == at {
-            all.push(Call {
-                moment: 0,
-                asked: Asked::Cut { slot: 0 },
-                answer: Answer::Cut(entries),
-            })?;
-        }
-        all.push(*call)?;
-    }
-    Ok(all)
-}
-
-fn of_slot_0(cut: Cut) -> KeptCut {
-    KeptCut { slot: 0, cut }
-}
-
-fn told(
-    alloc: Global,
-    seat: u16,
-    calls: Vec<Call>,
-    cuts: Vec<KeptCut>,
-    logs: Vec<KeptLog>,
-) -> Told {
-    Told {
-        seat,
-        kept: Kept {
-            calls,
-            logs,
-            cuts,
-            text: Vec::new(alloc),
+        Mistake::EndsEarly => Piece { first: 3, ..END },
+        Mistake::EndsBare => Piece { known: None, ..END },
+        Mistake::EndsLive => Piece {
+            past: &[],
+            last: &[CHANGED, REMOVED],
+            ..END
         },
-        counts: [3, 0, 0],
+        _ => END,
     }
 }
 
-/// What the slots list at the end, and both seats were answered.
-fn scene_of(alloc: Global, tale: Tale) -> Result<Scene, AllocError> {
-    let Tale {
-        first,
-        entries,
-        second,
-        third,
-        log,
-        end,
-    } = tale;
-    let slots = slots_of(alloc, end)?;
-    let two = told_of_two(alloc, second, third, log)?;
-    let one = told_of_one(alloc, first, entries)?;
-    let mut all = Vec::with_capacity(alloc, 2)?;
-    all.push_reserved(two);
-    all.push_reserved(one);
-    Ok(Scene { slots, all })
+/// What seat 1 asked and was answered.
+const FIRST_CALLS: [Call; 5] = [MAKING, SENDING, CUT, SETTING, REPORTING];
+
+/// What seat 2 asked and was answered.
+const SECOND_CALLS: [Call; 8] = [
+    FINDING,
+    SENDING_TOO,
+    SHOWING,
+    RECEIVING,
+    CUT,
+    RECEIVING_NONE,
+    RECEIVING_SHORT,
+    REMOVAL,
+];
+
+/// What seat 1 tells.
+fn told_by_one(alloc: Global, mistake: Mistake) -> Result<Told, AllocError> {
+    let mut calls = FIRST_CALLS;
+    calls[2].answer = Answer::Cut(entries(mistake));
+    let tale = Tale {
+        seat: 1,
+        calls: &calls,
+        cuts: &[first_cut(mistake)],
+        logs: &[],
+        changes: 3,
+    };
+    told(alloc, &tale)
 }
 
-/// The slots, of which the first ends so.
-fn slots_of(alloc: Global, end: ClosedSlot) -> Result<Vec<ClosedSlot>, AllocError> {
-    let mut slots = Vec::with_capacity(alloc, SLOTS)?;
-    slots.push_reserved(end);
-    slots.push_reserved(closed(alloc, &[], 0)?);
-    slots.push_reserved(closed(alloc, &[], 0)?);
-    Ok(slots)
-}
-
-/// What seat 2 was answered.
-fn told_of_two(alloc: Global, second: Cut, third: Cut, log: KeptLog) -> Result<Told, AllocError> {
-    let cuts = two_cuts(alloc, second, third)?;
-    let logs = one_log(alloc, log)?;
-    let mut calls = with_cut(alloc, &SECOND_SEAT, 4, 4)?;
-    calls.push(REMOVAL)?;
-    Ok(told(alloc, 2, calls, cuts, logs))
-}
-
-/// What seat 1 was answered.
-fn told_of_one(alloc: Global, first: Cut, entries: u64) -> Result<Told, AllocError> {
-    let mut cuts = Vec::with_capacity(alloc, 1)?;
-    cuts.push_reserved(of_slot_0(first));
-    let calls = with_cut(alloc, &FIRST_SEAT, 2, entries)?;
-    Ok(told(alloc, 1, calls, cuts, Vec::new(alloc)))
-}
-
-fn two_cuts(alloc: Global, second: Cut, third: Cut) -> Result<Vec<KeptCut>, AllocError> {
-    let mut cuts = Vec::with_capacity(alloc, 2)?;
-    cuts.push_reserved(of_slot_0(second));
-    cuts.push_reserved(of_slot_0(third));
-    Ok(cuts)
-}
-
-fn one_log(alloc: Global, log: KeptLog) -> Result<Vec<KeptLog>, AllocError> {
-    let mut logs = Vec::with_capacity(alloc, 1)?;
-    logs.push_reserved(log);
-    Ok(logs)
+/// What seat 2 tells.
+fn told_by_two(alloc: Global, mistake: Mistake) -> Result<Told, AllocError> {
+    let tale = Tale {
+        seat: 2,
+        calls: &SECOND_CALLS,
+        cuts: &later_cuts(mistake),
+        logs: &[log(mistake)],
+        changes: 3,
+    };
+    told(alloc, &tale)
 }
 
 fn found_by(alloc: Global, mistake: Mistake) -> Result<(), Flaw> {
-    let mut tale = right(alloc)?;
-    tell(alloc, &mut tale, mistake)?;
-    let Scene { slots, all } = scene_of(alloc, tale)?;
-    judge(alloc, slots.as_slice(), all.as_slice(), 9)
+    let two = told_by_two(alloc, mistake)?;
+    let one = told_by_one(alloc, mistake)?;
+    let left = u64::from(matches!(mistake, Mistake::Left));
+    found_in(alloc, two, one, &end(mistake), left)
 }
 
 #[test]

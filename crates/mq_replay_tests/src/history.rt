@@ -39,6 +39,15 @@ impl Fact {
     }
 }
 
+/// Whether a part of the list tells what was known before it, when this was the state.
+fn is_known(state: &State, part: &Part<'_>) -> bool {
+    let based = match part.base {
+        Some(base) => state.row.live && state.is_base(base, part.first.wrapping_sub(state.begun())),
+        None => !state.row.live,
+    };
+    based && state.row.made == part.made
+}
+
 #[derive(Drop)]
 pub(crate) struct History {
     events: Vec<Event>,
@@ -115,16 +124,7 @@ impl History {
             return false;
         };
         let begun = if after.row.live { after.begun() } else { end };
-        let based = match part.base {
-            Some(base) => {
-                let places = part.first.wrapping_sub(before.begun());
-                before.row.live && before.is_base(base, places)
-            }
-            None => !before.row.live,
-        };
-        based
-            && before.row.made == part.made
-            && begun.saturating_sub(part.first) == part.past.len() as u64
+        is_known(before, part) && begun.saturating_sub(part.first) == part.past.len() as u64
     }
 
     /// The state after so many events.

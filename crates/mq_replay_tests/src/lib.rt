@@ -26,6 +26,8 @@ mod parts;
 #[cfg(test)]
 mod runs;
 #[cfg(test)]
+mod scenes;
+#[cfg(test)]
 mod seen;
 #[cfg(test)]
 mod worker;

@@ -1,49 +1,54 @@
 //! That the judge finds wrong replies: a short list whose replies are right, and then each with one
 //! call that is not.
 
-use crate::calls::{Answer, Asked, Call, Handed, Kept, SLOTS};
+use crate::calls::{Answer, Asked, Call, Handed, SLOTS};
 use crate::flaws::{Fault, Flaw};
-use crate::judge::{Told, judge};
-use mq::{BoardRow, ClosedSlot, Errno, Event, Figures, GetFlags, Selection};
+use crate::judge::Told;
+use crate::scenes::{NOTHING, Piece, Tale, found_in, told};
+use mq::{BoardRow, Errno, Event, Figures, GetFlags, Selection};
 use std::alloc::{AllocError, Global};
 use std::process::Abort;
 
+pub(crate) const MADE: Event = Event::Made {
+    seat: 1,
+    moment: 10,
+    key: 5,
+};
+
+pub(crate) const SENT: Event = Event::Sent {
+    seat: 1,
+    moment: 11,
+    tag: 11,
+    mtype: 2,
+    length: 3,
+};
+
+pub(crate) const SENT_TOO: Event = Event::Sent {
+    seat: 2,
+    moment: 21,
+    tag: 21,
+    mtype: 1,
+    length: 4,
+};
+
+pub(crate) const RECEIVED: Event = Event::Received {
+    seat: 2,
+    moment: 23,
+    place: 2,
+    selection: Selection::UpTo(2),
+    size: 9,
+    noerror: false,
+};
+
+pub(crate) const CHANGED: Event = Event::Changed {
+    seat: 1,
+    moment: 12,
+    qbytes: 100,
+};
+
 /// What happens in slot 0: a queue is made, two messages are sent, the second is received, and a
 /// quota is set.
-pub(crate) const EVENTS: [Event; 5] = [
-    Event::Made {
-        seat: 1,
-        moment: 10,
-        key: 5,
-    },
-    Event::Sent {
-        seat: 1,
-        moment: 11,
-        tag: 11,
-        mtype: 2,
-        length: 3,
-    },
-    Event::Sent {
-        seat: 2,
-        moment: 21,
-        tag: 21,
-        mtype: 1,
-        length: 4,
-    },
-    Event::Received {
-        seat: 2,
-        moment: 23,
-        place: 2,
-        selection: Selection::UpTo(2),
-        size: 9,
-        noerror: false,
-    },
-    Event::Changed {
-        seat: 1,
-        moment: 12,
-        qbytes: 100,
-    },
-];
+const EVENTS: [Event; 5] = [MADE, SENT, SENT_TOO, RECEIVED, CHANGED];
 
 const NO_ROW: BoardRow = BoardRow {
     made: 0,
@@ -159,74 +164,89 @@ const OLD: Asked = Asked::Get {
     },
 };
 
+pub(crate) const MAKING: Call = Call {
+    moment: 10,
+    asked: NEW,
+    answer: Answer::Got(0, Some(0)),
+};
+
+pub(crate) const SENDING: Call = Call {
+    moment: 11,
+    asked: Asked::Send {
+        id: 0,
+        mtype: 2,
+        tag: 11,
+        length: 3,
+        nowait: true,
+    },
+    answer: Answer::Done(1),
+};
+
+pub(crate) const SETTING: Call = Call {
+    moment: 12,
+    asked: SET,
+    answer: Answer::Done(4),
+};
+
+pub(crate) const REPORTING: Call = Call {
+    moment: 13,
+    asked: Asked::Report,
+    answer: Answer::Rows([LAST, NO_ROW, NO_ROW]),
+};
+
 /// What seat 1 asked and was answered.
-pub(crate) const FIRST_SEAT: [Call; 4] = [
-    Call {
-        moment: 10,
-        asked: NEW,
-        answer: Answer::Got(0, Some(0)),
+const FIRST_SEAT: [Call; 4] = [MAKING, SENDING, SETTING, REPORTING];
+
+pub(crate) const FINDING: Call = Call {
+    moment: 20,
+    asked: OLD,
+    answer: Answer::Got(0, None),
+};
+
+pub(crate) const SENDING_TOO: Call = Call {
+    moment: 21,
+    asked: Asked::Send {
+        id: 0,
+        mtype: 1,
+        tag: 21,
+        length: 4,
+        nowait: true,
     },
-    Call {
-        moment: 11,
-        asked: Asked::Send {
-            id: 0,
-            mtype: 2,
-            tag: 11,
-            length: 3,
-            nowait: true,
-        },
-        answer: Answer::Done(1),
-    },
-    Call {
-        moment: 12,
-        asked: SET,
-        answer: Answer::Done(4),
-    },
-    Call {
-        moment: 13,
-        asked: Asked::Report,
-        answer: Answer::Rows([LAST, NO_ROW, NO_ROW]),
-    },
-];
+    answer: Answer::Done(2),
+};
+
+pub(crate) const SHOWING: Call = Call {
+    moment: 22,
+    asked: STAT,
+    answer: Answer::Shown(BOTH),
+};
+
+pub(crate) const RECEIVING: Call = Call {
+    moment: 23,
+    asked: RECEIVE,
+    answer: Answer::Handed(SECOND),
+};
+
+pub(crate) const RECEIVING_NONE: Call = Call {
+    moment: 24,
+    asked: SEVENTH,
+    answer: Answer::Refused(Errno::ENOMSG, Some(5)),
+};
+
+pub(crate) const RECEIVING_SHORT: Call = Call {
+    moment: 25,
+    asked: SHORT,
+    answer: Answer::Refused(Errno::E2BIG, Some(5)),
+};
 
 /// What seat 2 asked and was answered.
-pub(crate) const SECOND_SEAT: [Call; 6] = [
-    Call {
-        moment: 20,
-        asked: OLD,
-        answer: Answer::Got(0, None),
-    },
-    Call {
-        moment: 21,
-        asked: Asked::Send {
-            id: 0,
-            mtype: 1,
-            tag: 21,
-            length: 4,
-            nowait: true,
-        },
-        answer: Answer::Done(2),
-    },
-    Call {
-        moment: 22,
-        asked: STAT,
-        answer: Answer::Shown(BOTH),
-    },
-    Call {
-        moment: 23,
-        asked: RECEIVE,
-        answer: Answer::Handed(SECOND),
-    },
-    Call {
-        moment: 24,
-        asked: SEVENTH,
-        answer: Answer::Refused(Errno::ENOMSG, Some(5)),
-    },
-    Call {
-        moment: 25,
-        asked: SHORT,
-        answer: Answer::Refused(Errno::E2BIG, Some(5)),
-    },
+const SECOND_SEAT: [Call; 6] = [
+    FINDING,
+    SENDING_TOO,
+    SHOWING,
+    RECEIVING,
+    RECEIVING_NONE,
+    RECEIVING_SHORT,
 ];
 
 /// A call that a seat makes in place of another, and what is wrong with it.
@@ -463,83 +483,62 @@ const WRONG_IDS: [Wrong; 6] = [
     },
 ];
 
-fn told(
-    alloc: Global,
-    seat: u16,
-    calls: &[Call],
-    counts: [u64; SLOTS],
-) -> Result<Told, AllocError> {
-    Ok(Told {
-        seat,
-        kept: Kept {
-            calls: calls.to_vec(alloc)?,
-            logs: Vec::new(alloc),
-            cuts: Vec::new(alloc),
-            text: Vec::new(alloc),
-        },
-        counts,
-    })
-}
-
-/// A slot in which this happened, and in which so many messages are left.
-pub(crate) fn closed(alloc: Global, events: &[Event], left: u64) -> Result<ClosedSlot, AllocError> {
-    Ok(ClosedSlot {
-        first: 0,
-        made: 0,
-        base: None,
-        past: Vec::new(alloc),
-        last: events.to_vec(alloc)?,
-        left,
-    })
-}
-
-/// Both seats, where this call is made in place of the one that stands there.
-fn seats(alloc: Global, wrong: &Wrong) -> Result<Vec<Told>, AllocError> {
-    let mut all = Vec::with_capacity(alloc, 2)?;
-    all.push_reserved(told(alloc, 1, &FIRST_SEAT, [3, 0, 0])?);
-    all.push_reserved(told(alloc, 2, &SECOND_SEAT, [2, 0, 0])?);
-    for told in all.iter_mut() {
-        if told.seat == wrong.seat
-            && let Some(call) = told.kept.calls.get_mut(wrong.place)
-        {
-            call.asked = wrong.asked;
-            call.answer = wrong.answer;
-        }
+/// The calls of the seat with this number, where this call is made in place of the one that stands
+/// there.
+fn with_wrong<const N: usize>(calls: [Call; N], number: u16, wrong: &Wrong) -> [Call; N] {
+    let mut calls = calls;
+    if number == wrong.seat
+        && let Some(call) = calls.get_mut(wrong.place)
+    {
+        call.asked = wrong.asked;
+        call.answer = wrong.answer;
     }
-    Ok(all)
+    calls
 }
 
-fn slots(alloc: Global) -> Result<Vec<ClosedSlot>, AllocError> {
-    let mut slots = Vec::with_capacity(alloc, SLOTS)?;
-    slots.push_reserved(closed(alloc, &EVENTS, 1)?);
-    slots.push_reserved(closed(alloc, &[], 0)?);
-    slots.push_reserved(closed(alloc, &[], 0)?);
-    Ok(slots)
+/// What a seat tells that cuts nothing and removes nothing.
+fn told_by(alloc: Global, seat: u16, calls: &[Call], changes: u64) -> Result<Told, AllocError> {
+    let tale = Tale {
+        seat,
+        calls,
+        cuts: &[],
+        logs: &[],
+        changes,
+    };
+    told(alloc, &tale)
 }
 
 /// What is found where this call is made.
 fn found_by(alloc: Global, wrong: &Wrong) -> Result<(), Flaw> {
-    let slots = slots(alloc)?;
-    let all = seats(alloc, wrong)?;
-    judge(alloc, slots.as_slice(), all.as_slice(), 9)
+    let one = told_by(alloc, 1, &with_wrong(FIRST_SEAT, 1, wrong), 3)?;
+    let two = told_by(alloc, 2, &with_wrong(SECOND_SEAT, 2, wrong), 2)?;
+    let end = Piece {
+        last: &EVENTS,
+        ..NOTHING
+    };
+    found_in(alloc, one, two, &end, 1)
 }
 
-/// Each of these calls is found, with what is wrong with it.
+/// Checks what was found.
+fn check(rt: &impl Abort, found: Result<(), Flaw>, wanted: Result<(), Flaw>) {
+    if found == Err(Flaw::Memory) {
+        panic!(rt; "out of memory");
+    }
+    assert!(rt; found == wanted, "{found:?}, not {wanted:?}");
+}
+
+/// Checks that each of these calls is found, with what is wrong with it.
 fn finds(rt: &impl Abort, alloc: Global, wrongs: &[Wrong]) {
     for wrong in wrongs {
         let flaw = Flaw::Call(wrong.seat, wrong.place, wrong.fault);
-        match found_by(alloc, wrong) {
-            Err(Flaw::Memory) => panic!(rt; "out of memory"),
-            found => assert!(rt; found == Err(flaw), "{found:?}, not {flaw:?}"),
-        }
+        check(rt, found_by(alloc, wrong), Err(flaw));
     }
 }
 
 #[test]
 fn right_replies_are_right(rt: HostRuntime) {
     for right in &RIGHT {
-        let found = found_by(rt.alloc(), right);
-        assert!(rt; found == Ok(()), "{found:?}");
+        check(&rt, found_by(rt.alloc(), right), Ok(()));
     }
 }
 
@@ -571,11 +570,11 @@ fn a_wrong_id_is_found(rt: HostRuntime) {
 #[test]
 fn a_message_that_comes_twice_is_found(rt: HostRuntime) {
     let found = found_by(rt.alloc(), &TWICE);
-    assert!(rt; found == Err(Flaw::Twice), "{found:?}");
+    check(&rt, found, Err(Flaw::Twice));
 }
 
 #[test]
 fn an_event_that_no_call_made_is_found(rt: HostRuntime) {
     let found = found_by(rt.alloc(), &NO_CALL);
-    assert!(rt; found == Err(Flaw::Counts(1, 0)), "{found:?}");
+    check(&rt, found, Err(Flaw::Counts(1, 0)));
 }

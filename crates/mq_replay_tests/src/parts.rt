@@ -1,5 +1,6 @@
 //! The parts of a slot's list: what each cut of it handed out, and what was kept to the end.
 
+use crate::calls::KeptCut;
 use crate::judge::Told;
 use mq::{Base, ClosedSlot, Cut, Event};
 use std::alloc::{AllocError, Global};
@@ -68,6 +69,20 @@ impl Joined {
     }
 }
 
+/// Adds what a seat was handed when it cut the slot with this number.
+fn add_cuts<'a>(
+    parts: &mut Vec<Part<'a>>,
+    cuts: &'a [KeptCut],
+    number: u8,
+) -> Result<(), AllocError> {
+    for kept in cuts {
+        if kept.slot == number {
+            parts.push(Part::of_cut(&kept.cut))?;
+        }
+    }
+    Ok(())
+}
+
 /// What all seats were handed when they cut the slot with this number, in no order.
 pub(crate) fn cuts_of<'a>(
     alloc: Global,
@@ -76,11 +91,7 @@ pub(crate) fn cuts_of<'a>(
 ) -> Result<Vec<Part<'a>>, AllocError> {
     let mut parts = Vec::new(alloc);
     for told in all {
-        for kept in told.kept.cuts.iter() {
-            if kept.slot == number {
-                parts.push(Part::of_cut(&kept.cut))?;
-            }
-        }
+        add_cuts(&mut parts, told.kept.cuts.as_slice(), number)?;
     }
     Ok(parts)
 }

@@ -37,7 +37,25 @@ pub(crate) struct Asker<'a> {
     pub(crate) kept: Kept,
 }
 
-/// Makes a call, and keeps it.
+/// Makes a call, and keeps it with its answer. `None` where no call was made.
+fn make<N: Names, R: Wait>(
+    rt: &R,
+    system: &System<Nothing, N>,
+    seat: &mut Seat<N>,
+    kept: &mut Kept,
+    asked: Asked,
+    moment: u64,
+) -> Option<Answer> {
+    let answer = answer(rt, system, seat, kept, asked, moment)?;
+    let _ = kept.calls.push(Call {
+        moment,
+        asked,
+        answer,
+    });
+    Some(answer)
+}
+
+/// Makes a call, of whose answer the chooser learns.
 fn ask<N: Names, R: Wait>(
     rt: &R,
     system: &System<Nothing, N>,
@@ -47,15 +65,9 @@ fn ask<N: Names, R: Wait>(
     asked: Asked,
     moment: u64,
 ) {
-    let Some(answer) = answer(rt, system, seat, kept, asked, moment) else {
-        return;
-    };
-    chooser.learn(&answer);
-    let _ = kept.calls.push(Call {
-        moment,
-        asked,
-        answer,
-    });
+    if let Some(answer) = make(rt, system, seat, kept, asked, moment) {
+        chooser.learn(&answer);
+    }
 }
 
 /// A number that no other call has: the seat's and the call's.
@@ -110,18 +122,9 @@ fn remove<N: Names, R: Wait>(
     id: u32,
     moment: u64,
 ) {
-    let asked = Asked::Remove { id };
     for _ in rt.forever() {
-        let Some(answer) = answer(rt, system, seat, kept, asked, moment) else {
-            return;
-        };
-        let again = matches!(&answer, Answer::Refused(Errno::ENOMEM, _));
-        let _ = kept.calls.push(Call {
-            moment,
-            asked,
-            answer,
-        });
-        if !again {
+        let answer = make(rt, system, seat, kept, Asked::Remove { id }, moment);
+        if !matches!(answer, Some(Answer::Refused(Errno::ENOMEM, _))) {
             return;
         }
     }

@@ -1,12 +1,11 @@
 //! The calls of a system, each made once more where there was no memory. Seat 1 makes, sends, sets
 //! and removes, and seat 2 receives and cuts.
-ghost use Rattle.std.specs.Prelude.{◌≡◌, ◌<◌, IfOk, replicate};
 
-use crate::day::Anything;
 use crate::holds;
+use crate::system::Calls;
 use mq_system::{
-    Delivered, DraftError, Errno, GetFlags, Got, Names, RecvFlags, Refused, Removal, Seat,
-    SendFlags, SendRefused, System, TextOf,
+    Delivered, DraftError, Errno, GetFlags, Got, RecvFlags, Refused, Removal, SendFlags,
+    SendRefused,
 };
 use mq_table::{Cut, Id};
 use std::process::Abort;
@@ -44,33 +43,32 @@ pub(crate) struct Wanted {
     pub(crate) msgtyp: i64,
     pub(crate) except: bool,
     pub(crate) noerror: bool,
+    /// Whether nothing is waited for.
+    pub(crate) nowait: bool,
 }
 
-/// The first message, up to so many bytes.
+/// The first message, up to so many bytes, of those that are there.
 pub(crate) fn first(size: u64) -> Wanted {
     Wanted {
         size,
         msgtyp: 0,
         except: false,
         noerror: false,
+        nowait: true,
     }
 }
 
-pub(crate) fn seat<'s, N: Names>(
-    rt: &impl Abort,
-    seats: &'s mut [Seat<N>],
-    k: usize,
-) -> &'s mut Seat<N> {
+pub(crate) fn seat<'s, T>(rt: &impl Abort, seats: &'s mut [T], k: usize) -> &'s mut T {
     match seats.get_mut(k) {
         Some(seat) => seat,
         None => panic!(rt; "there is no seat {k}"),
     }
 }
 
-pub(crate) fn get<N: Names, R: Abort + Wait>(
+pub(crate) fn get<S: Calls, R: Abort + Wait>(
     rt: &R,
-    system: &System<Anything, N>,
-    seats: &mut [Seat<N>],
+    system: &S,
+    seats: &mut [S::Seat],
     key: i32,
     flags: GetFlags,
     moment: u64,
@@ -82,28 +80,26 @@ pub(crate) fn get<N: Names, R: Abort + Wait>(
     }
 }
 
-pub(crate) fn draft<N: Names, R: Wait>(
+pub(crate) fn draft<S: Calls, R: Wait>(
     rt: &R,
-    system: &System<Anything, N>,
+    system: &S,
     len: u64,
-) -> Result<TextOf<N>, DraftError>
-    ensures { IfOk result (λ text. text.bytes ≡ replicate len 0) }
-{
+) -> Result<S::Text, DraftError> {
     match system.draft(rt, len) {
         Err(DraftError::Memory) => system.draft(rt, len),
         answer => answer,
     }
 }
 
-pub(crate) fn send<N: Names, R: Abort + Wait>(
+pub(crate) fn send<S: Calls, R: Abort + Wait>(
     rt: &R,
-    system: &System<Anything, N>,
-    seats: &mut [Seat<N>],
+    system: &S,
+    seats: &mut [S::Seat],
     id: u32,
     mtype: i64,
-    text: TextOf<N>,
+    text: S::Text,
     moment: u64,
-) -> Result<u64, SendRefused<TextOf<N>>> {
+) -> Result<u64, SendRefused<S::Text>> {
     let seat = seat(rt, seats, 0);
     let id = Id::from_number(id);
     match system.msgsnd(rt, seat, id, mtype, TAG, text, NOWAIT, moment) {
@@ -120,18 +116,18 @@ pub(crate) fn send<N: Names, R: Abort + Wait>(
     }
 }
 
-pub(crate) fn receive<N: Names, R: Abort + Wait>(
+pub(crate) fn receive<S: Calls, R: Abort + Wait>(
     rt: &R,
-    system: &System<Anything, N>,
-    seats: &mut [Seat<N>],
+    system: &S,
+    seats: &mut [S::Seat],
     id: u32,
     wanted: Wanted,
     moment: u64,
-) -> Result<Delivered<TextOf<N>>, Refused> {
+) -> Result<Delivered<S::Text>, Refused> {
     let seat = seat(rt, seats, 1);
     let id = Id::from_number(id);
     let flags = RecvFlags {
-        nowait: true,
+        nowait: wanted.nowait,
         noerror: wanted.noerror,
         except: wanted.except,
     };
@@ -147,10 +143,10 @@ pub(crate) fn receive<N: Names, R: Abort + Wait>(
 }
 
 /// Nothing is received, for this reason, after so many entries.
-pub(crate) fn refused<N: Names, R: Abort + Wait>(
+pub(crate) fn refused<S: Calls, R: Abort + Wait>(
     rt: &R,
-    system: &System<Anything, N>,
-    seats: &mut [Seat<N>],
+    system: &S,
+    seats: &mut [S::Seat],
     errno: Errno,
     entries: u64,
 ) {
@@ -166,10 +162,10 @@ pub(crate) fn is(rt: &impl Abort, refused: Refused, errno: Errno, entries: Optio
     holds(rt, refused.entry == entries, "after so many entries");
 }
 
-pub(crate) fn set<N: Names, R: Abort + Wait>(
+pub(crate) fn set<S: Calls, R: Abort + Wait>(
     rt: &R,
-    system: &System<Anything, N>,
-    seats: &mut [Seat<N>],
+    system: &S,
+    seats: &mut [S::Seat],
     id: u32,
     qbytes: u64,
     moment: u64,
@@ -187,10 +183,10 @@ pub(crate) fn set<N: Names, R: Abort + Wait>(
     }
 }
 
-pub(crate) fn remove<N: Names, R: Abort + Wait>(
+pub(crate) fn remove<S: Calls, R: Abort + Wait>(
     rt: &R,
-    system: &System<Anything, N>,
-    seats: &mut [Seat<N>],
+    system: &S,
+    seats: &mut [S::Seat],
     id: u32,
     moment: u64,
 ) -> Result<Removal, Refused> {
@@ -214,26 +210,18 @@ fn end_of(cut: &Cut) -> u64 {
 }
 
 /// What is cut off of a slot. Where that is refused at first, the refusal tells all entries.
-pub(crate) fn cut<N: Names, R: Abort + Wait>(
+pub(crate) fn cut<S: Calls, R: Abort + Wait>(
     rt: &R,
-    system: &System<Anything, N>,
-    seats: &mut [Seat<N>],
+    system: &S,
+    seats: &mut [S::Seat],
     slot: u8,
 ) -> Cut {
     let seat = seat(rt, seats, 1);
-    if slot >= system.slots() {
-        panic!(rt; "there is no slot {slot}");
-    }
     match system.cut_log(rt, seat, slot) {
         Ok(cut) => cut,
         Err(refused) => match system.cut_log(rt, seat, slot) {
             Ok(cut) => {
-                let Refused { errno, entry } = refused;
-                holds(
-                    rt,
-                    errno == Errno::ENOMEM && entry == Some(end_of(&cut)),
-                    "ENOMEM after all entries",
-                );
+                is(rt, refused, Errno::ENOMEM, Some(end_of(&cut)));
                 cut
             }
             Err(refused) => panic!(rt; "a cut is refused twice: {refused}"),
@@ -267,17 +255,10 @@ pub(crate) fn is_second(rt: &impl Abort, cut: &Cut, entries: u64) {
 }
 
 /// So many changes are of the seat's own calls in slot 0.
-pub(crate) fn counts<N: Names>(rt: &impl Abort, seat: &Seat<N>, changes: u64)
-    requires slots { 0 < N.slots }
-{
-    holds(rt, seat.count(0) == changes, "what a seat counts");
-}
-
-/// Whether a text has these bytes, at most a page of them.
-pub(crate) fn has<N: Names>(text: &TextOf<N>, bytes: &[u8]) -> bool {
-    match text.count() {
-        0 => bytes.is_empty(),
-        1 => text.part(0) == bytes,
-        _ => false,
-    }
+pub(crate) fn counts<S: Calls, R: Abort>(rt: &R, system: &S, seat: &S::Seat, changes: u64) {
+    holds(
+        rt,
+        system.count(rt, seat, 0) == changes,
+        "what a seat counts",
+    );
 }

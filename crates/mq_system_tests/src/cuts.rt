@@ -1,15 +1,14 @@
 //! Cuts of a slot's list, after which all calls answer as before.
-ghost use Rattle.std.specs.Prelude.{◌≡◌};
 
-use crate::calls::{CREATE, NEW, NO_FLAG, TAG, counts, cut, first, has, is_first, seat};
-use crate::day::{Anything, Day, config, left_by};
+use crate::calls::{CREATE, NEW, NO_FLAG, TAG, counts, cut, first, is_first, seat};
+use crate::day::{Day, config, left_by};
+use crate::system::Calls;
 use crate::table::{Answer, Step, plays};
 use crate::{granted, holds};
 use mq_message::Selection;
-use mq_queue::{Base, BaseEntry, BoardRow, Event, Figures};
-use mq_system::{ClosedSlot, Config, Errno, Names, Removal, Seat, System};
+use mq_queue::{Base, BaseEntry, BoardRow, Event, Figures, Log};
+use mq_system::{ClosedSlot, Errno, Removal};
 use mq_table::Cut;
-use std::alloc::Global;
 use std::process::Abort;
 use std::sync::Wait;
 use std::thread::Threads;
@@ -86,10 +85,10 @@ const LEFT: Figures = Figures {
     ..BOTH
 };
 
-fn sent<N: Names, R: Abort + Wait>(
+fn sent<S: Calls, R: Abort + Wait>(
     rt: &R,
-    system: &System<Anything, N>,
-    seats: &mut [Seat<N>],
+    system: &S,
+    seats: &mut [S::Seat],
     mtype: i64,
     bytes: &[u8],
     at: u64,
@@ -100,19 +99,14 @@ fn sent<N: Names, R: Abort + Wait>(
 }
 
 /// A queue with a key, in which two messages wait.
-fn filled<N: Names, R: Abort + Wait>(rt: &R, system: &System<Anything, N>, seats: &mut [Seat<N>]) {
+fn filled<S: Calls, R: Abort + Wait>(rt: &R, system: &S, seats: &mut [S::Seat]) {
     granted::made(rt, system, seats, 9, NEW, 4, 0, 0);
     sent(rt, system, seats, 1, b"one", 1);
     sent(rt, system, seats, 2, b"four", 2);
 }
 
 /// A seat is shown the queue with these figures, and no other one.
-fn is_shown<N: Names, R: Abort + Wait>(
-    rt: &R,
-    system: &System<Anything, N>,
-    seat: &mut Seat<N>,
-    figures: Figures,
-) {
+fn is_shown<S: Calls, R: Abort + Wait>(rt: &R, system: &S, seat: &mut S::Seat, figures: Figures) {
     let shown = granted::shown(rt, system, seat);
     holds(rt, shown == figures, "its figures");
     let row = BoardRow {
@@ -121,16 +115,14 @@ fn is_shown<N: Names, R: Abort + Wait>(
         key: 9,
         figures,
     };
-    let rows = granted::two_rows(rt, system, seat, row);
-    holds(rt, rows[0] == row, "its row");
-    holds(rt, !rows[1].live, "no other");
+    granted::is_only_row(rt, system, seat, row);
 }
 
 /// The queue is found and shown, by both seats, as if nothing had been cut off.
-fn is_there<N: Names, R: Abort + Wait>(
+fn is_there<S: Calls, R: Abort + Wait>(
     rt: &R,
-    system: &System<Anything, N>,
-    seats: &mut [Seat<N>],
+    system: &S,
+    seats: &mut [S::Seat],
     figures: Figures,
 ) {
     let got = granted::got(rt, system, seats, 9, NO_FLAG, 5);
@@ -140,14 +132,10 @@ fn is_there<N: Names, R: Abort + Wait>(
 }
 
 /// `one` is received by entry 3.
-fn receives<N: Names, R: Abort + Wait>(
-    rt: &R,
-    system: &System<Anything, N>,
-    seats: &mut [Seat<N>],
-) {
+fn receives<S: Calls, R: Abort + Wait>(rt: &R, system: &S, seats: &mut [S::Seat]) {
     let delivered = granted::received(rt, system, seats, 0, first(9), 6);
     let text = granted::text_of(rt, delivered, 3, 1, 3);
-    holds(rt, has::<N>(&text, b"one"), "its text");
+    holds(rt, system.shows(&text, b"one"), "its text");
     system.spend(rt, text);
 }
 
@@ -183,48 +171,52 @@ fn is_new(rt: &impl Abort, cut: &Cut) {
     holds(rt, cut.last.is_empty(), "nothing is");
 }
 
+/// The first cut hands out what was sent.
+fn hands_out_all(rt: &impl Abort, cut: &Cut) {
+    is_first(rt, cut);
+    let sent = cut.last.as_slice() == SENT.as_slice();
+    holds(rt, sent, "all that was sent");
+}
+
+/// A cut right behind the first hands out nothing.
+fn hands_out_none(rt: &impl Abort, cut: &Cut) {
+    holds(rt, cut.first == 3 && cut.made == 1, "behind the first");
+    known(rt, &cut.base);
+    holds(rt, cut.past.is_empty(), "of no removed queue");
+    holds(rt, cut.last.is_empty(), "nothing twice");
+}
+
 /// Slot 0 is cut while both messages wait, and at once again.
-fn cut_twice<N: Names, R: Abort + Wait>(
-    rt: &R,
-    system: &System<Anything, N>,
-    seats: &mut [Seat<N>],
-) {
-    let all = cut(rt, system, seats, 0);
-    is_first(rt, &all);
-    holds(
-        rt,
-        all.last.as_slice() == SENT.as_slice(),
-        "all that was sent",
-    );
+fn cut_twice<S: Calls, R: Abort + Wait>(rt: &R, system: &S, seats: &mut [S::Seat]) {
+    hands_out_all(rt, &cut(rt, system, seats, 0));
     is_there(rt, system, seats, BOTH);
-    let none = cut(rt, system, seats, 0);
-    holds(rt, none.first == 3 && none.made == 1, "behind the first");
-    known(rt, &none.base);
-    holds(rt, none.past.is_empty(), "of no removed queue");
-    holds(rt, none.last.is_empty(), "nothing twice");
+    hands_out_none(rt, &cut(rt, system, seats, 0));
     is_there(rt, system, seats, BOTH);
 }
 
-/// The queue is removed by entry 4: its log tells what was cut off and the rest.
-fn removed<N: Names, R: Abort + Wait>(rt: &R, system: &System<Anything, N>, seats: &mut [Seat<N>]) {
-    let Removal { entry, log } = granted::removed(rt, system, seats, 0, 7);
-    holds(rt, entry == 4 && log.len() == 5, "its whole log");
+/// The log of the queue tells what was cut off and the rest.
+fn tells_all(rt: &impl Abort, log: Log) {
+    holds(rt, log.len() == 5, "its whole log");
     let (base, tail) = log.into_parts();
     holds(rt, tail.as_slice() == REST.as_slice(), "the rest of it");
     known(rt, &Some(base));
 }
 
+fn removed<S: Calls, R: Abort + Wait>(rt: &R, system: &S, seats: &mut [S::Seat]) {
+    let Removal { entry, log } = granted::removed(rt, system, seats, 0, 7);
+    holds(rt, entry == 4, "it is removed by entry 4");
+    tells_all(rt, log);
+}
+
 #[derive(Drop)]
 struct CutDay;
 
-impl Day<Anything> for CutDay {
-    fn spend<N: Names, R: Abort + Threads + Wait>(
+impl Day for CutDay {
+    fn spend<S: Calls, R: Abort + Threads + Wait>(
         &self,
         rt: &R,
-        _alloc: Global,
-        _config: Config,
-        system: &System<Anything, N>,
-        seats: &mut [Seat<N>],
+        system: &S,
+        seats: &mut [S::Seat],
     ) {
         is_new(rt, &cut(rt, system, seats, 0));
         filled(rt, system, seats);
@@ -234,8 +226,8 @@ impl Day<Anything> for CutDay {
         is_new(rt, &cut(rt, system, seats, 1));
         removed(rt, system, seats);
         holds(rt, system.slots() == 2, "two slots");
-        counts(rt, seat(rt, seats, 0), 4);
-        counts(rt, seat(rt, seats, 1), 1);
+        counts(rt, system, seat(rt, seats, 0), 4);
+        counts(rt, system, seat(rt, seats, 1), 1);
     }
 }
 

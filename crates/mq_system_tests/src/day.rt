@@ -1,9 +1,10 @@
 //! The day of a system: it is made, a test calls it by its seats, and it is closed.
-ghost use Rattle.std.specs.Prelude.{◌≡◌, ◌≤◌};
+ghost use Rattle.std.specs.Prelude.{◌≤◌};
 ghost use Rattle.mq_system.specs.Sizes.{AreNames};
 
+use crate::system::Calls;
 use mq_arena::LEDGER_PARTS;
-use mq_system::{Blanks, Closed, ClosedSlot, Config, Names, Pledge, Seat, SysError, System};
+use mq_system::{Blanks, Closed, ClosedSlot, Config, Names, Pledge, SysError, System};
 use std::alloc::Global;
 use std::marker::Brand;
 use std::process::Abort;
@@ -18,16 +19,8 @@ impl Pledge for Anything {
 }
 
 /// What a test does with a system that was just made.
-pub(crate) trait Day<P: Pledge> {
-    fn spend<N: Names, R: Abort + Threads + Wait>(
-        &self,
-        rt: &R,
-        alloc: Global,
-        config: Config,
-        system: &System<P, N>,
-        seats: &mut [Seat<N>],
-    )
-        requires last_seq { config.last_seq ≡ N.last_seq };
+pub(crate) trait Day {
+    fn spend<S: Calls, R: Abort + Threads + Wait>(&self, rt: &R, system: &S, seats: &mut [S::Seat]);
 }
 
 /// What a system leaves at its end.
@@ -37,7 +30,7 @@ pub(crate) struct Left {
     pub(crate) free_pages: u32,
 }
 
-fn lived<P: Pledge, N: Names, D: Day<P>, R: Abort + Threads + Wait>(
+fn lived<N: Names, D: Day, R: Abort + Threads + Wait>(
     rt: &R,
     alloc: Global,
     config: Config,
@@ -47,8 +40,8 @@ fn lived<P: Pledge, N: Names, D: Day<P>, R: Abort + Threads + Wait>(
     requires names { AreNames N.Names.own N.Naming blanks config }
     requires enough { LEDGER_PARTS ≤ blanks.pages.parts }
 {
-    let (system, mut seats) = System::<P, N>::new(alloc, rt, config, blanks)?;
-    day.spend(rt, alloc, config, &system, seats.as_mut_slice());
+    let (system, mut seats) = System::<Anything, N>::new(alloc, rt, config, blanks)?;
+    day.spend(rt, &system, seats.as_mut_slice());
     let Closed { slots, arena } = system.close(rt, seats);
     Ok(Left {
         slots,
@@ -56,18 +49,18 @@ fn lived<P: Pledge, N: Names, D: Day<P>, R: Abort + Threads + Wait>(
     })
 }
 
-fn lives_once<P: Pledge, D: Day<P>, R: Abort + Threads + Wait>(
+fn lives_once<D: Day, R: Abort + Threads + Wait>(
     rt: &R,
     alloc: Global,
     config: Config,
     day: &D,
 ) -> Result<Left, SysError> {
     let blanks = Blanks::of(alloc, config)?;
-    lived::<P, Brand, D, R>(rt, alloc, config, blanks, day)
+    lived::<Brand, D, R>(rt, alloc, config, blanks, day)
 }
 
 /// A system of this size lives this day. It is made once more where there was no memory for it.
-pub(crate) fn lives<P: Pledge, D: Day<P>, R: Abort + Threads + Wait>(
+pub(crate) fn lives<D: Day, R: Abort + Threads + Wait>(
     rt: &R,
     alloc: Global,
     config: Config,
@@ -80,7 +73,7 @@ pub(crate) fn lives<P: Pledge, D: Day<P>, R: Abort + Threads + Wait>(
 }
 
 /// What a system leaves that is of a size within the limits.
-pub(crate) fn left_by<P: Pledge, D: Day<P>, R: Abort + Threads + Wait>(
+pub(crate) fn left_by<D: Day, R: Abort + Threads + Wait>(
     rt: &R,
     alloc: Global,
     config: Config,

@@ -1,19 +1,18 @@
 //! The calls of a system that a test knows to be granted: each ends the test where it is refused.
-ghost use Rattle.std.specs.Prelude.{◌≡◌, replicate};
 
 use crate::calls::{TAG, Wanted, get, receive, remove, send, set};
-use crate::day::Anything;
 use crate::holds;
+use crate::system::Calls;
 use mq_queue::{BoardRow, Figures};
-use mq_system::{Delivered, Errno, GetFlags, Got, Names, Removal, Seat, System, TextOf};
+use mq_system::{Delivered, Errno, GetFlags, Got, Removal};
 use mq_table::Id;
 use std::process::Abort;
 use std::sync::Wait;
 
-pub(crate) fn got<N: Names, R: Abort + Wait>(
+pub(crate) fn got<S: Calls, R: Abort + Wait>(
     rt: &R,
-    system: &System<Anything, N>,
-    seats: &mut [Seat<N>],
+    system: &S,
+    seats: &mut [S::Seat],
     key: i32,
     flags: GetFlags,
     moment: u64,
@@ -31,10 +30,10 @@ pub(crate) fn is_found(rt: &impl Abort, got: Got) {
 }
 
 /// A queue is made with this id, by this entry.
-pub(crate) fn made<N: Names, R: Abort + Wait>(
+pub(crate) fn made<S: Calls, R: Abort + Wait>(
     rt: &R,
-    system: &System<Anything, N>,
-    seats: &mut [Seat<N>],
+    system: &S,
+    seats: &mut [S::Seat],
     key: i32,
     flags: GetFlags,
     moment: u64,
@@ -42,30 +41,22 @@ pub(crate) fn made<N: Names, R: Abort + Wait>(
     entry: u64,
 ) {
     let got = got(rt, system, seats, key, flags, moment);
+    is_made(rt, got, id, entry);
+}
+
+/// It is a new queue with this id, made by this entry.
+pub(crate) fn is_made(rt: &impl Abort, got: Got, id: u32, entry: u64) {
     holds(rt, got.id.number() == id, "the id of a new queue");
     holds(rt, got.made == Some(entry), "the entry of its making");
 }
 
 /// A text of these bytes.
-pub(crate) fn drafted<N: Names, R: Abort + Wait>(
-    rt: &R,
-    system: &System<Anything, N>,
-    bytes: &[u8],
-) -> TextOf<N> {
-    match system.draft_of(rt, bytes) {
-        Ok(text) => text,
-        Err(refused) => panic!(rt; "a text is not drafted: {refused}"),
-    }
+pub(crate) fn drafted<S: Calls, R: Abort + Wait>(rt: &R, system: &S, bytes: &[u8]) -> S::Text {
+    system.draft_of(rt, bytes).expect(rt, "a text is drafted")
 }
 
 /// A text of so many zero bytes.
-pub(crate) fn zeros<N: Names, R: Abort + Wait>(
-    rt: &R,
-    system: &System<Anything, N>,
-    len: u64,
-) -> TextOf<N>
-    ensures { result.bytes ≡ replicate len 0 }
-{
+pub(crate) fn zeros<S: Calls, R: Abort + Wait>(rt: &R, system: &S, len: u64) -> S::Text {
     match system.draft(rt, len) {
         Ok(text) => text,
         Err(refused) => panic!(rt; "{len} bytes are not drafted: {refused}"),
@@ -73,13 +64,13 @@ pub(crate) fn zeros<N: Names, R: Abort + Wait>(
 }
 
 /// The entry of a sending.
-pub(crate) fn sent<N: Names, R: Abort + Wait>(
+pub(crate) fn sent<S: Calls, R: Abort + Wait>(
     rt: &R,
-    system: &System<Anything, N>,
-    seats: &mut [Seat<N>],
+    system: &S,
+    seats: &mut [S::Seat],
     id: u32,
     mtype: i64,
-    text: TextOf<N>,
+    text: S::Text,
     moment: u64,
 ) -> u64 {
     match send(rt, system, seats, id, mtype, text, moment) {
@@ -89,13 +80,13 @@ pub(crate) fn sent<N: Names, R: Abort + Wait>(
 }
 
 /// The text of a message that seat 1 sent, which was received by this entry.
-pub(crate) fn text_of<N: Names>(
+pub(crate) fn text_of<T>(
     rt: &impl Abort,
-    delivered: Delivered<TextOf<N>>,
+    delivered: Delivered<T>,
     entry: u64,
     mtype: i64,
     length: u64,
-) -> TextOf<N> {
+) -> T {
     let Delivered {
         entry: its_entry,
         mtype: its_type,
@@ -112,14 +103,14 @@ pub(crate) fn text_of<N: Names>(
 }
 
 /// The first message that is wanted.
-pub(crate) fn received<N: Names, R: Abort + Wait>(
+pub(crate) fn received<S: Calls, R: Abort + Wait>(
     rt: &R,
-    system: &System<Anything, N>,
-    seats: &mut [Seat<N>],
+    system: &S,
+    seats: &mut [S::Seat],
     id: u32,
     wanted: Wanted,
     moment: u64,
-) -> Delivered<TextOf<N>> {
+) -> Delivered<S::Text> {
     match receive(rt, system, seats, id, wanted, moment) {
         Ok(delivered) => delivered,
         Err(refused) => panic!(rt; "no text is received at {moment}: {refused}"),
@@ -127,38 +118,32 @@ pub(crate) fn received<N: Names, R: Abort + Wait>(
 }
 
 /// The entry of a setting.
-pub(crate) fn changed<N: Names, R: Abort + Wait>(
+pub(crate) fn changed<S: Calls, R: Abort + Wait>(
     rt: &R,
-    system: &System<Anything, N>,
-    seats: &mut [Seat<N>],
+    system: &S,
+    seats: &mut [S::Seat],
     id: u32,
     qbytes: u64,
     moment: u64,
 ) -> u64 {
-    match set(rt, system, seats, id, qbytes, moment) {
-        Ok(entry) => entry,
-        Err(refused) => panic!(rt; "a quota is not set: {refused}"),
-    }
+    set(rt, system, seats, id, qbytes, moment).expect(rt, "a quota is set")
 }
 
-pub(crate) fn removed<N: Names, R: Abort + Wait>(
+pub(crate) fn removed<S: Calls, R: Abort + Wait>(
     rt: &R,
-    system: &System<Anything, N>,
-    seats: &mut [Seat<N>],
+    system: &S,
+    seats: &mut [S::Seat],
     id: u32,
     moment: u64,
 ) -> Removal {
-    match remove(rt, system, seats, id, moment) {
-        Ok(removal) => removal,
-        Err(refused) => panic!(rt; "a queue is not removed: {refused}"),
-    }
+    remove(rt, system, seats, id, moment).expect(rt, "a queue is removed")
 }
 
 /// A queue is removed, whatever its log tells.
-pub(crate) fn gone<N: Names, R: Abort + Wait>(
+pub(crate) fn gone<S: Calls, R: Abort + Wait>(
     rt: &R,
-    system: &System<Anything, N>,
-    seats: &mut [Seat<N>],
+    system: &S,
+    seats: &mut [S::Seat],
     id: u32,
     moment: u64,
 ) {
@@ -166,42 +151,29 @@ pub(crate) fn gone<N: Names, R: Abort + Wait>(
 }
 
 /// What a seat is shown of the queue in slot 0.
-pub(crate) fn shown<N: Names, R: Abort + Wait>(
-    rt: &R,
-    system: &System<Anything, N>,
-    seat: &mut Seat<N>,
-) -> Figures {
-    match system.stat(seat, Id::from_number(0)) {
-        Ok(figures) => figures,
-        Err(errno) => panic!(rt; "a queue is not shown: {errno}"),
-    }
+pub(crate) fn shown<S: Calls, R: Abort + Wait>(rt: &R, system: &S, seat: &mut S::Seat) -> Figures {
+    system
+        .stat(seat, Id::from_number(0))
+        .expect(rt, "a queue is shown")
 }
 
 /// A seat is shown no more of the first queue in slot 0, which was removed.
-pub(crate) fn is_removed<N: Names, R: Abort + Wait>(
-    rt: &R,
-    system: &System<Anything, N>,
-    seat: &mut Seat<N>,
-) {
-    match system.stat(seat, Id::from_number(0)) {
-        Ok(_) => panic!(rt; "a removed queue is shown"),
-        Err(errno) => holds(rt, errno == Errno::EIDRM, "EIDRM of a removed queue"),
-    }
+pub(crate) fn is_removed<S: Calls, R: Abort + Wait>(rt: &R, system: &S, seat: &mut S::Seat) {
+    let answer = system.stat(seat, Id::from_number(0));
+    holds(rt, answer == Err(Errno::EIDRM), "EIDRM of a removed queue");
 }
 
-/// The rows of two slots, as a seat is shown them in place of these.
-pub(crate) fn two_rows<N: Names, R: Abort + Wait>(
+/// Of two slots, a seat is shown this row of slot 0, and that no queue was in slot 1.
+pub(crate) fn is_only_row<S: Calls, R: Abort + Wait>(
     rt: &R,
-    system: &System<Anything, N>,
-    seat: &mut Seat<N>,
+    system: &S,
+    seat: &mut S::Seat,
     row: BoardRow,
-) -> [BoardRow; 2]
-    ensures slots { N.slots ≡ 2 }
-{
-    if system.slots() != 2 {
-        panic!(rt; "there are other than two slots");
-    }
+) {
     let mut rows = [row; 2];
-    system.report(seat, &mut rows);
-    rows
+    system.report(rt, seat, &mut rows);
+    let [first, second] = rows;
+    holds(rt, first == row, "the row of slot 0");
+    holds(rt, second.made == 0, "no queue was in slot 1");
+    holds(rt, !second.live, "none is in slot 1");
 }

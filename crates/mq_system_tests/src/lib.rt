@@ -49,6 +49,8 @@ mod shown;
 #[cfg(test)]
 mod slot_calls;
 #[cfg(test)]
+mod system;
+#[cfg(test)]
 mod table;
 #[cfg(test)]
 mod texts;

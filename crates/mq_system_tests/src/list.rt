@@ -1,14 +1,15 @@
 //! A list of all calls that change something, each made once more where there was no memory. It is
 //! run with each allocation refused in turn, and must answer as if none had been.
-ghost use Rattle.std.specs.Prelude.{◌≡◌};
 
 use crate::calls::{CREATE, Wanted, cut, draft, first, seat};
-use crate::day::{Anything, Day, config, left_by};
+use crate::day::{Day, config, left_by};
+use crate::system::Calls;
 use crate::{granted, holds};
 use mq_arena::Homecoming;
-use mq_queue::Base;
-use mq_system::{ClosedSlot, Config, Names, Removal, Seat, System};
-use std::alloc::Global;
+use mq_queue::{Base, Log};
+use mq_system::{ClosedSlot, Removal};
+use mq_table::Cut;
+use std::ops::Range;
 use std::process::Abort;
 use std::sync::Wait;
 use std::thread::Threads;
@@ -29,19 +30,14 @@ fn wanted_at(place: u64) -> i64 {
     (place / 8) as i64 + 1
 }
 
-fn sends<N: Names, R: Abort + Wait>(
-    rt: &R,
-    system: &System<Anything, N>,
-    seats: &mut [Seat<N>],
-    place: u64,
-) {
+fn sends<S: Calls, R: Abort + Wait>(rt: &R, system: &S, seats: &mut [S::Seat], place: u64) {
     let text = granted::zeros(rt, system, 0);
     let entry = granted::sent(rt, system, seats, 0, type_of(place), text, place);
     holds(rt, entry == place.saturating_add(1), "sent at its entry");
 }
 
 /// A text is drafted whose block wants memory, and spent.
-fn drafts<N: Names, R: Abort + Wait>(rt: &R, system: &System<Anything, N>) {
+fn drafts<S: Calls, R: Abort + Wait>(rt: &R, system: &S) {
     match draft(rt, system, 8193) {
         Ok(text) => holds(
             rt,
@@ -52,12 +48,7 @@ fn drafts<N: Names, R: Abort + Wait>(rt: &R, system: &System<Anything, N>) {
     }
 }
 
-fn receives<N: Names, R: Abort + Wait>(
-    rt: &R,
-    system: &System<Anything, N>,
-    seats: &mut [Seat<N>],
-    place: u64,
-) {
+fn receives<S: Calls, R: Abort + Wait>(rt: &R, system: &S, seats: &mut [S::Seat], place: u64) {
     let msgtyp = wanted_at(place);
     let wanted = Wanted { msgtyp, ..first(0) };
     let delivered = granted::received(rt, system, seats, 0, wanted, place);
@@ -66,17 +57,34 @@ fn receives<N: Names, R: Abort + Wait>(
     system.spend(rt, text);
 }
 
-/// The queue is removed, of which so much was cut off.
-fn removes<N: Names, R: Abort + Wait>(rt: &R, system: &System<Anything, N>, seats: &mut [Seat<N>]) {
-    let Removal { entry, log } = granted::removed(rt, system, seats, 0, 91);
-    holds(rt, entry == 82 && log.len() == 83, "its own log");
+/// The messages at these places of those that are received.
+fn receives_all<S: Calls, R: Abort + Wait>(
+    rt: &R,
+    system: &S,
+    seats: &mut [S::Seat],
+    places: Range<u64>,
+) {
+    for place in places {
+        receives(rt, system, seats, place);
+    }
+}
+
+/// The queue's own log tells how much was cut off of it.
+fn tells_of_cuts(rt: &impl Abort, log: Log) {
+    holds(rt, log.len() == 83, "its own log");
     let (base, tail) = log.into_parts();
     holds(rt, base.places == 61, "what was cut off of it");
     holds(rt, base.waiting.len() == 20, "what waited then");
     holds(rt, tail.len() == 22, "the rest of it");
 }
 
-fn changes<N: Names, R: Abort + Wait>(rt: &R, system: &System<Anything, N>, seats: &mut [Seat<N>]) {
+fn removes<S: Calls, R: Abort + Wait>(rt: &R, system: &S, seats: &mut [S::Seat]) {
+    let Removal { entry, log } = granted::removed(rt, system, seats, 0, 91);
+    holds(rt, entry == 82, "it is removed by entry 82");
+    tells_of_cuts(rt, log);
+}
+
+fn changes<S: Calls, R: Abort + Wait>(rt: &R, system: &S, seats: &mut [S::Seat]) {
     let entry = granted::changed(rt, system, seats, 0, 100, 90);
     holds(rt, entry == 81, "the quota is set by entry 81");
     let figures = granted::shown(rt, system, seat(rt, seats, 0));
@@ -101,16 +109,22 @@ fn is_base(rt: &impl Abort, base: Option<Base>, first: u64, waiting: Option<u64>
 
 /// Slot 0 is cut: so many entries were cut off before, of which so many messages were waiting if
 /// they left a queue, and so many are handed out of a removed queue and of the one that is there.
-fn cuts<N: Names, R: Abort + Wait>(
+fn cuts<S: Calls, R: Abort + Wait>(
     rt: &R,
-    system: &System<Anything, N>,
-    seats: &mut [Seat<N>],
+    system: &S,
+    seats: &mut [S::Seat],
     first: u64,
     waiting: Option<u64>,
     past: usize,
     last: usize,
 ) {
     let cut = cut(rt, system, seats, 0);
+    counts(rt, &cut, first, past, last);
+    is_base(rt, cut.base, first, waiting);
+}
+
+/// A cut counts so many entries before it, and hands out so many of removed queues and of the last.
+fn counts(rt: &impl Abort, cut: &Cut, first: u64, past: usize, last: usize) {
     holds(rt, cut.first == first, "as much was cut off before");
     holds(
         rt,
@@ -119,20 +133,17 @@ fn cuts<N: Names, R: Abort + Wait>(
     );
     holds(rt, cut.past.len() == past, "as much of a removed queue");
     holds(rt, cut.last.len() == last, "as much of a queue");
-    is_base(rt, cut.base, first, waiting);
 }
 
 #[derive(Drop)]
 struct Listed;
 
-impl Day<Anything> for Listed {
-    fn spend<N: Names, R: Abort + Threads + Wait>(
+impl Day for Listed {
+    fn spend<S: Calls, R: Abort + Threads + Wait>(
         &self,
         rt: &R,
-        _alloc: Global,
-        _config: Config,
-        system: &System<Anything, N>,
-        seats: &mut [Seat<N>],
+        system: &S,
+        seats: &mut [S::Seat],
     ) {
         granted::made(rt, system, seats, 9, CREATE, 1, 0, 0);
         granted::made(rt, system, seats, 0, CREATE, 1, 1, 0);
@@ -141,13 +152,9 @@ impl Day<Anything> for Listed {
         }
         drafts(rt, system);
         cuts(rt, system, seats, 0, None, 0, 41);
-        for place in 0..HALF {
-            receives(rt, system, seats, place);
-        }
+        receives_all(rt, system, seats, 0..HALF);
         cuts(rt, system, seats, 41, Some(40), 0, 20);
-        for place in HALF..MESSAGES {
-            receives(rt, system, seats, place);
-        }
+        receives_all(rt, system, seats, HALF..MESSAGES);
         changes(rt, system, seats);
         cuts(rt, system, seats, 61, Some(20), 22, 0);
         granted::made(rt, system, seats, 9, CREATE, 1, 64, 83);

@@ -2,10 +2,10 @@
 //! from nobody.
 
 use crate::calls::seat;
-use crate::day::{Anything, Day, config, left_by};
+use crate::day::{Day, config, left_by};
+use crate::system::Calls;
 use crate::{granted, holds};
-use mq_system::{Config, DraftError, Names, Seat, System, TextOf};
-use std::alloc::Global;
+use mq_system::DraftError;
 use std::process::Abort;
 use std::sync::Wait;
 use std::test::Fail;
@@ -20,7 +20,7 @@ fn front(len: usize) -> &'static [u8] {
 }
 
 /// No eight pages are free, since one is in use.
-fn finds_no_run<N: Names, R: Abort + Wait>(rt: &R, system: &System<Anything, N>, seat: &Seat<N>) {
+fn finds_no_run<S: Calls, R: Abort + Wait>(rt: &R, system: &S, seat: &S::Seat) {
     match system.draft_by(rt, seat, front(8192)) {
         Err(DraftError::NoRun) => (),
         _ => panic!(rt; "a page is in use, and all are drafted"),
@@ -28,40 +28,48 @@ fn finds_no_run<N: Names, R: Abort + Wait>(rt: &R, system: &System<Anything, N>,
 }
 
 /// A text of these bytes, drafted by a seat.
-fn drafted<N: Names, R: Abort + Wait>(
+fn drafted<S: Calls, R: Abort + Wait>(
     rt: &R,
-    system: &System<Anything, N>,
-    seats: &mut [Seat<N>],
+    system: &S,
+    seats: &mut [S::Seat],
     number: usize,
     bytes: &[u8],
-) -> TextOf<N> {
+) -> S::Text {
     match system.draft_by(rt, seat(rt, seats, number.saturating_sub(1)), bytes) {
         Ok(text) => text,
         Err(refused) => panic!(rt; "seat {number} is refused: {refused}"),
     }
 }
 
-/// Whether this part of a text has these bytes.
-fn has_part<N: Names>(text: &TextOf<N>, index: usize, bytes: &[u8]) -> bool {
-    index < text.count() && text.part(index) == bytes
-}
-
-fn spent<N: Names, R: Abort + Wait>(
+fn spent<S: Calls, R: Abort + Wait>(
     rt: &R,
-    system: &System<Anything, N>,
-    seats: &mut [Seat<N>],
+    system: &S,
+    seats: &mut [S::Seat],
     number: usize,
-    text: TextOf<N>,
+    text: S::Text,
 ) {
     system.spend_by(rt, seat(rt, seats, number.saturating_sub(1)), text);
 }
 
+/// The text has these bytes.
+fn has<S: Calls, R: Abort>(rt: &R, system: &S, text: &S::Text, bytes: &[u8]) {
+    holds(rt, system.shows(text, bytes), "its bytes");
+}
+
+/// The text stands where a text stood that was spent.
+fn stands_at<S: Calls, R: Abort>(rt: &R, system: &S, text: &S::Text, start: Option<u32>) {
+    let its_start = system.shape(text).start;
+    holds(rt, its_start == start, "a block that was spent");
+}
+
+/// The text stands elsewhere than a text that another seat has spent.
+fn stands_elsewhere<S: Calls, R: Abort>(rt: &R, system: &S, text: &S::Text, start: Option<u32>) {
+    let its_start = system.shape(text).start;
+    holds(rt, its_start != start, "a block of another seat is taken");
+}
+
 /// Each page is kept back by seat 1, or one in the first half and one in the second.
-fn seat_1_keeps_pages<N: Names, R: Abort + Wait>(
-    rt: &R,
-    system: &System<Anything, N>,
-    seats: &mut [Seat<N>],
-) {
+fn seat_1_keeps_pages<S: Calls, R: Abort + Wait>(rt: &R, system: &S, seats: &mut [S::Seat]) {
     let half = drafted(rt, system, seats, 1, front(4096));
     let page = drafted(rt, system, seats, 1, b"page");
     spent(rt, system, seats, 1, half);
@@ -71,18 +79,16 @@ fn seat_1_keeps_pages<N: Names, R: Abort + Wait>(
 /// What one seat keeps back another one drafts, and so does who has no seat.
 struct Withholds;
 
-impl Day<Anything> for Withholds {
-    fn spend<N: Names, R: Abort + Threads + Wait>(
+impl Day for Withholds {
+    fn spend<S: Calls, R: Abort + Threads + Wait>(
         &self,
         rt: &R,
-        _alloc: Global,
-        _config: Config,
-        system: &System<Anything, N>,
-        seats: &mut [Seat<N>],
+        system: &S,
+        seats: &mut [S::Seat],
     ) {
         seat_1_keeps_pages(rt, system, seats);
         let whole = drafted(rt, system, seats, 2, front(8192));
-        holds(rt, has_part(&whole, 7, front(1024)), "its last page");
+        has(rt, system, &whole, front(8192));
         spent(rt, system, seats, 2, whole);
 
         let page = drafted(rt, system, seats, 1, b"page");
@@ -90,10 +96,10 @@ impl Day<Anything> for Withholds {
         spent(rt, system, seats, 1, page);
 
         let whole = granted::zeros(rt, system, 8192);
-        holds(rt, has_part(&whole, 0, &[0; 1024]), "it is zero");
+        holds(rt, system.is_zero(&whole), "it is zero");
         spent(rt, system, seats, 2, whole);
         let page = granted::drafted(rt, system, b"page");
-        holds(rt, has_part(&page, 0, b"page"), "its bytes");
+        has(rt, system, &page, b"page");
         system.spend(rt, page);
         seat_1_keeps_pages(rt, system, seats);
     }
@@ -106,38 +112,36 @@ fn what_a_seat_keeps_back_is_withheld_from_nobody(rt: HostRuntime) -> Result<(),
     Ok(())
 }
 
+fn is_one_page<S: Calls, R: Abort>(rt: &R, system: &S, text: &S::Text) {
+    holds(rt, system.shape(text).order == Some(0), "one page");
+}
+
 /// A seat drafts the block that it has spent, and that of its own order.
 struct Reuses;
 
-impl Day<Anything> for Reuses {
-    fn spend<N: Names, R: Abort + Threads + Wait>(
+impl Day for Reuses {
+    fn spend<S: Calls, R: Abort + Threads + Wait>(
         &self,
         rt: &R,
-        _alloc: Global,
-        _config: Config,
-        system: &System<Anything, N>,
-        seats: &mut [Seat<N>],
+        system: &S,
+        seats: &mut [S::Seat],
     ) {
         let first = drafted(rt, system, seats, 1, b"first");
         let second = drafted(rt, system, seats, 1, b"second");
         let pair = drafted(rt, system, seats, 1, front(2048));
-        let (start, two) = (second.start(), pair.start());
+        let (start, two) = (system.shape(&second).start, system.shape(&pair).start);
         spent(rt, system, seats, 1, second);
         spent(rt, system, seats, 1, pair);
 
         let third = drafted(rt, system, seats, 2, b"third");
-        holds(
-            rt,
-            third.start() != start,
-            "a block of another seat is taken",
-        );
+        stands_elsewhere(rt, system, &third, start);
         let pair = drafted(rt, system, seats, 1, front(1025));
-        holds(rt, pair.start() == two, "the two pages that were spent");
+        stands_at(rt, system, &pair, two);
         let fourth = drafted(rt, system, seats, 1, b"4th");
-        holds(rt, fourth.start() == start, "the page that was spent");
-        holds(rt, has_part(&fourth, 0, b"4th"), "its new bytes");
-        holds(rt, fourth.order() == Some(0), "one page");
-        spent(rt, system, seats, 1, TextOf::<N>::empty());
+        stands_at(rt, system, &fourth, start);
+        has(rt, system, &fourth, b"4th");
+        is_one_page(rt, system, &fourth);
+        spent(rt, system, seats, 1, granted::zeros(rt, system, 0));
         spent(rt, system, seats, 1, first);
         spent(rt, system, seats, 1, third);
         spent(rt, system, seats, 1, pair);
@@ -155,28 +159,26 @@ fn a_seat_drafts_the_block_that_it_has_spent(rt: HostRuntime) -> Result<(), Fail
 /// A seat keeps back what it spends of another, and gives it back where its magazine is full.
 struct GoesBack;
 
-impl Day<Anything> for GoesBack {
-    fn spend<N: Names, R: Abort + Threads + Wait>(
+impl Day for GoesBack {
+    fn spend<S: Calls, R: Abort + Threads + Wait>(
         &self,
         rt: &R,
-        _alloc: Global,
-        _config: Config,
-        system: &System<Anything, N>,
-        seats: &mut [Seat<N>],
+        system: &S,
+        seats: &mut [S::Seat],
     ) {
         let page = drafted(rt, system, seats, 1, b"page");
-        let least = page.start();
+        let least = system.shape(&page).start;
         spent(rt, system, seats, 2, page);
         let page = drafted(rt, system, seats, 2, b"page");
-        holds(rt, page.start() == least, "the page that it has spent");
+        stands_at(rt, system, &page, least);
         let other = drafted(rt, system, seats, 1, b"other");
         let whole = drafted(rt, system, seats, 2, front(8192));
         spent(rt, system, seats, 2, whole);
         system.spend(rt, page);
-        let start = other.start();
+        let start = system.shape(&other).start;
         spent(rt, system, seats, 2, other);
         let other = drafted(rt, system, seats, 1, b"other");
-        holds(rt, other.start() == start, "the page that came back");
+        stands_at(rt, system, &other, start);
         spent(rt, system, seats, 1, other);
     }
 }

@@ -74,16 +74,10 @@ pub(crate) fn seated<N: Names>(
     requires readers { readers.items ≡ seats 0 2 }
     requires parts { 2 ≤ tally.old.unused.parts }
 {
-    let Ok(mut rows) = Vec::with_capacity(alloc, 1) else {
-        panic!(rt; "out of memory")
-    };
+    let mut rows = Vec::with_capacity(alloc, 1).expect(rt, "no memory for the readers");
     rows.push_reserved(readers);
-    let Ok(second) = seat(alloc, tally, rows.as_mut_slice(), 2) else {
-        panic!(rt; "out of memory")
-    };
-    let Ok(first) = seat(alloc, tally, rows.as_mut_slice(), 1) else {
-        panic!(rt; "out of memory")
-    };
+    let second = seat(alloc, tally, rows.as_mut_slice(), 2).expect(rt, "no memory for seat 2");
+    let first = seat(alloc, tally, rows.as_mut_slice(), 1).expect(rt, "no memory for seat 1");
     (first, second)
 }
 

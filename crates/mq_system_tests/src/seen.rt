@@ -1,18 +1,17 @@
 //! What one seat sees of what another did.
-ghost use Rattle.std.specs.Prelude.{◌≡◌};
 
-use crate::calls::{CREATE, NO_FLAG, refused, seat};
-use crate::day::{Anything, Day, config, left_by};
+use crate::calls::{CREATE, NO_FLAG, counts, refused, seat};
+use crate::day::{Day, config, left_by};
+use crate::system::Calls;
 use crate::{granted, holds};
 use mq_queue::BoardRow;
-use mq_system::{Config, Errno, Names, Seat, System};
-use std::alloc::Global;
+use mq_system::Errno;
 use std::process::Abort;
 use std::sync::Wait;
 use std::thread::Threads;
 
 /// Seat 1 makes a queue with key 9, and seat 2 finds it.
-fn found<N: Names, R: Abort + Wait>(rt: &R, system: &System<Anything, N>, seats: &mut [Seat<N>]) {
+fn found<S: Calls, R: Abort + Wait>(rt: &R, system: &S, seats: &mut [S::Seat]) {
     granted::made(rt, system, seats, 9, CREATE, 1, 0, 0);
     match system.msgget(rt, seat(rt, seats, 1), 9, NO_FLAG, 2) {
         Ok(got) => granted::is_found(rt, got),
@@ -21,15 +20,15 @@ fn found<N: Names, R: Abort + Wait>(rt: &R, system: &System<Anything, N>, seats:
 }
 
 /// Seat 2 is shown a message that seat 1 sent.
-fn shown<N: Names, R: Abort + Wait>(rt: &R, system: &System<Anything, N>, seats: &mut [Seat<N>]) {
+fn shown<S: Calls, R: Abort + Wait>(rt: &R, system: &S, seats: &mut [S::Seat]) {
     let text = granted::drafted(rt, system, b"hi");
     let entry = granted::sent(rt, system, seats, 0, 1, text, 3);
     holds(rt, entry == 1, "it is sent by entry 1");
     one_waits(rt, system, seat(rt, seats, 1));
 }
 
-/// A seat that changed nothing is shown a message.
-fn one_waits<N: Names, R: Abort + Wait>(rt: &R, system: &System<Anything, N>, seat: &mut Seat<N>) {
+/// A seat that changed nothing, and counts nothing, is shown a message.
+fn one_waits<S: Calls, R: Abort + Wait>(rt: &R, system: &S, seat: &mut S::Seat) {
     let figures = granted::shown(rt, system, seat);
     let row = BoardRow {
         made: 1,
@@ -37,16 +36,13 @@ fn one_waits<N: Names, R: Abort + Wait>(rt: &R, system: &System<Anything, N>, se
         key: 9,
         figures,
     };
-    let rows = granted::two_rows(rt, system, seat, row);
     holds(rt, figures.qnum == 1, "one message waits");
-    holds(rt, rows[0] == row, "the row of slot 0");
-    holds(rt, rows[1].made == 0, "no queue was in slot 1");
-    holds(rt, !rows[1].live, "none is in slot 1");
-    holds(rt, seat.count(0) == 0, "seat 2 changed nothing");
+    granted::is_only_row(rt, system, seat, row);
+    counts(rt, system, seat, 0);
 }
 
 /// Seat 1 removes the queue, of which seat 2 then gets EIDRM.
-fn gone<N: Names, R: Abort + Wait>(rt: &R, system: &System<Anything, N>, seats: &mut [Seat<N>]) {
+fn gone<S: Calls, R: Abort + Wait>(rt: &R, system: &S, seats: &mut [S::Seat]) {
     let removal = granted::removed(rt, system, seats, 0, 4);
     holds(rt, removal.entry == 2, "it is removed by entry 2");
     granted::is_removed(rt, system, seat(rt, seats, 1));
@@ -56,14 +52,12 @@ fn gone<N: Names, R: Abort + Wait>(rt: &R, system: &System<Anything, N>, seats: 
 #[derive(Drop)]
 struct TwoSeats;
 
-impl Day<Anything> for TwoSeats {
-    fn spend<N: Names, R: Abort + Threads + Wait>(
+impl Day for TwoSeats {
+    fn spend<S: Calls, R: Abort + Threads + Wait>(
         &self,
         rt: &R,
-        _alloc: Global,
-        _config: Config,
-        system: &System<Anything, N>,
-        seats: &mut [Seat<N>],
+        system: &S,
+        seats: &mut [S::Seat],
     ) {
         found(rt, system, seats);
         shown(rt, system, seats);

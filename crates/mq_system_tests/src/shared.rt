@@ -18,7 +18,7 @@ use std::process::Abort;
 use std::sync::Wait;
 
 /// What the parts are tried by: the calls of the slot itself, or what a seat sees of them.
-#[derive(Clone, Copy, PartialEq, Eq)]
+#[derive(Clone, Copy)]
 pub(crate) enum Day {
     Slot,
     Seat,
@@ -132,24 +132,32 @@ fn spent_day<N: Names, R: Abort + Wait>(
     }
 }
 
-fn apart<N: Names, R: Abort + Wait>(rt: &R, alloc: Global, config: Config, blanks: Blanks, day: Day)
-    requires names { AreNames N.Names.own N.Naming blanks config }
-    requires enough { LEDGER_PARTS ≤ blanks.pages.parts }
+/// It is the size of a system of one slot and two seats.
+fn is_least(rt: &impl Abort, config: Config)
+    ensures slots { config.slots ≡ 1 }
+    ensures seats { config.seats ≡ 2 }
+    ensures last_seq { config.last_seq ≤ MAX_SEQ }
 {
     holds(rt, config.slots == 1, "one slot");
     holds(rt, config.seats == 2, "two seats");
     holds(rt, config.last_seq <= MAX_SEQ, "its last seq");
+}
+
+fn apart<N: Names, R: Abort + Wait>(rt: &R, alloc: Global, config: Config, blanks: Blanks, day: Day)
+    requires names { AreNames N.Names.own N.Naming blanks config }
+    requires enough { LEDGER_PARTS ≤ blanks.pages.parts }
+{
+    is_least(rt, config);
     let Blanks {
         pages,
         entries,
         mut boards,
     } = blanks;
-    let Ok(unopened) = Unopened::new(alloc, config.height) else {
-        panic!(rt; "out of memory")
-    };
-    let Ok((writer, readers)) = next_board::<N>(alloc, &mut boards, 0, 2) else {
-        panic!(rt; "out of memory")
-    };
+    let unopened = Unopened::new(alloc, config.height).expect(rt, "no memory for the pages");
+    let (writer, readers) = next_board::<N>(alloc, &mut boards, 0, 2).expect(
+        rt,
+        "no memory for the board",
+    );
     let mut tally = Tally::<N>::new(entries);
     let slot = Slot::new(alloc, 0);
     let slot = SharedSlot::<Anything, N>::new(slot, writer, tally.slot_part());

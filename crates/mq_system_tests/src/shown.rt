@@ -1,13 +1,11 @@
 //! A report shows each slot's row, and what is in use in all of them.
-ghost use Rattle.std.specs.Prelude.{◌≡◌};
 
 use crate::calls::{CREATE, seat};
-use crate::day::{Anything, Day, config, left_by};
+use crate::day::{Day, config, left_by};
+use crate::system::Calls;
 use crate::{granted, holds};
 use mq_calls::Usage;
 use mq_queue::{BoardRow, Figures};
-use mq_system::{Config, Names, Seat, System};
-use std::alloc::Global;
 use std::process::Abort;
 use std::sync::Wait;
 use std::thread::Threads;
@@ -61,25 +59,14 @@ fn row_of_new(made: u32, key: i32, ctime: u64) -> BoardRow {
 }
 
 /// The rows of four slots, as a seat is shown them.
-fn four_rows<N: Names, R: Abort + Wait>(
-    rt: &R,
-    system: &System<Anything, N>,
-    seat: &mut Seat<N>,
-) -> [BoardRow; 4] {
-    if system.slots() != 4 {
-        panic!(rt; "there are other than four slots");
-    }
+fn four_rows<S: Calls, R: Abort + Wait>(rt: &R, system: &S, seat: &mut S::Seat) -> [BoardRow; 4] {
     let mut rows: [BoardRow; 4] = [row_of_new(9, 9, 9); 4];
-    system.report(seat, &mut rows);
+    system.report(rt, seat, &mut rows);
     rows
 }
 
 /// A seat is shown two queues in four slots.
-fn two_are_shown<N: Names, R: Abort + Wait>(
-    rt: &R,
-    system: &System<Anything, N>,
-    seat: &mut Seat<N>,
-) {
+fn two_are_shown<S: Calls, R: Abort + Wait>(rt: &R, system: &S, seat: &mut S::Seat) {
     let rows = four_rows(rt, system, seat);
     holds(rt, rows[0] == row_of_new(2, 7, 6), "the second in slot 0");
     holds(rt, rows[1] == row_of_new(1, -8, 2), "the queue of slot 1");
@@ -91,14 +78,12 @@ fn two_are_shown<N: Names, R: Abort + Wait>(
 #[derive(Drop)]
 struct Report;
 
-impl Day<Anything> for Report {
-    fn spend<N: Names, R: Abort + Threads + Wait>(
+impl Day for Report {
+    fn spend<S: Calls, R: Abort + Threads + Wait>(
         &self,
         rt: &R,
-        _alloc: Global,
-        _config: Config,
-        system: &System<Anything, N>,
-        seats: &mut [Seat<N>],
+        system: &S,
+        seats: &mut [S::Seat],
     ) {
         granted::got(rt, system, seats, 0, CREATE, 1);
         granted::got(rt, system, seats, -8, CREATE, 2);

@@ -2,12 +2,14 @@
 ghost use Rattle.std.specs.Prelude.{◌≡◌, ◌<◌, ◌≤◌};
 ghost use Rattle.mq_system.specs.Seat.{front_of};
 
-use crate::calls::{has, is_first, is_second};
+use crate::calls::{is, is_first, is_second};
 use crate::day::Anything;
+use crate::granted::{is_made, text_of};
 use crate::holds;
 use crate::parts::{emptied, figures_of, not_shown};
-use mq_calls::{Delivered, Errno, Refused, Removal};
+use mq_calls::{Errno, Removal};
 use mq_message::Selection;
+use mq_queue::{BoardRow, Figures};
 use mq_system::{Keys, Names, Seat, SharedSlot, TextOf};
 use mq_table::{Cut, Id, IdRefusal, MAX_SEQ};
 use std::process::Abort;
@@ -78,30 +80,30 @@ pub(crate) fn made<N: Names, R: Abort + Wait>(
 {
     entered(rt, slot, seat);
     keys.holds();
-    holds(rt, slot.is_number(0) && !slot.is_number(1), "its number");
-    holds(rt, slot.with_key(5).is_none(), "no queue has the key");
+    is_new(rt, slot);
     if !slot.is_free(last_seq) || keys.look(5).is_some() {
         panic!(rt; "a new slot is not free");
     }
     match slot.make(rt, keys, seat, 5, 4) {
-        Ok(got) => holds(
-            rt,
-            got.id.number() == 0 && got.made == Some(0),
-            "id 0, made by entry 0",
-        ),
+        Ok(got) => is_made(rt, got, 0, 0),
         Err(_) => panic!(rt; "out of memory"),
     }
     holds(rt, !slot.is_free(last_seq), "a queue is there");
-    holds(
-        rt,
-        slot.with_key(5).is_some() && keys.look(5).is_some(),
-        "it has its key",
-    );
-    holds(
-        rt,
-        slot.with_key(6).is_none() && keys.look(6).is_none(),
-        "and no other",
-    );
+    has_its_key(rt, slot, keys);
+}
+
+/// It is slot 0, in which no queue has key 5.
+fn is_new<N: Names>(rt: &impl Abort, slot: &SharedSlot<Anything, N>) {
+    holds(rt, slot.is_number(0) && !slot.is_number(1), "its number");
+    holds(rt, slot.with_key(5).is_none(), "no queue has the key");
+}
+
+/// The queue is found by key 5 alone, in its slot and among the keys.
+fn has_its_key<N: Names>(rt: &impl Abort, slot: &SharedSlot<Anything, N>, keys: &Keys<N>) {
+    holds(rt, slot.with_key(5).is_some(), "it has its key");
+    holds(rt, keys.look(5).is_some(), "its key is known");
+    holds(rt, slot.with_key(6).is_none(), "it has no other key");
+    holds(rt, keys.look(6).is_none(), "no other key is known");
 }
 
 /// A text is sent, and the seat knows of it.
@@ -149,22 +151,24 @@ pub(crate) fn shown<N: Names>(
     let before = seat.row(0);
     entered(rt, slot, seat);
     let after = seat.row(0);
+    let figures = figures_of(rt, seat);
+    is_row(rt, after, figures);
     holds(
         rt,
         before.made <= 1 && before.figures.qnum <= 1,
         "no more than there is",
     );
+}
+
+/// It is the row of the queue with key 5, in which one message waits.
+fn is_row(rt: &impl Abort, row: BoardRow, figures: Figures) {
     holds(
         rt,
-        after.live && after.made == 1 && after.key == 5,
+        row.live && row.made == 1 && row.key == 5,
         "the queue's row",
     );
-    holds(
-        rt,
-        figures_of(rt, seat) == after.figures,
-        "the row's figures",
-    );
-    holds(rt, after.figures.qnum == 1, "what waits");
+    holds(rt, figures == row.figures, "the row's figures");
+    holds(rt, figures.qnum == 1, "what waits");
 }
 
 pub(crate) fn received<N: Names, R: Abort + Wait>(
@@ -177,26 +181,19 @@ pub(crate) fn received<N: Names, R: Abort + Wait>(
 {
     entered(rt, slot, seat);
     match slot.receive(rt, seat, Id::of(0, 0), 2, Selection::Any, false, 6) {
-        Ok(
-            Delivered {
-                entry,
-                mtype: _,
-                sender,
-                tag,
-                length: _,
-                text,
-            },
-        ) => {
-            holds(
-                rt,
-                entry == 2 && sender == 1 && tag == 7,
-                "what seat 1 sent",
-            );
-            holds(rt, has::<N>(&text, b"hi"), "its text");
+        Ok(delivered) => {
+            let text = text_of(rt, delivered, 2, 1, 2);
+            is_hi(rt, &text);
             text
         }
         Err(_) => panic!(rt; "out of memory"),
     }
+}
+
+/// The text is the one that was sent.
+fn is_hi<N: Names>(rt: &impl Abort, text: &TextOf<N>) {
+    let is_page = text.count() == 1;
+    holds(rt, is_page && text.part(0) == b"hi".as_slice(), "its text");
 }
 
 /// A quota over the limit is refused, and one of nothing is set.
@@ -211,11 +208,7 @@ pub(crate) fn changed<N: Names, R: Abort + Wait>(
     entered(rt, slot, seat);
     match slot.set(rt, seat, Id::of(0, 0), 131_073, 7) {
         Ok(_) => panic!(rt; "a quota over the limit was set"),
-        Err(Refused { errno, entry }) => holds(
-            rt,
-            errno == Errno::EPERM && entry == Some(3),
-            "EPERM over the limit",
-        ),
+        Err(refused) => is(rt, refused, Errno::EPERM, Some(3)),
     }
     entered(rt, slot, seat);
     match slot.set(rt, seat, Id::of(0, 0), 0, 7) {
@@ -242,8 +235,15 @@ pub(crate) fn removed<N: Names, R: Abort + Wait>(
         }
         Err(_) => panic!(rt; "out of memory"),
     }
-    holds(rt, keys.look(5).is_none(), "its key is forgotten");
+    is_gone(rt, slot, keys);
     keys.forget_key(5);
+}
+
+/// A removed queue is in no slot, and its key is forgotten.
+fn is_gone<N: Names>(rt: &impl Abort, slot: &SharedSlot<Anything, N>, keys: &Keys<N>)
+    requires number { slot.now.number ≡ 0 }
+{
+    holds(rt, keys.look(5).is_none(), "its key is forgotten");
     match slot.look(Id::of(0, 0)) {
         Ok(()) => panic!(rt; "a removed queue is there"),
         Err(refused) => holds(

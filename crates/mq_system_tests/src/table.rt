@@ -1,13 +1,10 @@
 //! Tables of calls and of what they answer.
-ghost use Rattle.std.specs.Prelude.{◌≡◌};
 
-use crate::calls::{Wanted, cut, draft, get, has, receive, remove, send, set};
-use crate::day::{Anything, Day, left_by};
+use crate::calls::{Wanted, cut, draft, get, receive, remove, send, set};
+use crate::day::{Day, left_by};
+use crate::system::Calls;
 use mq_arena::Homecoming;
-use mq_system::{
-    Config, Delivered, Errno, GetFlags, Got, MAX_HEIGHT, Names, Refused, Seat, SendRefused, System,
-    TextOf,
-};
+use mq_system::{Config, Delivered, Errno, GetFlags, Got, MAX_HEIGHT, Refused, SendRefused};
 use mq_table::{Cut, Id};
 use std::alloc::Global;
 use std::process::Abort;
@@ -33,7 +30,7 @@ pub(crate) enum Step {
     Draft(u64),
 }
 
-#[derive(Clone, Copy, PartialEq, Eq)]
+#[derive(Clone, Copy, PartialEq)]
 pub(crate) enum Answer {
     /// The id, and the entry of its making.
     Id(u32, Option<u64>),
@@ -60,24 +57,24 @@ fn refusal(refused: Refused) -> Answer {
 }
 
 /// Spends a text that must have these bytes.
-fn spent<N: Names, R: Wait>(
+fn spent<S: Calls, R: Wait>(
     rt: &R,
-    system: &System<Anything, N>,
-    text: TextOf<N>,
+    system: &S,
+    text: S::Text,
     bytes: &[u8],
     answer: Answer,
 ) -> Answer {
-    let same = has(&text, bytes);
+    let same = system.shows(&text, bytes);
     match system.spend(rt, text) {
         Homecoming::Home if same => answer,
         _ => Answer::Astray,
     }
 }
 
-fn got<N: Names, R: Abort + Wait>(
+fn got<S: Calls, R: Abort + Wait>(
     rt: &R,
-    system: &System<Anything, N>,
-    seats: &mut [Seat<N>],
+    system: &S,
+    seats: &mut [S::Seat],
     key: i32,
     flags: GetFlags,
     moment: u64,
@@ -88,10 +85,10 @@ fn got<N: Names, R: Abort + Wait>(
     }
 }
 
-fn sent<N: Names, R: Abort + Wait>(
+fn sent<S: Calls, R: Abort + Wait>(
     rt: &R,
-    system: &System<Anything, N>,
-    seats: &mut [Seat<N>],
+    system: &S,
+    seats: &mut [S::Seat],
     id: u32,
     mtype: i64,
     bytes: &[u8],
@@ -107,10 +104,10 @@ fn sent<N: Names, R: Abort + Wait>(
     }
 }
 
-fn received<N: Names, R: Abort + Wait>(
+fn received<S: Calls, R: Abort + Wait>(
     rt: &R,
-    system: &System<Anything, N>,
-    seats: &mut [Seat<N>],
+    system: &S,
+    seats: &mut [S::Seat],
     id: u32,
     wanted: Wanted,
     bytes: &[u8],
@@ -131,10 +128,10 @@ fn received<N: Names, R: Abort + Wait>(
     }
 }
 
-fn changed<N: Names, R: Abort + Wait>(
+fn changed<S: Calls, R: Abort + Wait>(
     rt: &R,
-    system: &System<Anything, N>,
-    seats: &mut [Seat<N>],
+    system: &S,
+    seats: &mut [S::Seat],
     id: u32,
     qbytes: u64,
     moment: u64,
@@ -145,10 +142,10 @@ fn changed<N: Names, R: Abort + Wait>(
     }
 }
 
-fn removed<N: Names, R: Abort + Wait>(
+fn removed<S: Calls, R: Abort + Wait>(
     rt: &R,
-    system: &System<Anything, N>,
-    seats: &mut [Seat<N>],
+    system: &S,
+    seats: &mut [S::Seat],
     id: u32,
     moment: u64,
 ) -> Answer {
@@ -158,12 +155,7 @@ fn removed<N: Names, R: Abort + Wait>(
     }
 }
 
-fn shown<N: Names, R: Abort + Wait>(
-    rt: &R,
-    system: &System<Anything, N>,
-    seats: &mut [Seat<N>],
-    id: u32,
-) -> Answer {
+fn shown<S: Calls, R: Abort + Wait>(rt: &R, system: &S, seats: &mut [S::Seat], id: u32) -> Answer {
     let seat = crate::calls::seat(rt, seats, 1);
     match system.stat(seat, Id::from_number(id)) {
         Ok(figures) => Answer::Shown(figures.qnum, figures.cbytes, figures.qbytes),
@@ -171,10 +163,10 @@ fn shown<N: Names, R: Abort + Wait>(
     }
 }
 
-fn cut_off<N: Names, R: Abort + Wait>(
+fn cut_off<S: Calls, R: Abort + Wait>(
     rt: &R,
-    system: &System<Anything, N>,
-    seats: &mut [Seat<N>],
+    system: &S,
+    seats: &mut [S::Seat],
     slot: u8,
 ) -> Answer {
     let Cut {
@@ -191,7 +183,7 @@ fn cut_off<N: Names, R: Abort + Wait>(
     Answer::Cut(first, made, places, past.len(), last.len())
 }
 
-fn drafted<N: Names, R: Wait>(rt: &R, system: &System<Anything, N>, len: u64) -> Answer {
+fn drafted<S: Calls, R: Wait>(rt: &R, system: &S, len: u64) -> Answer {
     match draft(rt, system, len) {
         Ok(text) => match system.spend(rt, text) {
             Homecoming::Home => Answer::Drafted,
@@ -201,10 +193,10 @@ fn drafted<N: Names, R: Wait>(rt: &R, system: &System<Anything, N>, len: u64) ->
     }
 }
 
-fn called<N: Names, R: Abort + Wait>(
+fn called<S: Calls, R: Abort + Wait>(
     rt: &R,
-    system: &System<Anything, N>,
-    seats: &mut [Seat<N>],
+    system: &S,
+    seats: &mut [S::Seat],
     step: Step,
     moment: u64,
 ) -> Answer {
@@ -223,22 +215,19 @@ fn called<N: Names, R: Abort + Wait>(
 }
 
 /// How many changes a seat made in all slots.
-fn changes_of<N: Names>(seat: &Seat<N>, slots: u8) -> u64
-    requires slots { slots ≡ N.slots }
-{
+fn changes_of<S: Calls, R: Abort>(rt: &R, system: &S, seat: &S::Seat) -> u64 {
     let mut all = 0u64;
-    for slot in 0..slots {
-        all = all.wrapping_add(seat.count(slot as usize));
+    for slot in 0..system.slots() {
+        all = all.wrapping_add(system.count(rt, seat, slot));
     }
     all
 }
 
 /// How many changes the seats made in all slots.
-fn changes<N: Names>(system: &System<Anything, N>, seats: &[Seat<N>]) -> u64 {
-    let slots = system.slots();
+fn changes<S: Calls, R: Abort>(rt: &R, system: &S, seats: &[S::Seat]) -> u64 {
     let mut all = 0u64;
     for seat in seats.iter() {
-        all = all.wrapping_add(changes_of(seat, slots));
+        all = all.wrapping_add(changes_of(rt, system, seat));
     }
     all
 }
@@ -251,30 +240,41 @@ fn counts(answer: Answer) -> u64 {
     }
 }
 
+/// A call answers as it must, and counts as one change if it changed something.
+fn plays_step<S: Calls, R: Abort + Wait>(
+    rt: &R,
+    system: &S,
+    seats: &mut [S::Seat],
+    (step, wanted): (Step, Answer),
+    moment: u64,
+) {
+    let before = changes(rt, system, seats);
+    let answer = called(rt, system, seats, step, moment);
+    let made = changes(rt, system, seats).wrapping_sub(before);
+    if answer != wanted {
+        panic!(rt; "call {moment} answers otherwise");
+    }
+    if made != counts(wanted) {
+        panic!(rt; "call {moment} counts otherwise");
+    }
+}
+
 /// A day of these calls, one after another.
 #[derive(Drop)]
 struct Table<'t> {
     steps: &'t [(Step, Answer)],
 }
 
-impl<'t> Day<Anything> for Table<'t> {
-    fn spend<N: Names, R: Abort + Threads + Wait>(
+impl<'t> Day for Table<'t> {
+    fn spend<S: Calls, R: Abort + Threads + Wait>(
         &self,
         rt: &R,
-        _alloc: Global,
-        _config: Config,
-        system: &System<Anything, N>,
-        seats: &mut [Seat<N>],
+        system: &S,
+        seats: &mut [S::Seat],
     ) {
         let mut moment = 0u64;
-        for (step, wanted) in self.steps {
-            let before = changes(system, seats);
-            if called(rt, system, seats, *step, moment) != *wanted {
-                panic!(rt; "call {moment} answers otherwise");
-            }
-            if changes(system, seats) != before.wrapping_add(counts(*wanted)) {
-                panic!(rt; "call {moment} counts otherwise");
-            }
+        for step in self.steps {
+            plays_step(rt, system, seats, *step, moment);
             moment = moment.saturating_add(1);
         }
     }

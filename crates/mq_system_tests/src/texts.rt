@@ -1,13 +1,11 @@
 //! Texts that go through two queues, that are left at the end, and for which there is no memory.
-ghost use Rattle.std.specs.Prelude.{◌≡◌, ◌≤◌, IfOk, length};
-ghost use Rattle.mq_arena.specs.Text.{count_of};
 
 use crate::calls::{CREATE, draft, first};
-use crate::day::{Anything, Day, config, left_by};
+use crate::day::{Day, config, left_by};
+use crate::system::Calls;
 use crate::{granted, holds};
-use mq_arena::{Homecoming, PAGE_LEN};
-use mq_message::Body;
-use mq_system::{ClosedSlot, Config, DraftError, Names, Seat, System, TextOf};
+use mq_arena::Homecoming;
+use mq_system::{ClosedSlot, DraftError};
 use std::alloc::{AllocError, Global};
 use std::process::Abort;
 use std::sync::Wait;
@@ -23,30 +21,6 @@ fn letters(alloc: Global, len: usize) -> Result<Vec<u8>, AllocError> {
     Ok(letters)
 }
 
-fn is_zero<N: Names>(text: &TextOf<N>) -> bool {
-    for part in text.parts() {
-        for byte in part {
-            if *byte != 0 {
-                return false;
-            }
-        }
-    }
-    true
-}
-
-/// Whether the text has these bytes, in parts of a page but for the last one.
-fn shows<N: Names>(text: &TextOf<N>, bytes: &[u8]) -> bool {
-    let mut rest = bytes;
-    for part in text.parts() {
-        let (own, later) = rest.split_at(rest.len().min(PAGE_LEN));
-        if part != own {
-            return false;
-        }
-        rest = later;
-    }
-    rest.is_empty()
-}
-
 /// What a text is filled with by two threads, one of which takes the pages below `at`.
 #[derive(Clone, Copy)]
 struct Halves<'t> {
@@ -56,27 +30,20 @@ struct Halves<'t> {
     count: usize,
 }
 
-fn filled<N: Names, R: Abort + Threads + Wait>(
-    rt: &R,
-    system: &System<Anything, N>,
-    halves: Halves<'_>,
-) -> TextOf<N> {
+fn filled<S: Calls, R: Abort + Threads + Wait>(rt: &R, system: &S, halves: Halves<'_>) -> S::Text {
     let Halves { bytes, at, count } = halves;
     let Ok(mut text) = draft(rt, system, bytes.len() as u64) else {
         panic!(rt; "a text is refused twice");
     };
-    holds(rt, is_zero::<N>(&text), "a draft is zero");
-    holds(rt, text.len() == bytes.len() as u64, "its length");
-    holds(rt, text.count() == count, "its pages");
-    if at > text.count() {
-        panic!(rt; "there are fewer pages");
-    }
-    let (front, back) = bytes.split_at(bytes.len().min(PAGE_LEN * at));
-    text.fill_halves(rt, at, front, back);
+    holds(rt, system.is_zero(&text), "a draft is zero");
+    let shape = system.shape(&text);
+    holds(rt, shape.len == bytes.len() as u64, "its length");
+    holds(rt, shape.pages == count, "its pages");
+    system.fill_halves(rt, &mut text, at, bytes);
     text
 }
 
-fn goes_home<N: Names, R: Abort + Wait>(rt: &R, system: &System<Anything, N>, text: TextOf<N>) {
+fn goes_home<S: Calls, R: Abort + Wait>(rt: &R, system: &S, text: S::Text) {
     holds(
         rt,
         system.spend(rt, text) == Homecoming::Home,
@@ -85,22 +52,26 @@ fn goes_home<N: Names, R: Abort + Wait>(rt: &R, system: &System<Anything, N>, te
 }
 
 /// The text as it was received, after it was sent by seat 1 to this queue.
-fn through<N: Names, R: Abort + Wait>(
+fn through<S: Calls, R: Abort + Wait>(
     rt: &R,
-    system: &System<Anything, N>,
-    seats: &mut [Seat<N>],
+    system: &S,
+    seats: &mut [S::Seat],
     id: u32,
-    text: TextOf<N>,
+    text: S::Text,
     bytes: &[u8],
-) -> TextOf<N> {
-    let start = text.start();
+) -> S::Text {
+    let start = system.shape(&text).start;
     let entry = granted::sent(rt, system, seats, id, 3, text, 5);
     holds(rt, entry == 1, "it is sent by entry 1");
     let length = bytes.len() as u64;
     let delivered = granted::received(rt, system, seats, id, first(length), 6);
     let text = granted::text_of(rt, delivered, 2, 3, length);
-    holds(rt, shows::<N>(&text, bytes), "its bytes are as they were");
-    holds(rt, text.start() == start, "its pages are where they were");
+    holds(rt, system.shows(&text, bytes), "its bytes are as they were");
+    holds(
+        rt,
+        system.shape(&text).start == start,
+        "its pages are where they were",
+    );
     text
 }
 
@@ -109,14 +80,12 @@ struct TwoQueues<'t> {
     halves: Halves<'t>,
 }
 
-impl<'t> Day<Anything> for TwoQueues<'t> {
-    fn spend<N: Names, R: Abort + Threads + Wait>(
+impl<'t> Day for TwoQueues<'t> {
+    fn spend<S: Calls, R: Abort + Threads + Wait>(
         &self,
         rt: &R,
-        _alloc: Global,
-        _config: Config,
-        system: &System<Anything, N>,
-        seats: &mut [Seat<N>],
+        system: &S,
+        seats: &mut [S::Seat],
     ) {
         for key in 5..7i32 {
             granted::got(rt, system, seats, key, CREATE, 4);
@@ -148,12 +117,12 @@ struct Drafts<'t> {
 }
 
 /// Drafts a text of so many bytes, or of these ones.
-fn drafted<N: Names, R: Wait>(
+fn drafted<S: Calls, R: Wait>(
     rt: &R,
-    system: &System<Anything, N>,
+    system: &S,
     bytes: &[u8],
     of_bytes: bool,
-) -> Result<TextOf<N>, DraftError> {
+) -> Result<S::Text, DraftError> {
     if of_bytes {
         system.draft_of(rt, bytes)
     } else {
@@ -163,12 +132,7 @@ fn drafted<N: Names, R: Wait>(
 
 /// All 16 pages are free: each half of them is a block that wants no memory. While one is lent,
 /// these bytes find no run, and memory is not asked for.
-fn all_are_free<N: Names, R: Abort + Wait>(
-    rt: &R,
-    system: &System<Anything, N>,
-    bytes: &[u8],
-    of_bytes: bool,
-) {
+fn all_are_free<S: Calls, R: Abort + Wait>(rt: &R, system: &S, bytes: &[u8], of_bytes: bool) {
     let one = granted::zeros(rt, system, 8192);
     match drafted(rt, system, bytes, of_bytes) {
         Err(refusal) => holds(rt, refusal == DraftError::NoRun, "no run is free"),
@@ -180,12 +144,12 @@ fn all_are_free<N: Names, R: Abort + Wait>(
 }
 
 /// A draft, made once more where there was no memory.
-fn drafted_again<N: Names, R: Abort + Wait>(
+fn drafted_again<S: Calls, R: Abort + Wait>(
     rt: &R,
-    system: &System<Anything, N>,
+    system: &S,
     bytes: &[u8],
     of_bytes: bool,
-) -> TextOf<N> {
+) -> S::Text {
     match drafted(rt, system, bytes, of_bytes) {
         Ok(text) => text,
         Err(refusal) => {
@@ -200,28 +164,26 @@ fn drafted_again<N: Names, R: Abort + Wait>(
 }
 
 /// A draft of these bytes, or of as many zeros, has nine pages.
-fn is_whole<N: Names>(rt: &impl Abort, text: &TextOf<N>, bytes: &[u8], of_bytes: bool) {
+fn is_whole<S: Calls, R: Abort>(rt: &R, system: &S, text: &S::Text, bytes: &[u8], of_bytes: bool) {
     let whole = if of_bytes {
-        shows::<N>(text, bytes)
+        system.shows(text, bytes)
     } else {
-        is_zero::<N>(text)
+        system.is_zero(text)
     };
     holds(rt, whole, "its bytes");
-    holds(rt, text.count() == 9, "nine pages");
+    holds(rt, system.shape(text).pages == 9, "nine pages");
 }
 
-impl<'t> Day<Anything> for Drafts<'t> {
-    fn spend<N: Names, R: Abort + Threads + Wait>(
+impl<'t> Day for Drafts<'t> {
+    fn spend<S: Calls, R: Abort + Threads + Wait>(
         &self,
         rt: &R,
-        _alloc: Global,
-        _config: Config,
-        system: &System<Anything, N>,
-        _seats: &mut [Seat<N>],
+        system: &S,
+        _seats: &mut [S::Seat],
     ) {
         for of_bytes in [false, true] {
             let text = drafted_again(rt, system, self.bytes, of_bytes);
-            is_whole(rt, &text, self.bytes, of_bytes);
+            is_whole(rt, system, &text, self.bytes, of_bytes);
             goes_home(rt, system, text);
             all_are_free(rt, system, self.bytes, of_bytes);
         }
@@ -243,10 +205,10 @@ fn a_draft_that_found_no_memory_took_no_page_and_can_be_made_again(
 #[derive(Drop)]
 struct Leaves;
 
-fn waits<N: Names, R: Abort + Wait>(
+fn waits<S: Calls, R: Abort + Wait>(
     rt: &R,
-    system: &System<Anything, N>,
-    seats: &mut [Seat<N>],
+    system: &S,
+    seats: &mut [S::Seat],
     id: u32,
     bytes: &[u8],
 ) {
@@ -254,14 +216,12 @@ fn waits<N: Names, R: Abort + Wait>(
     granted::sent(rt, system, seats, id, 1, text, 5);
 }
 
-impl Day<Anything> for Leaves {
-    fn spend<N: Names, R: Abort + Threads + Wait>(
+impl Day for Leaves {
+    fn spend<S: Calls, R: Abort + Threads + Wait>(
         &self,
         rt: &R,
-        _alloc: Global,
-        _config: Config,
-        system: &System<Anything, N>,
-        seats: &mut [Seat<N>],
+        system: &S,
+        seats: &mut [S::Seat],
     ) {
         granted::got(rt, system, seats, 5, CREATE, 4);
         waits(rt, system, seats, 0, b"gone");

@@ -2,6 +2,7 @@
 
 use crate::holds;
 use mq_system::{Forever, NoWait, Patience, Until, Waiters};
+use std::process::Abort;
 use std::test::Fail;
 use std::time::{Duration, Instant};
 
@@ -32,25 +33,26 @@ fn a_patience_says_how_long_it_waits(rt: HostRuntime) {
     let Ok(now) = Instant::now(&rt) else {
         panic!(rt; "no clock");
     };
-    holds(&rt, NoWait.left().is_none(), "no wait");
-    holds(&rt, Forever.left() == Some(Duration::MAX), "for ever");
+    is_left(&rt, NoWait.left(), None, "no wait");
+    is_left(&rt, Forever.left(), Some(Duration::MAX), "for ever");
     let mut within = Until::within(&rt, minute);
-    holds(
+    let first = within.left();
+    is_left(
         &rt,
-        within.left() == Some(minute),
+        first,
+        Some(minute),
         "the time begins at the first wait",
     );
     holds(&rt, within.left() <= Some(minute), "and goes on");
-    holds(
-        &rt,
-        Until::at(&rt, now).left().is_none(),
-        "that time has come",
-    );
-    holds(
-        &rt,
-        Until::within(&rt, Duration::ZERO).left().is_none(),
-        "no time",
-    );
+    let come = Until::at(&rt, now).left();
+    is_left(&rt, come, None, "that time has come");
+    let none = Until::within(&rt, Duration::ZERO).left();
+    is_left(&rt, none, None, "no time");
     let far = Until::within(&rt, Duration::MAX).left();
-    holds(&rt, far == Some(Duration::MAX), "a time that does not come");
+    is_left(&rt, far, Some(Duration::MAX), "a time that does not come");
+}
+
+/// A patience has so much time left, or none.
+fn is_left(rt: &impl Abort, left: Option<Duration>, wanted: Option<Duration>, what: &str) {
+    holds(rt, left == wanted, what);
 }

@@ -1,14 +1,11 @@
 //! One queue from its making to its end, on one page and in one slot.
-ghost use Rattle.std.specs.Prelude.{◌≡◌};
 
-use crate::calls::{CREATE, counts, has, is, refused, seat, send};
-use crate::day::{Anything, Day, config, left_by, lives};
+use crate::calls::{CREATE, counts, is, refused, seat, send};
+use crate::day::{Day, config, left_by, lives};
+use crate::system::Calls;
 use crate::{granted, holds};
-use mq_queue::{Event, Figures};
-use mq_system::{
-    ClosedSlot, Config, Errno, Names, Removal, Seat, SendRefused, SysError, System, TextOf,
-};
-use std::alloc::Global;
+use mq_queue::{Event, Figures, Log};
+use mq_system::{ClosedSlot, Config, Errno, Removal, SendRefused, SysError};
 use std::process::Abort;
 use std::sync::Wait;
 use std::thread::Threads;
@@ -41,53 +38,47 @@ const LOG: [Event; 3] = [
 ];
 
 /// What is sent with type 0 is handed back.
-fn handed_back<N: Names, R: Abort + Wait>(
-    rt: &R,
-    system: &System<Anything, N>,
-    seats: &mut [Seat<N>],
-) -> TextOf<N> {
+fn handed_back<S: Calls, R: Abort + Wait>(rt: &R, system: &S, seats: &mut [S::Seat]) -> S::Text {
     let text = granted::drafted(rt, system, b"hi");
     match send(rt, system, seats, 0, 0, text, 5) {
         Ok(_) => panic!(rt; "type 0 was sent"),
         Err(SendRefused { refused, text }) => {
             is(rt, refused, Errno::EINVAL, None);
-            holds(rt, has::<N>(&text, b"hi"), "the text is handed back");
+            holds(rt, system.shows(&text, b"hi"), "the text is handed back");
             text
         }
     }
 }
 
-fn sent<N: Names, R: Abort + Wait>(
-    rt: &R,
-    system: &System<Anything, N>,
-    seats: &mut [Seat<N>],
-    text: TextOf<N>,
-) {
+fn sent<S: Calls, R: Abort + Wait>(rt: &R, system: &S, seats: &mut [S::Seat], text: S::Text) {
     let entry = granted::sent(rt, system, seats, 0, 1, text, 5);
     holds(rt, entry == 1, "it is sent by entry 1");
     let figures = granted::shown(rt, system, seat(rt, seats, 0));
     holds(rt, figures == FIGURES, "one message of two bytes waits");
 }
 
-fn removed<N: Names, R: Abort + Wait>(rt: &R, system: &System<Anything, N>, seats: &mut [Seat<N>]) {
-    let Removal { entry, log } = granted::removed(rt, system, seats, 0, 6);
-    holds(rt, entry == 2, "it is removed by entry 2");
+/// The log tells all that happened in the queue.
+fn tells_all(rt: &impl Abort, log: Log) {
     let (_base, tail) = log.into_parts();
     holds(rt, tail.as_slice() == LOG.as_slice(), "its own log");
+}
+
+fn removed<S: Calls, R: Abort + Wait>(rt: &R, system: &S, seats: &mut [S::Seat]) {
+    let Removal { entry, log } = granted::removed(rt, system, seats, 0, 6);
+    holds(rt, entry == 2, "it is removed by entry 2");
+    tells_all(rt, log);
     granted::is_removed(rt, system, seat(rt, seats, 0));
 }
 
 #[derive(Drop)]
 struct OneLife;
 
-impl Day<Anything> for OneLife {
-    fn spend<N: Names, R: Abort + Threads + Wait>(
+impl Day for OneLife {
+    fn spend<S: Calls, R: Abort + Threads + Wait>(
         &self,
         rt: &R,
-        _alloc: Global,
-        _config: Config,
-        system: &System<Anything, N>,
-        seats: &mut [Seat<N>],
+        system: &S,
+        seats: &mut [S::Seat],
     ) {
         granted::made(rt, system, seats, 0, CREATE, 4, 0, 0);
         refused(rt, system, seats, Errno::ENOMSG, 1);
@@ -96,8 +87,8 @@ impl Day<Anything> for OneLife {
         removed(rt, system, seats);
         holds(rt, system.slots() == 1, "one slot");
         // Seat 1 made, sent and removed, and seat 2 was refused.
-        counts(rt, seat(rt, seats, 0), 3);
-        counts(rt, seat(rt, seats, 1), 0);
+        counts(rt, system, seat(rt, seats, 0), 3);
+        counts(rt, system, seat(rt, seats, 1), 0);
     }
 }
 
@@ -123,26 +114,34 @@ fn a_queue_is_made_filled_shown_and_removed(rt: HostRuntime) {
 
 /// Each seat has its number.
 #[derive(Drop)]
-struct Numbered;
+struct Numbered {
+    config: Config,
+}
 
-impl Day<Anything> for Numbered {
-    fn spend<N: Names, R: Abort + Threads + Wait>(
+impl Day for Numbered {
+    fn spend<S: Calls, R: Abort + Threads + Wait>(
         &self,
         rt: &R,
-        _alloc: Global,
-        config: Config,
-        system: &System<Anything, N>,
-        seats: &mut [Seat<N>],
+        system: &S,
+        seats: &mut [S::Seat],
     ) {
         holds(
             rt,
-            system.slots() == config.slots,
+            system.slots() == self.config.slots,
             "as many slots as were asked for",
         );
-        holds(rt, seats.len() == config.seats as usize, "as many seats");
+        holds(
+            rt,
+            seats.len() == self.config.seats as usize,
+            "as many seats",
+        );
         let mut number = 1u16;
         for seat in seats.iter() {
-            holds(rt, seat.number() == number, "the seats are numbered from 1");
+            holds(
+                rt,
+                system.number(seat) == number,
+                "the seats are numbered from 1",
+            );
             number = number.saturating_add(1);
         }
     }
@@ -155,7 +154,7 @@ fn seats_are_numbered_from_one(rt: HostRuntime) {
             seats: count,
             ..config(3, 64, 32_767)
         };
-        let left = left_by(&rt, rt.alloc(), config, &Numbered);
+        let left = left_by(&rt, rt.alloc(), config, &Numbered { config });
         holds(
             &rt,
             left.free_pages == 8 && left.slots.len() == 64,
@@ -182,7 +181,7 @@ fn a_size_out_of_its_limits_is_refused(rt: HostRuntime) {
         },
     ];
     for config in configs {
-        match lives(&rt, rt.alloc(), config, &Numbered) {
+        match lives(&rt, rt.alloc(), config, &Numbered { config }) {
             Err(SysError::Config) => (),
             Ok(_) => panic!(rt; "a size was accepted"),
             Err(SysError::Memory) => panic!(rt; "out of memory"),

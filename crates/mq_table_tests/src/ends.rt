@@ -10,13 +10,19 @@ use std::process::Abort;
 use std::sync::Wait;
 use std::test::*;
 
-/// Whether the readers have the places from 1 on, and each sees the message that was sent.
-fn look_all<J: Naming, R: Wait>(
+/// The reader has this place, and sees one message.
+fn looks<J: Naming>(rt: &impl Abort, reader: &mut BoardReader<J>, place: u16) {
+    assert!(rt; reader.place() == place, "at {place}");
+    assert!(rt; reader.figures().figures.qnum == 1, "seen at {place}");
+}
+
+/// The readers have the places from 1 on, and each sees the message that was sent.
+fn look_all<J: Naming, R: Abort + Wait>(
     rt: &R,
     alloc: Global,
     writer: &mut BoardWriter<J>,
     readers: &mut Vec<BoardReader<J>>,
-) -> Result<bool, AllocError>
+) -> Result<(), AllocError>
     requires empty { writer.old.events ≡ [] }
     requires idle { writer.old.pending ≡ [] }
 {
@@ -24,24 +30,21 @@ fn look_all<J: Naming, R: Wait>(
     let sent = send(rt, alloc, &mut queue, writer);
     close(queue);
     sent?;
-    let mut right = true;
     let mut place = 0u16;
     for reader in readers.iter_mut() {
         place = place.wrapping_add(1);
-        if reader.place() != place || reader.figures().figures.qnum != 1 {
-            right = false;
-        }
+        looks(rt, reader, place);
     }
-    Ok(right)
+    Ok(())
 }
 
-/// Whether a board with so many readers shows them what happens, and is given up with all of them.
-fn ended<J: Naming, R: Wait>(
+/// A board with so many readers shows them what happens, and is given up with all of them.
+fn ended<J: Naming, R: Abort + Wait>(
     rt: &R,
     alloc: Global,
     opened: OpenedBoard,
     count: usize,
-) -> Result<bool, AllocError>
+) -> Result<(), AllocError>
     requires named { (opened.pass.table_id ≡ J.board 0) × (opened.roll.seen.book ≡ J.roll 0) }
     requires readers { (0 < count) × (count ≤ 16) }
 {
@@ -50,12 +53,12 @@ fn ended<J: Naming, R: Wait>(
     let Ok(ours) = of_board(alloc, readers, writer.board()) else {
         return Err(AllocError);
     };
-    let whole = ours.len() == count;
+    holds!(rt; ours.len() == count, "a reader is of another board");
     writer.end(ours);
-    Ok(looked? && whole)
+    looked
 }
 
-fn ends<R: Wait>(rt: &R, alloc: Global, count: usize) -> Result<bool, AllocError>
+fn ends<R: Abort + Wait>(rt: &R, alloc: Global, count: usize) -> Result<(), AllocError>
     requires { (0 < count) × (count ≤ 16) }
 {
     ended::<Brand, R>(rt, alloc, OpenedBoard::new(alloc)?, count)
@@ -63,8 +66,8 @@ fn ends<R: Wait>(rt: &R, alloc: Global, count: usize) -> Result<bool, AllocError
 
 #[test]
 fn a_board_ends_with_one_two_and_sixteen_readers(rt: HostRuntime) -> Result<(), Fail> {
-    holds!(rt; ends(&rt, rt.alloc(), 1)?);
-    holds!(rt; ends(&rt, rt.alloc(), 2)?);
-    holds!(rt; ends(&rt, rt.alloc(), 16)?);
+    ends(&rt, rt.alloc(), 1)?;
+    ends(&rt, rt.alloc(), 2)?;
+    ends(&rt, rt.alloc(), 16)?;
     Ok(())
 }

@@ -3,7 +3,7 @@
 ghost use Rattle.std.specs.Prelude.{◌≡◌, [], length};
 
 use crate::posts::{close, learns, open, send};
-use mq_board::{BoardReader, BoardWriter, Naming, OpenedBoard, board};
+use mq_board::{BoardReader, BoardWriter, Naming, OpenedBoard, PublishedList, board};
 use mq_queue::BoardRow;
 use std::alloc::{AllocError, Global};
 use std::marker::Brand;
@@ -18,12 +18,34 @@ struct Seen {
     made: BoardRow,
     sent: BoardRow,
     told: BoardRow,
+    learned: Learned,
+}
+
+/// What two readers learned.
+#[derive(Drop)]
+struct Learned {
     /// The first one learned a list that is shorter than its front, and the list of its front.
     shorter: bool,
     same: bool,
     /// The second one, which had not entered, learned that list.
     longer: bool,
-    learned: BoardRow,
+    row: BoardRow,
+}
+
+/// Tells the first reader an earlier list, and the first and the second one the last list.
+fn tell<J: Naming>(
+    earlier: PublishedList<J>,
+    writer: &mut BoardWriter<J>,
+    readers: &mut [BoardReader<J>],
+) -> Learned
+    requires three { length readers.old ≡ 3 }
+{
+    Learned {
+        shorter: learns(&mut readers[0], earlier),
+        same: learns(&mut readers[0], writer.tell()),
+        longer: learns(&mut readers[1], writer.tell()),
+        row: readers[1].figures(),
+    }
 }
 
 fn follow<J: Naming, R: Wait>(
@@ -48,10 +70,7 @@ fn follow<J: Naming, R: Wait>(
         made,
         sent: readers[0].figures(),
         told: writer.row(),
-        shorter: learns(&mut readers[0], nothing),
-        same: learns(&mut readers[0], writer.tell()),
-        longer: learns(&mut readers[1], writer.tell()),
-        learned: readers[1].figures(),
+        learned: tell(nothing, writer, readers),
     })
 }
 
@@ -98,8 +117,16 @@ fn a_reader_enters(rt: HostRuntime) -> Result<(), Fail> {
 #[test]
 fn a_list_is_learned_that_is_not_shorter(rt: HostRuntime) -> Result<(), Fail> {
     let (seen, _left) = run(&rt, rt.alloc())?;
-    holds!(rt; !seen.shorter && seen.same && seen.longer);
-    holds!(rt; seen.learned == seen.told);
+    let Learned {
+        shorter,
+        same,
+        longer,
+        row,
+    } = seen.learned;
+    holds!(rt; !shorter);
+    holds!(rt; same);
+    holds!(rt; longer);
+    holds!(rt; row == seen.told);
     Ok(())
 }
 

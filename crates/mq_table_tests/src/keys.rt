@@ -1,5 +1,6 @@
 use mq_table::{Id, KeyEntry, KeyTable};
 use std::alloc::Global;
+use std::process::Abort;
 use std::test::Fail;
 
 /// Enters a new key. Where there is no memory, the second call is as the first would have been.
@@ -22,8 +23,17 @@ fn filled(alloc: Global) -> KeyTable {
     keys
 }
 
-fn has(keys: &KeyTable, i: usize, key: i32, id: Id) -> bool {
-    keys.entry(i) == Some(KeyEntry { key, id })
+/// The table has this key at this place, with this id.
+pub(crate) fn has(rt: &impl Abort, keys: &KeyTable, i: usize, key: i32, id: Id) {
+    assert!(rt;
+        keys.entry(i) == Some(KeyEntry { key, id }),
+        "the key {key} at {i}"
+    );
+}
+
+/// The table does not have this key.
+pub(crate) fn lacks(rt: &impl Abort, keys: &KeyTable, key: i32) {
+    assert!(rt; keys.look(key) == None, "the key {key} is there");
 }
 
 #[test]
@@ -58,7 +68,7 @@ fn each_key_has_its_own_id(rt: HostRuntime) -> Result<(), Fail> {
         holds!(rt; keys.look(key) == Some(id));
     }
     for absent in [0, 2, -2, i32::MAX - 1, i32::MIN + 2] {
-        holds!(rt; keys.look(absent) == None);
+        lacks(&rt, &keys, absent);
     }
     Ok(())
 }
@@ -70,21 +80,21 @@ fn what_is_left_keeps_the_order_of_making(rt: HostRuntime) -> Result<(), Fail> {
     keys.forget(Id::of(11, 2));
     holds!(rt; keys.len() == 5);
     keys.forget(Id::of(11, 3));
-    holds!(rt; keys.look(i32::MIN) == None);
+    lacks(&rt, &keys, i32::MIN);
     holds!(rt; keys.len() == 4);
-    holds!(rt; has(&keys, 0, -1, Id::of(10, 0)));
-    holds!(rt; has(&keys, 1, 1, Id::of(12, 0)));
-    holds!(rt; has(&keys, 2, i32::MAX, Id::of(13, 0)));
-    holds!(rt; has(&keys, 3, i32::MIN + 1, Id::of(14, 0)));
+    has(&rt, &keys, 0, -1, Id::of(10, 0));
+    has(&rt, &keys, 1, 1, Id::of(12, 0));
+    has(&rt, &keys, 2, i32::MAX, Id::of(13, 0));
+    has(&rt, &keys, 3, i32::MIN + 1, Id::of(14, 0));
     holds!(rt; keys.entry(4) == None);
     enter(&mut keys, i32::MIN, Id::of(11, 4));
-    holds!(rt; has(&keys, 4, i32::MIN, Id::of(11, 4)));
+    has(&rt, &keys, 4, i32::MIN, Id::of(11, 4));
     // A key that the table has not, and one that it has.
     keys.forget_key(2);
     holds!(rt; keys.len() == 5);
     keys.forget_key(1);
-    holds!(rt; keys.look(1) == None);
+    lacks(&rt, &keys, 1);
     holds!(rt; keys.len() == 4);
-    holds!(rt; has(&keys, 1, i32::MAX, Id::of(13, 0)));
+    has(&rt, &keys, 1, i32::MAX, Id::of(13, 0));
     Ok(())
 }

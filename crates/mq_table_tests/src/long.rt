@@ -4,23 +4,12 @@ ghost use Rattle.std.specs.Prelude.{◌≡◌, ◌+◌, ◌<◌, ◌^◌, [], le
 
 use crate::posts::publish;
 use mq_board::{BoardWriter, Naming, OpenedBoard, board};
-use mq_queue::{BoardRow, Event, Figures, MSGMNB};
+use mq_queue::{BoardRow, Event, Figures, MSGMNB, NO_FIGURES};
 use std::alloc::{AllocError, Global};
 use std::marker::Brand;
 use std::process::Abort;
 use std::sync::Wait;
 use std::test::*;
-
-const NONE: Figures = Figures {
-    qnum: 0,
-    cbytes: 0,
-    qbytes: 0,
-    stime: 0,
-    rtime: 0,
-    ctime: 0,
-    lspid: 0,
-    lrpid: 0,
-};
 
 /// Publishes that a queue is made, and then that it is removed.
 fn come_and_go<J: Naming, R: Wait>(rt: &R, writer: &mut BoardWriter<J>) -> Result<(), AllocError>
@@ -44,11 +33,11 @@ fn come_and_go<J: Naming, R: Wait>(rt: &R, writer: &mut BoardWriter<J>) -> Resul
         Figures {
             qbytes: MSGMNB,
             ctime: 3,
-            ..NONE
+            ..NO_FIGURES
         },
     )?;
     let removed = Event::Removed { seat: 1, moment: 4 };
-    publish(rt, writer, removed, NONE)
+    publish(rt, writer, removed, NO_FIGURES)
 }
 
 fn run_long<J: Naming, R: Wait>(rt: &R, writer: &mut BoardWriter<J>) -> Result<(), AllocError>

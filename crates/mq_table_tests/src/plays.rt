@@ -1,6 +1,6 @@
 use crate::slots::{Place, close, cut, make, message, remove};
 use mq_message::{Body, Message, Selection, VecBody};
-use mq_queue::{NoNotice, QueueError};
+use mq_queue::{NoNotice, QueueError, Received};
 use mq_table::{Cut, KeyTable, MAX_SLOTS};
 use std::alloc::{AllocError, Global};
 use std::process::Abort;
@@ -23,7 +23,7 @@ enum Step {
 /// What a cut hands out: the base by the number of its events, or 0 where there is none, and how
 /// many entries there are of removed queues and of the live one.
 #[derive(Clone, Copy, PartialEq, Eq)]
-pub(crate) struct CutShown {
+struct CutShown {
     first: u64,
     made: u32,
     base: u64,
@@ -32,7 +32,7 @@ pub(crate) struct CutShown {
 }
 
 #[derive(Clone, Copy, PartialEq, Eq)]
-pub(crate) enum Answer {
+enum Answer {
     /// The number of an id.
     Id(u32),
     /// A place in the slot list.
@@ -49,7 +49,16 @@ pub(crate) enum Answer {
     Unasked,
 }
 
-pub(crate) fn sent(slot: &mut Place, message: Message<VecBody>) -> Answer {
+/// The refusal of a call, which the slot had to foretell.
+fn refused(refusal: QueueError, foretold: Option<QueueError>) -> Answer {
+    if foretold == Some(refusal) {
+        Answer::Refused(refusal)
+    } else {
+        Answer::Unforetold
+    }
+}
+
+fn sent(slot: &mut Place, message: Message<VecBody>) -> Answer {
     if !slot.is_live() {
         return Answer::Unasked;
     }
@@ -64,9 +73,25 @@ pub(crate) fn sent(slot: &mut Place, message: Message<VecBody>) -> Answer {
     };
     match answer {
         Ok(entry) if foretold.is_none() => Answer::At(entry),
-        Err((refusal, _)) if foretold == Some(refusal) => Answer::Refused(refusal),
-        _ => Answer::Unforetold,
+        Ok(_) => Answer::Unforetold,
+        Err((refusal, _)) => refused(refusal, foretold),
     }
+}
+
+/// Sends the slot's queue a message, which gets this entry in the slot list.
+pub(crate) fn sends(rt: &impl Abort, slot: &mut Place, message: Message<VecBody>, entry: u64) {
+    assert!(rt;
+        sent(slot, message) == Answer::At(entry),
+        "the message at {entry}"
+    );
+}
+
+/// What was received, whose receipt the slot had to foretell.
+fn got(received: Received<VecBody>, foretold: Option<QueueError>) -> Answer {
+    if foretold.is_some() {
+        return Answer::Unforetold;
+    }
+    Answer::Got(received.entry, received.place, received.body.len())
 }
 
 fn received(slot: &mut Place, size: u64) -> Answer {
@@ -81,11 +106,8 @@ fn received(slot: &mut Place, size: u64) -> Answer {
         answer => answer,
     };
     match answer {
-        Ok(got) if foretold.is_none() => {
-            Answer::Got(got.entry, got.place, got.body.bytes().len() as u64)
-        }
-        Err(refusal) if foretold == Some(refusal) => Answer::Refused(refusal),
-        _ => Answer::Unforetold,
+        Ok(received) => got(received, foretold),
+        Err(refusal) => refused(refusal, foretold),
     }
 }
 
@@ -114,7 +136,12 @@ fn counts(cut: &Cut) -> CutShown {
 }
 
 /// What a new slot with this number answers to these calls, where the last seq is 2.
-fn played(alloc: Global, number: u8, steps: &[Step]) -> Result<Vec<Answer>, AllocError> {
+fn played(
+    rt: &impl Abort,
+    alloc: Global,
+    number: u8,
+    steps: &[Step],
+) -> Result<Vec<Answer>, AllocError> {
     let mut answers = match Vec::with_capacity(alloc, steps.len()) {
         Ok(answers) => answers,
         Err(_) => Vec::with_capacity(alloc, steps.len())?,
@@ -124,13 +151,14 @@ fn played(alloc: Global, number: u8, steps: &[Step]) -> Result<Vec<Answer>, Allo
         return Ok(answers);
     }
     let mut slot = Place::new(alloc, number);
-    let played = play(alloc, &mut keys, &mut slot, steps, &mut answers);
+    let played = play(rt, alloc, &mut keys, &mut slot, steps, &mut answers);
     close(slot);
     played?;
     Ok(answers)
 }
 
 fn play(
+    rt: &impl Abort,
     alloc: Global,
     keys: &mut KeyTable,
     slot: &mut Place,
@@ -150,10 +178,7 @@ fn play(
                 Some(log) => Answer::Events(log.len()),
                 None => Answer::Unasked,
             },
-            Step::Cut => match cut(slot) {
-                Some(cut) => Answer::Cut(counts(&cut)),
-                None => Answer::Unasked,
-            },
+            Step::Cut => Answer::Cut(counts(&cut(rt, slot))),
         };
         answers.push(answer)?;
     }
@@ -168,7 +193,7 @@ fn check(
     steps: &[Step],
     answers: &[Answer],
 ) -> Result<(), AllocError> {
-    holds!(rt; played(alloc, number, steps)?.as_slice() == answers);
+    holds!(rt; played(rt, alloc, number, steps)?.as_slice() == answers);
     Ok(())
 }
 

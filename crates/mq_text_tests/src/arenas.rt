@@ -13,6 +13,22 @@ use std::thread::{Threads, join};
 // How often each thread asks for a block.
 const TURNS: u32 = 500;
 
+/// All pages of an arena are home.
+pub(crate) fn all_home<L: OfHeight>(rt: &impl Abort, arena: Arena<L>) {
+    let state = arena.into_state();
+    holds!(rt; state.free_pages() == state.pages(), "all pages are home");
+}
+
+// The block has 1,500 of these letters.
+fn has_letters<L: OfHeight>(rt: &impl Abort, block: &Block<L>, letter: u8)
+    requires { 2 ≤ 2 ^ block.now.order }
+{
+    holds!(rt; block.part(0)[0] == letter);
+    let last = block.part(1);
+    holds!(rt; last[475] == letter);
+    holds!(rt; last[476] == 0);
+}
+
 // Takes a block with 1,500 of these letters, if there is one. No more than two are ever out.
 fn taken<L: OfHeight, R: Abort + Wait>(
     rt: &R,
@@ -27,9 +43,7 @@ fn taken<L: OfHeight, R: Abort + Wait>(
 {
     let block = arena.take_filled(rt, order, &[letter; 1500]).ok()?;
     holds!(rt; out.fetch_add(1, Ordering::SeqCst) <= 1);
-    holds!(rt; block.part(0)[0] == letter);
-    holds!(rt; block.part(1)[475] == letter);
-    holds!(rt; block.part(1)[476] == 0);
+    has_letters(rt, &block, letter);
     Some(block)
 }
 
@@ -64,6 +78,16 @@ fn takes_and_gives<L: OfHeight, R: Abort + Wait>(
     }
 }
 
+// A block that is there is zero, and goes home.
+fn comes_zero<L: OfHeight, R: Abort + Wait>(rt: &R, arena: &Arena<L>, order: u8)
+    requires { order ≤ MAX_ORDER }
+{
+    if let Ok(block) = arena.take(rt, order) {
+        holds!(rt; block.part(0)[0] == 0);
+        holds!(rt; arena.put(rt, block) == Homecoming::Home);
+    }
+}
+
 fn shared<L: OfHeight + Send + Sync, R: Abort + Threads + Wait + Sync>(
     rt: &R,
     unopened: Unopened,
@@ -84,12 +108,8 @@ fn shared<L: OfHeight + Send + Sync, R: Abort + Threads + Wait + Sync>(
         || takes_and_gives(rt, &arena, &out, order, b'A'),
         || takes_and_gives(rt, &arena, &out, order, b'B'),
     );
-    if let Ok(block) = arena.take(rt, order) {
-        holds!(rt; block.part(0)[0] == 0);
-        holds!(rt; arena.put(rt, block) == Homecoming::Home);
-    }
-    let state = arena.into_state();
-    holds!(rt; state.free_pages() == state.pages());
+    comes_zero(rt, &arena, order);
+    all_home(rt, arena);
 }
 
 #[test]

@@ -1,6 +1,7 @@
 //! Tests of what no clause says: that calls succeed, and what a block shows at last.
 ghost use Rattle.std.specs.Prelude.{◌≡◌, ◌*◌, ◌^◌, ◌<◌, ◌≤◌, length};
 
+use crate::bytes::{after, are_all};
 use crate::taking::{asked, taken, taken_filled};
 use mq_arena::{
     ArenaState, Block, Homecoming, INLINE_ORDER, LEDGER_PARTS, MAX_ORDER, PAGE_LEN, Page,
@@ -33,39 +34,50 @@ fn given<L: Ledger>(rt: &impl Abort, arena: &mut ArenaState<L>, block: Block<L>)
     holds!(rt; arena.put(block) == Homecoming::Home);
 }
 
+/// Whether a block of that order fits, which goes home.
+fn fits<L: Ledger>(rt: &impl Abort, arena: &mut ArenaState<L>, order: u8) -> bool
+    requires { order ≤ MAX_ORDER }
+{
+    match asked(rt, arena, order) {
+        Ok(block) => {
+            given(rt, arena, block);
+            true
+        }
+        Err(refusal) => {
+            holds!(rt; refusal == TakeError::NoRun);
+            false
+        }
+    }
+}
+
 /// Blocks of each order up to that one fit, and none of an order over it; where it is `None`, none
 /// at all.
 fn fits_to<L: Ledger>(rt: &impl Abort, arena: &mut ArenaState<L>, most: Option<u8>) {
     holds!(rt; arena.largest() == most);
     for order in 0..=MAX_ORDER {
-        match asked(rt, arena, order) {
-            Ok(block) => {
-                given(rt, arena, block);
-                assert!(rt; Some(order) <= most, "a block of order {order}");
-            }
-            Err(refusal) => {
-                holds!(rt; refusal == TakeError::NoRun);
-                assert!(rt; most < Some(order), "no block of order {order}");
-            }
-        }
+        let is_within = Some(order) <= most;
+        assert!(rt; fits(rt, arena, order) == is_within, "the order {order}");
     }
 }
 
 fn shows<L: Ledger>(rt: &impl Abort, block: &Block<L>, bytes: &[u8]) {
     let mut rest = bytes;
     for part in block.parts_to(bytes.len()) {
-        holds!(rt; part.len() <= rest.len());
-        let (now, later) = rest.split_at(part.len());
-        holds!(rt; part == now);
-        rest = later;
+        rest = after(rt, part, rest);
     }
     holds!(rt; rest.is_empty());
 }
 
-fn are_zero(rt: &impl Abort, bytes: &[u8]) {
-    for byte in bytes {
-        holds!(rt; *byte == 0);
-    }
+/// The first five bytes are 8 and the last one of the last part is 9, beside bytes that are 7.
+fn has_ends<L: Ledger>(rt: &impl Abort, block: &Block<L>, last: usize)
+    requires { last < 2 ^ block.now.order }
+{
+    let front = block.part(0);
+    holds!(rt; front[4] == 8);
+    holds!(rt; front[5] == 7);
+    let back = block.part(last);
+    holds!(rt; back[1022] == 7);
+    holds!(rt; back[1023] == 9);
 }
 
 fn written<L: Ledger>(rt: &impl Abort, arena: &mut ArenaState<L>, order: u8, letters: &[u8])
@@ -78,10 +90,7 @@ fn written<L: Ledger>(rt: &impl Abort, arena: &mut ArenaState<L>, order: u8, let
     shows(rt, &block, letters);
     block.part_mut(last)[1023] = 9;
     block.front_mut(0, 5).fill(8);
-    holds!(rt; block.part(0)[4] == 8);
-    holds!(rt; block.part(0)[5] == 7);
-    holds!(rt; block.part(last)[1022] == 7);
-    holds!(rt; block.part(last)[1023] == 9);
+    has_ends(rt, &block, last);
     given(rt, arena, block);
 }
 
@@ -90,7 +99,7 @@ fn zero_again<L: Ledger>(rt: &impl Abort, arena: &mut ArenaState<L>, order: u8)
 {
     let block = taken_at(rt, arena, order, 0);
     for part in block.parts() {
-        are_zero(rt, part);
+        are_all(rt, part, 0);
     }
     holds!(rt; block.parts().count() == 1 << order);
     given(rt, arena, block);
@@ -105,9 +114,9 @@ fn filled_again<L: Ledger>(rt: &impl Abort, arena: &mut ArenaState<L>, order: u8
     holds!(rt; block.start() == 0);
     shows(rt, &block, &[5; 1500]);
     holds!(rt; block.part(1)[475] == 5);
-    are_zero(rt, &block.part(1)[476..]);
+    are_all(rt, &block.part(1)[476..], 0);
     for part in block.parts().skip(2) {
-        are_zero(rt, part);
+        are_all(rt, part, 0);
     }
     given(rt, arena, block);
 }
@@ -247,26 +256,21 @@ fn no_block_is_larger_than_its_arena(rt: HostRuntime) -> Result<(), Fail> {
     Ok(())
 }
 
+/// Nothing of an arena of 64 pages is lent.
+fn is_whole<L: Ledger>(rt: &impl Abort, arena: &ArenaState<L>) {
+    holds!(rt; arena.free_pages() == 64);
+    holds!(rt; arena.largest() == Some(6));
+}
+
 /// A block of that order from an arena of 64 pages, at the second try where its memory was refused.
 fn taken_at_last<L: Ledger>(rt: &impl Abort, arena: &mut ArenaState<L>, order: u8)
-    requires over { INLINE_ORDER < order }
-    requires most { order ≤ MAX_ORDER }
+    requires { order ≤ MAX_ORDER }
 {
-    match arena.take(order) {
-        Ok(block) => given(rt, arena, block),
-        Err(TakeError::NoRun) => panic!(rt; "no run"),
-        Err(TakeError::Memory) => {
-            holds!(rt; arena.free_pages() == 64);
-            holds!(rt; arena.largest() == Some(6));
-            let Ok(block) = arena.take(order) else {
-                panic!(rt; "refused once more");
-            };
-            holds!(rt; block.start() == 0);
-            holds!(rt; arena.lent_pages() == 1 << order);
-            given(rt, arena, block);
-        }
-    }
-    holds!(rt; arena.free_pages() == 64);
+    is_whole(rt, arena);
+    let block = taken_at(rt, arena, order, 0);
+    holds!(rt; arena.lent_pages() == 1 << order);
+    given(rt, arena, block);
+    is_whole(rt, arena);
 }
 
 fn each_taken_at_last<L: Ledger>(rt: &impl Abort, unopened: Unopened, ledger: Blank)
@@ -293,10 +297,8 @@ fn a_large_block_whose_memory_is_refused_leaves_all_pages_free_and_is_then_taken
 fn is_cut<L: Ledger>(rt: &impl Abort, block: &Block<L>, i: usize, letters: (u8, u8)) {
     let mut k: usize = 0;
     for part in block.parts() {
-        let want = if k < i { letters.0 } else { letters.1 };
-        for byte in part {
-            holds!(rt; *byte == want);
-        }
+        let letter = if k < i { letters.0 } else { letters.1 };
+        are_all(rt, part, letter);
         k = k.saturating_add(1);
     }
     holds!(rt; k == 1 << block.order());

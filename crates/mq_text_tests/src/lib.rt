@@ -33,6 +33,8 @@ mod arenas;
 #[cfg(test)]
 mod blocks;
 #[cfg(test)]
+mod bytes;
+#[cfg(test)]
 mod magazines;
 #[cfg(test)]
 mod taking;

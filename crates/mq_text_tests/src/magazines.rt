@@ -1,6 +1,7 @@
 //! Tests of magazines: what they keep, what they hand out, and that all of it comes home.
 ghost use Rattle.std.specs.Prelude.{◌≡◌, ◌^◌, ◌<◌};
 
+use crate::arenas::all_home;
 use mq_arena::{Arena, Block, LEDGER_PARTS, MAGAZINE_PAGES, Magazine, OfHeight, Unopened};
 use std::alloc::{AllocError, Global};
 use std::marker::Brand;
@@ -68,6 +69,15 @@ fn emptied<L: OfHeight, R: Abort + Wait>(
     panic!(rt; "it has more blocks than pages");
 }
 
+/// Takes a pair of pages out of a magazine that has one, which goes home.
+fn pops<L: OfHeight, R: Abort + Wait>(rt: &R, arena: &Arena<L>, magazine: &mut Magazine<L>) {
+    let Some(block) = magazine.pop() else {
+        panic!(rt; "it is empty");
+    };
+    holds!(rt; block.order() == 1);
+    arena.put(rt, block);
+}
+
 /// Does all that is done with a magazine, in an arena of 16 pages.
 fn kept<L: OfHeight, R: Abort + Wait>(
     rt: &R,
@@ -93,15 +103,10 @@ fn kept<L: OfHeight, R: Abort + Wait>(
     );
 
     fills(rt, &arena, &mut magazine);
-    let Some(block) = magazine.pop() else {
-        panic!(rt; "it is empty");
-    };
-    holds!(rt; block.order() == 1);
-    arena.put(rt, block);
+    pops(rt, &arena, &mut magazine);
     arena.put_all(rt, &mut magazine);
     magazine.end();
-    let state = arena.into_state();
-    holds!(rt; state.free_pages() == state.pages(), "all pages are home");
+    all_home(rt, arena);
     Ok(())
 }
 

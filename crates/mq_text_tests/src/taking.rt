@@ -10,6 +10,22 @@ use mq_arena::{
 use std::process::Abort;
 use std::sync::ledger::Ledger;
 
+/// How many pages an arena has lent, and the largest order that fits.
+fn shown<L: Ledger>(arena: &ArenaState<L>) -> (u32, Option<u8>) {
+    (arena.lent_pages(), arena.largest())
+}
+
+/// Memory for a block was refused: it is a large one, and no page was lent for it.
+fn is_refused<L: Ledger>(
+    rt: &impl Abort,
+    arena: &ArenaState<L>,
+    is_large: bool,
+    before: (u32, Option<u8>),
+) {
+    holds!(rt; is_large, "a small block is refused");
+    holds!(rt; shown(arena) == before, "pages are lent for a refused block");
+}
+
 /// What the arena answers for a block of that order. Where memory for the block was refused, the
 /// block is over the inline order and no page was lent for it.
 pub(crate) fn asked<L: Ledger>(
@@ -21,11 +37,10 @@ pub(crate) fn asked<L: Ledger>(
     ensures order { IfOk result (λ b. b.order ≡ order) }
     ensures zero { IfOk result (λ b. b.pages ≡ replicate (2 ^ order) (replicate PAGE_LEN 0)) }
 {
-    let before = (arena.lent_pages(), arena.largest());
+    let before = shown(arena);
     match arena.take(order) {
         Err(TakeError::Memory) => {
-            holds!(rt; order > INLINE_ORDER, "a small block is refused");
-            holds!(rt; (arena.lent_pages(), arena.largest()) == before);
+            is_refused(rt, arena, order > INLINE_ORDER, before);
             arena.take(order)
         }
         answer => answer,
@@ -55,11 +70,10 @@ pub(crate) fn taken_filled<L: Ledger>(
     requires fits { length bytes.now ≤ PAGE_LEN * 2 ^ order }
     ensures { result.order ≡ order }
 {
-    let before = (arena.lent_pages(), arena.largest());
+    let before = shown(arena);
     let answer = match arena.take_filled(order, bytes) {
         Err(TakeError::Memory) => {
-            holds!(rt; order > INLINE_ORDER, "a small block is refused");
-            holds!(rt; (arena.lent_pages(), arena.largest()) == before);
+            is_refused(rt, arena, order > INLINE_ORDER, before);
             arena.take_filled(order, bytes)
         }
         answer => answer,
@@ -88,11 +102,10 @@ pub(crate) fn text_of<L: Ledger>(
     requires some { 0 < length bytes.now }
     requires most { length bytes.now ≤ TEXT_LEN }
 {
-    let before = (arena.lent_pages(), arena.largest());
+    let before = shown(arena);
     let answer = match Text::of_bytes(arena, bytes) {
         Err(TakeError::Memory) => {
-            holds!(rt; bytes.len() > INLINE_LEN, "a short text is refused");
-            holds!(rt; (arena.lent_pages(), arena.largest()) == before);
+            is_refused(rt, arena, bytes.len() > INLINE_LEN, before);
             Text::of_bytes(arena, bytes)
         }
         answer => answer,

@@ -1,12 +1,14 @@
 //! Tests of what no clause says: that calls succeed, and what a text shows at last.
-ghost use Rattle.std.specs.Prelude.{◌≡◌, ◌^◌, ◌<◌, ◌≤◌, length, replicate};
+ghost use Rattle.std.specs.Prelude.{◌≡◌, ◌^◌, ◌<◌, ◌≤◌, length, replicate, IfOk};
 ghost use Rattle.mq_arena.specs.Text.{count_of, text_part, with_part};
 
+use crate::bytes::{after, are_all};
 use crate::taking::{drafted, taken, text_of};
 use mq_arena::{
     ArenaState, Homecoming, LEDGER_PARTS, PAGE_LEN, Page, TEXT_LEN, Text, Unopened, fill, order_for,
 };
 use mq_message::{Body, VecBody};
+use std::alloc::{AllocError, Global};
 use std::marker::Brand;
 use std::process::Abort;
 use std::sync::ledger::{Blank, Ledger};
@@ -23,21 +25,21 @@ pub(crate) fn home<L: Ledger>(rt: &impl Abort, arena: &mut ArenaState<L>, text: 
 
 pub(crate) fn repeats(rt: &impl Abort, part: &[u8], len: usize, letter: u8) {
     holds!(rt; part.len() == len);
-    for byte in part {
-        holds!(rt; *byte == letter);
-    }
+    are_all(rt, part, letter);
+}
+
+/// This is the part of the text at that place.
+fn is_part<L: Ledger>(rt: &impl Abort, text: &Text<L>, i: usize, part: &[u8]) {
+    holds!(rt; i < text.count());
+    holds!(rt; part == text.part(i));
 }
 
 fn shows<L: Ledger>(rt: &impl Abort, text: &Text<L>, bytes: &[u8]) {
     let mut rest = bytes;
     let mut i: usize = 0;
     for part in text.parts() {
-        holds!(rt; part.len() <= rest.len());
-        let (now, later) = rest.split_at(part.len());
-        holds!(rt; part == now);
-        holds!(rt; i < text.count());
-        holds!(rt; part == text.part(i));
-        rest = later;
+        rest = after(rt, part, rest);
+        is_part(rt, text, i, part);
         i = i.saturating_add(1);
     }
     holds!(rt; rest.is_empty());
@@ -65,6 +67,33 @@ fn part_filled<L: Ledger>(text: &mut Text<L>, i: usize, letter: u8)
     text.part_mut(i).fill(letter);
 }
 
+// Fills a text of 2,050 bytes by halves that begin at each of its parts.
+fn halves_filled<L: Ledger, R: Abort + Threads>(rt: &R, text: &mut Text<L>, letters: &[u8])
+    requires len { length text.old.bytes ≡ 2050 }
+    requires letters { length letters.now ≡ 2050 }
+    ensures { length text.new.bytes ≡ 2050 }
+{
+    filled_at(rt, text, 1, letters);
+    repeats(rt, text.part(0), 1024, b'A');
+    repeats(rt, text.part(1), 1024, b'B');
+    repeats(rt, text.part(2), 2, b'B');
+    filled_at(rt, text, 0, &[b'C'; 2050]);
+    filled_at(rt, text, 3, letters);
+}
+
+// Fills the last part of that text and then the first one with one letter.
+fn parts_filled<L: Ledger>(rt: &impl Abort, text: &mut Text<L>)
+    requires { length text.old.bytes ≡ 2050 }
+    ensures { length text.new.bytes ≡ 2050 }
+{
+    part_filled(text, 2, b'D');
+    repeats(rt, text.part(2), 2, b'D');
+    repeats(rt, text.part(1), 1024, b'B');
+    part_filled(text, 0, b'D');
+    repeats(rt, text.part(0), 1024, b'D');
+    repeats(rt, text.part(1), 1024, b'B');
+}
+
 fn two_threads<L: Ledger, R: Abort + Threads>(
     rt: &R,
     unopened: Unopened,
@@ -84,27 +113,26 @@ fn two_threads<L: Ledger, R: Abort + Threads>(
     holds!(rt; text.len() == 2050);
     holds!(rt; text.start() == Some(4));
     shows(rt, &text, &[0; 2050]);
-    filled_at(rt, &mut text, 1, letters);
-    repeats(rt, text.part(0), 1024, b'A');
-    repeats(rt, text.part(1), 1024, b'B');
-    repeats(rt, text.part(2), 2, b'B');
-    filled_at(rt, &mut text, 0, &[b'C'; 2050]);
-    filled_at(rt, &mut text, 3, letters);
-    part_filled(&mut text, 2, b'D');
-    repeats(rt, text.part(2), 2, b'D');
-    repeats(rt, text.part(1), 1024, b'B');
-    part_filled(&mut text, 0, b'D');
-    repeats(rt, text.part(0), 1024, b'D');
-    repeats(rt, text.part(1), 1024, b'B');
+    halves_filled(rt, &mut text, letters);
+    parts_filled(rt, &mut text);
     holds!(rt; text.start() == Some(4));
     home(rt, &mut arena, text);
+}
+
+// So many letters, of which the first ones are another one than the rest.
+fn two_letters(alloc: Global, len: usize, first: usize) -> Result<Vec<u8>, AllocError>
+    requires { first ≤ len }
+    ensures { IfOk result (λ letters. length letters.items ≡ len) }
+{
+    let mut letters = vec![in alloc; b'B'; len]?;
+    letters.as_mut_slice()[..first].fill(b'A');
+    Ok(letters)
 }
 
 #[test]
 fn two_threads_fill_the_two_halves(rt: HostRuntime) -> Result<(), Fail> {
     let unopened = Unopened::new(rt.alloc(), 3)?;
-    let mut letters = vec![in rt.alloc(); b'B'; 2050]?;
-    letters.as_mut_slice()[..1024].fill(b'A');
+    let letters = two_letters(rt.alloc(), 2050, 1024)?;
     two_threads::<Brand, HostRuntime>(&rt, unopened, Blank::new(LEDGER_PARTS), &letters);
     Ok(())
 }
@@ -164,8 +192,7 @@ fn longest_filled<L: Ledger, R: Abort + Threads>(
 #[test]
 fn two_threads_fill_the_64_parts_of_the_longest_text(rt: HostRuntime) -> Result<(), Fail> {
     let unopened = Unopened::new(rt.alloc(), 7)?;
-    let mut letters = vec![in rt.alloc(); b'B'; TEXT_LEN]?;
-    letters.as_mut_slice()[..TEXT_LEN / 2].fill(b'A');
+    let letters = two_letters(rt.alloc(), TEXT_LEN, TEXT_LEN / 2)?;
     longest_filled::<Brand, HostRuntime>(&rt, unopened, Blank::new(LEDGER_PARTS), &letters);
     Ok(())
 }
@@ -240,9 +267,7 @@ fn two_threads_write_the_pages_of_a_text_of_64_parts(rt: HostRuntime) -> Result<
 
 fn is_zero<L: Ledger>(rt: &impl Abort, text: &Text<L>) {
     for part in text.parts() {
-        for byte in part {
-            holds!(rt; *byte == 0);
-        }
+        are_all(rt, part, 0);
     }
 }
 
@@ -297,20 +322,26 @@ fn each_size<L: Ledger>(rt: &impl Abort, unopened: Unopened, ledger: Blank, lett
     requires enough { 2 ^ unopened < ledger.parts }
 {
     let mut arena = unopened.open::<L>(ledger);
-    size_drafted(rt, &mut arena, letters, 1, 0, 1);
-    size_drafted(rt, &mut arena, letters, 1023, 0, 1);
-    size_drafted(rt, &mut arena, letters, 1024, 0, 1);
-    size_drafted(rt, &mut arena, letters, 1025, 1, 2);
-    size_drafted(rt, &mut arena, letters, 2049, 2, 3);
-    size_drafted(rt, &mut arena, letters, 8191, 3, 8);
-    size_drafted(rt, &mut arena, letters, 8192, 3, 8);
-    size_drafted(rt, &mut arena, letters, 8193, 4, 9);
-    size_drafted(rt, &mut arena, letters, 16_384, 4, 16);
-    size_drafted(rt, &mut arena, letters, 16_385, 5, 17);
-    size_drafted(rt, &mut arena, letters, 32_768, 5, 32);
-    size_drafted(rt, &mut arena, letters, 32_769, 6, 33);
-    size_drafted(rt, &mut arena, letters, 65_535, 6, 64);
-    size_drafted(rt, &mut arena, letters, 65_536, 6, 64);
+    for (len, order, count) in [
+        (1, 0, 1),
+        (1023, 0, 1),
+        (1024, 0, 1),
+        (1025, 1, 2),
+        (2049, 2, 3),
+        (8191, 3, 8),
+        (8192, 3, 8),
+        (8193, 4, 9),
+        (16_384, 4, 16),
+        (16_385, 5, 17),
+        (32_768, 5, 32),
+        (32_769, 6, 33),
+        (65_535, 6, 64),
+        (65_536, 6, 64),
+    ] {
+        holds!(rt; 0 < len);
+        holds!(rt; len <= TEXT_LEN);
+        size_drafted(rt, &mut arena, letters, len, order, count);
+    }
 }
 
 #[test]

@@ -70,11 +70,16 @@ fn each_half_is_written_while_the_other_is(rt: HostRuntime) -> Result<(), Fail> 
     Ok(())
 }
 
+// How many threads a process has by this status.
+fn threads_in(status: &str) -> Option<u32> {
+    let line = status.lines().find(|line| line.starts_with("Threads:"))?;
+    line.trim_start_matches("Threads:").trim().parse().ok()
+}
+
 // How many threads this process has, as Linux tells it.
 fn thread_count<R: Files + Alloc>(rt: &R) -> Option<u32> {
     let status = fs::read_to_string(rt, "/proc/self/status").ok()?;
-    let line = status.lines().find(|line| line.starts_with("Threads:"))?;
-    line.trim_start_matches("Threads:").trim().parse().ok()
+    threads_in(&status)
 }
 
 // Raises the flag once there are more threads than that.

@@ -121,19 +121,24 @@ impl Plain {
     }
 }
 
+// Gives the n-th block that is lent, as `Plain::lent_start` counts, after some that are not.
+fn give(rt: &impl Abort, tree: &mut OrderTree, plain: &mut Plain, n: u32) {
+    let start = plain.lent_start(n);
+    let order = plain.orders[start as usize % 8].unwrap_or(0);
+    holds!(rt; !tree.give(start, order ^ 1), "another order at that start");
+    holds!(rt; !tree.give(start ^ 8, order), "another start of that order");
+    holds!(rt; tree.give(start, order) == plain.give(start, order));
+    holds!(rt; !tree.give(start, order), "given twice");
+}
+
 // One lend or give on both. The choices up to the height lend that order; the four above it give
-// the first, second, third or last block that is lent, after some that are not.
+// the first, second, third or last block that is lent.
 fn step(rt: &impl Abort, tree: &mut OrderTree, plain: &mut Plain, choice: u32) {
     if choice <= plain.height as u32 {
         let order = choice as u8;
         holds!(rt; tree.lend(order) == plain.lend(order));
     } else {
-        let start = plain.lent_start(choice - plain.height as u32 - 1);
-        let order = plain.orders[start as usize % 8].unwrap_or(0);
-        holds!(rt; !tree.give(start, order ^ 1), "another order at that start");
-        holds!(rt; !tree.give(start ^ 8, order), "another start of that order");
-        holds!(rt; tree.give(start, order) == plain.give(start, order));
-        holds!(rt; !tree.give(start, order), "given twice");
+        give(rt, tree, plain, choice - plain.height as u32 - 1);
     }
     holds!(rt; tree.largest() == plain.largest());
     holds!(rt; tree.free_pages() == plain.free_pages());

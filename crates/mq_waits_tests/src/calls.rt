@@ -1,9 +1,10 @@
 //! The calls of a worker, each made once more where it found no memory.
 
 use mq::{
-    Delivered, DraftError, Errno, GetFlags, Id, Names, Pledge, RecvFlags, Seat, SendFlags,
-    SendRefused, System, TextOf,
+    Delivered, DraftError, Ended, Errno, GetFlags, Id, Names, Pledge, RecvFlags, Seat, SendFlags,
+    SendRefused, System, TextOf, WorkersError,
 };
+use std::process::Abort;
 use std::sync::Wait;
 
 /// Nothing is pledged.
@@ -145,4 +146,20 @@ pub(crate) fn remove<N: Names, R: Wait>(
         }
     }
     Err(Errno::ENOMEM)
+}
+
+/// What has ended, with so many pages free.
+pub(crate) fn ended_of<T: Drop, R: Abort>(
+    rt: &R,
+    ended: Result<Ended<T>, WorkersError>,
+    pages: u32,
+) -> Ended<T> {
+    match ended {
+        Ok(ended) => {
+            holds!(rt; ended.free_pages == pages, "a page is out");
+            ended
+        }
+        Err(WorkersError::Memory | WorkersError::Thread) => panic!(rt; "out of memory"),
+        Err(_) => panic!(rt; "no system"),
+    }
 }

@@ -1,7 +1,8 @@
 //! A slot whose queues come and go under those that use them, and one that many use at once.
 
 use crate::calls::{Nothing, queue, receive, remove, send};
-use crate::watch::Watch;
+use crate::is_same;
+use crate::watch::in_time;
 use mq::{
     ClosedSlot, Config, Ended, Errno, Event, Id, Names, Seat, SendFlags, System, Worker,
     WorkersError, with_workers,
@@ -11,7 +12,7 @@ use std::hint::spin_loop;
 use std::process::Abort;
 use std::sync::Wait;
 use std::sync::atomic::{AtomicU32, Ordering};
-use std::thread::{Threads, join};
+use std::thread::Threads;
 
 /// One slot for ten queues.
 const ONE: Config = Config {
@@ -213,17 +214,7 @@ fn ended<R: Abort + Threads + Wait + Sync>(
     what: &str,
     parts: &[Part<'_>],
 ) -> Ended<Vec<Done>> {
-    let watch = Watch::new();
-    let ((), ended) = join(
-        rt,
-        || watch.keeps(rt, what),
-        || {
-            let ended = played(rt, alloc, parts);
-            watch.ends();
-            ended
-        },
-    );
-    match ended {
+    match in_time(rt, what, || played(rt, alloc, parts)) {
         Ok(ended) => ended,
         Err(error) => panic!(rt; "{error}"),
     }
@@ -244,6 +235,31 @@ fn sent_by(slot: &ClosedSlot, by: u16) -> (u64, u64) {
     (sent, entries)
 }
 
+/// Wants what each sender says to be what the slot lists. How many messages were sent.
+fn all_sent(rt: &impl Abort, slot: &ClosedSlot, answers: &[Done]) -> u64 {
+    let mut all = 0u64;
+    let mut seat = 1u16;
+    for done in answers {
+        let told = sent_by(slot, seat);
+        assert!(rt; *done == Ok(told), "seat {seat}");
+        all = all.wrapping_add(told.0);
+        seat = seat.wrapping_add(1);
+    }
+    all
+}
+
+/// Wants so many entries of the queues before and of the last, so many messages left, and all pages
+/// at home.
+fn leaves(rt: &impl Abort, ended: &Ended<Vec<Done>>, past: u64, last: u64, left: u64) {
+    let Some(slot) = ended.slots.first() else {
+        panic!(rt; "no slot");
+    };
+    is_same(rt, slot.past.len() as u64, past, "entries before");
+    is_same(rt, slot.last.len() as u64, last, "last entries");
+    is_same(rt, slot.left, left, "messages left");
+    is_same(rt, u64::from(ended.free_pages), 4, "free pages");
+}
+
 #[test]
 fn ten_queues_come_and_go_under_three_senders(rt: HostRuntime) {
     let parts = [Part::Makes, Part::Sends, Part::Sends, Part::Sends];
@@ -251,16 +267,8 @@ fn ten_queues_come_and_go_under_three_senders(rt: HostRuntime) {
     let Some(slot) = ended.slots.first() else {
         panic!(rt; "no slot");
     };
-    let mut all = 20u64;
-    let mut seat = 1u16;
-    for done in ended.answer.iter() {
-        let told = sent_by(slot, seat);
-        assert!(rt; *done == Ok(told), "seat {seat}");
-        all = all.wrapping_add(told.0);
-        seat = seat.wrapping_add(1);
-    }
-    assert_eq!(rt; slot.past.len() as u64, all);
-    holds!(rt; slot.last.is_empty() && slot.left == 0 && ended.free_pages == 4);
+    let sent = all_sent(&rt, slot, ended.answer.as_slice());
+    leaves(&rt, &ended, sent.wrapping_add(20), 0, 0);
 }
 
 #[test]
@@ -270,23 +278,15 @@ fn who_waits_in_a_removed_queue_does_not_get_the_next_ones_message(rt: HostRunti
     let ended = ended(&rt, rt.alloc(), "a removal wakes a receiver", &parts);
     let answers = [Err(Errno::EIDRM), Ok((1, 3))];
     holds!(rt; ended.answer.as_slice() == answers.as_slice());
-    let Some(slot) = ended.slots.first() else {
-        panic!(rt; "no slot");
-    };
-    holds!(rt; slot.left == 1 && slot.past.len() == 2 && ended.free_pages == 4);
+    leaves(&rt, &ended, 2, 2, 1);
 }
 
 #[test]
 fn plenty_passes_through_a_queue_between_four_threads(rt: HostRuntime) {
     let parts = [Part::Passes, Part::Takes, Part::Passes, Part::Takes];
     let ended = ended(&rt, rt.alloc(), "all are sent and received", &parts);
-    holds!(rt; ended.answer.iter().all(|done| *done == Ok((0, 0))));
-    let Some(slot) = ended.slots.first() else {
-        panic!(rt; "no slot");
-    };
-    holds!(rt; slot.left == 0 && slot.past.is_empty() && ended.free_pages == 4);
-    holds!(rt;
-        slot.last.len() == 1 + 4 * PASSED as usize,
-        "each is sent and received once"
-    );
+    let answers = [Ok((0, 0)); 4];
+    holds!(rt; ended.answer.as_slice() == answers.as_slice());
+    // The making, and a sending and a receipt of each.
+    leaves(&rt, &ended, 0, 1 + 4 * u64::from(PASSED), 0);
 }

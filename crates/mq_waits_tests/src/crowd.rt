@@ -1,13 +1,14 @@
 //! Eight threads whose waits all end by their time, most of them before: no message is lost or
 //! received twice.
 
-use crate::calls::{Nothing, queue, set};
+use crate::calls::{Nothing, ended_of, queue, set};
 use crate::watch::Watch;
 use mq::{
-    Caller, Config, Errno, Id, Names, RecvFlags, Seat, System, Until, Worker, WorkersError,
-    with_workers,
+    Caller, ClosedSlot, Config, Errno, Id, Names, RecvFlags, Seat, System, Until, Worker,
+    WorkersError, with_workers,
 };
 use std::alloc::{AllocError, Global};
+use std::process::Abort;
 use std::sync::Wait;
 use std::sync::atomic::{AtomicU64, Ordering};
 use std::thread::join;
@@ -60,6 +61,20 @@ impl Sums {
 
     fn is_over(&self) -> bool {
         self.received.load(Ordering::SeqCst) == ALL || self.failed.load(Ordering::SeqCst) > 0
+    }
+
+    /// Wants the sums of the numbers up to 50,000, and of their squares.
+    fn are_right(&self, rt: &impl Abort) {
+        holds!(rt; self.received.load(Ordering::SeqCst) == ALL, "other sums");
+        holds!(rt; self.tags.load(Ordering::SeqCst) == 1_250_025_000, "other sums");
+        holds!(rt;
+            self.squares.load(Ordering::SeqCst) == 41_667_916_675_000,
+            "other sums"
+        );
+        holds!(rt;
+            self.ended.load(Ordering::SeqCst) > 0,
+            "no wait has ended by its time"
+        );
     }
 }
 
@@ -184,6 +199,25 @@ fn crowd<'a, C: Clock>(
     Ok(workers)
 }
 
+/// Wants no call of a worker refused.
+fn all_done(rt: &impl Abort, answers: &[Result<(), Errno>]) {
+    for done in answers {
+        match *done {
+            Ok(()) => (),
+            Err(Errno::ENOMEM) => panic!(rt; "out of memory"),
+            Err(_) => panic!(rt; "another refusal"),
+        }
+    }
+}
+
+/// Wants the making, a quota of each worker, and a sending and a receipt of each message.
+fn is_logged(rt: &impl Abort, slots: &[ClosedSlot]) {
+    match slots.first() {
+        Some(slot) => holds!(rt; slot.last.len() as u64 == 100_009, "other events"),
+        None => panic!(rt; "no slot"),
+    }
+}
+
 #[test]
 fn calls_whose_waits_end_lose_no_message(rt: HostRuntime) {
     let watch = Watch::new();
@@ -200,35 +234,8 @@ fn calls_whose_waits_end_lose_no_message(rt: HostRuntime) {
             ended
         },
     );
-    let ended = match ended {
-        Ok(ended) => ended,
-        Err(WorkersError::Memory | WorkersError::Thread) => panic!(rt; "out of memory"),
-        Err(_) => panic!(rt; "no system"),
-    };
-    for done in ended.answer.iter() {
-        match *done {
-            Ok(()) => (),
-            Err(Errno::ENOMEM) => panic!(rt; "out of memory"),
-            Err(_) => panic!(rt; "another refusal"),
-        }
-    }
-    // The sums of the numbers up to 50,000, and of their squares.
-    holds!(rt; sums.received.load(Ordering::SeqCst) == ALL, "other sums");
-    holds!(rt;
-        sums.tags.load(Ordering::SeqCst) == 1_250_025_000,
-        "other sums"
-    );
-    holds!(rt;
-        sums.squares.load(Ordering::SeqCst) == 41_667_916_675_000,
-        "other sums"
-    );
-    holds!(rt;
-        sums.ended.load(Ordering::SeqCst) > 0,
-        "no wait has ended by its time"
-    );
-    match ended.slots.get(0) {
-        // The making, a quota of each worker, and a sending and a receipt of each message.
-        Some(slot) => holds!(rt; slot.last.len() as u64 == 100_009, "other events"),
-        None => panic!(rt; "no slot"),
-    }
+    let ended = ended_of(&rt, ended, 1);
+    all_done(&rt, ended.answer.as_slice());
+    sums.are_right(&rt);
+    is_logged(&rt, ended.slots.as_slice());
 }

@@ -1,7 +1,7 @@
 //! Drafts that wait until pages come home.
 
-use crate::calls::Nothing;
-use crate::watch::Watch;
+use crate::calls::{Nothing, ended_of};
+use crate::watch::{Watch, in_time};
 use mq::{
     Config, DraftError, Ended, Errno, Forever, Id, Names, Seat, System, TextOf, Worker,
     WorkersError, with_two, with_workers,
@@ -135,22 +135,6 @@ fn spent<N: Names, R: Wait>(
     }
 }
 
-/// What has ended, with so many pages free.
-fn ended_of<T: Drop, R: Abort>(
-    rt: &R,
-    ended: Result<Ended<T>, WorkersError>,
-    pages: u32,
-) -> Ended<T> {
-    match ended {
-        Ok(ended) => {
-            holds!(rt; ended.free_pages == pages, "a page is out");
-            ended
-        }
-        Err(WorkersError::Memory | WorkersError::Thread) => panic!(rt; "out of memory"),
-        Err(_) => panic!(rt; "no system"),
-    }
-}
-
 /// Two threads take the one page in turn, which is slow where others want the processors: the one
 /// sleeps, and wakes, for nearly each turn of the other.
 fn in_turn<R: Abort + Threads + Wait + Sync>(rt: &R, alloc: Global, way: Way) {
@@ -207,16 +191,8 @@ fn run_drafts<R: Threads + Wait + Sync>(
 }
 
 fn all_draft<R: Abort + Threads + Wait + Sync>(rt: &R, alloc: Global, lens: &[u64]) {
-    let (watch, lent) = (Watch::new(), Watch::new());
-    let ((), ended) = join(
-        rt,
-        || watch.keeps(rt, "all drafts"),
-        || {
-            let ended = run_drafts(rt, alloc, lens, &lent);
-            watch.ends();
-            ended
-        },
-    );
+    let lent = Watch::new();
+    let ended = in_time(rt, "all drafts", || run_drafts(rt, alloc, lens, &lent));
     for done in ended_of(rt, ended, 2).answer.iter() {
         holds!(rt; *done == Ok(()), "a draft is refused");
     }

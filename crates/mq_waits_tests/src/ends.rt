@@ -1,16 +1,17 @@
 //! Waits that end by their time: what they answer, what they leave, and what ends them before.
 
-use crate::calls::{Nothing, queue, receive, remove, send, set};
-use crate::watch::Watch;
+use crate::calls::{Nothing, ended_of, queue, receive, remove, send, set};
+use crate::watch::{Watch, in_time};
 use mq::{
-    Caller, Config, DraftError, Ended, Errno, Figures, Id, Names, NoWait, Patience, RecvFlags,
-    Seat, SendFlags, SendRefused, System, Until, Worker, WorkersError, with_two, with_workers,
+    Caller, ClosedSlot, Config, DraftError, Ended, Errno, Figures, Id, Names, NoWait, Patience,
+    RecvFlags, Seat, SendFlags, SendRefused, System, Until, Worker, WorkersError, with_two,
+    with_workers,
 };
 use std::alloc::Global;
 use std::io;
 use std::process::Abort;
 use std::sync::Wait;
-use std::thread::{Threads, join};
+use std::thread::Threads;
 use std::time::{Clock, Duration, Instant};
 
 const SIZE: Config = Config {
@@ -19,6 +20,9 @@ const SIZE: Config = Config {
     seats: 3,
     last_seq: 3,
 };
+
+/// How many pages the arena has.
+const PAGES: u32 = 8;
 
 const FLAGS: RecvFlags = RecvFlags {
     nowait: false,
@@ -442,29 +446,18 @@ impl<'a> Worker<Nothing> for Stirs<'a> {
     }
 }
 
-/// What has ended, with all pages at home.
-fn ended_of<T: Drop, R: Abort>(rt: &R, ended: Result<Ended<T>, WorkersError>) -> Ended<T> {
-    match ended {
-        Ok(ended) => {
-            holds!(rt; ended.free_pages == 8, "a page is out");
-            ended
-        }
-        Err(WorkersError::Memory | WorkersError::Thread) => panic!(rt; "out of memory"),
-        Err(_) => panic!(rt; "no system"),
-    }
-}
-
 fn is_done<R: Abort>(rt: &R, done: Done) {
-    match done {
-        Ok(()) => (),
-        Err(Wrong::Refused(Errno::ENOMEM)) => panic!(rt; "out of memory"),
-        Err(Wrong::Refused(_)) => panic!(rt; "another refusal"),
-        Err(Wrong::Changed) => panic!(rt; "other figures"),
-        Err(Wrong::Answered) => panic!(rt; "another answer"),
-        Err(Wrong::Text) => panic!(rt; "other bytes"),
-        Err(Wrong::Time) => panic!(rt; "too early or too late"),
-        Err(Wrong::Clock) => panic!(rt; "no clock"),
-    }
+    let what = match done {
+        Ok(()) => return,
+        Err(Wrong::Refused(Errno::ENOMEM)) => "out of memory",
+        Err(Wrong::Refused(_)) => "another refusal",
+        Err(Wrong::Changed) => "other figures",
+        Err(Wrong::Answered) => "another answer",
+        Err(Wrong::Text) => "other bytes",
+        Err(Wrong::Time) => "too early or too late",
+        Err(Wrong::Clock) => "no clock",
+    };
+    panic!(rt; "{what}");
 }
 
 /// One worker, run by itself.
@@ -487,17 +480,8 @@ fn alone<R: Abort + Threads + Wait + Sync, W: Worker<Nothing, Answer = Done> + S
     what: &str,
     worker: W,
 ) {
-    let watch = Watch::new();
-    let ((), ended) = join(
-        rt,
-        || watch.keeps(rt, what),
-        || {
-            let ended = run_alone(rt, alloc, worker);
-            watch.ends();
-            ended
-        },
-    );
-    for done in ended_of(rt, ended).answer.iter() {
+    let ended = in_time(rt, what, || run_alone(rt, alloc, worker));
+    for done in ended_of(rt, ended, PAGES).answer.iter() {
         is_done(rt, *done);
     }
 }
@@ -524,26 +508,21 @@ fn ended_by<R: Abort + Clock + Threads + Wait + Sync>(
     what: &str,
     removes: bool,
 ) -> Result<u64, Errno> {
-    let (watch, comes) = (Watch::new(), Watch::new());
-    let ((), ended) = join(
-        rt,
-        || watch.keeps(rt, what),
-        || {
-            let waits = WaitsAMinute {
-                clock: rt,
-                comes: &comes,
-            };
-            let ends = EndsIt {
-                comes: &comes,
-                removes,
-            };
-            let ended = with_two(rt, alloc, SIZE, waits, ends);
-            comes.ends();
-            watch.ends();
-            ended
-        },
-    );
-    let ended = ended_of(rt, ended);
+    let comes = Watch::new();
+    let waits = WaitsAMinute {
+        clock: rt,
+        comes: &comes,
+    };
+    let ends = EndsIt {
+        comes: &comes,
+        removes,
+    };
+    let ended = in_time(rt, what, || {
+        let ended = with_two(rt, alloc, SIZE, waits, ends);
+        comes.ends();
+        ended
+    });
+    let ended = ended_of(rt, ended, PAGES);
     let (answer, done) = ended.answer;
     holds!(rt; done.is_ok(), "out of memory");
     answer
@@ -561,37 +540,34 @@ fn a_message_ends_a_wait_before_its_time(rt: HostRuntime) {
     holds!(rt; answer == Ok(5), "another answer");
 }
 
-#[test]
-fn a_hundred_waits_end_beside_other_messages(rt: HostRuntime) {
-    let (watch, over) = (Watch::new(), Watch::new());
-    let ((), ended) = join(
-        &rt,
-        || watch.keeps(&rt, "a hundred waits end"),
-        || {
-            let waits = WaitsInVain {
-                clock: &rt,
-                over: &over,
-            };
-            let stirs = Stirs { over: &over };
-            let ended = with_two(&rt, rt.alloc(), SIZE, waits, stirs);
-            over.ends();
-            watch.ends();
-            ended
-        },
-    );
-    let ended = ended_of(&rt, ended);
-    let (done, stirred) = ended.answer;
-    is_done(&rt, done);
+/// Wants the making, and a sending and a receipt of each message: a wait that ended is no event.
+fn is_logged(rt: &impl Abort, slots: &[ClosedSlot], stirred: Result<u64, Errno>) {
     let Ok(count) = stirred else {
         panic!(rt; "out of memory");
     };
-    // The making, and a sending and a receipt of each message: a wait that ended is no event.
-    let events = count.wrapping_mul(2).wrapping_add(1);
-    match ended.slots.get(0) {
-        Some(slot) => {
-            let kept = slot.past.len() as u64 + slot.last.len() as u64;
-            holds!(rt; kept == events && slot.left == 0, "other events");
-        }
-        None => panic!(rt; "no slot"),
-    }
+    let Some(slot) = slots.first() else {
+        panic!(rt; "no slot");
+    };
+    let kept = slot.past.len() as u64 + slot.last.len() as u64;
+    holds!(rt; kept == count.wrapping_mul(2).wrapping_add(1), "other events");
+    holds!(rt; slot.left == 0, "other events");
+}
+
+#[test]
+fn a_hundred_waits_end_beside_other_messages(rt: HostRuntime) {
+    let over = Watch::new();
+    let waits = WaitsInVain {
+        clock: &rt,
+        over: &over,
+    };
+    let stirs = Stirs { over: &over };
+    let ended = in_time(&rt, "a hundred waits end", || {
+        let ended = with_two(&rt, rt.alloc(), SIZE, waits, stirs);
+        over.ends();
+        ended
+    });
+    let ended = ended_of(&rt, ended, PAGES);
+    let (done, stirred) = ended.answer;
+    is_done(&rt, done);
+    is_logged(&rt, ended.slots.as_slice(), stirred);
 }

@@ -17,6 +17,14 @@ fn holds(rt: &impl Abort, is: bool, what: &str)
     }
 }
 
+/// Ends the test where a number is another than the wanted one, and tells both.
+#[cfg(test)]
+fn is_same(rt: &impl Abort, found: u64, wanted: u64, what: &str) {
+    if found != wanted {
+        panic!(rt; "{what}: {found}, not {wanted}");
+    }
+}
+
 /// `assert!` as a call: a branch at each place would make the proof of a test grow.
 #[cfg(test)]
 macro_rules! holds {

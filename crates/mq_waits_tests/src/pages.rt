@@ -1,4 +1,5 @@
 use crate::calls::{Nothing, queue, receive, send};
+use crate::is_same;
 use mq::{Config, Errno, Id, Names, Seat, System, Worker, WorkersError, with_workers};
 use std::alloc::{AllocError, Global};
 use std::hint::spin_loop;
@@ -89,8 +90,8 @@ fn four_threads_that_keep_all_pages_have_four(rt: HostRuntime) {
                 for kept in ended.answer.iter() {
                     all = all.wrapping_add(kept.unwrap_or(100));
                 }
-                assert_eq!(rt; all, 4);
-                assert_eq!(rt; ended.free_pages, 4);
+                is_same(&rt, u64::from(all), 4, "pages kept");
+                is_same(&rt, u64::from(ended.free_pages), 4, "free pages");
                 return;
             }
             Err(WorkersError::Memory | WorkersError::Thread) => (),

@@ -2,7 +2,7 @@
 //! its own there for ever, so each is made in slots that are not the first, in bounded time.
 
 use crate::calls::{Nothing, queue, receive, remove, send, set};
-use crate::watch::Watch;
+use crate::watch::in_time;
 use mq::{
     Caller, Config, Cut, Errno, GetFlags, Id, Names, RecvFlags, Seat, SendFlags, System,
     SystemProgram, with_system,
@@ -10,7 +10,7 @@ use mq::{
 use std::alloc::Global;
 use std::process::Abort;
 use std::sync::Wait;
-use std::thread::{Threads, join};
+use std::thread::Threads;
 
 const SIZE: Config = Config {
     height: 3,
@@ -181,16 +181,9 @@ impl SystemProgram<Nothing> for Elsewhere {
 
 /// Wants that the call comes to its end, and answers as it must.
 fn reaches<R: Abort + Threads + Wait + Sync>(rt: &R, alloc: Global, name: &str, call: Call) {
-    let watch = Watch::new();
-    let ((), ended) = join(
-        rt,
-        || watch.keeps(rt, name),
-        || {
-            let ended = with_system(rt, alloc, SIZE, Elsewhere { call });
-            watch.ends();
-            ended
-        },
-    );
+    let ended = in_time(rt, name, || {
+        with_system(rt, alloc, SIZE, Elsewhere { call })
+    });
     match ended {
         Ok(ended) => match ended.answer {
             Ok(right) => assert!(rt; right, "{name} answers otherwise"),

@@ -4,12 +4,13 @@
 //! while first, so that all who wait sleep by then. The queue is not in the first slot.
 
 use crate::calls::{Nothing, queue, receive, remove, send, set};
-use crate::watch::Watch;
+use crate::is_same;
+use crate::watch::in_time;
 use mq::{Config, Ended, Errno, Id, Names, Seat, System, Worker, WorkersError, with_workers};
 use std::alloc::Global;
 use std::process::Abort;
 use std::sync::Wait;
-use std::thread::{Threads, join};
+use std::thread::Threads;
 
 const SIZE: Config = Config {
     height: 8,
@@ -165,22 +166,12 @@ fn wakes<R: Abort + Threads + Wait + Sync>(
     answers: &[Done],
     left: u64,
 ) {
-    let watch = Watch::new();
-    let ((), ended) = join(
-        rt,
-        || watch.keeps(rt, wake),
-        || {
-            let ended = played(rt, alloc, parts);
-            watch.ends();
-            ended
-        },
-    );
-    match ended {
+    match in_time(rt, wake, || played(rt, alloc, parts)) {
         Ok(ended) => {
             holds!(rt; ended.answer.as_slice() == answers, "other answers");
             let is_left = matches!(ended.slots.get(1), Some(slot) if slot.left == left);
             assert!(rt; is_left, "other than {left} messages are left");
-            assert_eq!(rt; ended.free_pages, 256);
+            is_same(rt, u64::from(ended.free_pages), 256, "free pages");
         }
         Err(error) => panic!(rt; "{error}"),
     }

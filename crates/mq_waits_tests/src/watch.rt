@@ -3,6 +3,7 @@
 use std::process::Abort;
 use std::sync::atomic::{AtomicBool, AtomicU64, Ordering};
 use std::sync::{Condvar, Wait};
+use std::thread::{Threads, join};
 use std::time::Duration;
 
 /// The seconds after which a test that has not come to its end counts as one that never does.
@@ -64,4 +65,26 @@ impl Watch {
     pub(crate) fn keeps<R: Abort + Wait>(&self, rt: &R, what: &str) {
         assert!(rt; self.is_over(rt), "not come in time: {what}");
     }
+}
+
+/// What this answers, whose threads wait for one another. Where it does not come to its end in time,
+/// the test fails, and tells what has not come.
+pub(crate) fn in_time<R: Abort + Threads + Wait + Sync, T: Send, F: FnOnce() -> T + Send>(
+    rt: &R,
+    what: &str,
+    run: F,
+) -> T
+    requires { F.IsAlwaysCallable run }
+{
+    let watch = Watch::new();
+    let ((), answer) = join(
+        rt,
+        || watch.keeps(rt, what),
+        || {
+            let answer = run();
+            watch.ends();
+            answer
+        },
+    );
+    answer
 }

@@ -24,8 +24,8 @@ of-requires c =
     c.load.ensures.2 in
     record { shown = read.0.shown; range = read.2.3; same = read.1 }
 
-pub returns-clause-seen : goal.returns-clause-seen
-returns-clause-seen c =
+pub returns : goal.returns
+returns c =
     let same : c.load.result ≡ c.load-version.result = search rules in
     let even : c.load-version.result % 2 ≡ 0 = search rules in
     let read = read_whole c.gather-words.result c.load-version.result c.load.result
@@ -33,5 +33,14 @@ returns-clause-seen c =
     c.load-version.new.seat.me.0.stage c.gather-words.new.pass.me.0.stage
     c.gather-words.ensures.1 even same c.load-version.ensures.2.1 c.gather-words.ensures.2
     c.load.ensures.2 in
-    subst (λ (s : Shown). IsRowOf s c.load.new.seat.me.0.client.events)
-    (sym (c.of.ensures read.0.shown read.2.3 read.1)) read.2.2
+    record {
+      looked = record {
+        same = search rules;
+        reads = search rules;
+        later = search rules;
+        seen =
+            subst (λ (s : Shown). IsRowOf s c.load.new.seat.me.0.client.events)
+            (sym (c.of.ensures read.0.shown read.2.3 read.1)) read.2.2;
+        none = search rules;
+      };
+    }
