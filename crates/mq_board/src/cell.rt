@@ -152,7 +152,8 @@ pub type Pass = Seat<News, Doing<News, Known>>;
 #[derive(Drop)]
 pub struct Cell {
     pub(crate) table: Table<News, Doing<News, Known>, (), Showing, Global>,
-    /// Memory before the table's, which nobody writes: so no line has words of two boards.
+    /// Memory that nobody writes, asked for before the table's: where an allocator hands out one
+    /// piece behind the other, no line has words of two boards.
     gap: Vec<u64>,
     ghost wide: { table.shared.table_id.words ≡ WORDS + 1 },
 }

@@ -59,7 +59,8 @@ fn check_first(rt: &impl Abort, cut: &(Base, Vec<Event>)) {
     holds!(rt; tail.len() == 5);
 }
 
-/// Three messages are sent, of types 5, 6 and 7 and of 1, 2 and 3 bytes, and the second is received.
+/// Three messages are sent, of types 5, 6 and 7 and of 1, 2 and 3 bytes, and the second is
+/// received.
 fn begin(alloc: Global, queue: &mut Queue) -> Result<[Answer; 4], AllocError> {
     Ok([
         send(queue, message(alloc, 5, 1)?, 60),

@@ -67,8 +67,8 @@ impl Watch {
     }
 }
 
-/// What this answers, whose threads wait for one another. Where it does not come to its end in time,
-/// the test fails, and tells what has not come.
+/// What this answers, whose threads wait for one another. Where it does not end in time, the test
+/// fails, and tells what has not come.
 pub(crate) fn in_time<R: Abort + Threads + Wait + Sync, T: Send, F: FnOnce() -> T + Send>(
     rt: &R,
     what: &str,
