@@ -35,6 +35,14 @@ mod blocks;
 #[cfg(test)]
 mod bytes;
 #[cfg(test)]
+mod day;
+#[cfg(test)]
+mod in_block;
+#[cfg(test)]
+mod in_text;
+#[cfg(test)]
+mod lender;
+#[cfg(test)]
 mod magazines;
 #[cfg(test)]
 mod taking;

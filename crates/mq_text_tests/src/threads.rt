@@ -1,9 +1,11 @@
 //! Tests that the two halves of a text are written by two threads at once.
-ghost use Rattle.std.specs.Prelude.{◌≡◌, ◌*◌, ◌^◌, ◌<◌, ◌≤◌, length};
+ghost use Rattle.std.specs.Prelude.{◌≤◌, length};
 ghost use Rattle.mq_arena.specs.Bytes.{AreWhole};
 
+use crate::day::{Day, lives, opened};
+use crate::lender::Lender;
 use crate::taking::drafted;
-use crate::texts::{home, repeats};
+use crate::texts::home;
 use mq_arena::{LEDGER_PARTS, PAGE_LEN, Page, Text, Unopened, fill};
 use std::fs;
 use std::fs::Files;
@@ -21,53 +23,65 @@ const TURNS: u32 = 1_000_000;
 // How often the halves are filled before a test fails that looks for the second thread.
 const FILLS: u32 = 100_000;
 
-// Raises a flag and waits for the other one.
-fn meets(rt: &impl Abort, own: &AtomicBool, other: &AtomicBool) {
+// Raises a flag and waits for the other one. Whether it is raised.
+fn meets(own: &AtomicBool, other: &AtomicBool) -> bool {
     own.store(true, Ordering::SeqCst);
     for _ in 0..TURNS {
         if other.load(Ordering::SeqCst) {
-            return;
+            return true;
         }
         yield_now();
     }
-    panic!(rt; "one half is written after the other, or there is no memory for a thread");
+    false
 }
 
-// Fills the first page, once the other half is being written too.
-fn written(rt: &impl Abort, own: &AtomicBool, other: &AtomicBool, pages: &mut [Page], letter: u8)
+// Fills the first page, once the other half is being written too, or else raises the third flag.
+fn written(own: &AtomicBool, other: &AtomicBool, alone: &AtomicBool, pages: &mut [Page], letter: u8)
     requires whole { AreWhole pages.old }
     requires some { 1 ≤ length pages.old }
     ensures whole { AreWhole pages.new }
 {
-    meets(rt, own, other);
+    if !meets(own, other) {
+        alone.store(true, Ordering::SeqCst);
+    }
     fill(pages, &[letter; PAGE_LEN]);
 }
 
-fn halves_meet<L: Ledger, R: Abort + Threads + Sync>(rt: &R, unopened: Unopened, ledger: Blank)
-    requires name { ledger.name ≡ L.name }
-    requires parts { ledger.parts ≡ L.parts }
-    requires enough { 2 ^ unopened < ledger.parts }
-{
-    let mut arena = unopened.open::<L>(ledger);
-    let mut text = drafted(rt, &mut arena, 2 * PAGE_LEN);
+/// Writes each of two pages of a text's block while the other one is written too.
+pub(crate) fn write_both<L: Ledger, R: Abort + Threads>(rt: &R, text: &mut Text<L>) {
+    holds!(rt; text.order() == Some(1));
+    holds!(rt; 1 <= text.count());
     let front = AtomicBool::new(false);
     let back = AtomicBool::new(false);
+    let alone = AtomicBool::new(false);
     text.write_halves(
         rt,
         1,
-        |pages: &mut [Page]| written(rt, &front, &back, pages, b'A'),
-        |pages: &mut [Page]| written(rt, &back, &front, pages, b'B'),
+        |pages: &mut [Page]| written(&front, &back, &alone, pages, b'A'),
+        |pages: &mut [Page]| written(&back, &front, &alone, pages, b'B'),
     );
-    repeats(rt, text.part(0), PAGE_LEN, b'A');
-    repeats(rt, text.part(1), PAGE_LEN, b'B');
-    home(rt, &mut arena, text);
+    let is_alone = alone.load(Ordering::SeqCst);
+    holds!(rt;
+        !is_alone,
+        "one half is written after the other, or there is no memory for a thread"
+    );
+}
+
+struct HalvesMeet;
+
+impl Day for HalvesMeet {
+    fn spend<A: Lender, R: Abort + Threads>(&self, rt: &R, arena: &mut A) {
+        let mut text = drafted(rt, arena, 2 * PAGE_LEN);
+        arena.write_both(rt, &mut text);
+        arena.repeats(rt, &text, 0, PAGE_LEN, b'A');
+        arena.repeats(rt, &text, 1, PAGE_LEN, b'B');
+        home(rt, arena, text);
+    }
 }
 
 #[test]
 fn each_half_is_written_while_the_other_is(rt: HostRuntime) -> Result<(), Fail> {
-    let unopened = Unopened::new(rt.alloc(), 1)?;
-    halves_meet::<Brand, HostRuntime>(&rt, unopened, Blank::new(LEDGER_PARTS));
-    Ok(())
+    lives(&rt, rt.alloc(), 1, &HalvesMeet)
 }
 
 // How many threads a process has by this status.
@@ -93,32 +107,33 @@ fn looks_for_more<R: Files + Alloc>(rt: &R, most: u32, seen: &AtomicBool) {
 }
 
 // Fills the halves again and again, until the flag is raised.
-fn fills_on<L: Ledger>(rt: &(impl Abort + Threads), text: &mut Text<L>, seen: &AtomicBool)
-    requires { length text.old.bytes ≡ 2 * PAGE_LEN }
-{
+fn fills_on<A: Lender, R: Abort + Threads>(
+    rt: &R,
+    arena: &A,
+    text: &mut A::Text,
+    seen: &AtomicBool,
+) {
     for _ in 0..FILLS {
         if seen.load(Ordering::SeqCst) {
             return;
         }
-        text.fill_halves(rt, 1, &[b'A'; PAGE_LEN], &[b'B'; PAGE_LEN]);
+        arena.fill_halves(rt, text, 1, &[b'A'; PAGE_LEN], &[b'B'; PAGE_LEN]);
     }
     panic!(rt; "the halves are filled one after the other");
 }
 
-fn halves_are_filled<L: Ledger, R: Abort + Threads>(
-    rt: &R,
-    unopened: Unopened,
-    ledger: Blank,
-    seen: &AtomicBool,
-)
-    requires name { ledger.name ≡ L.name }
-    requires parts { ledger.parts ≡ L.parts }
-    requires enough { 2 ^ unopened < ledger.parts }
-{
-    let mut arena = unopened.open::<L>(ledger);
-    let mut text = drafted(rt, &mut arena, 2 * PAGE_LEN);
-    fills_on(rt, &mut text, seen);
-    home(rt, &mut arena, text);
+/// The halves of a text are filled until the flag is raised.
+#[derive(Drop)]
+struct Fills<'t> {
+    seen: &'t AtomicBool,
+}
+
+impl<'t> Day for Fills<'t> {
+    fn spend<A: Lender, R: Abort + Threads>(&self, rt: &R, arena: &mut A) {
+        let mut text = drafted(rt, arena, 2 * PAGE_LEN);
+        fills_on(rt, arena, &mut text, self.seen);
+        home(rt, arena, text);
+    }
 }
 
 // One thread fills, and another one looks for the third, which is there while both halves are
@@ -134,7 +149,8 @@ fn each_half_is_filled_by_a_thread_of_its_own(rt: HostRuntime) -> Result<(), Fai
         &rt,
         "no memory for a thread",
     );
-    halves_are_filled::<Brand, HostRuntime>(&rt, unopened, Blank::new(LEDGER_PARTS), &seen);
+    let day = Fills { seen: &seen };
+    opened::<Brand, Fills<'_>, HostRuntime>(&rt, unopened, Blank::new(LEDGER_PARTS), &day);
     watch.join(&rt);
     Ok(())
 }

@@ -1,5 +1,5 @@
 use Rattle.mq_text_tests.proofs.threads.each_half_is_filled_by_a_thread_of_its_own.Given as goal
 
 -- the ledger that the test opens
-abbrev pub ghosts-halves_are_filled : goal.ghosts-halves_are_filled
-ghosts-halves_are_filled g a = record { name = a.ledger.name; parts = a.ledger.parts }
+abbrev pub ghosts-opened : goal.ghosts-opened
+ghosts-opened g a = record { name = a.ledger.name; parts = a.ledger.parts }
