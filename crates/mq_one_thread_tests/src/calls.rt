@@ -1,20 +1,12 @@
-//! A system for a test, and its calls, each made once more where there was no memory.
-ghost use Rattle.std.specs.Prelude.{◌≡◌, ◌<◌};
+//! The calls of a system, each made once more where there was no memory. Seat 1 makes, sends, sets
+//! and removes, and seat 2 receives.
 
-use mq_arena::{Homecoming, Text};
-use mq_calls::{
-    Closed, Config, Delivered, DraftError, Errno, GetFlags, Got, Refused, Removal, SendRefused,
-    SysError,
-};
-use mq_message::Body;
-use mq_one_thread::OneThread;
+use crate::holds;
+use crate::system::Calls;
+use mq_arena::Homecoming;
+use mq_calls::{Delivered, DraftError, Errno, GetFlags, Got, Refused, Removal, SendRefused};
 use mq_table::{Cut, Id};
-use std::alloc::Global;
 use std::process::Abort;
-use std::sync::ledger::{Blank, Ledger};
-
-/// More than an arena has pages.
-pub(crate) const PARTS: u64 = 1025;
 
 pub(crate) const NO_FLAG: GetFlags = GetFlags {
     create: false,
@@ -55,36 +47,8 @@ pub(crate) fn first(size: u64) -> Wanted {
     }
 }
 
-pub(crate) fn config(height: u8, slots: u8, last_seq: u32) -> Config {
-    Config {
-        height,
-        slots,
-        seats: 2,
-        last_seq,
-    }
-}
-
-pub(crate) fn made<L: Ledger>(
-    rt: &impl Abort,
-    alloc: Global,
-    config: Config,
-    ledger: Blank,
-) -> OneThread<L>
-    requires name { ledger.name ≡ L.name }
-    requires parts { ledger.parts ≡ L.parts }
-    requires enough { 1024 < ledger.parts }
-{
-    match OneThread::new(alloc, config, ledger) {
-        Ok(system) => system,
-        Err(refusal) => {
-            holds!(rt; refusal != SysError::Memory, "out of memory");
-            panic!(rt; "no system");
-        }
-    }
-}
-
-pub(crate) fn get<L: Ledger>(
-    system: &mut OneThread<L>,
+pub(crate) fn get<S: Calls>(
+    system: &mut S,
     key: i32,
     flags: GetFlags,
     moment: u64,
@@ -96,13 +60,13 @@ pub(crate) fn get<L: Ledger>(
 }
 
 /// A text that is sent by seat 1, with the tag 7.
-pub(crate) fn send<L: Ledger>(
-    system: &mut OneThread<L>,
+pub(crate) fn send<S: Calls>(
+    system: &mut S,
     id: u32,
     mtype: i64,
-    text: Text<L>,
+    text: S::Text,
     moment: u64,
-) -> Result<u64, SendRefused<Text<L>>> {
+) -> Result<u64, SendRefused<S::Text>> {
     let id = Id::from_number(id);
     match system.msgsnd(1, id, mtype, 7, text, moment) {
         Err(
@@ -118,12 +82,12 @@ pub(crate) fn send<L: Ledger>(
     }
 }
 
-fn received_once<L: Ledger>(
-    system: &mut OneThread<L>,
+fn received_once<S: Calls>(
+    system: &mut S,
     id: u32,
     wanted: Wanted,
     moment: u64,
-) -> Result<Delivered<Text<L>>, Refused> {
+) -> Result<Delivered<S::Text>, Refused> {
     let Wanted {
         size,
         msgtyp,
@@ -149,12 +113,12 @@ fn no_memory<T>(answer: &Result<T, Refused>) -> bool {
 }
 
 /// What seat 2 receives.
-pub(crate) fn receive<L: Ledger>(
-    system: &mut OneThread<L>,
+pub(crate) fn receive<S: Calls>(
+    system: &mut S,
     id: u32,
     wanted: Wanted,
     moment: u64,
-) -> Result<Delivered<Text<L>>, Refused> {
+) -> Result<Delivered<S::Text>, Refused> {
     match received_once(system, id, wanted, moment) {
         Err(
             Refused {
@@ -166,8 +130,8 @@ pub(crate) fn receive<L: Ledger>(
     }
 }
 
-pub(crate) fn set<L: Ledger>(
-    system: &mut OneThread<L>,
+pub(crate) fn set<S: Calls>(
+    system: &mut S,
     id: u32,
     qbytes: u64,
     moment: u64,
@@ -179,11 +143,7 @@ pub(crate) fn set<L: Ledger>(
     answer
 }
 
-pub(crate) fn remove<L: Ledger>(
-    system: &mut OneThread<L>,
-    id: u32,
-    moment: u64,
-) -> Result<Removal, Refused> {
+pub(crate) fn remove<S: Calls>(system: &mut S, id: u32, moment: u64) -> Result<Removal, Refused> {
     let answer = system.rmid(1, Id::from_number(id), moment);
     if no_memory(&answer) {
         return system.rmid(1, Id::from_number(id), moment);
@@ -197,30 +157,34 @@ fn end_of(cut: &Cut) -> u64 {
     cut.first.saturating_add(entries)
 }
 
+/// A cut is refused for want of memory, and the refusal tells all entries.
+fn is_refusal_of(rt: &impl Abort, refused: Refused, cut: &Cut) {
+    holds(rt, refused.errno == Errno::ENOMEM, "a cut is refused");
+    let entries = refused.entry;
+    holds(
+        rt,
+        entries == Some(end_of(cut)),
+        "a refused cut tells other entries",
+    );
+}
+
 /// What is cut off of a slot. Where that is refused at first, the refusal tells all entries.
-pub(crate) fn cut<L: Ledger>(rt: &impl Abort, system: &mut OneThread<L>, slot: u8) -> Cut {
-    holds!(rt; slot < system.slots());
-    match system.cut_log(slot) {
-        Ok(cut) => cut,
-        Err(refused) => match system.cut_log(slot) {
-            Ok(cut) => {
-                assert!(rt;
-                    refused.errno == Errno::ENOMEM,
-                    "a cut is refused: {refused}"
-                );
-                assert!(rt; refused.entry == Some(end_of(&cut)), "{refused}");
-                cut
-            }
-            Err(refused) => panic!(rt; "a cut is refused twice: {refused}"),
-        },
+pub(crate) fn cut<S: Calls>(rt: &impl Abort, system: &mut S, slot: u8) -> Cut {
+    let refused = match system.cut_log(rt, slot) {
+        Ok(cut) => return cut,
+        Err(refused) => refused,
+    };
+    match system.cut_log(rt, slot) {
+        Ok(cut) => {
+            is_refusal_of(rt, refused, &cut);
+            cut
+        }
+        Err(_) => panic!(rt; "a cut is refused twice"),
     }
 }
 
 /// A text of so many zero bytes.
-pub(crate) fn draft<L: Ledger>(
-    system: &mut OneThread<L>,
-    length: u64,
-) -> Result<Text<L>, DraftError> {
+pub(crate) fn draft<S: Calls>(system: &mut S, length: u64) -> Result<S::Text, DraftError> {
     match system.draft(length) {
         Err(DraftError::Memory) => system.draft(length),
         answer => answer,
@@ -228,14 +192,15 @@ pub(crate) fn draft<L: Ledger>(
 }
 
 /// A short text of these bytes, which wants no memory.
-pub(crate) fn written<L: Ledger>(
-    rt: &impl Abort,
-    system: &mut OneThread<L>,
-    bytes: &[u8],
-) -> Text<L> {
+pub(crate) fn written<S: Calls>(rt: &impl Abort, system: &mut S, bytes: &[u8]) -> S::Text {
     match system.draft_of(bytes) {
         Ok(text) => {
-            holds!(rt; text.len() == bytes.len() as u64);
+            let length = system.shape(&text).len;
+            holds(
+                rt,
+                length == bytes.len() as u64,
+                "another length is drafted",
+            );
             text
         }
         Err(_) => panic!(rt; "not drafted"),
@@ -243,12 +208,12 @@ pub(crate) fn written<L: Ledger>(
 }
 
 /// Sends a text that must be taken.
-pub(crate) fn taken<L: Ledger>(
+pub(crate) fn taken<S: Calls>(
     rt: &impl Abort,
-    system: &mut OneThread<L>,
+    system: &mut S,
     id: u32,
     mtype: i64,
-    text: Text<L>,
+    text: S::Text,
 ) -> u64 {
     match send(system, id, mtype, text, 5) {
         Ok(entry) => entry,
@@ -262,12 +227,12 @@ pub(crate) fn taken<L: Ledger>(
 }
 
 /// Receives a message that must be there.
-pub(crate) fn delivered<L: Ledger>(
+pub(crate) fn delivered<S: Calls>(
     rt: &impl Abort,
-    system: &mut OneThread<L>,
+    system: &mut S,
     id: u32,
     wanted: Wanted,
-) -> Delivered<Text<L>> {
+) -> Delivered<S::Text> {
     match receive(system, id, wanted, 6) {
         Ok(delivered) => delivered,
         Err(_) => panic!(rt; "not received"),
@@ -275,17 +240,7 @@ pub(crate) fn delivered<L: Ledger>(
 }
 
 /// Spends a text that is the system's own.
-pub(crate) fn spent<L: Ledger>(rt: &impl Abort, system: &mut OneThread<L>, text: Text<L>) {
-    holds!(rt; system.spend(text) == Homecoming::Home);
-}
-
-/// Ends a system, all of whose pages are free or under a text that waits.
-pub(crate) fn ended<L: Ledger>(rt: &impl Abort, system: OneThread<L>) {
-    let Closed { slots: _, arena } = system.close();
-    holds!(rt; arena.free_pages() == arena.pages());
-}
-
-/// Whether a text of one page has these bytes.
-pub(crate) fn has<L: Ledger>(text: &Text<L>, bytes: &[u8]) -> bool {
-    text.count() == 1 && text.part(0) == bytes
+pub(crate) fn spent<S: Calls>(rt: &impl Abort, system: &mut S, text: S::Text) {
+    let home = system.spend(text) == Homecoming::Home;
+    holds(rt, home, "a text does not come home");
 }

@@ -1,20 +1,17 @@
 //! Cuts of a slot's list, after which all calls answer as before.
-ghost use Rattle.std.specs.Prelude.{◌≡◌, ◌<◌};
 
 use crate::calls::{
-    CREATE, NEW, NO_FLAG, PARTS, config, cut, delivered, first, get, has, made, remove, spent,
-    taken, written,
+    CREATE, NEW, NO_FLAG, cut, delivered, first, get, remove, spent, taken, written,
 };
+use crate::day::{Day, config, left_by};
+use crate::holds;
 use crate::steps::{Answer, Step, plays};
-use mq_calls::{Closed, ClosedSlot, Delivered, Errno, Got, Removal};
+use crate::system::Calls;
+use mq_calls::{ClosedSlot, Delivered, Errno, Got, Removal};
 use mq_message::Selection;
-use mq_one_thread::OneThread;
-use mq_queue::{Base, BaseEntry, BoardRow, Event, Figures};
+use mq_queue::{Base, BaseEntry, BoardRow, Event, Figures, Log};
 use mq_table::{Cut, Id};
-use std::alloc::Global;
-use std::marker::Brand;
 use std::process::Abort;
-use std::sync::ledger::{Blank, Ledger};
 
 /// A queue is made, and two messages are sent.
 const SENT: [Event; 3] = [
@@ -85,34 +82,38 @@ const LEFT: Figures = Figures {
     ..BOTH
 };
 
-fn filled<L: Ledger>(rt: &impl Abort, system: &mut OneThread<L>) {
-    holds!(rt; get(system, 9, NEW, 4).is_ok());
-    let text = written(rt, system, b"one");
-    holds!(rt; taken(rt, system, 0, 1, text) == 1);
-    let text = written(rt, system, b"four");
-    holds!(rt; taken(rt, system, 0, 2, text) == 2);
+fn sent<S: Calls>(rt: &impl Abort, system: &mut S, mtype: i64, bytes: &[u8], at: u64) {
+    let text = written(rt, system, bytes);
+    let entry = taken(rt, system, 0, mtype, text);
+    holds(rt, entry == at, "sent at another entry");
+}
+
+fn filled<S: Calls>(rt: &impl Abort, system: &mut S) {
+    holds(rt, get(system, 9, NEW, 4).is_ok(), "no queue");
+    sent(rt, system, 1, b"one", 1);
+    sent(rt, system, 2, b"four", 2);
 }
 
 /// The queue is found and shown as it would be if nothing had been cut off.
-fn is_there<L: Ledger>(rt: &impl Abort, system: &mut OneThread<L>, figures: Figures) {
+fn is_there<S: Calls>(rt: &impl Abort, system: &mut S, figures: Figures) {
     let got = Got {
         id: Id::from_number(0),
         made: None,
     };
-    holds!(rt; get(system, 9, NO_FLAG, 5) == Ok(got));
-    holds!(rt; system.stat(Id::from_number(0)) == Ok(figures));
-    holds!(rt; system.slots() > 0);
     let row = BoardRow {
         made: 1,
         live: true,
         key: 9,
         figures,
     };
-    holds!(rt; system.row(0) == row);
+    holds(rt, get(system, 9, NO_FLAG, 5) == Ok(got), "another id");
+    let shown = system.stat(got.id);
+    holds(rt, shown == Ok(figures), "other figures are shown");
+    holds(rt, system.row(rt, 0) == row, "another row is shown");
 }
 
-/// `one` is received by entry 3.
-fn receives<L: Ledger>(rt: &impl Abort, system: &mut OneThread<L>) {
+/// The text of `one`, as it is received by entry 3.
+fn text_of<T>(rt: &impl Abort, delivered: Delivered<T>) -> T {
     let Delivered {
         entry,
         mtype,
@@ -120,11 +121,30 @@ fn receives<L: Ledger>(rt: &impl Abort, system: &mut OneThread<L>) {
         tag,
         length,
         text,
-    } = delivered(rt, system, 0, first(9));
-    holds!(rt; has(&text, b"one"));
+    } = delivered;
+    holds(rt, entry == 3, "received by another entry");
+    holds(rt, mtype == 1, "another type");
+    holds(rt, sender == 1, "another sender");
+    holds(rt, tag == 7, "another tag");
+    holds(rt, length == 3, "another length");
+    text
+}
+
+/// `one` is received by entry 3.
+fn receives<S: Calls>(rt: &impl Abort, system: &mut S) {
+    let text = text_of(rt, delivered(rt, system, 0, first(9)));
+    holds(rt, system.has(&text, b"one"), "another text");
     spent(rt, system, text);
-    holds!(rt; entry == 3 && mtype == 1 && sender == 1);
-    holds!(rt; tag == 7 && length == 3);
+}
+
+/// These messages wait.
+fn waits(rt: &impl Abort, base: &Base, waiting: &[BaseEntry]) {
+    let count = waiting.len() as u64;
+    holds(rt, base.waiting.len() == count, "other messages");
+    for (index, entry) in waiting.iter().enumerate() {
+        let shown = base.waiting.get(index as u64);
+        holds(rt, shown == Some(*entry), "another message");
+    }
 }
 
 /// What is known of the entries before a cut: these figures and messages.
@@ -137,111 +157,142 @@ fn known(
 ) {
     match base {
         Some(base) => {
-            holds!(rt; base.places == places && base.figures == figures);
-            holds!(rt; base.waiting.len() == waiting.len() as u64);
-            for (index, entry) in waiting.iter().enumerate() {
-                holds!(rt; base.waiting.get(index as u64) == Some(*entry));
-            }
+            holds(rt, base.places == places, "other entries");
+            holds(rt, base.figures == figures, "other figures");
+            waits(rt, base, waiting);
         }
         None => panic!(rt; "a base is missing"),
     }
 }
 
+/// Both messages were waiting at the third entry.
+fn both_known(rt: &impl Abort, base: &Option<Base>) {
+    known(rt, base, 3, BOTH, &[ONE, FOUR]);
+}
+
+/// Nothing was cut off before, and no queue is removed.
+fn is_first(rt: &impl Abort, cut: &Cut) {
+    holds(rt, cut.first == 0 && cut.made == 0, "not the first");
+    holds(rt, cut.base.is_none(), "a base is there");
+    holds(rt, cut.past.is_empty(), "a queue is removed");
+}
+
 /// Nothing happened in the slot by this cut.
 fn is_new(rt: &impl Abort, cut: &Cut) {
-    holds!(rt; cut.first == 0 && cut.made == 0 && cut.base.is_none());
-    holds!(rt; cut.past.is_empty() && cut.last.is_empty());
+    is_first(rt, cut);
+    holds(rt, cut.last.is_empty(), "something happened");
+}
+
+/// The first cut hands out what was sent.
+fn hands_out_all(rt: &impl Abort, cut: &Cut) {
+    is_first(rt, cut);
+    let sent = cut.last.as_slice() == SENT.as_slice();
+    holds(rt, sent, "other events are handed out");
+}
+
+/// A cut that comes next hands out these events.
+fn hands_out(rt: &impl Abort, cut: &Cut, events: &[Event]) {
+    holds(rt, cut.first == 3 && cut.made == 1, "not the next");
+    both_known(rt, &cut.base);
+    holds(rt, cut.past.is_empty(), "a queue is removed");
+    let same = cut.last.as_slice() == events;
+    holds(rt, same, "other events are handed out");
 }
 
 /// Slot 0 is cut while both messages wait, and at once again.
-fn cut_twice<L: Ledger>(rt: &impl Abort, system: &mut OneThread<L>) {
-    let all = cut(rt, system, 0);
-    holds!(rt; all.first == 0 && all.made == 0 && all.base.is_none());
-    holds!(rt; all.past.is_empty() && all.last.as_slice() == SENT.as_slice());
+fn cut_twice<S: Calls>(rt: &impl Abort, system: &mut S) {
+    hands_out_all(rt, &cut(rt, system, 0));
     is_there(rt, system, BOTH);
-    let none = cut(rt, system, 0);
-    holds!(rt; none.first == 3 && none.made == 1);
-    known(rt, &none.base, 3, BOTH, &[ONE, FOUR]);
-    holds!(rt; none.past.is_empty() && none.last.is_empty());
+    hands_out(rt, &cut(rt, system, 0), &[]);
     is_there(rt, system, BOTH);
+}
+
+#[derive(Drop)]
+struct CutDay;
+
+impl Day for CutDay {
+    fn spend<S: Calls, R: Abort>(&self, rt: &R, system: &mut S) {
+        is_new(rt, &cut(rt, system, 0));
+        filled(rt, system);
+        cut_twice(rt, system);
+        receives(rt, system);
+        hands_out(rt, &cut(rt, system, 0), &RECEIVED);
+        is_there(rt, system, LEFT);
+        sent(rt, system, 1, b"two", 4);
+        is_new(rt, &cut(rt, system, 1));
+    }
+}
+
+fn first_of<'s>(rt: &impl Abort, slots: &'s [ClosedSlot]) -> &'s ClosedSlot {
+    match slots.first() {
+        Some(slot) => slot,
+        None => panic!(rt; "a slot is missing"),
+    }
 }
 
 /// At the end only what is kept is told.
 fn kept(rt: &impl Abort, slot: &ClosedSlot) {
-    holds!(rt; slot.first == 4 && slot.made == 1 && slot.left == 2);
+    holds(rt, slot.first == 4 && slot.made == 1, "not the next");
+    holds(rt, slot.left == 2, "other messages are left");
     known(rt, &slot.base, 4, LEFT, &[FOUR]);
-    holds!(rt; slot.past.is_empty() && slot.last.len() == 1);
-}
-
-fn closed<L: Ledger>(rt: &impl Abort, system: OneThread<L>) {
-    let Closed { slots, arena } = system.close();
-    holds!(rt; slots.len() == 2);
-    match slots.first() {
-        Some(slot) => kept(rt, slot),
-        None => panic!(rt; "a slot is missing"),
-    }
-    holds!(rt; arena.free_pages() == 2);
-}
-
-fn cut_while_messages_wait<L: Ledger, R: Abort>(rt: &R, alloc: Global, ledger: Blank)
-    requires name { ledger.name ≡ L.name }
-    requires parts { ledger.parts ≡ L.parts }
-    requires enough { 1024 < ledger.parts }
-{
-    let mut system = made::<L>(rt, alloc, config(1, 2, 9), ledger);
-    is_new(rt, &cut(rt, &mut system, 0));
-    filled(rt, &mut system);
-    cut_twice(rt, &mut system);
-    receives(rt, &mut system);
-    let one = cut(rt, &mut system, 0);
-    holds!(rt; one.first == 3 && one.made == 1);
-    known(rt, &one.base, 3, BOTH, &[ONE, FOUR]);
-    holds!(rt; one.past.is_empty() && one.last.as_slice() == RECEIVED.as_slice());
-    is_there(rt, &mut system, LEFT);
-    let text = written(rt, &mut system, b"two");
-    holds!(rt; taken(rt, &mut system, 0, 1, text) == 4);
-    is_new(rt, &cut(rt, &mut system, 1));
-    closed(rt, system);
+    holds(rt, slot.past.is_empty(), "a queue is removed");
+    holds(rt, slot.last.len() == 1, "other events are left");
 }
 
 #[test]
 fn what_waits_outlives_cuts(rt: HostRuntime) {
-    cut_while_messages_wait::<Brand, HostRuntime>(&rt, rt.alloc(), Blank::new(PARTS));
+    let left = left_by(&rt, rt.alloc(), config(1, 2, 9), &CutDay);
+    holds(&rt, left.slots.len() == 2, "other slots than two");
+    kept(&rt, first_of(&rt, left.slots.as_slice()));
+    holds(&rt, left.free_pages == 2, "not all is free");
 }
 
-fn removed_after_a_cut<L: Ledger, R: Abort>(rt: &R, alloc: Global, ledger: Blank)
-    requires name { ledger.name ≡ L.name }
-    requires parts { ledger.parts ≡ L.parts }
-    requires enough { 1024 < ledger.parts }
-{
-    let mut system = made::<L>(rt, alloc, config(1, 2, 9), ledger);
-    filled(rt, &mut system);
-    cut_twice(rt, &mut system);
-    receives(rt, &mut system);
-    match remove(&mut system, 0, 8) {
+/// The log of the removed queue tells what was cut off and the rest.
+fn tells_rest(rt: &impl Abort, log: Log) {
+    holds(rt, log.len() == 5, "another log");
+    holds(rt, log.first() == 3, "it begins elsewhere");
+    let (base, tail) = log.into_parts();
+    both_known(rt, &Some(base));
+    holds(rt, tail.len() == 2, "another rest");
+    holds(rt, tail.get(0) == RECEIVED.get(0), "another receipt");
+}
+
+fn removed<S: Calls>(rt: &impl Abort, system: &mut S) {
+    match remove(system, 0, 8) {
         Ok(Removal { entry, log }) => {
-            holds!(rt; entry == 4 && log.len() == 5 && log.first() == 3);
-            let (base, tail) = log.into_parts();
-            known(rt, &Some(base), 3, BOTH, &[ONE, FOUR]);
-            holds!(rt; tail.len() == 2 && tail.get(0) == RECEIVED.get(0));
+            holds(rt, entry == 4, "removed by another entry");
+            tells_rest(rt, log);
         }
         Err(refused) => panic!(rt; "it is not removed: {refused}"),
     }
-    let Closed { slots, arena } = system.close();
-    match slots.first() {
-        Some(slot) => {
-            holds!(rt; slot.first == 3 && slot.made == 1 && slot.left == 0);
-            known(rt, &slot.base, 3, BOTH, &[ONE, FOUR]);
-            holds!(rt; slot.past.len() == 2 && slot.last.is_empty());
-        }
-        None => panic!(rt; "a slot is missing"),
+}
+
+#[derive(Drop)]
+struct RemovedDay;
+
+impl Day for RemovedDay {
+    fn spend<S: Calls, R: Abort>(&self, rt: &R, system: &mut S) {
+        filled(rt, system);
+        cut_twice(rt, system);
+        receives(rt, system);
+        removed(rt, system);
     }
-    holds!(rt; arena.free_pages() == 2);
+}
+
+/// The slot tells what happened to its removed queue since it was cut.
+fn rest_kept(rt: &impl Abort, slot: &ClosedSlot) {
+    holds(rt, slot.first == 3 && slot.made == 1, "not the next");
+    holds(rt, slot.left == 0, "a message is left");
+    both_known(rt, &slot.base);
+    holds(rt, slot.past.len() == 2, "another rest");
+    holds(rt, slot.last.is_empty(), "a queue is left");
 }
 
 #[test]
 fn a_removed_queues_log_begins_where_it_was_cut(rt: HostRuntime) {
-    removed_after_a_cut::<Brand, HostRuntime>(&rt, rt.alloc(), Blank::new(PARTS));
+    let left = left_by(&rt, rt.alloc(), config(1, 2, 9), &RemovedDay);
+    rest_kept(&rt, first_of(&rt, left.slots.as_slice()));
+    holds(&rt, left.free_pages == 2, "not all is free");
 }
 
 #[test]

@@ -5,3 +5,4 @@ mod layout;
 mod life;
 mod logs;
 mod refusals;
+mod system;

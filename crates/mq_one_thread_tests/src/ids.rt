@@ -1,4 +1,5 @@
-use crate::calls::{CREATE, NO_FLAG, config, first};
+use crate::calls::{CREATE, NO_FLAG, first};
+use crate::day::config;
 use crate::steps::{Answer, Step, plays};
 use mq_calls::Errno;
 

@@ -1,4 +1,5 @@
-use crate::calls::{CREATE, EXCLUSIVE, NEW, NO_FLAG, config};
+use crate::calls::{CREATE, EXCLUSIVE, NEW, NO_FLAG};
+use crate::day::config;
 use crate::steps::{Answer, Step, plays};
 use mq_calls::Errno;
 

@@ -2,16 +2,12 @@
 
 #![tactic(auto)]
 
-ghost use Rattle.std.specs.Prelude.{◌≡◌, true};
-
 #[cfg(test)]
 use std::process::Abort;
 
 /// Ends the test with this text where something does not hold.
 #[cfg(test)]
-fn holds(rt: &impl Abort, is: bool, what: &str)
-    ensures { is ≡ true }
-{
+fn holds(rt: &impl Abort, is: bool, what: &str) {
     if !is {
         panic!(rt; "{what}");
     }
@@ -33,6 +29,8 @@ mod calls;
 #[cfg(test)]
 mod cuts;
 #[cfg(test)]
+mod day;
+#[cfg(test)]
 mod ending;
 #[cfg(test)]
 mod face;
@@ -52,5 +50,7 @@ mod list;
 mod names;
 #[cfg(test)]
 mod steps;
+#[cfg(test)]
+mod system;
 #[cfg(test)]
 mod texts;

@@ -1,7 +1,8 @@
 //! The limits of a system's size.
 ghost use Rattle.std.specs.Prelude.{◌≡◌, ◌<◌};
 
-use crate::calls::PARTS;
+use crate::day::PARTS;
+use crate::holds;
 use mq_calls::{Closed, Config, MAX_SEATS, SysError};
 use mq_one_thread::OneThread;
 use mq_table::{MAX_SEQ, MAX_SLOTS};
@@ -10,31 +11,30 @@ use std::marker::Brand;
 use std::process::Abort;
 use std::sync::ledger::{Blank, Ledger};
 
+/// The pages and slots of a new system, or why it is not made.
+type Size = Result<(u32, u8), SysError>;
+
+fn is(rt: &impl Abort, size: Size, wanted: Size) {
+    holds(rt, size == wanted, "a system of another size");
+}
+
 /// A new system has so many pages and slots, or is not made.
-fn sized<L: Ledger, R: Abort>(
-    rt: &R,
-    alloc: Global,
-    config: Config,
-    ledger: Blank,
-    wanted: Result<(u32, u8), SysError>,
-)
+fn sized<L: Ledger, R: Abort>(rt: &R, alloc: Global, config: Config, ledger: Blank, wanted: Size)
     requires name { ledger.name ≡ L.name }
     requires parts { ledger.parts ≡ L.parts }
     requires enough { 1024 < ledger.parts }
 {
     match OneThread::<L>::new(alloc, config, ledger) {
         Ok(system) => {
-            holds!(rt; Ok((system.pages(), system.slots())) == wanted);
+            is(rt, Ok((system.pages(), system.slots())), wanted);
             let Closed { slots: _, arena: _ } = system.close();
         }
-        Err(refusal) => {
-            holds!(rt; refusal != SysError::Memory, "out of memory");
-            holds!(rt; Err(refusal) == wanted, "refused");
-        }
+        Err(SysError::Memory) => panic!(rt; "out of memory"),
+        Err(SysError::Config) => is(rt, Err(SysError::Config), wanted),
     }
 }
 
-fn size<R: Abort>(rt: &R, alloc: Global, config: Config, wanted: Result<(u32, u8), SysError>) {
+fn size<R: Abort>(rt: &R, alloc: Global, config: Config, wanted: Size) {
     sized::<Brand, R>(rt, alloc, config, Blank::new(PARTS), wanted);
 }
 

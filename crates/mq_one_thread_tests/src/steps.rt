@@ -1,16 +1,13 @@
 //! Tables of calls and of what they answer.
-ghost use Rattle.std.specs.Prelude.{◌≡◌, ◌<◌};
 
-use crate::calls::{PARTS, Wanted, cut, draft, ended, get, made, receive, remove, send, set};
+use crate::calls::{Wanted, cut, draft, get, receive, remove, send, set};
+use crate::day::{Day, lives};
+use crate::system::Calls;
 use mq_arena::Homecoming;
 use mq_calls::{Config, Delivered, Errno, GetFlags, Got, Refused, SendRefused};
-use mq_message::Body;
-use mq_one_thread::OneThread;
 use mq_table::{Cut, Id};
 use std::alloc::Global;
-use std::marker::Brand;
 use std::process::Abort;
-use std::sync::ledger::{Blank, Ledger};
 
 /// A call, at the moment that its number in the table says.
 #[derive(Clone, Copy)]
@@ -56,20 +53,14 @@ fn refusal(refused: Refused) -> Answer {
     Answer::Refused(refused.errno, refused.entry)
 }
 
-fn got<L: Ledger>(system: &mut OneThread<L>, key: i32, flags: GetFlags, moment: u64) -> Answer {
+fn got<S: Calls>(system: &mut S, key: i32, flags: GetFlags, moment: u64) -> Answer {
     match get(system, key, flags, moment) {
         Ok(Got { id, made }) => Answer::Id(id.number(), made),
         Err(errno) => Answer::Errno(errno),
     }
 }
 
-fn sent<L: Ledger>(
-    system: &mut OneThread<L>,
-    id: u32,
-    mtype: i64,
-    length: u64,
-    moment: u64,
-) -> Answer {
+fn sent<S: Calls>(system: &mut S, id: u32, mtype: i64, length: u64, moment: u64) -> Answer {
     let text = match draft(system, length) {
         Ok(text) => text,
         Err(refusal) => return Answer::Errno(refusal.errno()),
@@ -83,7 +74,7 @@ fn sent<L: Ledger>(
     }
 }
 
-fn received<L: Ledger>(system: &mut OneThread<L>, id: u32, wanted: Wanted, moment: u64) -> Answer {
+fn received<S: Calls>(system: &mut S, id: u32, wanted: Wanted, moment: u64) -> Answer {
     match receive(system, id, wanted, moment) {
         Ok(
             Delivered {
@@ -95,7 +86,7 @@ fn received<L: Ledger>(system: &mut OneThread<L>, id: u32, wanted: Wanted, momen
                 text,
             },
         ) => {
-            let left = text.len();
+            let left = system.shape(&text).len;
             match system.spend(text) {
                 Homecoming::Home => Answer::Got(entry, mtype, length, left),
                 Homecoming::Stray => Answer::Astray,
@@ -105,28 +96,28 @@ fn received<L: Ledger>(system: &mut OneThread<L>, id: u32, wanted: Wanted, momen
     }
 }
 
-fn changed<L: Ledger>(system: &mut OneThread<L>, id: u32, qbytes: u64, moment: u64) -> Answer {
+fn changed<S: Calls>(system: &mut S, id: u32, qbytes: u64, moment: u64) -> Answer {
     match set(system, id, qbytes, moment) {
         Ok(entry) => Answer::At(entry),
         Err(refused) => refusal(refused),
     }
 }
 
-fn removed<L: Ledger>(system: &mut OneThread<L>, id: u32, moment: u64) -> Answer {
+fn removed<S: Calls>(system: &mut S, id: u32, moment: u64) -> Answer {
     match remove(system, id, moment) {
         Ok(removal) => Answer::Removed(removal.entry, removal.log.len()),
         Err(refused) => refusal(refused),
     }
 }
 
-fn shown<L: Ledger>(system: &OneThread<L>, id: u32) -> Answer {
+fn shown<S: Calls>(system: &S, id: u32) -> Answer {
     match system.stat(Id::from_number(id)) {
         Ok(figures) => Answer::Shown(figures.qnum, figures.cbytes, figures.qbytes),
         Err(errno) => Answer::Errno(errno),
     }
 }
 
-fn cut_off<L: Ledger>(rt: &impl Abort, system: &mut OneThread<L>, slot: u8) -> Answer {
+fn cut_off<S: Calls>(rt: &impl Abort, system: &mut S, slot: u8) -> Answer {
     let Cut {
         first,
         made,
@@ -141,12 +132,7 @@ fn cut_off<L: Ledger>(rt: &impl Abort, system: &mut OneThread<L>, slot: u8) -> A
     Answer::Cut(first, made, places, past.len(), last.len())
 }
 
-fn called<L: Ledger>(
-    rt: &impl Abort,
-    system: &mut OneThread<L>,
-    step: Step,
-    moment: u64,
-) -> Answer {
+fn called<S: Calls>(rt: &impl Abort, system: &mut S, step: Step, moment: u64) -> Answer {
     match step {
         Step::Get(key, flags) => got(system, key, flags, moment),
         Step::Send(id, mtype, length) => sent(system, id, mtype, length, moment),
@@ -159,30 +145,26 @@ fn called<L: Ledger>(
     }
 }
 
-fn play<L: Ledger, R: Abort>(
-    rt: &R,
-    alloc: Global,
-    config: Config,
-    ledger: Blank,
-    table: &[(Step, Answer)],
-)
-    requires name { ledger.name ≡ L.name }
-    requires parts { ledger.parts ≡ L.parts }
-    requires enough { 1024 < ledger.parts }
-{
-    let mut system = made::<L>(rt, alloc, config, ledger);
-    let mut moment = 0u64;
-    for (step, wanted) in table {
-        assert!(rt;
-            called(rt, &mut system, *step, moment) == *wanted,
-            "at call {moment}"
-        );
-        moment = moment.saturating_add(1);
+/// A day of these calls, one after another.
+#[derive(Drop)]
+struct Table<'t> {
+    steps: &'t [(Step, Answer)],
+}
+
+impl<'t> Day for Table<'t> {
+    fn spend<S: Calls, R: Abort>(&self, rt: &R, system: &mut S) {
+        let mut moment = 0u64;
+        for (step, wanted) in self.steps {
+            let answer = called(rt, system, *step, moment);
+            if answer != *wanted {
+                panic!(rt; "call {moment} answers otherwise");
+            }
+            moment = moment.saturating_add(1);
+        }
     }
-    ended(rt, system);
 }
 
 /// A new system answers these calls so, one after another, and all its pages are home at the end.
-pub(crate) fn plays<R: Abort>(rt: &R, alloc: Global, config: Config, table: &[(Step, Answer)]) {
-    play::<Brand, R>(rt, alloc, config, Blank::new(PARTS), table);
+pub(crate) fn plays<R: Abort>(rt: &R, alloc: Global, config: Config, steps: &[(Step, Answer)]) {
+    lives(rt, alloc, config, &Table { steps });
 }

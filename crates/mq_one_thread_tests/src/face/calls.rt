@@ -1,17 +1,10 @@
-//! A system for a test, and its calls, each made once more where there was no memory.
-ghost use Rattle.std.specs.Prelude.{◌≡◌, ◌<◌};
+//! The calls of C over a system for a test, each made once more where there was no memory.
 
-use mq_arena::{Homecoming, Text};
-use mq_calls::{Closed, Config, Errno, SysError};
-use mq_face::{Call, CallKind, Done, ReceivedMessage, Refusal, control, draft, get, receive, send};
-use mq_message::Body;
-use mq_one_thread::OneThread;
-use std::alloc::Global;
+use crate::face::system::{FaceCalls, Received};
+use crate::holds;
+use mq_calls::Errno;
+use mq_face::{Call, CallKind, Done, Refusal};
 use std::process::Abort;
-use std::sync::ledger::{Blank, Ledger};
-
-/// More than an arena has pages.
-pub(crate) const PARTS: u64 = 1025;
 
 /// A call with a buffer, at moment 3, of which all else is 0.
 pub(crate) fn call(kind: CallKind, number: i32, flags: u32) -> Call {
@@ -44,100 +37,59 @@ pub(crate) fn receiving(id: i32, flags: u32, size: u64) -> Call {
     }
 }
 
-pub(crate) fn made<L: Ledger>(
-    rt: &impl Abort,
-    alloc: Global,
-    height: u8,
-    slots: u8,
-    ledger: Blank,
-) -> OneThread<L>
-    requires name { ledger.name ≡ L.name }
-    requires parts { ledger.parts ≡ L.parts }
-    requires enough { 1024 < ledger.parts }
-{
-    let config = Config {
-        height,
-        slots,
-        seats: 1,
-        last_seq: 5,
-    };
-    match OneThread::new(alloc, config, ledger) {
-        Ok(queues) => queues,
-        Err(refusal) => {
-            holds!(rt; refusal != SysError::Memory, "out of memory");
-            panic!(rt; "no queues");
-        }
-    }
-}
-
-pub(crate) fn ended<L: Ledger>(queues: OneThread<L>) {
-    let Closed { slots: _, arena: _ } = queues.close();
-}
-
 /// Whether a refusal is one for want of memory.
 fn is_memory(refusal: Refusal) -> bool {
     refusal.errno == Errno::ENOMEM.number()
 }
 
-pub(crate) fn get_again<L: Ledger>(queues: &mut OneThread<L>, call: Call) -> Result<Done, Refusal> {
-    match get(queues, call) {
-        Err(refusal) if is_memory(refusal) => get(queues, call),
+pub(crate) fn get_again<S: FaceCalls>(queues: &mut S, call: Call) -> Result<Done, Refusal> {
+    match queues.get(call) {
+        Err(refusal) if is_memory(refusal) => queues.get(call),
         answer => answer,
     }
 }
 
-pub(crate) fn control_again<L: Ledger>(
-    queues: &mut OneThread<L>,
-    call: Call,
-) -> Result<Done, Refusal> {
-    match control(queues, call) {
-        Err(refusal) if is_memory(refusal) => control(queues, call),
+pub(crate) fn control_again<S: FaceCalls>(queues: &mut S, call: Call) -> Result<Done, Refusal> {
+    match queues.control(call) {
+        Err(refusal) if is_memory(refusal) => queues.control(call),
         answer => answer,
     }
 }
 
-/// Sends a text of these bytes, or of zeros where they are not as many as the call says.
-fn send_once<L: Ledger>(
-    queues: &mut OneThread<L>,
+pub(crate) fn send_again<S: FaceCalls>(
+    queues: &mut S,
     call: Call,
     bytes: &[u8],
 ) -> Result<Done, Refusal> {
-    let mut text = draft(queues, call)?;
-    if text.len() == bytes.len() as u64 {
-        text.fill(bytes);
-    }
-    send(queues, call, text)
-}
-
-pub(crate) fn send_again<L: Ledger>(
-    queues: &mut OneThread<L>,
-    call: Call,
-    bytes: &[u8],
-) -> Result<Done, Refusal> {
-    match send_once(queues, call, bytes) {
-        Err(refusal) if is_memory(refusal) => send_once(queues, call, bytes),
+    match queues.send(call, bytes) {
+        Err(refusal) if is_memory(refusal) => queues.send(call, bytes),
         answer => answer,
     }
 }
 
-pub(crate) fn receive_again<L: Ledger>(
-    queues: &mut OneThread<L>,
+pub(crate) fn receive_again<S: FaceCalls>(
+    queues: &mut S,
     call: Call,
-) -> Result<ReceivedMessage<Text<L>>, Refusal> {
-    match receive(queues, call) {
-        Err(refusal) if is_memory(refusal) => receive(queues, call),
-        answer => answer,
-    }
-}
-
-/// Wants the bytes of a message in one part, and spends it.
-pub(crate) fn spent<L: Ledger>(
-    rt: &impl Abort,
-    queues: &mut OneThread<L>,
-    message: ReceivedMessage<Text<L>>,
     wanted: &[u8],
+) -> Result<Received, Refusal> {
+    match queues.receive(call, wanted) {
+        Err(refusal) if is_memory(refusal) => queues.receive(call, wanted),
+        answer => answer,
+    }
+}
+
+/// A call has this answer.
+pub(crate) fn is(
+    rt: &impl Abort,
+    answer: Result<Done, Refusal>,
+    wanted: Result<Done, Refusal>,
+    what: &str,
 ) {
-    let text = message.text;
-    holds!(rt; text.parts().next() == Some(wanted), "other bytes");
-    holds!(rt; queues.spend(text) == Homecoming::Home);
+    holds(rt, answer == wanted, what);
+}
+
+/// The message was received with these bytes in one part, and its text came home.
+pub(crate) fn is_whole(rt: &impl Abort, received: Received) {
+    holds(rt, received.same, "other bytes");
+    holds(rt, received.home, "a text does not come home");
 }

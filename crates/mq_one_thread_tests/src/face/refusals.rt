@@ -1,19 +1,15 @@
 //! The refusals by the manual's numbers, and which of them wait.
-ghost use Rattle.std.specs.Prelude.{◌≡◌, ◌<◌};
 
 use crate::face::calls::{
-    PARTS, call, control_again, ended, get_again, made, receive_again, receiving, send_again,
-    sending,
+    call, control_again, get_again, is, receive_again, receiving, send_again, sending,
 };
+use crate::face::system::{FaceCalls, FaceDay, lives};
+use crate::holds;
 use mq_face::{
     Call, CallKind, IPC_CREAT, IPC_EXCL, IPC_INFO, IPC_NOWAIT, IPC_RMID, IPC_SET, IPC_STAT,
-    MSG_COPY, MSG_EXCEPT, MSG_STAT, ReceivedMessage, Refusal, Wait,
+    MSG_COPY, MSG_EXCEPT, MSG_STAT, Refusal, Wait,
 };
-use mq_one_thread::OneThread;
-use std::alloc::Global;
-use std::marker::Brand;
 use std::process::Abort;
-use std::sync::ledger::{Blank, Ledger};
 
 const EPERM: i32 = 1;
 
@@ -54,27 +50,59 @@ fn without_buffer(call: Call) -> Call {
     }
 }
 
-/// The number of queue 0's refusals of a receipt; a message that is received is lost.
-fn refusal_of<L: Ledger>(rt: &impl Abort, queues: &mut OneThread<L>, call: Call) -> Refusal {
-    match receive_again(queues, call) {
-        Ok(ReceivedMessage { text, .. }) => {
-            queues.spend(text);
-            panic!(rt; "received");
-        }
-        Err(refusal) => refusal,
+fn waits(errno: i32, wait: Wait) -> Refusal {
+    Refusal { errno, wait }
+}
+
+fn gets<S: FaceCalls>(rt: &impl Abort, queues: &mut S, call: Call, refusal: Refusal) {
+    is(
+        rt,
+        get_again(queues, call),
+        Err(refusal),
+        "another answer to msgget",
+    );
+}
+
+fn sends<S: FaceCalls>(rt: &impl Abort, queues: &mut S, call: Call, refusal: Refusal) {
+    is(
+        rt,
+        send_again(queues, call, b""),
+        Err(refusal),
+        "another answer to msgsnd",
+    );
+}
+
+fn receives<S: FaceCalls>(rt: &impl Abort, queues: &mut S, call: Call, refusal: Refusal) {
+    match receive_again(queues, call, b"") {
+        Ok(_) => panic!(rt; "received"),
+        Err(answer) => holds(rt, answer == refusal, "another answer to msgrcv"),
     }
 }
 
-fn gets<L: Ledger>(rt: &impl Abort, queues: &mut OneThread<L>) {
-    let key = |flags| call(CallKind::Get, 9, flags);
-    holds!(rt; get_again(queues, key(0)) == Err(by(ENOENT)));
-    holds!(rt; get_again(queues, key(IPC_CREAT)).is_ok());
-    holds!(rt; get_again(queues, key(IPC_CREAT | IPC_EXCL)) == Err(by(EEXIST)));
-    holds!(rt; get_again(queues, call(CallKind::Get, 0, 0)) == Err(by(ENOSPC)));
+fn controls<S: FaceCalls>(rt: &impl Abort, queues: &mut S, call: Call, refusal: Refusal) {
+    is(
+        rt,
+        control_again(queues, call),
+        Err(refusal),
+        "another answer to msgctl",
+    );
+}
+
+fn gets_all<S: FaceCalls>(rt: &impl Abort, queues: &mut S) {
+    gets(rt, queues, call(CallKind::Get, 9, 0), by(ENOENT));
+    let made = get_again(queues, call(CallKind::Get, 9, IPC_CREAT)).is_ok();
+    holds(rt, made, "no queue");
+    gets(
+        rt,
+        queues,
+        call(CallKind::Get, 9, IPC_CREAT | IPC_EXCL),
+        by(EEXIST),
+    );
+    gets(rt, queues, call(CallKind::Get, 0, 0), by(ENOSPC));
 }
 
 /// Of queue 0 with no message, in an arena of one page.
-fn sends<L: Ledger>(rt: &impl Abort, queues: &mut OneThread<L>) {
+fn sends_early<S: FaceCalls>(rt: &impl Abort, queues: &mut S) {
     for (call, errno) in [
         (without_buffer(sending(0, 0, 1, 1)), EFAULT),
         (sending(-1, 0, 1, 1), EINVAL),
@@ -83,20 +111,29 @@ fn sends<L: Ledger>(rt: &impl Abort, queues: &mut OneThread<L>) {
         (sending(0, 0, 1, 65537), EINVAL),
         (sending(0, 0, 1, 1025), ENOMEM),
     ] {
-        assert!(rt; send_again(queues, call, b"") == Err(by(errno)), "{errno}");
+        sends(rt, queues, call, by(errno));
     }
-    holds!(rt; send_again(queues, sending(0, 0, 1, 10), b"").is_ok());
-    let pages = Refusal {
-        errno: ENOMEM,
-        wait: Wait::Pages,
-    };
-    holds!(rt; send_again(queues, sending(0, 0, 1, 10), b"") == Err(pages));
-    holds!(rt; send_again(queues, sending(0, IPC_NOWAIT, 1, 10), b"") == Err(by(ENOMEM)));
-    holds!(rt; send_again(queues, sending(1, 0, 1, 10), b"") == Err(by(EINVAL)));
+    let sent = send_again(queues, sending(0, 0, 1, 10), b"").is_ok();
+    holds(rt, sent, "not sent");
+}
+
+/// Of queue 0 with a message, which takes the only page.
+fn sends_late<S: FaceCalls>(rt: &impl Abort, queues: &mut S) {
+    sends(rt, queues, sending(0, 0, 1, 10), waits(ENOMEM, Wait::Pages));
+    sends(rt, queues, sending(0, IPC_NOWAIT, 1, 10), by(ENOMEM));
+    sends(rt, queues, sending(1, 0, 1, 10), by(EINVAL));
 }
 
 /// Of queue 0 with a message of ten bytes.
-fn receives<L: Ledger>(rt: &impl Abort, queues: &mut OneThread<L>) {
+fn receives_all<S: FaceCalls>(rt: &impl Abort, queues: &mut S) {
+    let other = Call {
+        mtype: 2,
+        ..receiving(0, 0, 9)
+    };
+    let other_now = Call {
+        flags: IPC_NOWAIT,
+        ..other
+    };
     for (call, errno) in [
         (receiving(-1, 0, 1), EINVAL),
         (receiving(1, 0, 1), EINVAL),
@@ -106,29 +143,22 @@ fn receives<L: Ledger>(rt: &impl Abort, queues: &mut OneThread<L>) {
         (receiving(0, MSG_COPY | IPC_NOWAIT, 1), ENOSYS),
         (without_buffer(receiving(0, 0, 1)), EFAULT),
         (receiving(0, 0, 9), E2BIG),
-        (
-            Call {
-                mtype: 2,
-                ..receiving(0, IPC_NOWAIT, 9)
-            },
-            ENOMSG,
-        ),
+        (other_now, ENOMSG),
     ] {
-        assert!(rt; refusal_of(rt, queues, call) == by(errno), "{errno}");
+        receives(rt, queues, call, by(errno));
     }
-    let waits = Refusal {
-        errno: ENOMSG,
-        wait: Wait::Change(0),
-    };
-    let other = Call {
-        mtype: 2,
-        ..receiving(0, 0, 9)
-    };
-    holds!(rt; refusal_of(rt, queues, other) == waits);
+    receives(rt, queues, other, waits(ENOMSG, Wait::Change(0)));
 }
 
-fn controls<L: Ledger>(rt: &impl Abort, queues: &mut OneThread<L>) {
-    let command = |number, flags| call(CallKind::Control, number, flags);
+fn command(number: i32, flags: u32) -> Call {
+    call(CallKind::Control, number, flags)
+}
+
+fn controls_all<S: FaceCalls>(rt: &impl Abort, queues: &mut S) {
+    let over = Call {
+        size: 131_073,
+        ..command(0, IPC_SET)
+    };
     for (call, errno) in [
         (command(-1, IPC_STAT), EINVAL),
         (command(1, IPC_RMID), EINVAL),
@@ -139,58 +169,53 @@ fn controls<L: Ledger>(rt: &impl Abort, queues: &mut OneThread<L>) {
         (without_buffer(command(0, IPC_SET)), EFAULT),
         (without_buffer(command(0, MSG_STAT)), EFAULT),
         (without_buffer(command(0, IPC_INFO)), EFAULT),
-        (
-            Call {
-                size: 131073,
-                ..command(0, IPC_SET)
-            },
-            EPERM,
-        ),
+        (over, EPERM),
     ] {
-        assert!(rt; control_again(queues, call) == Err(by(errno)), "{errno}");
+        controls(rt, queues, call, by(errno));
     }
 }
 
+/// A command that changes queue 0.
+fn changes<S: FaceCalls>(rt: &impl Abort, queues: &mut S, flags: u32) {
+    let changed = control_again(queues, command(0, flags)).is_ok();
+    holds(rt, changed, "a command is refused");
+}
+
 /// A full queue, which is then removed: told apart is whether the call has waited.
-fn is_full_and_gone<L: Ledger>(rt: &impl Abort, queues: &mut OneThread<L>) {
-    let quota = call(CallKind::Control, 0, IPC_SET);
-    holds!(rt; control_again(queues, quota).is_ok());
+fn is_full_and_gone<S: FaceCalls>(rt: &impl Abort, queues: &mut S) {
     let empty = sending(0, 0, 1, 0);
-    let waits = Refusal {
-        errno: EAGAIN,
-        wait: Wait::Change(0),
-    };
-    holds!(rt; send_again(queues, empty, b"") == Err(waits));
     let at_once = Call {
         flags: IPC_NOWAIT,
         ..empty
     };
-    holds!(rt; send_again(queues, at_once, b"") == Err(by(EAGAIN)));
-    holds!(rt; control_again(queues, call(CallKind::Control, 0, IPC_RMID)).is_ok());
-    holds!(rt; send_again(queues, empty, b"") == Err(by(EINVAL)));
-    holds!(rt; refusal_of(rt, queues, receiving(0, 0, 1)) == by(EINVAL));
     let waited = Call {
         waited: true,
         ..empty
     };
-    holds!(rt; send_again(queues, waited, b"") == Err(by(EIDRM)));
+    changes(rt, queues, IPC_SET);
+    sends(rt, queues, empty, waits(EAGAIN, Wait::Change(0)));
+    sends(rt, queues, at_once, by(EAGAIN));
+    changes(rt, queues, IPC_RMID);
+    sends(rt, queues, empty, by(EINVAL));
+    receives(rt, queues, receiving(0, 0, 1), by(EINVAL));
+    sends(rt, queues, waited, by(EIDRM));
 }
 
-fn refused<L: Ledger>(rt: &impl Abort, alloc: Global, ledger: Blank)
-    requires name { ledger.name ≡ L.name }
-    requires parts { ledger.parts ≡ L.parts }
-    requires enough { 1024 < ledger.parts }
-{
-    let mut queues = made::<L>(rt, alloc, 0, 1, ledger);
-    gets(rt, &mut queues);
-    sends(rt, &mut queues);
-    receives(rt, &mut queues);
-    controls(rt, &mut queues);
-    is_full_and_gone(rt, &mut queues);
-    ended(queues);
+#[derive(Drop)]
+struct Refusals;
+
+impl FaceDay for Refusals {
+    fn spend<S: FaceCalls, R: Abort>(&self, rt: &R, queues: &mut S) {
+        gets_all(rt, queues);
+        sends_early(rt, queues);
+        sends_late(rt, queues);
+        receives_all(rt, queues);
+        controls_all(rt, queues);
+        is_full_and_gone(rt, queues);
+    }
 }
 
 #[test]
 fn each_refusal_has_the_manuals_number(rt: HostRuntime) {
-    refused::<Brand>(&rt, rt.alloc(), Blank::new(PARTS));
+    lives(&rt, rt.alloc(), 0, 1, &Refusals);
 }
