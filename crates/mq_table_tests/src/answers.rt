@@ -49,25 +49,36 @@ pub(crate) fn is_whole(received: &Received<VecBody>) -> bool {
     header && received.length == 8 && received.body.bytes() == sent.to_le_bytes().as_slice()
 }
 
+/// This moment where something had happened by then, or else another one.
+fn moment_if(happened: bool, moment: u64, other: u64) -> u64 {
+    if happened { moment } else { other }
+}
+
+/// The seat that did something, where it did.
+fn seat_if(happened: bool, seat: u16) -> u16 {
+    if happened { seat } else { 0 }
+}
+
+/// The quota after the change at this place, where it had come by then.
+fn quota_if(happened: bool, changed: u64) -> u64 {
+    if happened { quota_of(changed) } else { MSGMNB }
+}
+
 /// The figures once the event at this place is published.
 fn figures_after(place: u64) -> Figures {
     let sent = place.min(SENT);
     let received = place.min(RECEIVED).saturating_sub(CHANGED);
     let waiting = sent.saturating_sub(received);
-    let changed = if place > RECEIVED { place } else { CHANGED };
+    let changed = moment_if(place > RECEIVED, place, CHANGED);
     Figures {
         qnum: waiting,
         cbytes: waiting.saturating_mul(8),
-        qbytes: if place > SENT {
-            quota_of(changed)
-        } else {
-            MSGMNB
-        },
+        qbytes: quota_if(place > SENT, changed),
         stime: sent,
-        rtime: if received > 0 { place.min(RECEIVED) } else { 0 },
-        ctime: if place > SENT { changed } else { 10 },
-        lspid: if sent > 0 { 1 } else { 0 },
-        lrpid: if received > 0 { 2 } else { 0 },
+        rtime: moment_if(received > 0, place.min(RECEIVED), 0),
+        ctime: moment_if(place > SENT, changed, 10),
+        lspid: seat_if(sent > 0, 1),
+        lrpid: seat_if(received > 0, 2),
     }
 }
 

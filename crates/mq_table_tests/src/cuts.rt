@@ -1,122 +1,136 @@
 //! A slot whose list is cut: what is handed out, and what goes on as before.
 
-use crate::plays::sends;
-use crate::slots::{
-    MADE, Place, REMOVED, close, cut, has_entries, makes, message, remove, removes,
-};
-use mq_queue::{Base, Log};
+use crate::holds;
+use crate::place::{Answer, Place, Shown, SlotCalls, close, message};
+use crate::plays::handed;
+use crate::slots::{MADE, REMOVED, has_entries, makes, removes, sends};
+use mq_message::{Message, VecBody};
+use mq_queue::Log;
 use mq_table::{Cut, Id, KeyTable};
 use std::process::Abort;
-use std::test::Fail;
 
-/// Where a cut begins, how many makings are before it, how many entries it has of removed queues
-/// and of the queue that is there, and the places of its base.
-type Told = (u64, u32, usize, usize, Option<u64>);
-
-/// What is told of a cut.
-fn told(cut: &Cut) -> Told {
-    let places = match &cut.base {
-        Some(Base { places, .. }) => Some(*places),
-        None => None,
-    };
-    (cut.first, cut.made, cut.past.len(), cut.last.len(), places)
+/// A cut hands this out: where it begins, how many makings are before it, the places of its base,
+/// and how many entries it has of removed queues and of the queue that is there.
+fn is(rt: &impl Abort, cut: &Cut, wanted: Answer) {
+    holds(rt, handed(cut) == wanted, "something else is handed out");
 }
 
 /// Cuts the slot's list, of which this is handed out.
-fn hands_out(rt: &impl Abort, slot: &mut Place, wanted: Told) {
-    let handed = told(&cut(rt, slot));
-    let (first, made, past, last, _) = handed;
-    assert!(rt;
-        handed == wanted,
-        "from {first} with {made} made: {past} and {last}"
-    );
+fn hands_out<S: SlotCalls>(rt: &impl Abort, slot: &mut S, wanted: Answer) {
+    is(rt, &slot.cut(rt), wanted);
 }
 
 /// The slot's list begins and ends at these entries, and its queue begins at the last of the three.
-fn has_bounds(rt: &impl Abort, slot: &Place, first: u64, events: u64, offset: u64) {
-    assert!(rt; slot.first() == first, "it does not begin at {first}");
-    assert!(rt; slot.events() == events, "it does not end at {events}");
-    assert!(rt; slot.offset() == offset, "its queue is not at {offset}");
+fn has_bounds(rt: &impl Abort, shown: Shown, first: u64, events: u64, offset: u64) {
+    holds(rt, shown.first == first, "it begins at another entry");
+    holds(rt, shown.events == events, "it ends at another entry");
+    holds(rt, shown.offset == offset, "its queue is at another entry");
 }
 
 /// The slot shows its first queue, with one message, of which all entries are cut off.
-fn shows_first(rt: &impl Abort, slot: &Place) {
-    has_bounds(rt, slot, 2, 2, 0);
-    holds!(rt; slot.event(1) == None);
-    holds!(rt; slot.key() == 9);
-    let row = slot.row();
-    holds!(rt; row.made == 1 && row.live);
-    holds!(rt; row.key == 9 && row.figures.qnum == 1);
+fn shows_first(rt: &impl Abort, shown: Shown) {
+    has_bounds(rt, shown, 2, 2, 0);
+    holds(rt, shown.key == 9, "another key");
+    holds(rt, shown.row.made == 1 && shown.row.live, "not the first");
+    holds(rt, shown.row.key == 9, "another key is shown");
+    holds(rt, shown.row.figures.qnum == 1, "other messages");
 }
 
 /// The log is that of a queue with four events, of which the first two were cut off.
 fn is_rest(rt: &impl Abort, log: Option<Log>) {
-    let Some(log) = log else {
-        panic!(rt; "not removed");
-    };
-    holds!(rt; log.first() == 2);
-    holds!(rt; log.len() == 4);
+    match log {
+        Some(log) => {
+            holds(rt, log.first() == 2, "it begins elsewhere");
+            holds(rt, log.len() == 4, "other events");
+        }
+        None => panic!(rt; "not removed"),
+    }
+}
+
+/// The slot is cut behind its first message, and at once again.
+fn cut_twice<S: SlotCalls>(rt: &impl Abort, slot: &mut S) {
+    hands_out(rt, slot, Answer::Cut(0, 0, None, 0, 2));
+    hands_out(rt, slot, Answer::Cut(2, 1, Some(2), 0, 0));
+    shows_first(rt, slot.shown());
+    holds(rt, slot.event(1) == None, "what is cut off is there");
+}
+
+fn goes_on<S: SlotCalls>(
+    rt: &impl Abort,
+    keys: &mut KeyTable,
+    slot: &mut S,
+    one: Message<VecBody>,
+    two: Message<VecBody>,
+) {
+    makes(rt, keys, slot, 9, Id::of(8, 0));
+    sends(rt, slot, one, 1);
+    cut_twice(rt, slot);
+    sends(rt, slot, two, 2);
+    is_rest(rt, slot.remove(keys));
+    hands_out(rt, slot, Answer::Cut(2, 1, Some(2), 2, 0));
+    hands_out(rt, slot, Answer::Cut(4, 1, None, 0, 0));
+    makes(rt, keys, slot, 7, Id::of(8, 1));
+    has_bounds(rt, slot.shown(), 4, 5, 4);
+    holds(rt, slot.shown().made == 2, "other makings");
 }
 
 #[test]
-fn a_slot_that_is_cut_goes_on_as_before(rt: HostRuntime) -> Result<(), Fail> {
+fn a_slot_that_is_cut_goes_on_as_before(rt: HostRuntime) {
     let alloc = rt.alloc();
-    let (one, two) = (message(alloc, 5, 5)?, message(alloc, 6, 1)?);
+    let one = message(&rt, alloc, 5, 5);
+    let two = message(&rt, alloc, 6, 1);
     let mut keys = KeyTable::new(alloc);
     let mut slot = Place::new(alloc, 8);
-    makes(&rt, &mut keys, &mut slot, 9, Id::of(8, 0));
-    sends(&rt, &mut slot, one, 1);
-    hands_out(&rt, &mut slot, (0, 0, 0, 2, None));
-    hands_out(&rt, &mut slot, (2, 1, 0, 0, Some(2)));
-    shows_first(&rt, &slot);
-    sends(&rt, &mut slot, two, 2);
-    is_rest(&rt, remove(&mut keys, &mut slot));
-    hands_out(&rt, &mut slot, (2, 1, 2, 0, Some(2)));
-    hands_out(&rt, &mut slot, (4, 1, 0, 0, None));
-    makes(&rt, &mut keys, &mut slot, 7, Id::of(8, 1));
-    has_bounds(&rt, &slot, 4, 5, 4);
-    holds!(rt; slot.made() == 2);
+    goes_on(&rt, &mut keys, &mut slot, one, two);
     close(slot);
-    Ok(())
+}
+
+fn hands_out_nothing<S: SlotCalls>(rt: &impl Abort, slot: &mut S) {
+    hands_out(rt, slot, Answer::Cut(0, 0, None, 0, 0));
+    hands_out(rt, slot, Answer::Cut(0, 0, None, 0, 0));
+    has_bounds(rt, slot.shown(), 0, 0, 0);
+    holds(rt, slot.shown().made == 0, "a queue was made");
 }
 
 #[test]
-fn a_slot_without_a_queue_hands_out_an_empty_cut(rt: HostRuntime) -> Result<(), Fail> {
+fn a_slot_without_a_queue_hands_out_an_empty_cut(rt: HostRuntime) {
     let mut slot = Place::new(rt.alloc(), 0);
-    hands_out(&rt, &mut slot, (0, 0, 0, 0, None));
-    hands_out(&rt, &mut slot, (0, 0, 0, 0, None));
-    has_bounds(&rt, &slot, 0, 0, 0);
-    holds!(rt; slot.made() == 0);
+    hands_out_nothing(&rt, &mut slot);
     close(slot);
-    Ok(())
 }
 
 /// The cut has all of a removed queue but its making, which was cut off before, and the making and
 /// a message of the queue that is there.
 fn has_both(rt: &impl Abort, cut: &Cut) {
-    holds!(rt; told(cut) == (1, 1, 1, 2, Some(1)));
-    holds!(rt; cut.past.first() == Some(&REMOVED));
+    is(rt, cut, Answer::Cut(1, 1, Some(1), 1, 2));
+    let removed = cut.past.first() == Some(&REMOVED);
+    holds(rt, removed, "another event");
+}
+
+fn begins_anew<S: SlotCalls>(
+    rt: &impl Abort,
+    keys: &mut KeyTable,
+    slot: &mut S,
+    text: Message<VecBody>,
+) {
+    makes(rt, keys, slot, 9, Id::of(8, 0));
+    hands_out(rt, slot, Answer::Cut(0, 0, None, 0, 1));
+    removes(rt, keys, slot);
+    makes(rt, keys, slot, 7, Id::of(8, 1));
+    sends(rt, slot, text, 3);
+    has_bounds(rt, slot.shown(), 1, 4, 2);
+    let entries = [(0, None), (1, Some(REMOVED)), (2, Some(MADE))];
+    has_entries(rt, slot, &entries);
+    has_both(rt, &slot.cut(rt));
+    hands_out(rt, slot, Answer::Cut(4, 2, Some(2), 0, 0));
 }
 
 #[test]
-fn a_queue_made_after_a_cut_begins_its_own_log(rt: HostRuntime) -> Result<(), Fail> {
+fn a_queue_made_after_a_cut_begins_its_own_log(rt: HostRuntime) {
     let alloc = rt.alloc();
-    let text = message(alloc, 5, 5)?;
+    let text = message(&rt, alloc, 5, 5);
     let mut keys = KeyTable::new(alloc);
     let mut slot = Place::new(alloc, 8);
-    makes(&rt, &mut keys, &mut slot, 9, Id::of(8, 0));
-    hands_out(&rt, &mut slot, (0, 0, 0, 1, None));
-    removes(&rt, &mut keys, &mut slot);
-    makes(&rt, &mut keys, &mut slot, 7, Id::of(8, 1));
-    sends(&rt, &mut slot, text, 3);
-    has_bounds(&rt, &slot, 1, 4, 2);
-    has_entries(
-        &rt,
-        &slot,
-        &[(0, None), (1, Some(REMOVED)), (2, Some(MADE))],
-    );
-    has_both(&rt, &cut(&rt, &mut slot));
-    hands_out(&rt, &mut slot, (4, 2, 0, 0, Some(2)));
+    begins_anew(&rt, &mut keys, &mut slot, text);
     close(slot);
-    Ok(())
 }

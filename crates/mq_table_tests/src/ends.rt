@@ -2,7 +2,7 @@
 
 ghost use Rattle.std.specs.Prelude.{◌≡◌, ◌<◌, ◌≤◌, []};
 
-use crate::posts::{close, of_board, open, send};
+use crate::posts::{are_of, close, open, send};
 use mq_board::{BoardReader, BoardWriter, Naming, OpenedBoard, board};
 use std::alloc::{AllocError, Global};
 use std::marker::Brand;
@@ -50,11 +50,12 @@ fn ended<J: Naming, R: Abort + Wait>(
 {
     let (mut writer, mut readers) = board::<J>(alloc, opened, 0, count)?;
     let looked = look_all(rt, alloc, &mut writer, &mut readers);
-    let Ok(ours) = of_board(alloc, readers, writer.board()) else {
-        return Err(AllocError);
-    };
-    holds!(rt; ours.len() == count, "a reader is of another board");
-    writer.end(ours);
+    holds!(rt; readers.len() == count, "other readers");
+    if are_of(readers.as_slice(), writer.board()) {
+        writer.end(readers);
+    } else {
+        panic!(rt; "a reader is of another board");
+    }
     looked
 }
 

@@ -1,3 +1,4 @@
+use crate::holds;
 use mq_table::{Id, KeyEntry, KeyTable};
 use std::alloc::Global;
 use std::process::Abort;
@@ -25,15 +26,13 @@ fn filled(alloc: Global) -> KeyTable {
 
 /// The table has this key at this place, with this id.
 pub(crate) fn has(rt: &impl Abort, keys: &KeyTable, i: usize, key: i32, id: Id) {
-    assert!(rt;
-        keys.entry(i) == Some(KeyEntry { key, id }),
-        "the key {key} at {i}"
-    );
+    let entry = Some(KeyEntry { key, id });
+    holds(rt, keys.entry(i) == entry, "another key, or another id");
 }
 
 /// The table does not have this key.
 pub(crate) fn lacks(rt: &impl Abort, keys: &KeyTable, key: i32) {
-    assert!(rt; keys.look(key) == None, "the key {key} is there");
+    holds(rt, keys.look(key) == None, "a key is there");
 }
 
 #[test]
@@ -82,10 +81,14 @@ fn what_is_left_keeps_the_order_of_making(rt: HostRuntime) -> Result<(), Fail> {
     keys.forget(Id::of(11, 3));
     lacks(&rt, &keys, i32::MIN);
     holds!(rt; keys.len() == 4);
-    has(&rt, &keys, 0, -1, Id::of(10, 0));
-    has(&rt, &keys, 1, 1, Id::of(12, 0));
-    has(&rt, &keys, 2, i32::MAX, Id::of(13, 0));
-    has(&rt, &keys, 3, i32::MIN + 1, Id::of(14, 0));
+    for (i, key, id) in [
+        (0, -1, Id::of(10, 0)),
+        (1, 1, Id::of(12, 0)),
+        (2, i32::MAX, Id::of(13, 0)),
+        (3, i32::MIN + 1, Id::of(14, 0)),
+    ] {
+        has(&rt, &keys, i, key, id);
+    }
     holds!(rt; keys.entry(4) == None);
     enter(&mut keys, i32::MIN, Id::of(11, 4));
     has(&rt, &keys, 4, i32::MIN, Id::of(11, 4));

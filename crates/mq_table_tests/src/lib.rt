@@ -3,16 +3,12 @@
 
 #![tactic(auto)]
 
-ghost use Rattle.std.specs.Prelude.{◌≡◌, true};
-
 #[cfg(test)]
 use std::process::Abort;
 
 /// Ends the test with this text where something does not hold.
 #[cfg(test)]
-fn holds(rt: &impl Abort, is: bool, what: &str)
-    ensures { is ≡ true }
-{
+fn holds(rt: &impl Abort, is: bool, what: &str) {
     if !is {
         panic!(rt; "{what}");
     }
@@ -53,6 +49,8 @@ mod looks;
 mod notices;
 #[cfg(test)]
 mod opened;
+#[cfg(test)]
+mod place;
 #[cfg(test)]
 mod plays;
 #[cfg(test)]

@@ -1,15 +1,14 @@
 //! A list of calls of a queue whose notice is a board's writer, each made once more where there was
 //! no memory. It is run with each allocation refused in turn, and must answer as if none had been.
 
-ghost use Rattle.std.specs.Prelude.{◌≡◌, [], IsTrue};
-ghost use Rattle.std.specs.List.{All};
+ghost use Rattle.std.specs.Prelude.{◌≡◌, []};
 ghost use Rattle.mq_table_tests.specs.Shown.{IsPending, IsShown};
 
 use crate::answers::{
     CHANGED, RECEIVED, REMOVED, SENT, is_whole, quota_of, row_after, type_of, wanted_at,
 };
 use crate::calls::{make, receive, remove, send, set, text};
-use crate::posts::Queue;
+use crate::posts::{Queue, are_of};
 use mq_board::{BoardReader, BoardWriter, Naming, OpenedBoard, board};
 use mq_message::{Message, discard};
 use std::alloc::{AllocError, Global};
@@ -119,12 +118,6 @@ fn follow<J: Naming, R: Abort + Wait>(
     let left = waiting.len();
     discard(waiting);
     holds!(rt; left == 0 && log.len() == REMOVED + 1);
-}
-
-fn are_of<J: Naming>(readers: &[BoardReader<J>], board: u8) -> bool
-    ensures { IsTrue result → All (λ r. r.board ≡ board) readers.now }
-{
-    readers.iter().all(|reader| reader.board() == board)
 }
 
 /// `Err` comes before the first call: there was no memory for the board.

@@ -1,13 +1,13 @@
 //! A notice takes in each event of a slot with the figures after it, or the call is refused and
 //! leaves slot and keys.
 
-use crate::slots::{Place, close, message};
+use crate::holds;
+use crate::place::{Place, close, message};
 use mq_message::{Message, Selection, VecBody, discard};
 use mq_queue::{Event, Figures, NO_FIGURES, Notice, QueueError};
 use mq_table::{KeyTable, MAX_SEQ, make_under, remove_under};
 use std::alloc::AllocError;
 use std::process::Abort;
-use std::test::Fail;
 
 /// A notice that keeps what it took in last, or takes nothing in.
 #[derive(Clone, Copy)]
@@ -39,123 +39,222 @@ const TAKES: Last = Last {
     refuses: false,
 };
 
-/// Makes a queue with key 9 in a slot that is free.
-fn makes(keys: &mut KeyTable, slot: &mut Place, notice: &mut Last) -> Result<bool, QueueError> {
-    if !slot.is_free(MAX_SEQ) || keys.look(9).is_some() {
-        return Ok(false);
-    }
-    match make_under(keys, slot, 9, 1, 10, notice) {
-        Ok(_) => Ok(true),
-        Err(AllocError) => Err(QueueError::Memory),
-    }
+/// The calls of a slot, each with a notice. What must hold at a call is looked at when it is
+/// called, and ends the test where it does not.
+trait Noticed {
+    /// Makes a queue with key 9 in a slot that must be free.
+    fn make<R: Abort>(
+        &mut self,
+        rt: &R,
+        keys: &mut KeyTable,
+        notice: &mut Last,
+    ) -> Result<(), QueueError>;
+
+    /// Removes the queue that is in the slot.
+    fn remove<R: Abort>(
+        &mut self,
+        rt: &R,
+        keys: &mut KeyTable,
+        notice: &mut Last,
+    ) -> Result<(), QueueError>;
+
+    fn send<R: Abort>(
+        &mut self,
+        rt: &R,
+        text: Message<VecBody>,
+        notice: &mut Last,
+    ) -> Result<(), QueueError>;
+
+    /// Receives the message that waits, cut to one byte.
+    fn receive<R: Abort>(&mut self, rt: &R, notice: &mut Last) -> Result<(), QueueError>;
+
+    fn set<R: Abort>(&mut self, rt: &R, notice: &mut Last) -> Result<(), QueueError>;
+
+    fn events(&self) -> u64;
+
+    fn is_live(&self) -> bool;
+
+    /// The last event of the slot's list.
+    fn last(&self) -> Option<Event>;
+
+    /// The figures that the slot shows.
+    fn figures(&self) -> Figures;
 }
 
-/// Removes the queue that is in the slot.
-fn removes(keys: &mut KeyTable, slot: &mut Place, notice: &mut Last) -> Result<bool, QueueError> {
-    if !slot.is_live() {
-        return Ok(false);
-    }
-    match remove_under(keys, slot, 2, 20, notice) {
-        Ok((_log, waiting)) => {
-            discard(waiting);
-            Ok(true)
+impl Noticed for Place {
+    fn make<R: Abort>(
+        &mut self,
+        rt: &R,
+        keys: &mut KeyTable,
+        notice: &mut Last,
+    ) -> Result<(), QueueError> {
+        if !self.is_free(MAX_SEQ) || keys.look(9).is_some() {
+            panic!(rt; "the slot or the key is not free");
         }
-        Err(AllocError) => Err(QueueError::Memory),
+        match make_under(keys, self, 9, 1, 10, notice) {
+            Ok(_) => Ok(()),
+            Err(AllocError) => Err(QueueError::Memory),
+        }
+    }
+
+    fn remove<R: Abort>(
+        &mut self,
+        rt: &R,
+        keys: &mut KeyTable,
+        notice: &mut Last,
+    ) -> Result<(), QueueError> {
+        if !self.is_live() {
+            panic!(rt; "no queue is removed");
+        }
+        match remove_under(keys, self, 2, 20, notice) {
+            Ok((_log, waiting)) => {
+                discard(waiting);
+                Ok(())
+            }
+            Err(AllocError) => Err(QueueError::Memory),
+        }
+    }
+
+    fn send<R: Abort>(
+        &mut self,
+        rt: &R,
+        text: Message<VecBody>,
+        notice: &mut Last,
+    ) -> Result<(), QueueError> {
+        if !self.is_live() {
+            panic!(rt; "no queue is sent to");
+        }
+        match self.send(text, 30, notice) {
+            Ok(_) => Ok(()),
+            Err((refusal, _)) => Err(refusal),
+        }
+    }
+
+    fn receive<R: Abort>(&mut self, rt: &R, notice: &mut Last) -> Result<(), QueueError> {
+        if !self.is_live() {
+            panic!(rt; "no queue is received from");
+        }
+        match self.receive(1, Selection::Any, true, 4, 40, notice) {
+            Ok(_) => Ok(()),
+            Err(refusal) => Err(refusal),
+        }
+    }
+
+    fn set<R: Abort>(&mut self, rt: &R, notice: &mut Last) -> Result<(), QueueError> {
+        if !self.is_live() {
+            panic!(rt; "no queue has a quota");
+        }
+        match self.set(100, 5, 50, notice) {
+            Ok(_) => Ok(()),
+            Err(refusal) => Err(refusal),
+        }
+    }
+
+    fn events(&self) -> u64 {
+        self.events()
+    }
+
+    fn is_live(&self) -> bool {
+        self.is_live()
+    }
+
+    fn last(&self) -> Option<Event> {
+        self.event(self.events().saturating_sub(1))
+    }
+
+    fn figures(&self) -> Figures {
+        self.row().figures
     }
 }
 
-/// Whether the notice took in the last event of the slot list, with the figures that the slot
-/// shows.
-fn is_told(slot: &Place, notice: &Last) -> bool {
-    let last = slot.event(slot.events().saturating_sub(1));
-    notice.event.is_some() && notice.event == last && notice.after == slot.row().figures
+/// The notice took in this event, with these figures.
+fn takes(rt: &impl Abort, notice: Last, last: Option<Event>, figures: Figures) {
+    holds(rt, notice.event.is_some(), "no event is taken in");
+    holds(rt, notice.event == last, "another event is taken in");
+    holds(rt, notice.after == figures, "other figures are taken in");
 }
 
-fn tells_send(
-    slot: &mut Place,
+/// The call is done, and the notice took in the last event of the slot list, with the figures that
+/// the slot shows.
+fn is_told<S: Noticed>(rt: &impl Abort, done: Result<(), QueueError>, slot: &S, notice: Last) {
+    match done {
+        Ok(()) => takes(rt, notice, slot.last(), slot.figures()),
+        Err(refusal) => panic!(rt; "{refusal}"),
+    }
+}
+
+/// A send, a receipt and a new quota.
+fn tells_each<S: Noticed>(
+    rt: &impl Abort,
+    slot: &mut S,
     text: Message<VecBody>,
     notice: &mut Last,
-) -> Result<bool, QueueError> {
-    if !slot.is_live() {
-        return Ok(false);
-    }
-    match slot.send(text, 30, notice) {
-        Ok(_) => Ok(is_told(slot, notice)),
-        Err((refusal, _)) => Err(refusal),
-    }
+) {
+    let sent = slot.send(rt, text, notice);
+    is_told(rt, sent, slot, *notice);
+    let received = slot.receive(rt, notice);
+    is_told(rt, received, slot, *notice);
+    let changed = slot.set(rt, notice);
+    is_told(rt, changed, slot, *notice);
 }
 
-fn tells_receipt(slot: &mut Place, notice: &mut Last) -> Result<bool, QueueError> {
-    if !slot.is_live() {
-        return Ok(false);
-    }
-    slot.receive(1, Selection::Any, true, 4, 40, notice)?;
-    Ok(is_told(slot, notice))
-}
-
-fn tells_quota(slot: &mut Place, notice: &mut Last) -> Result<bool, QueueError> {
-    if !slot.is_live() {
-        return Ok(false);
-    }
-    slot.set(100, 5, 50, notice)?;
-    Ok(is_told(slot, notice))
-}
-
-/// Whether the notice takes in a send, a receipt and a new quota.
-fn tells_each(
-    slot: &mut Place,
-    text: Message<VecBody>,
-    notice: &mut Last,
-) -> Result<bool, QueueError> {
-    let sent = tells_send(slot, text, notice)?;
-    let received = tells_receipt(slot, notice)?;
-    let changed = tells_quota(slot, notice)?;
-    Ok(sent && received && changed)
-}
-
-/// Whether the notice takes in all that happens to two queues of the slot, one after the other.
-fn tells_all(
+/// The notice takes in all that happens to two queues of the slot, one after the other.
+fn tells_all<S: Noticed>(
+    rt: &impl Abort,
     keys: &mut KeyTable,
-    slot: &mut Place,
+    slot: &mut S,
     text: Message<VecBody>,
-) -> Result<bool, QueueError> {
+) {
     let mut notice = TAKES;
-    let made = makes(keys, slot, &mut notice)? && is_told(slot, &notice);
-    let each = tells_each(slot, text, &mut notice)?;
-    let removed = removes(keys, slot, &mut notice)? && is_told(slot, &notice);
-    let again = makes(keys, slot, &mut notice)? && is_told(slot, &notice);
-    Ok(made && each && removed && again && notice.after.qbytes == 131_072)
+    let made = slot.make(rt, keys, &mut notice);
+    is_told(rt, made, slot, notice);
+    tells_each(rt, slot, text, &mut notice);
+    let removed = slot.remove(rt, keys, &mut notice);
+    is_told(rt, removed, slot, notice);
+    let again = slot.make(rt, keys, &mut notice);
+    is_told(rt, again, slot, notice);
+    holds(rt, notice.after.qbytes == 131_072, "another quota");
 }
 
 #[test]
-fn each_event_of_a_slot_is_noticed_with_its_figures(rt: HostRuntime) -> Result<(), Fail> {
-    let text = message(rt.alloc(), 5, 3)?;
+fn each_event_of_a_slot_is_noticed_with_its_figures(rt: HostRuntime) {
+    let text = message(&rt, rt.alloc(), 5, 3);
     let mut keys = KeyTable::new(rt.alloc());
     let mut slot = Place::new(rt.alloc(), 8);
-    let told = tells_all(&mut keys, &mut slot, text);
+    tells_all(&rt, &mut keys, &mut slot, text);
     close(slot);
-    holds!(rt; told?, "not told");
-    Ok(())
+}
+
+/// So many keys are there, and as many entries of the slot: there is a queue, or none.
+fn has<S: Noticed>(rt: &impl Abort, keys: &KeyTable, slot: &S, count: u64) {
+    holds(rt, keys.len() as u64 == count, "other keys");
+    holds(rt, slot.events() == count, "other entries");
+    holds(rt, slot.is_live() == (count > 0), "another queue");
 }
 
 /// Where the notice refuses, the making and the removal leave slot and keys.
-#[test]
-fn a_notice_that_refuses_leaves_slot_and_keys(rt: HostRuntime) -> Result<(), Fail> {
-    let mut keys = KeyTable::new(rt.alloc());
-    let mut slot = Place::new(rt.alloc(), 8);
+fn refuses_each<S: Noticed>(rt: &impl Abort, keys: &mut KeyTable, slot: &mut S) {
     let mut takes = TAKES;
     let mut refuses = Last {
         refuses: true,
         ..TAKES
     };
-    let unmade = makes(&mut keys, &mut slot, &mut refuses).is_err();
-    let left = keys.len() == 0 && slot.events() == 0 && !slot.is_live();
-    let made = makes(&mut keys, &mut slot, &mut takes).is_ok();
-    let kept = removes(&mut keys, &mut slot, &mut refuses).is_err();
-    let there = keys.look(9).is_some() && slot.events() == 1 && slot.is_live();
+    let unmade = slot.make(rt, keys, &mut refuses).is_err();
+    holds(rt, unmade, "made without a notice");
+    has(rt, keys, slot, 0);
+    let made = slot.make(rt, keys, &mut takes).is_ok();
+    holds(rt, made, "out of memory");
+    let kept = slot.remove(rt, keys, &mut refuses).is_err();
+    holds(rt, kept, "removed without a notice");
+    has(rt, keys, slot, 1);
+    holds(rt, keys.look(9).is_some(), "another key");
+    holds(rt, refuses.event.is_none(), "an event is taken in");
+}
+
+#[test]
+fn a_notice_that_refuses_leaves_slot_and_keys(rt: HostRuntime) {
+    let mut keys = KeyTable::new(rt.alloc());
+    let mut slot = Place::new(rt.alloc(), 8);
+    refuses_each(&rt, &mut keys, &mut slot);
     close(slot);
-    holds!(rt; unmade && left);
-    holds!(rt; made, "out of memory");
-    holds!(rt; kept && there && refuses.event.is_none());
-    Ok(())
 }

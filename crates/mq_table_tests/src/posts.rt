@@ -1,6 +1,6 @@
 //! A queue whose events are published on a board.
 
-ghost use Rattle.std.specs.Prelude.{◌≡◌, ◌++◌, ◌∷◌, [], IfOk, OnErr};
+ghost use Rattle.std.specs.Prelude.{◌≡◌, ◌++◌, ◌∷◌, [], IfOk, IsTrue, OnErr};
 ghost use Rattle.std.specs.List.{All};
 ghost use Rattle.mq_queue.specs.Base.{base_of};
 ghost use Rattle.mq_board.specs.Writers.{HasOnePending, posting};
@@ -84,21 +84,11 @@ pub(crate) fn close(queue: Queue) {
     discard(waiting);
 }
 
-/// The readers that are of this board.
-pub(crate) fn of_board<J: Naming>(
-    alloc: Global,
-    readers: Vec<BoardReader<J>>,
-    board: u8,
-) -> Result<Vec<BoardReader<J>>, AllocError>
-    ensures { IfOk result (λ ours. All (λ r. r.board ≡ board) ours.items) }
+/// Whether the readers are of this board.
+pub(crate) fn are_of<J: Naming>(readers: &[BoardReader<J>], board: u8) -> bool
+    ensures { IsTrue result → All (λ r. r.board ≡ board) readers.now }
 {
-    let mut ours = Vec::with_capacity(alloc, readers.len())?;
-    for reader in readers {
-        if reader.board() == board {
-            ours.push(reader)?;
-        }
-    }
-    Ok(ours)
+    readers.iter().all(|reader| reader.board() == board)
 }
 
 /// Whether the reader learns a list, which has to be told by its board.
