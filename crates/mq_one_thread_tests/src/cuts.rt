@@ -96,18 +96,16 @@ fn filled<S: Calls>(rt: &impl Abort, system: &mut S) {
 
 /// The queue is found and shown as it would be if nothing had been cut off.
 fn is_there<S: Calls>(rt: &impl Abort, system: &mut S, figures: Figures) {
-    let got = Got {
-        id: Id::from_number(0),
-        made: None,
-    };
+    let id = Id::from_number(0);
     let row = BoardRow {
         made: 1,
         live: true,
         key: 9,
         figures,
     };
-    holds(rt, get(system, 9, NO_FLAG, 5) == Ok(got), "another id");
-    let shown = system.stat(got.id);
+    let got = get(system, 9, NO_FLAG, 5);
+    holds(rt, got == Ok(Got { id, made: None }), "another id");
+    let shown = system.stat(id);
     holds(rt, shown == Ok(figures), "other figures are shown");
     holds(rt, system.row(rt, 0) == row, "another row is shown");
 }

@@ -151,13 +151,13 @@ pub(crate) const MADE: Event = Event::Made {
     key: 7,
 };
 
-fn has_row(rt: &impl Abort, shown: Shown, row: BoardRow) {
-    holds(rt, shown.row == row, "another row is shown");
+fn is_row(rt: &impl Abort, shown: BoardRow, row: BoardRow) {
+    holds(rt, shown == row, "another row is shown");
 }
 
 /// The slot shows its first queue.
 fn shows_live(rt: &impl Abort, shown: Shown) {
-    has_row(rt, shown, LIVE);
+    is_row(rt, shown.row, LIVE);
     holds(rt, shown.offset == 0, "the queue begins elsewhere");
     holds(rt, shown.key == 9, "another key");
     match shown.live {
@@ -171,7 +171,7 @@ fn shows_live(rt: &impl Abort, shown: Shown) {
 
 /// The slot shows that its first queue was removed, which had three events.
 fn shows_removed(rt: &impl Abort, shown: Shown) {
-    has_row(rt, shown, BoardRow { made: 1, ..EMPTY });
+    is_row(rt, shown.row, BoardRow { made: 1, ..EMPTY });
     holds(rt, shown.key == 0, "a key");
     holds(rt, shown.offset == 3, "other events than three");
 }
@@ -213,7 +213,7 @@ fn shows_two<S: SlotCalls>(
     slot: &mut S,
     five: Message<VecBody>,
 ) {
-    has_row(rt, slot.shown(), EMPTY);
+    is_row(rt, slot.shown().row, EMPTY);
     holds(rt, slot.shown().key == 0, "a key");
     fills(rt, keys, slot, five);
     shows_live(rt, slot.shown());
