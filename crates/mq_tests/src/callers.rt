@@ -1,10 +1,11 @@
-ghost use Rattle.std.specs.Prelude.{⊤};
-
+use crate::runs::Nothing;
+use crate::seat_calls::{At, SeatCalls};
 use mq::{
-    Caller, Config, Delivered, Ended, Errno, Id, Names, Pledge, RecvFlags, Seat, SendFlags,
-    SysError, System, SystemProgram, with_system,
+    Caller, Config, Errno, Id, Names, RecvFlags, Seat, SendFlags, SysError, System, SystemProgram,
+    with_system,
 };
 use std::alloc::Global;
+use std::process::Abort;
 use std::sync::Wait;
 
 /// Pages for four texts of the greatest length, of which two fill a queue.
@@ -14,13 +15,6 @@ const ROOMY: Config = Config {
     seats: 1,
     last_seq: 9,
 };
-
-/// Nothing is pledged.
-struct Nothing;
-
-impl Pledge for Nothing {
-    ghost kept = { λ _ _ _ _. ⊤ };
-}
 
 /// The queue that is there, one that was removed, one that was never made, and one past the slots.
 const HERE: u32 = 0;
@@ -52,76 +46,152 @@ const RECEIPTS: [(u32, Errno); 4] = [
 ];
 
 /// What a call answered in place of what was wanted.
-#[derive(Clone, Copy, Debug, PartialEq, Eq, Drop)]
+#[derive(Drop)]
 struct Wrong {
     id: u32,
     len: usize,
     answered: Result<u64, Errno>,
 }
 
-fn is(
-    id: u32,
-    len: usize,
-    answered: Result<u64, Errno>,
-    wanted: Result<u64, Errno>,
-) -> Result<(), Wrong> {
-    if answered == wanted {
-        Ok(())
-    } else {
-        Err(Wrong { id, len, answered })
-    }
+fn same(answered: Result<u64, Errno>, wanted: Result<u64, Errno>) -> bool {
+    answered == wanted
 }
 
 /// Sends so many bytes at once, and answers how many there were.
-fn sent<N: Names, R: Wait>(
-    caller: &mut Caller<'_, N, R>,
+fn sent<C: SeatCalls>(
+    calls: &mut C,
     alloc: Global,
-    system: &System<Nothing, N>,
     id: u32,
     mtype: i64,
     len: usize,
 ) -> Result<u64, Errno> {
-    let bytes = vec![in alloc; 7; len].map_err(|_| Errno::ENOMEM)?;
+    let Ok(bytes) = vec![in alloc; 7; len] else {
+        return Err(Errno::ENOMEM);
+    };
     let flags = SendFlags { nowait: true };
-    caller.send_with(
-        system,
-        Id::from_number(id),
-        mtype,
-        0,
-        bytes.as_slice(),
-        flags,
-    )?;
-    Ok(len as u64)
+    match calls.send_with(Id::from_number(id), mtype, 0, bytes.as_slice(), flags) {
+        Ok(_) => Ok(len as u64),
+        Err(errno) => Err(errno),
+    }
 }
 
 /// Receives at once, and answers how many bytes came.
-fn received<N: Names, R: Wait>(
-    caller: &mut Caller<'_, N, R>,
-    system: &System<Nothing, N>,
-    id: u32,
-    size: usize,
-) -> Result<u64, Errno> {
+fn received<C: SeatCalls>(calls: &mut C, id: u32, size: usize) -> Result<u64, Errno> {
     let flags = RecvFlags {
         nowait: true,
         noerror: false,
         except: false,
     };
-    let Delivered { text, .. } = caller.receive_with(
-        system,
-        Id::from_number(id),
-        size as u64,
-        0,
-        flags,
-    )?;
-    Ok(text.len() as u64)
+    match calls.receive_with(Id::from_number(id), size as u64, 0, flags) {
+        Ok(delivered) => Ok(delivered.text.len() as u64),
+        Err(errno) => Err(errno),
+    }
 }
 
-/// Makes each call that is refused, with each number of bytes, and then those that succeed.
+/// Makes calls, and keeps what was wrong first.
 #[derive(Drop)]
-struct Asks;
+struct Asker<C: SeatCalls + Drop> {
+    calls: C,
+    alloc: Global,
+    wrong: Option<Wrong>,
+}
 
-impl SystemProgram<Nothing> for Asks {
-    type Answer = Result<(), Wrong>;
+impl<C: SeatCalls + Drop> Asker<C> {
+    fn wants(
+        &mut self,
+        id: u32,
+        len: usize,
+        answered: Result<u64, Errno>,
+        wanted: Result<u64, Errno>,
+    ) {
+        if self.wrong.is_none() && !same(answered, wanted) {
+            self.wrong = Some(Wrong { id, len, answered });
+        }
+    }
+
+    /// Sends so many bytes.
+    fn sends(&mut self, id: u32, mtype: i64, len: usize, wanted: Result<u64, Errno>) {
+        let answered = sent(&mut self.calls, self.alloc, id, mtype, len);
+        self.wants(id, len, answered, wanted);
+    }
+
+    /// Receives up to so many bytes.
+    fn receives(&mut self, id: u32, size: usize, wanted: Result<u64, Errno>) {
+        let answered = received(&mut self.calls, id, size);
+        self.wants(id, size, answered, wanted);
+    }
+
+    fn makes(&mut self, key: i32, wanted: u32) {
+        let answered = match self.calls.queue(key) {
+            Ok(id) => Ok(id.number() as u64),
+            Err(errno) => Err(errno),
+        };
+        self.wants(wanted, 0, answered, Ok(wanted as u64));
+    }
+
+    /// Removes the queue, which is its second entry.
+    fn removes(&mut self, id: u32) {
+        let answered = match self.calls.remove(Id::from_number(id)) {
+            Ok(removal) => Ok(removal.entry),
+            Err(errno) => Err(errno),
+        };
+        self.wants(id, 0, answered, Ok(1));
+    }
+
+    /// With so many bytes each call is refused as with any other number.
+    fn is_refused(&mut self, len: usize) {
+        for (id, mtype, errno) in SENDS {
+            self.sends(id, mtype, len, Err(errno));
+        }
+        for (id, errno) in RECEIPTS {
+            self.receives(id, len, Err(errno));
+        }
+    }
+
+    /// So many bytes go through the queue.
+    fn passes(&mut self, len: usize) {
+        self.sends(HERE, 1, len, Ok(len as u64));
+        self.receives(HERE, len, Ok(len as u64));
+    }
+
+    /// Fills the queue, in which no text then has room, and whose texts no smaller size takes.
+    fn fills(&mut self) {
+        for _ in 0..2 {
+            self.sends(HERE, 1, 65_536, Ok(65_536));
+        }
+        let usage = self.calls.info();
+        self.wants(HERE, 2, Ok(usage.messages), Ok(2));
+        self.wants(HERE, 131_072, Ok(usage.bytes), Ok(131_072));
+        self.wants(HERE, 256, Ok(u64::from(usage.pages)), Ok(256));
+        for len in [1, 4_001, 8_193] {
+            self.sends(HERE, 1, len, Err(Errno::EAGAIN));
+            self.receives(HERE, len, Err(Errno::E2BIG));
+        }
+        self.receives(HERE, 0, Err(Errno::E2BIG));
+    }
+
+    /// Makes each call that is refused, with each number of bytes, and then those that succeed.
+    fn asks(&mut self) {
+        self.makes(5, HERE);
+        self.makes(6, REMOVED);
+        self.removes(REMOVED);
+        for len in LENGTHS {
+            self.is_refused(len);
+        }
+        self.sends(HERE, 1, 65_537, Err(Errno::EINVAL));
+        for len in LENGTHS {
+            self.passes(len);
+        }
+        self.fills();
+    }
+}
+
+/// Answers what was wrong.
+#[derive(Drop)]
+struct Refusals;
+
+impl SystemProgram<Nothing> for Refusals {
+    type Answer = Option<Wrong>;
 
     fn run<N: Names, R: Wait>(
         self,
@@ -130,138 +200,44 @@ impl SystemProgram<Nothing> for Asks {
         _config: Config,
         system: &System<Nothing, N>,
         seats: &mut [Seat<N>],
-    ) -> Result<(), Wrong> {
+    ) -> Option<Wrong> {
         let Some(seat) = seats.first_mut() else {
-            return Ok(());
+            return None;
         };
-        let mut caller = Caller::new(rt, alloc, seat);
-        made(&mut caller, system)?;
-        for len in LENGTHS {
-            refused(&mut caller, alloc, system, len)?;
-        }
-        is(
-            HERE,
-            65_537,
-            sent(&mut caller, alloc, system, HERE, 1, 65_537),
-            Err(Errno::EINVAL),
-        )?;
-        for len in LENGTHS {
-            is(
-                HERE,
-                len,
-                sent(&mut caller, alloc, system, HERE, 1, len),
-                Ok(len as u64),
-            )?;
-            is(
-                HERE,
-                len,
-                received(&mut caller, system, HERE, len),
-                Ok(len as u64),
-            )?;
-        }
-        full(&mut caller, alloc, system)
+        let caller = Caller::new(rt, alloc, seat);
+        let mut asker = Asker {
+            calls: At { caller, system },
+            alloc,
+            wrong: None,
+        };
+        asker.asks();
+        asker.wrong
     }
-}
-
-/// Makes the queue that is there, and one that is removed.
-fn made<N: Names, R: Wait>(
-    caller: &mut Caller<'_, N, R>,
-    system: &System<Nothing, N>,
-) -> Result<(), Wrong> {
-    let here = caller.queue(system, 5).map(|id| id.number() as u64);
-    is(HERE, 0, here, Ok(HERE as u64))?;
-    let there = caller.queue(system, 6).map(|id| id.number() as u64);
-    is(REMOVED, 0, there, Ok(REMOVED as u64))?;
-    let removed = caller
-        .remove(system, Id::from_number(REMOVED))
-        .map(|removal| removal.entry);
-    is(REMOVED, 0, removed, Ok(1))
-}
-
-/// With so many bytes each call is refused as with any other number.
-fn refused<N: Names, R: Wait>(
-    caller: &mut Caller<'_, N, R>,
-    alloc: Global,
-    system: &System<Nothing, N>,
-    len: usize,
-) -> Result<(), Wrong> {
-    for (id, mtype, errno) in SENDS {
-        is(
-            id,
-            len,
-            sent(caller, alloc, system, id, mtype, len),
-            Err(errno),
-        )?;
-    }
-    for (id, errno) in RECEIPTS {
-        is(id, len, received(caller, system, id, len), Err(errno))?;
-    }
-    Ok(())
-}
-
-/// Fills the queue, in which no text then has room, and whose texts no smaller size takes.
-fn full<N: Names, R: Wait>(
-    caller: &mut Caller<'_, N, R>,
-    alloc: Global,
-    system: &System<Nothing, N>,
-) -> Result<(), Wrong> {
-    for _ in 0..2 {
-        is(
-            HERE,
-            65_536,
-            sent(caller, alloc, system, HERE, 1, 65_536),
-            Ok(65_536),
-        )?;
-    }
-    let usage = caller.info(system);
-    is(HERE, 2, Ok(usage.messages), Ok(2))?;
-    is(HERE, 131_072, Ok(usage.bytes), Ok(131_072))?;
-    is(HERE, 256, Ok(u64::from(usage.pages)), Ok(256))?;
-    for len in [1, 4_001, 8_193] {
-        is(
-            HERE,
-            len,
-            sent(caller, alloc, system, HERE, 1, len),
-            Err(Errno::EAGAIN),
-        )?;
-        is(
-            HERE,
-            len,
-            received(caller, system, HERE, len),
-            Err(Errno::E2BIG),
-        )?;
-    }
-    is(
-        HERE,
-        0,
-        received(caller, system, HERE, 0),
-        Err(Errno::E2BIG),
-    )
 }
 
 #[test]
 fn a_caller_is_told_each_refusal_by_its_name_whatever_its_size(rt: HostRuntime) {
     // Once more, where memory was wanted.
     for _ in 0..2 {
-        match with_system(&rt, rt.alloc(), ROOMY, Asks) {
+        match with_system(&rt, rt.alloc(), ROOMY, Refusals) {
             Err(SysError::Memory) => (),
             Err(error) => panic!(rt; "{error}"),
-            Ok(
-                Ended {
-                    answer,
-                    free_pages,
-                    ..
-                },
-            ) => match answer {
-                Ok(()) => {
-                    holds!(rt; free_pages == 256);
+            Ok(ended) => match ended.answer {
+                None => {
+                    holds!(rt; ended.free_pages == 256);
                     return;
                 }
-                Err(wrong) => {
-                    assert_eq!(rt; wrong.answered, Err(Errno::ENOMEM), "{wrong:?}");
-                }
+                Some(wrong) => wanted_memory(&rt, wrong),
             },
         }
     }
     panic!(rt; "no memory");
+}
+
+/// Nothing was wrong but that memory was wanted.
+fn wanted_memory(rt: &impl Abort, wrong: Wrong) {
+    let Wrong { id, len, answered } = wrong;
+    if !matches!(answered, Err(Errno::ENOMEM)) {
+        panic!(rt; "{id}, {len}: {answered:?}");
+    }
 }

@@ -1,16 +1,14 @@
 //! What two seats count that work at the same time.
-use crate::runs::{Nothing, SMALL, found_no_memory};
-use mq::{
-    Caller, ClosedSlot, Ended, Errno, GetFlags, Id, Names, Seat, System, Worker, WorkersError,
-    with_two,
-};
+use crate::runs::{Nothing, SMALL, Worked, ended_of, slot_of, wanted_memory};
+use crate::seat_calls::{At, SeatCalls, receive, send};
+use mq::{Caller, ClosedSlot, Errno, GetFlags, Id, Names, Seat, System, Worker, with_two};
 use std::alloc::Global;
 use std::process::Abort;
 use std::sync::Wait;
 use std::thread::Threads;
 
 /// Sends three texts to one queue and receives three from the other.
-#[derive(Drop)]
+#[derive(Clone, Copy)]
 struct Trader {
     sends_to: i32,
     receives_from: i32,
@@ -35,14 +33,19 @@ fn queue<N: Names, R: Wait>(
         create: true,
         exclusive: false,
     };
-    let got = match system.msgget(rt, seat, key, flags, 0) {
-        Err(Errno::ENOMEM) => system.msgget(rt, seat, key, flags, 0)?,
-        got => got?,
-    };
-    if got.made.is_some() {
-        add(made, got.id);
+    for _ in 0..2 {
+        match system.msgget(rt, seat, key, flags, 0) {
+            Ok(got) => {
+                if got.made.is_some() {
+                    add(made, got.id);
+                }
+                return Ok(got.id);
+            }
+            Err(Errno::ENOMEM) => (),
+            Err(errno) => return Err(errno),
+        }
     }
-    Ok(got.id)
+    Err(Errno::ENOMEM)
 }
 
 /// One change more in the id's slot.
@@ -53,32 +56,35 @@ fn add(made: &mut [u64; 2], id: Id) {
     }
 }
 
-fn sent<N: Names, R: Wait>(
-    caller: &mut Caller<'_, N, R>,
+/// Both queues, the one that is sent to first.
+fn queues<N: Names, R: Wait>(
+    rt: &R,
     system: &System<Nothing, N>,
-    id: Id,
+    seat: &mut Seat<N>,
+    trader: Trader,
     made: &mut [u64; 2],
-) -> Result<(), Errno> {
-    match caller.send(system, id, 1, 7, b"word") {
-        Err(Errno::ENOMEM) => caller.send(system, id, 1, 7, b"word")?,
-        sent => sent?,
-    };
-    add(made, id);
-    Ok(())
+) -> Result<(Id, Id), Errno> {
+    let out = queue(rt, system, seat, trader.sends_to, made)?;
+    let back = queue(rt, system, seat, trader.receives_from, made)?;
+    Ok((out, back))
 }
 
-fn received<N: Names, R: Wait>(
-    caller: &mut Caller<'_, N, R>,
-    system: &System<Nothing, N>,
-    id: Id,
-    made: &mut [u64; 2],
-) -> Result<(), Errno> {
-    match caller.receive(system, id, 10, 0) {
-        Err(Errno::ENOMEM) => caller.receive(system, id, 10, 0)?,
-        received => received?,
-    };
-    add(made, id);
-    Ok(())
+/// Sends three texts to the one, receives three from the other, and counts.
+fn trades<C: SeatCalls>(
+    calls: &mut C,
+    out: Id,
+    back: Id,
+    so_far: [u64; 2],
+) -> Result<Counted, Errno> {
+    let mut made = so_far;
+    for _ in 0..3 {
+        send(calls, out, 1, 7, b"word")?;
+        add(&mut made, out);
+        receive(calls, back, 10)?;
+        add(&mut made, back);
+    }
+    let told = [calls.count(0), calls.count(1)];
+    Ok(Counted { told, made })
 }
 
 impl Worker<Nothing> for Trader {
@@ -91,25 +97,20 @@ impl Worker<Nothing> for Trader {
         system: &System<Nothing, N>,
         seat: &mut Seat<N>,
     ) -> Result<Counted, Errno> {
-        if system.slots() < 2 {
-            return Err(Errno::ENOSPC);
-        }
         let mut made = [0u64; 2];
-        let out = queue(rt, system, seat, self.sends_to, &mut made)?;
-        let back = queue(rt, system, seat, self.receives_from, &mut made)?;
-        let mut caller = Caller::new(rt, alloc, seat);
-        for _ in 0..3 {
-            sent(&mut caller, system, out, &mut made)?;
-            received(&mut caller, system, back, &mut made)?;
-        }
-        let told = [caller.count(0), caller.count(1)];
-        Ok(Counted { told, made })
+        let (out, back) = match queues(rt, system, seat, self, &mut made) {
+            Ok(queues) => queues,
+            Err(errno) => return Err(errno),
+        };
+        let caller = Caller::new(rt, alloc, seat);
+        trades(&mut At { caller, system }, out, back, made)
     }
 }
 
-type Traded = Ended<(Result<Counted, Errno>, Result<Counted, Errno>)>;
-
-fn trade<R: Threads + Wait + Sync>(rt: &R, alloc: Global) -> Result<Traded, WorkersError> {
+fn trade<R: Threads + Wait + Sync>(
+    rt: &R,
+    alloc: Global,
+) -> Worked<(Result<Counted, Errno>, Result<Counted, Errno>)> {
     let first = Trader {
         sends_to: 5,
         receives_from: 6,
@@ -142,27 +143,20 @@ fn has_all(rt: &impl Abort, slots: &[ClosedSlot], one: Counted, other: Counted) 
     for k in 0..2usize {
         let both = one.told[k].wrapping_add(other.told[k]);
         holds!(rt; both == 7);
-        holds!(rt; entries(&slots[k]) == 7);
+        holds!(rt; entries(slot_of(rt, slots, k)) == 7);
+        holds!(rt; entries(slot_of(rt, slots, k + 2)) == 0);
     }
-    holds!(rt; entries(&slots[2]) == 0);
-    holds!(rt; entries(&slots[3]) == 0);
 }
 
 #[test]
 fn each_change_counts_for_its_seat_and_its_slot(rt: HostRuntime) {
     let mut traded = trade(&rt, rt.alloc());
-    if let Err(error) = &traded
-        && found_no_memory(*error)
-    {
+    if wanted_memory(&traded) {
         traded = trade(&rt, rt.alloc());
     }
-    match traded {
-        Ok(ended) => {
-            let (one, other) = ended.answer;
-            let one = tells_all(&rt, one);
-            let other = tells_all(&rt, other);
-            has_all(&rt, ended.slots.as_slice(), one, other);
-        }
-        Err(error) => panic!(rt; "{error}"),
-    }
+    let ended = ended_of(&rt, traded);
+    let (one, other) = ended.answer;
+    let one = tells_all(&rt, one);
+    let other = tells_all(&rt, other);
+    has_all(&rt, ended.slots.as_slice(), one, other);
 }

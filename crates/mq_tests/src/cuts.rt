@@ -2,10 +2,9 @@
 //! and make it anew.
 
 use crate::joined::{Flaw, join};
-use crate::runs::{Nothing, SMALL, found_no_memory};
-use mq::{
-    Caller, Config, Cut, Ended, Errno, Id, Names, Seat, System, Worker, WorkersError, with_workers,
-};
+use crate::runs::{SMALL, Worked, ended_of, wanted_memory, work_all};
+use crate::seat_calls::{By, SeatCalls, Work, queue, send};
+use mq::{Config, Cut, Ended, Errno, Id, WorkersError};
 use std::alloc::{AllocError, Global};
 use std::hint::spin_loop;
 use std::sync::Wait;
@@ -41,17 +40,6 @@ enum Role<'a> {
     Cut(&'a Shared, u64),
 }
 
-/// The queue, at the second try where there was no memory.
-fn queue<N: Names, R: Wait>(
-    caller: &mut Caller<'_, N, R>,
-    system: &System<Nothing, N>,
-) -> Result<Id, Errno> {
-    match caller.queue(system, 7) {
-        Err(Errno::ENOMEM) => caller.queue(system, 7),
-        answer => answer,
-    }
-}
-
 /// Waits until so many texts were received, or all is over.
 fn await_received<R: Wait>(rt: &R, shared: &Shared, count: u64) {
     for _ in rt.forever() {
@@ -63,46 +51,42 @@ fn await_received<R: Wait>(rt: &R, shared: &Shared, count: u64) {
     }
 }
 
-fn sends<N: Names, R: Wait>(
-    rt: &R,
-    caller: &mut Caller<'_, N, R>,
-    system: &System<Nothing, N>,
-    shared: &Shared,
-) -> Result<(), Errno> {
+/// Removes the queue, at the second try where there was no memory.
+fn remove<C: SeatCalls>(calls: &mut C, id: Id) -> Result<(), Errno> {
+    for _ in 0..2 {
+        match calls.remove(id) {
+            Ok(_) => return Ok(()),
+            Err(Errno::ENOMEM) => (),
+            Err(errno) => return Err(errno),
+        }
+    }
+    Err(Errno::ENOMEM)
+}
+
+fn sends<C: SeatCalls, R: Wait>(rt: &R, calls: &mut C, shared: &Shared) -> Result<(), Errno> {
     let mut sent = 0u64;
     for round in 0..QUEUES {
-        let id = queue(caller, system)?;
+        let id = queue(calls, 7)?;
         for tag in 0..TEXTS {
-            match caller.send(system, id, 3, tag, b"") {
-                Err(Errno::ENOMEM) => caller.send(system, id, 3, tag, b"")?,
-                answer => answer?,
-            };
+            send(calls, id, 3, tag, b"")?;
             sent = sent.saturating_add(1);
         }
         await_received(rt, shared, sent);
         if round + 1 < QUEUES {
-            match caller.remove(system, id) {
-                Err(Errno::ENOMEM) => caller.remove(system, id)?,
-                answer => answer?,
-            };
+            remove(calls, id)?;
         }
     }
     Ok(())
 }
 
-fn receives<N: Names, R: Wait>(
-    rt: &R,
-    caller: &mut Caller<'_, N, R>,
-    system: &System<Nothing, N>,
-    shared: &Shared,
-) -> Result<(), Errno> {
+fn receives<C: SeatCalls, R: Wait>(rt: &R, calls: &mut C, shared: &Shared) -> Result<(), Errno> {
     for _ in rt.forever() {
         let received = shared.received.load(Ordering::SeqCst);
         if received >= QUEUES * TEXTS || shared.over.load(Ordering::SeqCst) != 0 {
             return Ok(());
         }
-        let id = queue(caller, system)?;
-        match caller.receive(system, id, 9, 0) {
+        let id = queue(calls, 7)?;
+        match calls.receive(id, 9, 0) {
             Ok(_) => {
                 shared.received.fetch_add(1, Ordering::SeqCst);
             }
@@ -115,11 +99,10 @@ fn receives<N: Names, R: Wait>(
 }
 
 /// Cuts the log in its turns, each time that a text more was received, and once at the end.
-fn cuts<N: Names, R: Wait>(
+fn cuts<C: SeatCalls, R: Wait>(
     rt: &R,
     alloc: Global,
-    caller: &mut Caller<'_, N, R>,
-    system: &System<Nothing, N>,
+    calls: &mut C,
     shared: &Shared,
     own: u64,
 ) -> Vec<Cut> {
@@ -128,8 +111,8 @@ fn cuts<N: Names, R: Wait>(
         let last = shared.over.load(Ordering::SeqCst) != 0;
         if last || shared.turn.load(Ordering::SeqCst) == own {
             let seen = shared.received.load(Ordering::SeqCst);
-            if system.slots() > 0 && cuts.reserve(1).is_ok() {
-                if let Ok(cut) = caller.cut_log(system, 0) {
+            if cuts.reserve(1).is_ok() {
+                if let Ok(cut) = calls.cut_log(0) {
                     cuts.push_reserved(cut);
                 }
             }
@@ -144,39 +127,42 @@ fn cuts<N: Names, R: Wait>(
     cuts
 }
 
-impl<'a> Worker<Nothing> for Role<'a> {
-    type Answer = Result<Vec<Cut>, Errno>;
-
-    fn work<N: Names, R: Wait>(
-        self,
-        rt: &R,
-        alloc: Global,
-        system: &System<Nothing, N>,
-        seat: &mut Seat<N>,
-    ) -> Result<Vec<Cut>, Errno> {
-        let mut caller = Caller::new(rt, alloc, seat);
-        let (shared, done) = match self {
-            Role::Send(shared) => (shared, sends(rt, &mut caller, system, shared)),
-            Role::Receive(shared) => (shared, receives(rt, &mut caller, system, shared)),
-            Role::Cut(shared, own) => {
-                return Ok(cuts(rt, alloc, &mut caller, system, shared, own));
-            }
-        };
-        if done.is_err() {
-            // Who waits is let go.
-            if let Ok(id) = queue(&mut caller, system) {
-                let _ = caller.remove(system, id);
-            }
-            shared.over.store(1, Ordering::SeqCst);
-        } else if shared.received.load(Ordering::SeqCst) >= QUEUES * TEXTS {
-            shared.over.store(1, Ordering::SeqCst);
+/// Tells the others that all is over, where it is.
+fn ends<C: SeatCalls>(calls: &mut C, shared: &Shared, done: Result<(), Errno>) {
+    if done.is_err() {
+        // Who waits is let go.
+        if let Ok(id) = queue(calls, 7) {
+            let _ = calls.remove(id);
         }
-        done?;
-        Ok(Vec::new(alloc))
+        shared.over.store(1, Ordering::SeqCst);
+    } else if shared.received.load(Ordering::SeqCst) >= QUEUES * TEXTS {
+        shared.over.store(1, Ordering::SeqCst);
     }
 }
 
-fn roles(alloc: Global, shared: &Shared) -> Result<Vec<Role<'_>>, AllocError> {
+impl<'a> Work for Role<'a> {
+    type Answer = Result<Vec<Cut>, Errno>;
+
+    fn work<C: SeatCalls, R: Wait>(
+        self,
+        rt: &R,
+        alloc: Global,
+        calls: &mut C,
+    ) -> Result<Vec<Cut>, Errno> {
+        let (shared, done) = match self {
+            Role::Send(shared) => (shared, sends(rt, calls, shared)),
+            Role::Receive(shared) => (shared, receives(rt, calls, shared)),
+            Role::Cut(shared, own) => return Ok(cuts(rt, alloc, calls, shared, own)),
+        };
+        ends(calls, shared, done);
+        match done {
+            Ok(()) => Ok(Vec::new(alloc)),
+            Err(errno) => Err(errno),
+        }
+    }
+}
+
+fn roles(alloc: Global, shared: &Shared) -> Result<Vec<By<Role<'_>>>, AllocError> {
     let mut roles = Vec::new(alloc);
     for role in [
         Role::Cut(shared, 0),
@@ -184,24 +170,24 @@ fn roles(alloc: Global, shared: &Shared) -> Result<Vec<Role<'_>>, AllocError> {
         Role::Receive(shared),
         Role::Cut(shared, 1),
     ] {
-        roles.push(role)?;
+        roles.push(By(role))?;
     }
     Ok(roles)
 }
 
 /// Runs the four, and once more where none has begun for lack of memory.
-fn ended<R: Threads + Wait + Sync>(
+fn worked<R: Threads + Wait + Sync>(
     rt: &R,
     alloc: Global,
     shared: &Shared,
-) -> Result<Ended<Vec<Result<Vec<Cut>, Errno>>>, WorkersError> {
+) -> Worked<Vec<Result<Vec<Cut>, Errno>>> {
     for _ in 0..2 {
         let Ok(roles) = roles(alloc, shared) else {
             continue;
         };
-        match with_workers(rt, alloc, SIZE, roles) {
-            Err(error) if found_no_memory(error) => (),
-            ended => return ended,
+        let worked = work_all(rt, alloc, SIZE, roles);
+        if !wanted_memory(&worked) {
+            return worked;
         }
     }
     Err(WorkersError::Memory)
@@ -209,21 +195,32 @@ fn ended<R: Threads + Wait + Sync>(
 
 /// What the four were handed, joined with what was kept: so many texts in so many queues.
 fn checked(alloc: Global, ended: Ended<Vec<Result<Vec<Cut>, Errno>>>) -> Result<(), Flaw> {
-    let mut handed = Vec::new(alloc);
-    for answer in ended.answer {
-        handed
-            .push(answer.map_err(Flaw::Call)?)
-            .map_err(|_| Flaw::Memory)?;
-    }
+    let handed = handed_of(alloc, ended.answer)?;
     let Some(slot) = ended.slots.first() else {
         return Err(Flaw::Gap(0));
     };
     let counts = join(alloc, handed.as_slice(), slot)?;
-    if counts == (QUEUES, QUEUES * TEXTS, QUEUES * TEXTS) {
+    if counts.0 == QUEUES && counts.1 == QUEUES * TEXTS && counts.2 == QUEUES * TEXTS {
         Ok(())
     } else {
         Err(Flaw::Counts(counts))
     }
+}
+
+/// What the calls of each of them handed out.
+fn handed_of(alloc: Global, answers: Vec<Result<Vec<Cut>, Errno>>) -> Result<Vec<Vec<Cut>>, Flaw> {
+    let mut handed = Vec::new(alloc);
+    for answer in answers {
+        match answer {
+            Ok(cuts) => {
+                if handed.push(cuts).is_err() {
+                    return Err(Flaw::Memory);
+                }
+            }
+            Err(errno) => return Err(Flaw::Call(errno)),
+        }
+    }
+    Ok(handed)
 }
 
 #[test]
@@ -233,11 +230,8 @@ fn two_cutters_leave_no_gap(rt: HostRuntime) {
         received: AtomicU64::new(0),
         over: AtomicU64::new(0),
     };
-    match ended(&rt, rt.alloc(), &shared) {
-        Ok(ended) => match checked(rt.alloc(), ended) {
-            Ok(()) => (),
-            Err(flaw) => panic!(rt; "{flaw:?}"),
-        },
-        Err(error) => panic!(rt; "{error}"),
+    let ended = ended_of(&rt, worked(&rt, rt.alloc(), &shared));
+    if let Err(flaw) = checked(rt.alloc(), ended) {
+        panic!(rt; "{flaw:?}");
     }
 }

@@ -1,9 +1,10 @@
-use crate::runs::{Nothing, ROOMY, found_no_memory};
-use mq::{
-    Caller, Delivered, Errno, Names, RecvFlags, Seat, SendFlags, System, Worker, with_workers,
-};
+use crate::runs::{ROOMY, ended_of, slot_of, wanted_memory, work_all};
+use crate::seat_calls::{By, SeatCalls, Work};
+use mq::{Delivered, Errno, RecvFlags, SendFlags};
 use std::alloc::Global;
+use std::process::Abort;
 use std::sync::Wait;
+use std::thread::Threads;
 
 const AT_ONCE: RecvFlags = RecvFlags {
     nowait: true,
@@ -17,7 +18,7 @@ const CUT: RecvFlags = RecvFlags {
 };
 
 /// What a worker met that is alone at a queue.
-#[derive(Drop)]
+#[derive(Clone, Copy)]
 struct Met {
     empty: Option<Errno>,
     full: Option<Errno>,
@@ -36,28 +37,29 @@ impl Met {
 #[derive(Drop)]
 struct Alone;
 
-impl Worker<Nothing> for Alone {
+impl Work for Alone {
     type Answer = Result<Met, Errno>;
 
-    fn work<N: Names, R: Wait>(
+    fn work<C: SeatCalls, R: Wait>(
         self,
-        rt: &R,
+        _rt: &R,
         alloc: Global,
-        system: &System<Nothing, N>,
-        seat: &mut Seat<N>,
+        calls: &mut C,
     ) -> Result<Met, Errno> {
-        let mut caller = Caller::new(rt, alloc, seat);
-        let id = caller.queue(system, 7)?;
-        let empty = caller.receive_with(system, id, 1, 0, AT_ONCE).err();
-        let bytes = vec![in alloc; 3; 65_536].map_err(|_| Errno::ENOMEM)?;
+        let Ok(bytes) = vec![in alloc; 3; 65_536] else {
+            return Err(Errno::ENOMEM);
+        };
         let text = bytes.as_slice();
-        caller.send(system, id, 1, 1, text)?;
-        caller.send(system, id, 1, 2, text)?;
-        let full = caller
-            .send_with(system, id, 1, 3, text, SendFlags { nowait: true })
+        let id = calls.queue(7)?;
+        let empty = calls.receive_with(id, 1, 0, AT_ONCE).err();
+        for tag in 1..3 {
+            calls.send(id, 1, tag, text)?;
+        }
+        let full = calls
+            .send_with(id, 1, 3, text, SendFlags { nowait: true })
             .err();
-        let long = caller.receive(system, id, 65_535, 0).err();
-        let Delivered { length, text, .. } = caller.receive_with(system, id, 10, 0, CUT)?;
+        let long = calls.receive(id, 65_535, 0).err();
+        let Delivered { length, text, .. } = calls.receive_with(id, 10, 0, CUT)?;
         Ok(Met {
             empty,
             full,
@@ -67,32 +69,47 @@ impl Worker<Nothing> for Alone {
     }
 }
 
+/// What the worker met whose text is left in the queue; ENOMEM where memory was wanted.
+fn answered<R: Abort + Threads + Wait + Sync>(rt: &R, alloc: Global) -> Result<Met, Errno> {
+    let mut workers = Vec::new(alloc);
+    if workers.push(By(Alone)).is_err() {
+        return Err(Errno::ENOMEM);
+    }
+    let worked = work_all(rt, alloc, ROOMY, workers);
+    if wanted_memory(&worked) {
+        return Err(Errno::ENOMEM);
+    }
+    let ended = ended_of(rt, worked);
+    let answer = first_of(ended.answer.as_slice());
+    if answer.is_ok() {
+        holds!(rt; slot_of(rt, ended.slots.as_slice(), 0).left == 1);
+        holds!(rt; ended.free_pages == 256);
+    }
+    answer
+}
+
+/// What the first one met; ENOMEM where it found no memory instead.
+fn first_of(answers: &[Result<Met, Errno>]) -> Result<Met, Errno> {
+    match answers.first() {
+        Some(Ok(met)) if met.found_none() => Err(Errno::ENOMEM),
+        Some(answer) => *answer,
+        None => Err(Errno::ENOMEM),
+    }
+}
+
 #[test]
 fn a_call_with_flags_does_not_wait_and_cuts(rt: HostRuntime) {
-    // Once more, where memory was wanted.
-    for _ in 0..2 {
-        let mut workers = Vec::new(rt.alloc());
-        if workers.push(Alone).is_err() {
-            continue;
-        }
-        let ended = match with_workers(&rt, rt.alloc(), ROOMY, workers) {
-            Ok(ended) => ended,
-            Err(error) if found_no_memory(error) => continue,
-            Err(error) => panic!(rt; "{error}"),
-        };
-        match &ended.answer[0] {
-            Ok(met) if !met.found_none() => {
-                holds!(rt; met.empty == Some(Errno::ENOMSG));
-                holds!(rt; met.full == Some(Errno::EAGAIN));
-                holds!(rt; met.long == Some(Errno::E2BIG));
-                holds!(rt; met.cut == (10, 65_536));
-                holds!(rt; ended.slots[0].left == 1);
-                holds!(rt; ended.free_pages == 256);
-                return;
-            }
-            Err(errno) if *errno != Errno::ENOMEM => panic!(rt; "{errno}"),
-            _ => (),
-        }
+    let mut answer = answered(&rt, rt.alloc());
+    if matches!(answer, Err(Errno::ENOMEM)) {
+        answer = answered(&rt, rt.alloc());
     }
-    panic!(rt; "no memory");
+    match answer {
+        Ok(met) => {
+            holds!(rt; met.empty == Some(Errno::ENOMSG));
+            holds!(rt; met.full == Some(Errno::EAGAIN));
+            holds!(rt; met.long == Some(Errno::E2BIG));
+            holds!(rt; met.cut.0 == 10 && met.cut.1 == 65_536);
+        }
+        Err(errno) => panic!(rt; "{errno}"),
+    }
 }

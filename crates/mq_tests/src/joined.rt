@@ -5,7 +5,7 @@ use mq::{Base, ClosedSlot, Cut, Errno, Event};
 use std::alloc::Global;
 
 /// What is wrong.
-#[derive(Debug, Clone, Copy, PartialEq, Eq, Drop)]
+#[derive(Debug, Clone, Copy)]
 pub(crate) enum Flaw {
     /// No cut begins at this entry.
     Gap(u64),
@@ -95,23 +95,66 @@ fn add(all: &mut Vec<Event>, entries: &[Event]) -> Result<(), Flaw> {
     Ok(())
 }
 
+/// Adds what a cut tells, or the slot at the end.
+fn adds(
+    all: &mut Vec<Event>,
+    made: u32,
+    base: &Option<Base>,
+    past: &[Event],
+    last: &[Event],
+) -> Result<(), Flaw> {
+    told(all.as_slice(), made, base)?;
+    add(all, past)?;
+    add(all, last)
+}
+
+/// Which of a thread's cuts is its next one, where it begins after so many entries, and whether it
+/// is empty.
+fn begins(cuts: &[Cut], taken: usize, first: u64) -> Option<bool> {
+    match cuts.get(taken) {
+        Some(cut) if cut.first == first => Some(cut.past.is_empty() && cut.last.is_empty()),
+        _ => None,
+    }
+}
+
 /// The cut that begins after so many entries and was not taken before, an empty one first.
 fn next<'a>(handed: &'a [Vec<Cut>], taken: &mut [usize], first: u64) -> Option<&'a Cut> {
-    let mut found: Option<(usize, &Cut)> = None;
+    let mut found = None;
     for (cutter, cuts) in handed.iter().enumerate() {
-        let Some(cut) = cuts.get(*taken.get(cutter)?) else {
-            continue;
-        };
-        let empty = cut.past.is_empty() && cut.last.is_empty();
-        if cut.first == first && (empty || found.is_none()) {
-            found = Some((cutter, cut));
+        match begins(cuts.as_slice(), *taken.get(cutter)?, first) {
+            Some(true) => found = Some(cutter),
+            Some(false) if found.is_none() => found = Some(cutter),
+            _ => (),
         }
     }
-    let (cutter, cut) = found?;
-    if let Some(count) = taken.get_mut(cutter) {
-        *count = count.wrapping_add(1);
+    let cutter = found?;
+    let place = taken.get_mut(cutter)?;
+    let cut = handed.get(cutter)?.get(*place);
+    *place = place.wrapping_add(1);
+    cut
+}
+
+/// That no cut of so many threads is taken.
+fn none_taken(alloc: Global, count: usize) -> Result<Vec<usize>, Flaw> {
+    match vec![in alloc; 0; count] {
+        Ok(taken) => Ok(taken),
+        Err(_) => Err(Flaw::Memory),
     }
-    Some(cut)
+}
+
+/// Adds all that was handed out, in the order of the entries.
+fn adds_all(all: &mut Vec<Event>, handed: &[Vec<Cut>], taken: &mut [usize]) -> Result<(), Flaw> {
+    for cuts in handed {
+        for _ in 0..cuts.len() {
+            let first = all.len() as u64;
+            let Some(cut) = next(handed, taken, first) else {
+                return Err(Flaw::Gap(first));
+            };
+            let (past, last) = (cut.past.as_slice(), cut.last.as_slice());
+            adds(all, cut.made, &cut.base, past, last)?;
+        }
+    }
+    Ok(())
 }
 
 /// Joins what each thread was handed in its cuts with what the slot kept to the end. How many
@@ -122,28 +165,12 @@ pub(crate) fn join(
     slot: &ClosedSlot,
 ) -> Result<(u64, u64, u64), Flaw> {
     let mut all = Vec::new(alloc);
-    let mut taken = Vec::new(alloc);
-    let mut left = 0usize;
-    for cuts in handed {
-        left = left.wrapping_add(cuts.len());
-        if taken.push(0).is_err() {
-            return Err(Flaw::Memory);
-        }
-    }
-    for _ in 0..left {
-        let first = all.len() as u64;
-        let Some(cut) = next(handed, taken.as_mut_slice(), first) else {
-            return Err(Flaw::Gap(first));
-        };
-        told(all.as_slice(), cut.made, &cut.base)?;
-        add(&mut all, cut.past.as_slice())?;
-        add(&mut all, cut.last.as_slice())?;
-    }
+    let mut taken = none_taken(alloc, handed.len())?;
+    adds_all(&mut all, handed, taken.as_mut_slice())?;
     if slot.first != all.len() as u64 {
         return Err(Flaw::Gap(slot.first));
     }
-    told(all.as_slice(), slot.made, &slot.base)?;
-    add(&mut all, slot.past.as_slice())?;
-    add(&mut all, slot.last.as_slice())?;
+    let (past, last) = (slot.past.as_slice(), slot.last.as_slice());
+    adds(&mut all, slot.made, &slot.base, past, last)?;
     Ok(counts(all.as_slice()))
 }

@@ -46,6 +46,8 @@ mod programs;
 #[cfg(test)]
 mod runs;
 #[cfg(test)]
+mod seat_calls;
+#[cfg(test)]
 mod seats;
 #[cfg(test)]
 mod two;

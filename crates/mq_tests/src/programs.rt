@@ -1,11 +1,12 @@
 ghost use Rattle.std.specs.Prelude.{◌≡◌, ◌^◌, IfOk};
 
 use mq::{
-    Config, DEFAULTS, Delivered, Ended, Errno, GetFlags, Id, Ledger, OneThread, QueueProgram,
-    SendRefused, SysError, receive_bytes, send_bytes, with_queues,
+    ClosedSlot, Config, DEFAULTS, Delivered, Ended, Errno, GetFlags, Id, Ledger, OneThread,
+    QueueProgram, SendRefused, SysError, receive_bytes, send_bytes, with_queues,
 };
 use std::alloc::Global;
 use std::cell::Cell;
+use std::process::Abort;
 
 const NEW: GetFlags = GetFlags {
     create: true,
@@ -20,11 +21,14 @@ const SMALL: Config = Config {
 };
 
 /// Leaves a text of so many zero bytes in a queue.
-fn left<L: Ledger>(queues: &mut OneThread<L>, key: i32, len: u64) -> Result<u32, Errno> {
+fn left<L: Ledger>(queues: &mut OneThread<L>, key: i32, len: u64) -> Result<(), Errno> {
     let id = queues.msgget(1, key, NEW, 1)?.id;
-    let text = queues.draft(len).map_err(|error| error.errno())?;
+    let text = match queues.draft(len) {
+        Ok(text) => text,
+        Err(error) => return Err(error.errno()),
+    };
     match queues.msgsnd(2, id, 1, 0, text, 2) {
-        Ok(_) => Ok(id.number()),
+        Ok(_) => Ok(()),
         Err(refusal) => {
             let SendRefused { refused, text } = refusal;
             queues.spend(text);
@@ -55,71 +59,73 @@ impl<'a> QueueProgram for TwoLeft<'a> {
     }
 }
 
+type Answered = Result<Ended<Result<(u8, u32), Errno>>, SysError>;
+
+fn answered(alloc: Global, config: Config, runs: &Cell<u32>) -> Answered {
+    with_queues(alloc, config, TwoLeft { runs })
+}
+
 /// Runs it, and once more where it had not begun for lack of memory, or met it.
-fn ended(
-    alloc: Global,
-    config: Config,
-    runs: &Cell<u32>,
-) -> Result<Ended<Result<(u8, u32), Errno>>, SysError> {
-    let first = with_queues(alloc, config, TwoLeft { runs });
+fn ended(alloc: Global, config: Config, runs: &Cell<u32>) -> Answered {
+    let first = answered(alloc, config, runs);
     let again = match &first {
         Err(SysError::Memory) => runs.get() == 0,
-        Ok(ended) => ended.answer == Err(Errno::ENOMEM),
+        Ok(ended) => matches!(ended.answer, Err(Errno::ENOMEM)),
         Err(SysError::Config) => false,
     };
     if again {
         runs.set(0);
-        return with_queues(alloc, config, TwoLeft { runs });
+        return answered(alloc, config, runs);
     }
     first
+}
+
+/// Whether the first two of four slots were left a queue with one text, and the others nothing.
+fn are_left(slots: &[ClosedSlot]) -> bool {
+    let mut full = 0u64;
+    for slot in slots {
+        let left = u64::from(full < 2);
+        if !slot.past.is_empty() || slot.last.len() as u64 != 2 * left || slot.left != left {
+            return false;
+        }
+        full = full.saturating_add(left);
+    }
+    slots.len() == 4
 }
 
 #[test]
 fn a_program_runs_once_and_all_that_it_left_comes_back(rt: HostRuntime) {
     let runs = Cell::new(0);
-    let Ok(
-        Ended {
-            answer,
-            slots,
-            free_pages,
-        },
-    ) = ended(rt.alloc(), SMALL, &runs)
-    else {
+    let Ok(ended) = ended(rt.alloc(), SMALL, &runs) else {
         panic!(rt; "no answer");
     };
     holds!(rt; runs.get() == 1);
-    holds!(rt; answer == Ok((4, 3)));
-    holds!(rt; free_pages == 8);
-    let wanted: [(usize, usize, u64); 4] = [(0, 2, 1), (0, 2, 1), (0, 0, 0), (0, 0, 0)];
-    holds!(rt; slots.len() == 4);
-    for (slot, wanted) in slots.iter().zip(wanted) {
-        holds!(rt; (slot.past.len(), slot.last.len(), slot.left) == wanted);
-    }
+    holds!(rt; ended.answer == Ok((4, 3)));
+    holds!(rt; ended.free_pages == 8);
+    holds!(rt; are_left(ended.slots.as_slice()));
 }
 
 #[test]
 fn a_size_out_of_its_limits_is_refused_before_the_program_runs(rt: HostRuntime) {
-    let table: [Config; 6] = [
-        Config {
-            height: 11,
-            ..SMALL
-        },
-        Config { slots: 0, ..SMALL },
-        Config { slots: 65, ..SMALL },
-        Config { seats: 0, ..SMALL },
-        Config { seats: 17, ..SMALL },
-        Config {
-            last_seq: 32768,
-            ..SMALL
-        },
-    ];
-    for config in table {
+    for (height, slots, seats, last_seq) in [
+        (11, 4, 2, 9),
+        (3, 0, 2, 9),
+        (3, 65, 2, 9),
+        (3, 4, 0, 9),
+        (3, 4, 17, 9),
+        (3, 4, 2, 32768),
+    ] {
+        let config = Config {
+            height,
+            slots,
+            seats,
+            last_seq,
+        };
         let runs = Cell::new(0);
-        match with_queues(rt.alloc(), config, TwoLeft { runs: &runs }) {
-            Err(refusal) => assert_eq!(rt; refusal, SysError::Config, "{config:?}"),
-            Ok(_) => panic!(rt; "{config:?}"),
+        let refused = matches!(answered(rt.alloc(), config, &runs), Err(SysError::Config));
+        if !refused || runs.get() != 0 {
+            panic!(rt; "{config:?}");
         }
-        holds!(rt; runs.get() == 0);
     }
 }
 
@@ -147,147 +153,130 @@ fn pages_of(alloc: Global, config: Config) -> Result<u32, SysError>
 fn what_a_program_proves_of_its_answer_reaches_the_caller(rt: HostRuntime) {
     for (config, pages) in [(DEFAULTS, 1024), (SMALL, 8)] {
         match pages_of(rt.alloc(), config) {
-            Ok(found) => assert_eq!(rt; found, pages),
-            Err(refusal) => assert_eq!(rt; refusal, SysError::Memory),
+            Ok(found) => holds!(rt; found == pages),
+            Err(refusal) => holds!(rt; refusal == SysError::Memory),
         }
     }
 }
 
-/// An entry or a refusal, and how many pages are free afterwards.
-type Sent = (Result<u64, Errno>, u32);
+/// An id, a type and a length of a text that is sent, the entry or the refusal, and how many pages
+/// are free afterwards.
+type Sending = (u32, i64, usize, Result<u64, Errno>, u32);
 
-fn sent<L: Ledger>(
-    alloc: Global,
-    queues: &mut OneThread<L>,
-    id: u32,
-    mtype: i64,
-    len: usize,
-) -> Sent {
+/// A size that is received or cut, the type, the whole length and how many bytes come, or the
+/// refusal, and how many pages are free afterwards.
+type Receipt = (u64, bool, Result<(i64, u64, usize), Errno>, u32);
+
+fn same(answer: Result<u64, Errno>, wanted: Result<u64, Errno>) -> bool {
+    answer == wanted
+}
+
+/// Whether the text is sent or refused so.
+fn sends<L: Ledger>(alloc: Global, queues: &mut OneThread<L>, sending: &Sending) -> bool {
+    let (id, mtype, len, wanted, free_pages) = *sending;
     let id = Id::from_number(id);
     let answer = match vec![in alloc; 7; len] {
         Ok(bytes) => send_bytes(queues, 1, id, mtype, 0, bytes.as_slice(), 2),
         Err(_) => Err(Errno::ENOMEM),
     };
-    (answer, queues.free_pages())
+    same(answer, wanted) && queues.free_pages() == free_pages
 }
 
-/// A type, a whole length and how many bytes came, or a refusal, and how many pages are free.
-type Received = (Result<(i64, u64, usize), Errno>, u32);
-
-fn received<L: Ledger>(alloc: Global, queues: &mut OneThread<L>, size: u64, cut: bool) -> Received {
-    let id = Id::from_number(0);
-    let answer = match receive_bytes(alloc, queues, 2, id, size, 0, false, cut, 3) {
-        Ok(
-            Delivered {
-                mtype,
-                length,
-                text,
-                ..
-            },
-        ) if text.iter().all(|byte| *byte == 7) => { Ok((mtype, length, text.len())) }
-        Ok(_) => Err(Errno::EPERM),
-        Err(errno) => Err(errno),
+/// Whether it is this text, all of sevens.
+fn is(delivered: &Delivered<Vec<u8>>, wanted: Result<(i64, u64, usize), Errno>) -> bool {
+    let Ok((mtype, length, count)) = wanted else {
+        return false;
     };
-    (answer, queues.free_pages())
+    delivered.mtype == mtype
+        && delivered.length == length
+        && delivered.text.len() == count
+        && delivered.text.iter().all(|byte| *byte == 7)
 }
 
-/// Sends bytes, then receives what was sent.
+/// Whether a text is received or refused so.
+fn receives<L: Ledger>(alloc: Global, queues: &mut OneThread<L>, receipt: &Receipt) -> bool {
+    let (size, cut, wanted, free_pages) = *receipt;
+    let id = Id::from_number(0);
+    let right = match receive_bytes(alloc, queues, 2, id, size, 0, false, cut, 3) {
+        Ok(delivered) => is(&delivered, wanted),
+        Err(errno) => matches!(wanted, Err(refusal) if refusal == errno),
+    };
+    right && queues.free_pages() == free_pages
+}
+
+/// Sends to a queue, then receives, and answers whether each call is answered as it says.
 #[derive(Drop)]
-struct Exchange;
+struct Exchange<'a> {
+    sendings: &'a [Sending],
+    receipts: &'a [Receipt],
+}
 
-impl QueueProgram for Exchange {
-    type Answer = ([Sent; 7], [Received; 5]);
+impl<'a> QueueProgram for Exchange<'a> {
+    type Answer = bool;
 
-    fn run<L: Ledger>(
-        self,
-        alloc: Global,
-        _config: Config,
-        queues: &mut OneThread<L>,
-    ) -> ([Sent; 7], [Received; 5]) {
+    fn run<L: Ledger>(self, alloc: Global, _config: Config, queues: &mut OneThread<L>) -> bool {
         let _made = queues.msgget(1, 5, NEW, 1);
-        let all_sent = [
-            sent(alloc, queues, 0, 1, 2050),
-            sent(alloc, queues, 0, 0, 1),
-            sent(alloc, queues, 1, 1, 1),
-            sent(alloc, queues, 0, 1, 65_537),
-            sent(alloc, queues, 0, 1, 65_536),
-            sent(alloc, queues, 0, 1, 8192),
-            sent(alloc, queues, 0, 2, 0),
-        ];
-        let all_received = [
-            received(alloc, queues, 2049, false),
-            received(alloc, queues, 3, true),
-            received(alloc, queues, u64::MAX, false),
-            received(alloc, queues, 0, false),
-            received(alloc, queues, 9, false),
-        ];
-        (all_sent, all_received)
+        for sending in self.sendings {
+            if !sends(alloc, queues, sending) {
+                return false;
+            }
+        }
+        for receipt in self.receipts {
+            if !receives(alloc, queues, receipt) {
+                return false;
+            }
+        }
+        true
     }
+}
+
+/// All is answered so, once more where memory was wanted.
+fn exchanges(
+    rt: &impl Abort,
+    alloc: Global,
+    config: Config,
+    sendings: &[Sending],
+    receipts: &[Receipt],
+) {
+    for _ in 0..2 {
+        match with_queues(alloc, config, Exchange { sendings, receipts }) {
+            Ok(ended) if ended.answer => return,
+            Ok(_) | Err(SysError::Memory) => (),
+            Err(refusal) => panic!(rt; "{refusal}"),
+        }
+    }
+    panic!(rt; "not as wanted");
 }
 
 #[test]
 fn bytes_come_whole_or_cut_and_a_refusal_leaves_no_page_out(rt: HostRuntime) {
-    let wanted: ([Sent; 7], [Received; 5]) = (
-        [
-            (Ok(1), 4),
-            (Err(Errno::EINVAL), 4),
-            (Err(Errno::EINVAL), 4),
-            (Err(Errno::EINVAL), 4),
-            (Err(Errno::ENOMEM), 4),
-            (Err(Errno::ENOMEM), 4),
-            (Ok(2), 4),
-        ],
-        [
-            (Err(Errno::E2BIG), 4),
-            (Ok((1, 2050, 3)), 8),
-            (Err(Errno::ENOMEM), 8),
-            (Ok((2, 0, 0)), 8),
-            (Err(Errno::ENOMSG), 8),
-        ],
-    );
-    // Once more, where memory was wanted.
-    for _ in 0..2 {
-        match with_queues(rt.alloc(), SMALL, Exchange) {
-            Ok(Ended { answer, .. }) if answer == wanted => return,
-            Ok(_) | Err(SysError::Memory) => (),
-            Err(refusal) => panic!(rt; "{refusal}"),
-        }
-    }
-    panic!(rt; "not as wanted");
+    let sendings: [Sending; 7] = [
+        (0, 1, 2050, Ok(1), 4),
+        (0, 0, 1, Err(Errno::EINVAL), 4),
+        (1, 1, 1, Err(Errno::EINVAL), 4),
+        (0, 1, 65_537, Err(Errno::EINVAL), 4),
+        (0, 1, 65_536, Err(Errno::ENOMEM), 4),
+        (0, 1, 8192, Err(Errno::ENOMEM), 4),
+        (0, 2, 0, Ok(2), 4),
+    ];
+    let receipts: [Receipt; 5] = [
+        (2049, false, Err(Errno::E2BIG), 4),
+        (3, true, Ok((1, 2050, 3)), 8),
+        (u64::MAX, false, Err(Errno::ENOMEM), 8),
+        (0, false, Ok((2, 0, 0)), 8),
+        (9, false, Err(Errno::ENOMSG), 8),
+    ];
+    exchanges(&rt, rt.alloc(), SMALL, &sendings, &receipts);
 }
 
-/// Sends a text of the greatest length to no queue and to one, and then receives it.
-#[derive(Drop)]
-struct Greatest;
-
-impl QueueProgram for Greatest {
-    type Answer = (Sent, Sent, Received);
-
-    fn run<L: Ledger>(
-        self,
-        alloc: Global,
-        _config: Config,
-        queues: &mut OneThread<L>,
-    ) -> (Sent, Sent, Received) {
-        let _made = queues.msgget(1, 5, NEW, 1);
-        let refused = sent(alloc, queues, 1, 1, 65_536);
-        let answer = sent(alloc, queues, 0, 1, 65_536);
-        (refused, answer, received(alloc, queues, 65_536, false))
-    }
-}
-
+/// A text of the greatest length is sent to no queue and to one, and then received.
 #[test]
 fn the_greatest_text_takes_64_pages_and_comes_whole(rt: HostRuntime) {
-    let refused = (Err(Errno::EINVAL), 64);
-    let wanted: (Sent, Sent, Received) = (refused, (Ok(1), 0), (Ok((1, 65_536, 65_536)), 64));
+    let sendings: [Sending; 2] = [
+        (1, 1, 65_536, Err(Errno::EINVAL), 64),
+        (0, 1, 65_536, Ok(1), 0),
+    ];
+    let receipts: [Receipt; 1] = [(65_536, false, Ok((1, 65_536, 65_536)), 64)];
     let config = Config { height: 6, ..SMALL };
-    // Once more, where memory was wanted.
-    for _ in 0..2 {
-        match with_queues(rt.alloc(), config, Greatest) {
-            Ok(Ended { answer, .. }) if answer == wanted => return,
-            Ok(_) | Err(SysError::Memory) => (),
-            Err(refusal) => panic!(rt; "{refusal}"),
-        }
-    }
-    panic!(rt; "not as wanted");
+    exchanges(&rt, rt.alloc(), config, &sendings, &receipts);
 }

@@ -1,7 +1,10 @@
 //! The lists over a system, by a caller at the seat of each call.
 
-use crate::memory::calls::{Calls, MOST, Nothing};
+use crate::memory::calls::{Calls, MOST};
 use crate::memory::lists::{List, Wrong, plays};
+use crate::memory::seats::AtSeats;
+use crate::runs::Nothing;
+use crate::seat_calls::{At, SeatCalls};
 use mq::{
     Caller, Config, DraftError, Errno, Id, MSGMAX, Names, RecvFlags, Seat, SendFlags, System,
     SystemProgram,
@@ -17,117 +20,65 @@ const AT_ONCE: RecvFlags = RecvFlags {
     except: false,
 };
 
-/// The seats of a system.
+/// The seats of a system, each with a caller of its own at each call.
 #[derive(Drop)]
 struct ByCallers<'a, N: Names, R: Wait> {
-    rt: &'a R,
     alloc: Global,
-    seats: &'a mut [Seat<N>],
+    seats: AtSeats<'a, N, R>,
+}
+
+impl<'a, N: Names, R: Wait> ByCallers<'a, N, R> {
+    /// A caller at a seat.
+    fn at(&mut self, seat: u16) -> Result<At<'_, 'a, N, R>, Errno> {
+        let rt = self.seats.rt;
+        let system = self.seats.system;
+        let mut caller = Caller::new(rt, self.alloc, self.seats.seat(seat)?);
+        caller.moment = MOST;
+        Ok(At { caller, system })
+    }
 }
 
 impl<'a, N: Names, R: Wait> Calls for ByCallers<'a, N, R> {
-    type Shared = System<Nothing, N>;
-
     fn most(&self) -> u64 {
         MSGMAX
     }
 
-    fn queue(&mut self, system: &System<Nothing, N>, seat: u16, key: i32) -> Result<Id, Errno> {
-        let Some(seat) = self.seats.get_mut(seat as usize) else {
-            return Err(Errno::EINVAL);
-        };
-        let mut caller = Caller::new(self.rt, self.alloc, seat);
-        caller.moment = MOST;
-        caller.queue(system, key)
+    fn queue(&mut self, seat: u16, key: i32) -> Result<Id, Errno> {
+        self.at(seat)?.queue(key)
     }
 
-    fn draft(&mut self, system: &System<Nothing, N>, len: u64) -> Result<(), DraftError> {
-        match system.draft(self.rt, len) {
-            Ok(text) => {
-                system.spend(self.rt, text);
-                Ok(())
-            }
-            Err(error) => Err(error),
-        }
+    fn draft(&mut self, len: u64) -> Result<(), DraftError> {
+        self.seats.draft(len)
     }
 
-    fn send(
-        &mut self,
-        system: &System<Nothing, N>,
-        seat: u16,
-        id: Id,
-        mtype: i64,
-        bytes: &[u8],
-    ) -> Result<(), Errno> {
-        let Some(seat) = self.seats.get_mut(seat as usize) else {
-            return Err(Errno::EINVAL);
-        };
-        let mut caller = Caller::new(self.rt, self.alloc, seat);
-        caller.moment = MOST;
-        caller.send_with(system, id, mtype, MOST, bytes, NOWAIT)?;
+    fn send(&mut self, seat: u16, id: Id, mtype: i64, bytes: &[u8]) -> Result<(), Errno> {
+        let mut calls = self.at(seat)?;
+        calls.send_with(id, mtype, MOST, bytes, NOWAIT)?;
         Ok(())
     }
 
-    fn receive(
-        &mut self,
-        system: &System<Nothing, N>,
-        seat: u16,
-        id: Id,
-        size: u64,
-        msgtyp: i64,
-    ) -> Result<u64, Errno> {
-        let Some(seat) = self.seats.get_mut(seat as usize) else {
-            return Err(Errno::EINVAL);
-        };
-        let mut caller = Caller::new(self.rt, self.alloc, seat);
-        caller.moment = MOST;
-        let received = caller.receive_with(system, id, size, msgtyp, AT_ONCE)?;
-        Ok(received.length)
+    fn receive(&mut self, seat: u16, id: Id, size: u64, msgtyp: i64) -> Result<u64, Errno> {
+        let mut calls = self.at(seat)?;
+        Ok(calls.receive_with(id, size, msgtyp, AT_ONCE)?.length)
     }
 
-    fn set(
-        &mut self,
-        system: &System<Nothing, N>,
-        seat: u16,
-        id: Id,
-        qbytes: u64,
-    ) -> Result<(), Errno> {
-        let Some(seat) = self.seats.get_mut(seat as usize) else {
-            return Err(Errno::EINVAL);
-        };
-        match system.set(self.rt, seat, id, qbytes, MOST) {
-            Ok(_) => Ok(()),
-            Err(refused) => Err(refused.errno),
-        }
+    fn set(&mut self, seat: u16, id: Id, qbytes: u64) -> Result<(), Errno> {
+        self.seats.set(seat, id, qbytes)
     }
 
-    fn waiting(&mut self, system: &System<Nothing, N>, seat: u16, id: Id) -> Result<u64, Errno> {
-        let Some(seat) = self.seats.get_mut(seat as usize) else {
-            return Err(Errno::EINVAL);
-        };
-        Ok(system.stat(seat, id)?.qnum)
+    fn waiting(&mut self, seat: u16, id: Id) -> Result<u64, Errno> {
+        self.seats.waiting(seat, id)
     }
 
-    fn cut(&mut self, system: &System<Nothing, N>, seat: u16, slot: u8) -> Result<(), Errno> {
-        if slot >= system.slots() {
-            return Err(Errno::EINVAL);
-        }
-        let Some(seat) = self.seats.get_mut(seat as usize) else {
-            return Err(Errno::EINVAL);
-        };
-        let mut caller = Caller::new(self.rt, self.alloc, seat);
-        caller.moment = MOST;
-        caller.cut_log(system, slot)?;
+    fn cut(&mut self, seat: u16, slot: u8) -> Result<(), Errno> {
+        let mut calls = self.at(seat)?;
+        calls.cut_log(slot)?;
         Ok(())
     }
 
-    fn remove(&mut self, system: &System<Nothing, N>, seat: u16, id: Id) -> Result<(), Errno> {
-        let Some(seat) = self.seats.get_mut(seat as usize) else {
-            return Err(Errno::EINVAL);
-        };
-        let mut caller = Caller::new(self.rt, self.alloc, seat);
-        caller.moment = MOST;
-        caller.remove(system, id)?;
+    fn remove(&mut self, seat: u16, id: Id) -> Result<(), Errno> {
+        let mut calls = self.at(seat)?;
+        calls.remove(id)?;
         Ok(())
     }
 }
@@ -140,7 +91,7 @@ pub(crate) struct OnCallers<'t> {
 }
 
 impl<'t> SystemProgram<Nothing> for OnCallers<'t> {
-    type Answer = Result<(), Wrong>;
+    type Answer = Option<Wrong>;
 
     fn run<N: Names, R: Wait>(
         self,
@@ -149,8 +100,8 @@ impl<'t> SystemProgram<Nothing> for OnCallers<'t> {
         config: Config,
         system: &System<Nothing, N>,
         seats: &mut [Seat<N>],
-    ) -> Result<(), Wrong> {
-        let mut calls = ByCallers { rt, alloc, seats };
-        plays(self.list, &mut calls, system, config, self.bytes)
+    ) -> Option<Wrong> {
+        let seats = AtSeats::new(rt, system, seats);
+        plays(self.list, ByCallers { alloc, seats }, config, self.bytes)
     }
 }

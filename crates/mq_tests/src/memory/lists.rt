@@ -4,7 +4,7 @@ use crate::memory::calls::Calls;
 use mq::{Config, DraftError, Errno, Id, MSGMNB};
 
 /// A call that answered otherwise, and the refusal where it was refused.
-#[derive(Clone, Copy, Debug, PartialEq, Eq, Drop)]
+#[derive(Drop)]
 pub(crate) struct Wrong {
     pub(crate) call: &'static str,
     pub(crate) errno: Option<Errno>,
@@ -36,72 +36,6 @@ const CYCLES: u64 = 2000;
 /// How many messages wait at a removal.
 const WAITING: u64 = 16_384;
 
-fn no(call: &'static str, errno: Errno) -> Wrong {
-    Wrong {
-        call,
-        errno: Some(errno),
-    }
-}
-
-/// Wants that a call is not refused.
-fn did(call: &'static str, answer: Result<(), Errno>) -> Result<(), Wrong> {
-    match answer {
-        Ok(()) => Ok(()),
-        Err(errno) => Err(no(call, errno)),
-    }
-}
-
-/// The number of a call that may not be refused.
-fn told(call: &'static str, answer: Result<u64, Errno>) -> Result<u64, Wrong> {
-    match answer {
-        Ok(number) => Ok(number),
-        Err(errno) => Err(no(call, errno)),
-    }
-}
-
-/// Wants that an answer is right.
-fn is(call: &'static str, right: bool) -> Result<(), Wrong> {
-    if right {
-        return Ok(());
-    }
-    Err(Wrong { call, errno: None })
-}
-
-/// Wants that so many bytes are received.
-fn takes<C: Calls>(
-    calls: &mut C,
-    shared: &C::Shared,
-    seat: u16,
-    id: Id,
-    size: u64,
-    msgtyp: i64,
-    len: u64,
-) -> Result<(), Wrong> {
-    let length = told("msgrcv", calls.receive(shared, seat, id, size, msgtyp))?;
-    is("the length of what is received", length == len)
-}
-
-fn lengths<C: Calls>(calls: &mut C, shared: &C::Shared, bytes: &[u8]) -> Result<(), Wrong> {
-    let id = match calls.queue(shared, 0, i32::MIN) {
-        Ok(id) => id,
-        Err(errno) => return Err(no("msgget", errno)),
-    };
-    let most = calls.most();
-    for len in LENGTHS {
-        if len <= bytes.len() as u64 {
-            let (text, _rest) = bytes.split_at(len as usize);
-            if let Err(error) = calls.draft(shared, len) {
-                return Err(no("draft", error.errno()));
-            }
-            did("msgsnd", calls.send(shared, 0, id, i64::MAX, text))?;
-            takes(calls, shared, 0, id, most, i64::MAX, len)?;
-            did("msgsnd", calls.send(shared, 0, id, 1, text))?;
-            takes(calls, shared, 0, id, len, i64::MIN, len)?;
-        }
-    }
-    Ok(())
-}
-
 /// The key of the queue in this slot: the lowest ones and the highest ones.
 fn key_of(slot: u8) -> i32 {
     let slot = i32::from(slot);
@@ -112,131 +46,214 @@ fn key_of(slot: u8) -> i32 {
     }
 }
 
-/// Each call of a seat at the queue of a slot, which the first seat makes.
-fn at_seat<C: Calls>(calls: &mut C, shared: &C::Shared, seat: u16, slot: u8) -> Result<(), Wrong> {
-    let id = match calls.queue(shared, seat, key_of(slot)) {
-        Ok(id) => id,
-        Err(errno) => return Err(no("msgget", errno)),
-    };
-    is("the id of a slot", id.slot() == slot && id.seq() == 0)?;
-    for qbytes in [0, 1, MSGMNB] {
-        did("set", calls.set(shared, seat, id, qbytes))?;
-    }
-    did("msgsnd", calls.send(shared, seat, id, 1, b"word"))?;
-    let waiting = told("stat", calls.waiting(shared, seat, id))?;
-    is("what waits", waiting == 1)?;
-    takes(calls, shared, seat, id, 4, 0, 4)?;
-    did("cut_log", calls.cut(shared, seat, slot))
+/// Makes calls, none of which may be refused, and keeps what was wrong first.
+#[derive(Drop)]
+struct Player<C: Calls + Drop> {
+    calls: C,
+    wrong: Option<Wrong>,
 }
 
-fn slots<C: Calls>(calls: &mut C, shared: &C::Shared) -> Result<(), Wrong> {
-    for slot in 0..64u8 {
-        for seat in 0..16u16 {
-            at_seat(calls, shared, seat, slot)?;
+impl<C: Calls + Drop> Player<C> {
+    fn is_wrong(&mut self, call: &'static str, errno: Option<Errno>) {
+        if self.wrong.is_none() {
+            self.wrong = Some(Wrong { call, errno });
         }
     }
-    for slot in 0..64u8 {
-        did("rmid", calls.remove(shared, 15, Id::of(slot, 0)))?;
-        let id = match calls.queue(shared, 0, key_of(slot)) {
+
+    /// Wants that an answer is right.
+    fn is(&mut self, call: &'static str, right: bool) {
+        if !right {
+            self.is_wrong(call, None);
+        }
+    }
+
+    fn did(&mut self, call: &'static str, answer: Result<(), Errno>) {
+        if let Err(errno) = answer {
+            self.is_wrong(call, Some(errno));
+        }
+    }
+
+    /// Wants this number.
+    fn told(&mut self, call: &'static str, answer: Result<u64, Errno>, wanted: u64) {
+        match answer {
+            Ok(number) => self.is(call, number == wanted),
+            Err(errno) => self.is_wrong(call, Some(errno)),
+        }
+    }
+
+    /// The queue with this key; any id where it is refused.
+    fn queue(&mut self, seat: u16, key: i32) -> Id {
+        match self.calls.queue(seat, key) {
             Ok(id) => id,
-            Err(errno) => return Err(no("msgget", errno)),
-        };
-        is("the id of a queue that is made anew", id == Id::of(slot, 1))?;
-    }
-    Ok(())
-}
-
-fn full<C: Calls>(calls: &mut C, shared: &C::Shared, bytes: &[u8]) -> Result<(), Wrong> {
-    let id = match calls.queue(shared, 0, 0) {
-        Ok(id) => id,
-        Err(errno) => return Err(no("msgget", errno)),
-    };
-    let half = bytes.len() as u64;
-    for count in 0..3u64 {
-        let sent = calls.send(shared, 0, id, 1, bytes);
-        if count == 2 {
-            is("a text in a full queue", sent == Err(Errno::EAGAIN))?;
-        } else {
-            did("msgsnd", sent)?;
+            Err(errno) => {
+                self.is_wrong("msgget", Some(errno));
+                Id::from_number(0)
+            }
         }
-        if let Err(errno) = calls.queue(shared, 0, 9) {
-            return Err(no("msgget", errno));
+    }
+
+    fn drafts(&mut self, len: u64) {
+        if let Err(error) = self.calls.draft(len) {
+            self.is_wrong("draft", Some(error.errno()));
         }
-        did("set", calls.set(shared, 0, id, MSGMNB))?;
-        told("stat", calls.waiting(shared, 0, id))?;
-        did("cut_log", calls.cut(shared, 0, 0))?;
     }
-    for _ in 0..2 {
-        takes(calls, shared, 0, id, half, 0, half)?;
+
+    fn sends(&mut self, seat: u16, id: Id, mtype: i64, bytes: &[u8]) {
+        let answer = self.calls.send(seat, id, mtype, bytes);
+        self.did("msgsnd", answer);
     }
-    did("rmid", calls.remove(shared, 0, id))
+
+    /// Wants that so many bytes are received.
+    fn takes(&mut self, seat: u16, id: Id, size: u64, msgtyp: i64, len: u64) {
+        let answer = self.calls.receive(seat, id, size, msgtyp);
+        self.told("msgrcv", answer, len);
+    }
+
+    fn sets(&mut self, seat: u16, id: Id, qbytes: u64) {
+        let answer = self.calls.set(seat, id, qbytes);
+        self.did("set", answer);
+    }
+
+    /// Wants that so many messages wait.
+    fn waits(&mut self, seat: u16, id: Id, count: u64) {
+        let answer = self.calls.waiting(seat, id);
+        self.told("stat", answer, count);
+    }
+
+    fn cuts(&mut self, seat: u16, slot: u8) {
+        let answer = self.calls.cut(seat, slot);
+        self.did("cut_log", answer);
+    }
+
+    fn removes(&mut self, seat: u16, id: Id) {
+        let answer = self.calls.remove(seat, id);
+        self.did("rmid", answer);
+    }
+
+    /// A text of this length, which is drafted, sent, and received by either way to name its type.
+    fn passes(&mut self, id: Id, text: &[u8]) {
+        let len = text.len() as u64;
+        let most = self.calls.most();
+        self.drafts(len);
+        self.sends(0, id, i64::MAX, text);
+        self.takes(0, id, most, i64::MAX, len);
+        self.sends(0, id, 1, text);
+        self.takes(0, id, len, i64::MIN, len);
+    }
+
+    fn lengths(&mut self, bytes: &[u8]) {
+        let id = self.queue(0, i32::MIN);
+        for len in LENGTHS {
+            if len <= bytes.len() as u64 {
+                let (text, _rest) = bytes.split_at(len as usize);
+                self.passes(id, text);
+            }
+        }
+    }
+
+    /// Each call of a seat at the queue of a slot, which the first seat makes.
+    fn at_seat(&mut self, seat: u16, slot: u8) {
+        let id = self.queue(seat, key_of(slot));
+        self.is("the id of a slot", id.slot() == slot && id.seq() == 0);
+        for qbytes in [0, 1, MSGMNB] {
+            self.sets(seat, id, qbytes);
+        }
+        self.sends(seat, id, 1, b"word");
+        self.waits(seat, id, 1);
+        self.takes(seat, id, 4, 0, 4);
+        self.cuts(seat, slot);
+    }
+
+    /// The queue of a slot is removed, and made anew.
+    fn anew(&mut self, first: Id) {
+        self.removes(15, first);
+        let id = self.queue(0, key_of(first.slot()));
+        let next = id.slot() == first.slot() && id.seq() == 1;
+        self.is("the id of a queue that is made anew", next);
+    }
+
+    fn slots(&mut self) {
+        for slot in 0..64u8 {
+            for seat in 0..16u16 {
+                self.at_seat(seat, slot);
+            }
+        }
+        for slot in 0..64u8 {
+            self.anew(Id::of(slot, 0));
+        }
+    }
+
+    fn full(&mut self, bytes: &[u8]) {
+        let id = self.queue(0, 0);
+        let half = bytes.len() as u64;
+        for count in 0..3u64 {
+            if count < 2 {
+                self.sends(0, id, 1, bytes);
+            } else {
+                let refused = matches!(self.calls.send(0, id, 1, bytes), Err(Errno::EAGAIN));
+                self.is("a text in a full queue", refused);
+            }
+            let _other = self.queue(0, 9);
+            self.sets(0, id, MSGMNB);
+            self.waits(0, id, count.min(1) + 1);
+            self.cuts(0, 0);
+        }
+        for _ in 0..2 {
+            self.takes(0, id, half, 0, half);
+        }
+        self.removes(0, id);
+    }
+
+    fn many(&mut self) {
+        let id = self.queue(0, 7);
+        for _ in 0..CYCLES {
+            self.sends(0, id, 1, b"");
+            self.takes(0, id, 0, 0, 0);
+        }
+        for place in 0..WAITING {
+            self.sends(0, id, (place % 99) as i64 + 1, b"");
+        }
+        self.cuts(0, 0);
+        for mtype in 1..99i64 {
+            self.takes(0, id, 0, mtype, 0);
+            self.sends(0, id, mtype, b"");
+        }
+        self.sets(0, id, MSGMNB);
+        self.waits(0, id, WAITING);
+        self.removes(0, id);
+        self.cuts(0, 0);
+    }
+
+    fn used(&mut self, last_seq: u32) {
+        for seq in 0..last_seq {
+            let id = self.queue(0, 7);
+            let next = id.slot() == 0 && id.seq() == seq;
+            self.is("the id of the next queue", next);
+            self.sets(0, id, 9);
+            self.removes(0, id);
+        }
+        let last = self.queue(0, 7);
+        self.sends(0, last, 1, b"last");
+        self.removes(0, last);
+        let refused = matches!(self.calls.queue(0, 7), Err(Errno::ENOSPC));
+        self.is("a queue in a slot that is used up", refused);
+    }
 }
 
-fn many<C: Calls>(calls: &mut C, shared: &C::Shared) -> Result<(), Wrong> {
-    let id = match calls.queue(shared, 0, 7) {
-        Ok(id) => id,
-        Err(errno) => return Err(no("msgget", errno)),
-    };
-    for _ in 0..CYCLES {
-        did("msgsnd", calls.send(shared, 0, id, 1, b""))?;
-        takes(calls, shared, 0, id, 0, 0, 0)?;
-    }
-    for place in 0..WAITING {
-        did(
-            "msgsnd",
-            calls.send(shared, 0, id, (place % 99) as i64 + 1, b""),
-        )?;
-    }
-    did("cut_log", calls.cut(shared, 0, 0))?;
-    for mtype in 1..99i64 {
-        takes(calls, shared, 0, id, 0, mtype, 0)?;
-        did("msgsnd", calls.send(shared, 0, id, mtype, b""))?;
-    }
-    did("set", calls.set(shared, 0, id, MSGMNB))?;
-    let waiting = told("stat", calls.waiting(shared, 0, id))?;
-    is("what waits", waiting == WAITING)?;
-    did("rmid", calls.remove(shared, 0, id))?;
-    did("cut_log", calls.cut(shared, 0, 0))
-}
-
-fn used<C: Calls>(calls: &mut C, shared: &C::Shared, last_seq: u32) -> Result<(), Wrong> {
-    for seq in 0..last_seq {
-        let id = match calls.queue(shared, 0, 7) {
-            Ok(id) => id,
-            Err(errno) => return Err(no("msgget", errno)),
-        };
-        is(
-            "the id of the next queue",
-            id.slot() == 0 && id.seq() == seq,
-        )?;
-        did("set", calls.set(shared, 0, id, 9))?;
-        did("rmid", calls.remove(shared, 0, id))?;
-    }
-    let last = match calls.queue(shared, 0, 7) {
-        Ok(id) => id,
-        Err(errno) => return Err(no("msgget", errno)),
-    };
-    did("msgsnd", calls.send(shared, 0, last, 1, b"last"))?;
-    did("rmid", calls.remove(shared, 0, last))?;
-    is(
-        "a queue in a slot that is used up",
-        matches!(calls.queue(shared, 0, 7), Err(Errno::ENOSPC)),
-    )
-}
-
-/// Makes the calls of a list.
-pub(crate) fn plays<C: Calls>(
+/// Makes the calls of a list, and answers what was wrong.
+pub(crate) fn plays<C: Calls + Drop>(
     list: List,
-    calls: &mut C,
-    shared: &C::Shared,
+    calls: C,
     config: Config,
     bytes: &[u8],
-) -> Result<(), Wrong> {
+) -> Option<Wrong> {
+    let mut player = Player { calls, wrong: None };
     match list {
-        List::Lengths => lengths(calls, shared, bytes),
-        List::Slots => slots(calls, shared),
-        List::Full => full(calls, shared, bytes),
-        List::Many => many(calls, shared),
-        List::Used => used(calls, shared, config.last_seq),
+        List::Lengths => player.lengths(bytes),
+        List::Slots => player.slots(),
+        List::Full => player.full(bytes),
+        List::Many => player.many(),
+        List::Used => player.used(config.last_seq),
     }
+    player.wrong
 }

@@ -15,13 +15,11 @@ struct One<'a, L: Ledger> {
 }
 
 impl<'a, L: Ledger> Calls for One<'a, L> {
-    type Shared = ();
-
     fn most(&self) -> u64 {
         u64::MAX
     }
 
-    fn queue(&mut self, _none: &(), seat: u16, key: i32) -> Result<Id, Errno> {
+    fn queue(&mut self, seat: u16, key: i32) -> Result<Id, Errno> {
         let flags = GetFlags {
             create: true,
             exclusive: false,
@@ -29,7 +27,7 @@ impl<'a, L: Ledger> Calls for One<'a, L> {
         Ok(self.queues.msgget(seat, key, flags, MOST)?.id)
     }
 
-    fn draft(&mut self, _none: &(), len: u64) -> Result<(), DraftError> {
+    fn draft(&mut self, len: u64) -> Result<(), DraftError> {
         match self.queues.draft(len) {
             Ok(text) => {
                 self.queues.spend(text);
@@ -39,14 +37,7 @@ impl<'a, L: Ledger> Calls for One<'a, L> {
         }
     }
 
-    fn send(
-        &mut self,
-        _none: &(),
-        seat: u16,
-        id: Id,
-        mtype: i64,
-        bytes: &[u8],
-    ) -> Result<(), Errno> {
+    fn send(&mut self, seat: u16, id: Id, mtype: i64, bytes: &[u8]) -> Result<(), Errno> {
         let text = match self.queues.draft_of(bytes) {
             Ok(text) => text,
             Err(error) => return Err(error.errno()),
@@ -61,14 +52,7 @@ impl<'a, L: Ledger> Calls for One<'a, L> {
         }
     }
 
-    fn receive(
-        &mut self,
-        _none: &(),
-        seat: u16,
-        id: Id,
-        size: u64,
-        msgtyp: i64,
-    ) -> Result<u64, Errno> {
+    fn receive(&mut self, seat: u16, id: Id, size: u64, msgtyp: i64) -> Result<u64, Errno> {
         match self
             .queues
             .msgrcv(seat, id, size, msgtyp, false, false, MOST)
@@ -82,18 +66,18 @@ impl<'a, L: Ledger> Calls for One<'a, L> {
         }
     }
 
-    fn set(&mut self, _none: &(), seat: u16, id: Id, qbytes: u64) -> Result<(), Errno> {
+    fn set(&mut self, seat: u16, id: Id, qbytes: u64) -> Result<(), Errno> {
         match self.queues.set(seat, id, qbytes, MOST) {
             Ok(_) => Ok(()),
             Err(refused) => Err(refused.errno),
         }
     }
 
-    fn waiting(&mut self, _none: &(), _seat: u16, id: Id) -> Result<u64, Errno> {
+    fn waiting(&mut self, _seat: u16, id: Id) -> Result<u64, Errno> {
         Ok(self.queues.stat(id)?.qnum)
     }
 
-    fn cut(&mut self, _none: &(), _seat: u16, slot: u8) -> Result<(), Errno> {
+    fn cut(&mut self, _seat: u16, slot: u8) -> Result<(), Errno> {
         if slot >= self.queues.slots() {
             return Err(Errno::EINVAL);
         }
@@ -103,7 +87,7 @@ impl<'a, L: Ledger> Calls for One<'a, L> {
         }
     }
 
-    fn remove(&mut self, _none: &(), seat: u16, id: Id) -> Result<(), Errno> {
+    fn remove(&mut self, seat: u16, id: Id) -> Result<(), Errno> {
         match self.queues.rmid(seat, id, MOST) {
             Ok(_) => Ok(()),
             Err(refused) => Err(refused.errno),
@@ -119,15 +103,14 @@ pub(crate) struct OnOne<'t> {
 }
 
 impl<'t> QueueProgram for OnOne<'t> {
-    type Answer = Result<(), Wrong>;
+    type Answer = Option<Wrong>;
 
     fn run<L: Ledger>(
         self,
         _alloc: Global,
         config: Config,
         queues: &mut OneThread<L>,
-    ) -> Result<(), Wrong> {
-        let mut calls = One { queues };
-        plays(self.list, &mut calls, &(), config, self.bytes)
+    ) -> Option<Wrong> {
+        plays(self.list, One { queues }, config, self.bytes)
     }
 }

@@ -1,7 +1,6 @@
 //! Each list on the queues of one thread, on a system, and by callers.
 
 use crate::memory::callers::OnCallers;
-use crate::memory::calls::Nothing;
 use crate::memory::lists::{List, Wrong};
 use crate::memory::one::OnOne;
 use crate::memory::seats::OnAll;
@@ -27,25 +26,28 @@ const ONE: Config = Config {
     ..ALL
 };
 
-/// Wants that no call was refused, and that all pages are free. A call that found no memory is told
-/// in a line, and in the next one that memory ran out.
-fn ends(
-    rt: &impl Abort,
-    on: &str,
-    config: Config,
-    ended: Result<Ended<Result<(), Wrong>>, SysError>,
-) {
+/// Wants that nothing was wrong. A call that found no memory is told in a line, and in the next one
+/// that memory ran out.
+fn is_right(rt: &impl Abort, on: &str, wrong: Option<Wrong>) {
+    if let Some(Wrong { call, errno }) = wrong {
+        match errno {
+            Some(errno) => panic!(rt; "{on}: {call}: {errno}\n{errno}"),
+            None => panic!(rt; "{on}: {call}"),
+        }
+    }
+}
+
+/// How many pages there are.
+fn pages_of(config: Config) -> u32 {
+    1u32.checked_shl(u32::from(config.height)).unwrap_or(0)
+}
+
+/// Wants that no call was refused, and that all pages are free.
+fn ends(rt: &impl Abort, on: &str, config: Config, ended: Result<Ended<Option<Wrong>>, SysError>) {
     match ended {
         Ok(ended) => {
-            if let Err(Wrong { call, errno }) = ended.answer {
-                match errno {
-                    Some(errno) => panic!(rt; "{on}: {call}: {errno}\n{errno}"),
-                    None => panic!(rt; "{on}: {call}"),
-                }
-            }
-            if config.height > MAX_HEIGHT || ended.free_pages != 1u32 << config.height {
-                panic!(rt; "{on}: pages are not free");
-            }
+            is_right(rt, on, ended.answer);
+            holds!(*rt; ended.free_pages == pages_of(config), "pages are not free");
         }
         Err(error) => panic!(rt; "{on}: {error}\n{error}"),
     }

@@ -1,7 +1,8 @@
 //! The lists over a system, by one thread at all its seats.
 
-use crate::memory::calls::{Calls, MOST, Nothing};
+use crate::memory::calls::{Calls, MOST};
 use crate::memory::lists::{List, Wrong, plays};
+use crate::runs::Nothing;
 use mq::{
     Config, Delivered, DraftError, Errno, GetFlags, Id, Names, RecvFlags, Seat, SendFlags,
     SendRefused, System, SystemProgram,
@@ -19,13 +20,22 @@ const AT_ONCE: RecvFlags = RecvFlags {
 
 /// The seats of a system.
 #[derive(Drop)]
-struct AtSeats<'a, N: Names, R: Wait> {
-    rt: &'a R,
+pub(crate) struct AtSeats<'a, N: Names, R: Wait> {
+    pub(crate) rt: &'a R,
+    pub(crate) system: &'a System<Nothing, N>,
     seats: &'a mut [Seat<N>],
 }
 
 impl<'a, N: Names, R: Wait> AtSeats<'a, N, R> {
-    fn seat(&mut self, seat: u16) -> Result<&mut Seat<N>, Errno> {
+    pub(crate) fn new(
+        rt: &'a R,
+        system: &'a System<Nothing, N>,
+        seats: &'a mut [Seat<N>],
+    ) -> AtSeats<'a, N, R> {
+        AtSeats { rt, system, seats }
+    }
+
+    pub(crate) fn seat(&mut self, seat: u16) -> Result<&mut Seat<N>, Errno> {
         match self.seats.get_mut(seat as usize) {
             Some(seat) => Ok(seat),
             None => Err(Errno::EINVAL),
@@ -34,40 +44,35 @@ impl<'a, N: Names, R: Wait> AtSeats<'a, N, R> {
 }
 
 impl<'a, N: Names, R: Wait> Calls for AtSeats<'a, N, R> {
-    type Shared = System<Nothing, N>;
-
     fn most(&self) -> u64 {
         u64::MAX
     }
 
-    fn queue(&mut self, system: &System<Nothing, N>, seat: u16, key: i32) -> Result<Id, Errno> {
+    fn queue(&mut self, seat: u16, key: i32) -> Result<Id, Errno> {
         let flags = GetFlags {
             create: true,
             exclusive: false,
         };
         let rt = self.rt;
+        let system = self.system;
         Ok(system.msgget(rt, self.seat(seat)?, key, flags, MOST)?.id)
     }
 
-    fn draft(&mut self, system: &System<Nothing, N>, len: u64) -> Result<(), DraftError> {
-        match system.draft(self.rt, len) {
+    fn draft(&mut self, len: u64) -> Result<(), DraftError> {
+        let rt = self.rt;
+        let system = self.system;
+        match system.draft(rt, len) {
             Ok(text) => {
-                system.spend(self.rt, text);
+                system.spend(rt, text);
                 Ok(())
             }
             Err(error) => Err(error),
         }
     }
 
-    fn send(
-        &mut self,
-        system: &System<Nothing, N>,
-        seat: u16,
-        id: Id,
-        mtype: i64,
-        bytes: &[u8],
-    ) -> Result<(), Errno> {
+    fn send(&mut self, seat: u16, id: Id, mtype: i64, bytes: &[u8]) -> Result<(), Errno> {
         let rt = self.rt;
+        let system = self.system;
         let seat = self.seat(seat)?;
         let text = match system.draft_of(rt, bytes) {
             Ok(text) => text,
@@ -83,15 +88,9 @@ impl<'a, N: Names, R: Wait> Calls for AtSeats<'a, N, R> {
         }
     }
 
-    fn receive(
-        &mut self,
-        system: &System<Nothing, N>,
-        seat: u16,
-        id: Id,
-        size: u64,
-        msgtyp: i64,
-    ) -> Result<u64, Errno> {
+    fn receive(&mut self, seat: u16, id: Id, size: u64, msgtyp: i64) -> Result<u64, Errno> {
         let rt = self.rt;
+        let system = self.system;
         match system.msgrcv(rt, self.seat(seat)?, id, size, msgtyp, AT_ONCE, MOST) {
             Ok(received) => {
                 let Delivered { length, text, .. } = received;
@@ -102,26 +101,23 @@ impl<'a, N: Names, R: Wait> Calls for AtSeats<'a, N, R> {
         }
     }
 
-    fn set(
-        &mut self,
-        system: &System<Nothing, N>,
-        seat: u16,
-        id: Id,
-        qbytes: u64,
-    ) -> Result<(), Errno> {
+    fn set(&mut self, seat: u16, id: Id, qbytes: u64) -> Result<(), Errno> {
         let rt = self.rt;
+        let system = self.system;
         match system.set(rt, self.seat(seat)?, id, qbytes, MOST) {
             Ok(_) => Ok(()),
             Err(refused) => Err(refused.errno),
         }
     }
 
-    fn waiting(&mut self, system: &System<Nothing, N>, seat: u16, id: Id) -> Result<u64, Errno> {
+    fn waiting(&mut self, seat: u16, id: Id) -> Result<u64, Errno> {
+        let system = self.system;
         Ok(system.stat(self.seat(seat)?, id)?.qnum)
     }
 
-    fn cut(&mut self, system: &System<Nothing, N>, seat: u16, slot: u8) -> Result<(), Errno> {
+    fn cut(&mut self, seat: u16, slot: u8) -> Result<(), Errno> {
         let rt = self.rt;
+        let system = self.system;
         if slot >= system.slots() {
             return Err(Errno::EINVAL);
         }
@@ -131,8 +127,9 @@ impl<'a, N: Names, R: Wait> Calls for AtSeats<'a, N, R> {
         }
     }
 
-    fn remove(&mut self, system: &System<Nothing, N>, seat: u16, id: Id) -> Result<(), Errno> {
+    fn remove(&mut self, seat: u16, id: Id) -> Result<(), Errno> {
         let rt = self.rt;
+        let system = self.system;
         match system.rmid(rt, self.seat(seat)?, id, MOST) {
             Ok(_) => Ok(()),
             Err(refused) => Err(refused.errno),
@@ -148,7 +145,7 @@ pub(crate) struct OnAll<'t> {
 }
 
 impl<'t> SystemProgram<Nothing> for OnAll<'t> {
-    type Answer = Result<(), Wrong>;
+    type Answer = Option<Wrong>;
 
     fn run<N: Names, R: Wait>(
         self,
@@ -157,8 +154,12 @@ impl<'t> SystemProgram<Nothing> for OnAll<'t> {
         config: Config,
         system: &System<Nothing, N>,
         seats: &mut [Seat<N>],
-    ) -> Result<(), Wrong> {
-        let mut calls = AtSeats { rt, seats };
-        plays(self.list, &mut calls, system, config, self.bytes)
+    ) -> Option<Wrong> {
+        plays(
+            self.list,
+            AtSeats::new(rt, system, seats),
+            config,
+            self.bytes,
+        )
     }
 }
