@@ -1,7 +1,7 @@
 use mq_arena::Text;
 use mq_face::{
-    ANSWER_NUMBERS, Call, CallKind, Done, EIGHT_BYTES, ReceivedMessage, Refusal, Shown, control,
-    cut_where_due, draft, from_bytes, get, receive, send, to_bytes, unknown,
+    ANSWER_NUMBERS, Call, CallKind, ControlShown, Done, EIGHT_BYTES, ReceivedMessage, Refusal,
+    control, cut_where_due, draft, from_bytes, get, receive, send, to_bytes, unknown,
 };
 use mq_one_thread::OneThread;
 use std::sync::ledger::Ledger;
@@ -52,9 +52,9 @@ fn tell<L: Ledger>(queues: &mut OneThread<L>, calls: i32, outcome: Result<Done, 
     }
 }
 
-fn write_shown(calls: i32, shown: Shown) -> bool {
+fn write_shown(calls: i32, shown: ControlShown) -> bool {
     match shown {
-        Shown::Nothing => true,
+        ControlShown::Nothing => true,
         _ => write_numbers(calls, shown.numbers()),
     }
 }

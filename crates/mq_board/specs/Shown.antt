@@ -18,13 +18,13 @@ use Rattle.mq_board.specs.declared.shown.Shown.{Shown}
 use Rattle.mq_board.specs.declared.shown.TheConstants.{WORDS}
 
 -- the words that have a row and its count
-abbrev pub words_of : Shown → List ℕ
-words_of s = let f = s.row.figures in
+abbrev pub row_words : Shown → List ℕ
+row_words s = let f = s.row.figures in
     s.count ∷ f.qnum ∷ f.cbytes ∷ f.stime ∷ f.lspid ∷ f.rtime ∷ f.lrpid ∷ f.qbytes ∷ f.ctime
     ∷ s.row.made ∷ (if s.row.live then 1 else 0) ∷ cast_unsigned w32 s.row.key ∷ []
 
 abbrev pub words_in : News → List ℕ
-words_in news = words_of news.shown
+words_in news = row_words news.shown
 
 -- its numbers are within the ranges of their types
 pub record IsInRange (s : Shown) : Type 0 where
@@ -37,7 +37,7 @@ pub record IsInRange (s : Shown) : Type 0 where
 pub record HasShown (words : List ℕ) : Type 0 where
   pub shown : Shown
   pub range : IsInRange shown
-  pub same : words ≡ words_of shown
+  pub same : words ≡ row_words shown
 
 -- the row of these events is shown
 pub record IsRowOf (s : Shown) (events : List Event) : Type 0 where

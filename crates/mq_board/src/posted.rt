@@ -21,14 +21,14 @@ pub struct PublishedList<J: Naming> {
 
 impl<J: Naming> Model for PublishedList<J> {
     ghost use Rattle.std.specs.Prelude.{◌≡◌};
-    ghost use Rattle.mq_board.specs.Histories.{History, IsTold, history};
+    ghost use Rattle.mq_board.specs.Histories.{History, IsPublishedList, history};
     ghost use Rattle.mq_board.specs.Shown.{known};
 
     ghost Value = { History };
 
     ghost view = { λ p. history p.number (known p.pass).events };
 
-    ghost invariant = { λ p. IsTold (J.board p.number) p.shown p.pass };
+    ghost invariant = { λ p. IsPublishedList (J.board p.number) p.shown p.pass };
 }
 
 impl<J: Naming> PublishedList<J> {

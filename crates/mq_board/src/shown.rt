@@ -1,7 +1,7 @@
 //! What a board shows, and the words that have it.
 
 ghost use Rattle.std.specs.Prelude.{◌≡◌};
-ghost use Rattle.mq_board.specs.Shown.{HasShown, IsInRange, words_of};
+ghost use Rattle.mq_board.specs.Shown.{HasShown, IsInRange, row_words};
 
 use crate::row::EMPTY;
 use mq_queue::{BoardRow, Event, Figures};
@@ -32,7 +32,7 @@ pub(crate) const NOTHING: Shown = Shown {
 impl Shown {
     /// The words: first those that a message changes, which so lie beside the version.
     pub(crate) fn words(self) -> [u64; WORDS]
-        ensures { result ≡ words_of self }
+        ensures { result ≡ row_words self }
     {
         let row = self.row;
         let figures = row.figures;
@@ -55,7 +55,7 @@ impl Shown {
     /// What these words have.
     pub(crate) fn of(words: &[u64; WORDS]) -> Shown
         requires { HasShown words.now }
-        ensures { (shown : Shown) → IsInRange shown → words.now ≡ words_of shown → result ≡ shown }
+        ensures { (shown : Shown) → IsInRange shown → words.now ≡ row_words shown → result ≡ shown }
     {
         let [
             count,

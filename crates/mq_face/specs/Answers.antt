@@ -9,9 +9,9 @@ use Rattle.mq_queue.specs.declared.limits.TheConstants.{MSGMAX, MSGMNB}
 use Rattle.mq_calls.specs.declared.usage.Usage.{Usage}
 use Rattle.mq_face.specs.declared.answer.Done.{Done}
 use Rattle.mq_face.specs.declared.answer.ReceivedMessage.{ReceivedMessage}
-use Rattle.mq_face.specs.declared.answer.Shown.{Shown}
-use Rattle.mq_face.specs.declared.answer.Shown.TheVariants as shown
-use Rattle.mq_face.specs.declared.answer.Shown.TheVariants.{Nothing, Queue}
+use Rattle.mq_face.specs.declared.answer.ControlShown.{ControlShown}
+use Rattle.mq_face.specs.declared.answer.ControlShown.TheVariants as shown
+use Rattle.mq_face.specs.declared.answer.ControlShown.TheVariants.{Nothing, Queue}
 use Rattle.mq_face.specs.declared.refusal.Refusal.{Refusal}
 use Rattle.mq_face.specs.declared.refusal.Wait.{Wait}
 use Rattle.mq_face.specs.declared.refusal.Wait.TheVariants.{No, Change, Pages}
@@ -20,7 +20,7 @@ use Rattle.mq_face.specs.declared.refusal.Wait.TheVariants.{No, Change, Pages}
 abbrev pub changed : ℕ → ℕ → Done
 changed slot entry = record { value = 0; slot = slot; entry = Some entry; shown = Nothing }
 
-abbrev pub shown_kind : Shown → ℕ
+abbrev pub shown_kind : ControlShown → ℕ
 shown_kind Nothing = 0
 shown_kind (Queue figures) = 1
 shown_kind (shown.Usage usage) = 2
@@ -36,7 +36,7 @@ usage_numbers u =
     u.queues ∷ u.messages ∷ u.bytes ∷ u.slots ∷ u.pages ∷ MSGMAX ∷ MSGMNB ∷ PAGE_LEN ∷ []
 
 -- what is shown
-abbrev pub shown_numbers : Shown → List ℕ
+abbrev pub shown_numbers : ControlShown → List ℕ
 shown_numbers Nothing = 0 ∷ 0 ∷ 0 ∷ 0 ∷ 0 ∷ 0 ∷ 0 ∷ 0 ∷ []
 shown_numbers (Queue figures) = figure_numbers figures
 shown_numbers (shown.Usage usage) = usage_numbers usage

@@ -11,8 +11,8 @@ use Rattle.mq_calls.specs.declared.errno.Errno.{Errno}
 use Rattle.mq_calls.specs.declared.errno.Errno.TheVariants.{EINVAL}
 use Rattle.mq_face.specs.Refusals.{fault, gone, refusal}
 use Rattle.mq_face.specs.declared.answer.Done.{Done}
-use Rattle.mq_face.specs.declared.answer.Shown.{Shown}
-use Rattle.mq_face.specs.declared.answer.Shown.TheVariants as shown
+use Rattle.mq_face.specs.declared.answer.ControlShown.{ControlShown}
+use Rattle.mq_face.specs.declared.answer.ControlShown.TheVariants as shown
 use Rattle.mq_face.specs.declared.call.Call.{Call}
 use Rattle.mq_face.specs.declared.command.ControlCommand.{ControlCommand}
 use Rattle.mq_face.specs.declared.command.ControlCommand.TheVariants.{Remove, Set, Stat, StatSlot}
@@ -31,7 +31,7 @@ command_of n =
     else (if (n == MSG_STAT) || (n == MSG_STAT_ANY) then Some StatSlot else None))))
 
 -- what is shown, where there is a buffer for it (msgctl(2), EFAULT)
-abbrev pub show : Call → ℕ → ℕ → Shown → Result Done Refusal
+abbrev pub show : Call → ℕ → ℕ → ControlShown → Result Done Refusal
 show call value slot shown =
     if call.buffer then Ok (record { value = value; slot = slot; entry = None; shown = shown })
     else Err (fault EFAULT)

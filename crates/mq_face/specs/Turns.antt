@@ -24,7 +24,7 @@ use Rattle.mq_face.specs.Flags.{has, get_flags}
 use Rattle.mq_face.specs.Refusals.{blocked, fault, gone, id_named, receive_fault, refusal}
 use Rattle.mq_face.specs.declared.answer.Done.{Done}
 use Rattle.mq_face.specs.declared.answer.ReceivedMessage.{ReceivedMessage}
-use Rattle.mq_face.specs.declared.answer.Shown.TheVariants as shown
+use Rattle.mq_face.specs.declared.answer.ControlShown.TheVariants as shown
 use Rattle.mq_face.specs.declared.call.Call.{Call}
 use Rattle.mq_face.specs.declared.command.ControlCommand.{ControlCommand}
 use Rattle.mq_face.specs.declared.command.ControlCommand.TheVariants.{Remove, Set, Stat, StatSlot}

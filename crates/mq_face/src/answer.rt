@@ -17,7 +17,7 @@ pub const SHOWN_NUMBERS: usize = 8;
 
 /// What a call shows beside the number that it returns.
 #[derive(Clone, Copy, Debug, PartialEq, Eq)]
-pub enum Shown {
+pub enum ControlShown {
     Nothing,
     Queue(Figures),
     Usage(Usage),
@@ -32,7 +32,7 @@ pub struct Done {
     pub slot: u8,
     /// The entry of what it changed there.
     pub entry: Option<u64>,
-    pub shown: Shown,
+    pub shown: ControlShown,
 }
 
 /// A message that is received. It returns the number of bytes that are handed out.
@@ -45,15 +45,15 @@ pub struct ReceivedMessage<B> {
     pub text: B,
 }
 
-impl Shown {
+impl ControlShown {
     /// The number of its kind, of which 0 says that nothing is shown.
     fn kind(self) -> u64
         ensures { result ≡ shown_kind self }
     {
         match self {
-            Shown::Nothing => 0,
-            Shown::Queue(_) => 1,
-            Shown::Usage(_) => 2,
+            ControlShown::Nothing => 0,
+            ControlShown::Queue(_) => 1,
+            ControlShown::Usage(_) => 2,
         }
     }
 
@@ -62,8 +62,8 @@ impl Shown {
         ensures { result ≡ shown_numbers self }
     {
         match self {
-            Shown::Nothing => [0; SHOWN_NUMBERS],
-            Shown::Queue(figures) => [
+            ControlShown::Nothing => [0; SHOWN_NUMBERS],
+            ControlShown::Queue(figures) => [
                 figures.qnum,
                 figures.cbytes,
                 figures.qbytes,
@@ -73,7 +73,7 @@ impl Shown {
                 u64::from(figures.lspid),
                 u64::from(figures.lrpid),
             ],
-            Shown::Usage(usage) => [
+            ControlShown::Usage(usage) => [
                 usage.queues,
                 usage.messages,
                 usage.bytes,
@@ -96,7 +96,7 @@ impl Done {
             value: 0,
             slot,
             entry: Some(entry),
-            shown: Shown::Nothing,
+            shown: ControlShown::Nothing,
         }
     }
 

@@ -6,7 +6,7 @@ ghost use Rattle.mq_face.specs.Commands.{info_reply, row_reply, show, slot_reply
 
 use crate::manual::{EFAULT, SEAT};
 use crate::refusal::{gone, id_of};
-use crate::{Call, ControlCommand, Done, Refusal, Shown};
+use crate::{Call, ControlCommand, ControlShown, Done, Refusal};
 use mq_calls::{Errno, Removal};
 use mq_one_thread::OneThread;
 use mq_queue::BoardRow;
@@ -50,7 +50,7 @@ fn set<L: Ledger>(queues: &mut OneThread<L>, call: Call, id: Id) -> Result<Done,
 }
 
 /// What is shown, where there is a buffer for it.
-fn show(call: Call, value: u64, slot: u8, shown: Shown) -> Result<Done, Refusal>
+fn show(call: Call, value: u64, slot: u8, shown: ControlShown) -> Result<Done, Refusal>
     ensures { result ≡ show call value slot shown }
 {
     if !call.buffer {
@@ -68,7 +68,7 @@ fn stat<L: Ledger>(queues: &OneThread<L>, call: Call, id: Id) -> Result<Done, Re
     ensures { result ≡ stat_reply call id (stat_answer queues.now id) }
 {
     match queues.stat(id) {
-        Ok(figures) => show(call, 0, id.slot(), Shown::Queue(figures)),
+        Ok(figures) => show(call, 0, id.slot(), ControlShown::Queue(figures)),
         Err(errno) => Err(gone(call, errno)),
     }
 }
@@ -99,7 +99,7 @@ fn stat_row(call: Call, slot: u8, row: BoardRow) -> Result<Done, Refusal>
         call,
         u64::from(id.number()),
         slot,
-        Shown::Queue(row.figures),
+        ControlShown::Queue(row.figures),
     )
 }
 
@@ -108,5 +108,10 @@ fn info<L: Ledger>(queues: &OneThread<L>, call: Call) -> Result<Done, Refusal>
     ensures { result ≡ info_reply queues.now call }
 {
     let usage = queues.info();
-    show(call, u64::from(usage.greatest), 0, Shown::Usage(usage))
+    show(
+        call,
+        u64::from(usage.greatest),
+        0,
+        ControlShown::Usage(usage),
+    )
 }

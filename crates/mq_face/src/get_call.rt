@@ -3,7 +3,7 @@ ghost use Rattle.mq_face.specs.Turns.{AnswersTurn, get_turn, got};
 ghost use Rattle.mq_face.specs.Flags.{get_flags};
 
 use crate::manual::{IPC_CREAT, IPC_EXCL, SEAT};
-use crate::{Call, Done, Refusal, Shown};
+use crate::{Call, ControlShown, Done, Refusal};
 use mq_calls::{GetFlags, Got};
 use mq_one_thread::OneThread;
 use std::sync::ledger::Ledger;
@@ -34,6 +34,6 @@ fn got(found: Got) -> Done
         value: u64::from(found.id.number()),
         slot: found.id.slot(),
         entry: found.made,
-        shown: Shown::Nothing,
+        shown: ControlShown::Nothing,
     }
 }

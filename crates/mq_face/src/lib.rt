@@ -18,7 +18,7 @@ mod refusal;
 mod send_call;
 pub mod worked;
 
-pub use answer::{ANSWER_NUMBERS, Done, ReceivedMessage, SHOWN_NUMBERS, Shown};
+pub use answer::{ANSWER_NUMBERS, ControlShown, Done, ReceivedMessage, SHOWN_NUMBERS};
 pub use bytes::{EIGHT_BYTES, from_bytes, to_bytes};
 pub use call::{CALL_NUMBERS, Call, CallKind};
 pub use command::ControlCommand;

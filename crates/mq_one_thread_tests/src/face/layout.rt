@@ -1,9 +1,9 @@
 //! The numbers of calls and answers, as the structs of face/civdrax.c have them.
 
 use mq_face::{
-    Call, CallKind, ControlCommand, Done, IPC_CREAT, IPC_EXCL, IPC_INFO, IPC_NOWAIT, IPC_RMID,
-    IPC_SET, IPC_STAT, MSG_COPY, MSG_EXCEPT, MSG_INFO, MSG_NOERROR, MSG_STAT, MSG_STAT_ANY,
-    Refusal, Shown, Wait, from_bytes, to_bytes, unknown,
+    Call, CallKind, ControlCommand, ControlShown, Done, IPC_CREAT, IPC_EXCL, IPC_INFO, IPC_NOWAIT,
+    IPC_RMID, IPC_SET, IPC_STAT, MSG_COPY, MSG_EXCEPT, MSG_INFO, MSG_NOERROR, MSG_STAT,
+    MSG_STAT_ANY, Refusal, Wait, from_bytes, to_bytes, unknown,
 };
 use mq_queue::Figures;
 
@@ -106,11 +106,11 @@ fn an_answer_has_the_numbers_of_the_struct(rt: HostRuntime) {
         value: 130,
         slot: 2,
         entry: None,
-        shown: Shown::Queue(figures),
+        shown: ControlShown::Queue(figures),
     };
     holds!(rt; done.numbers() == [130, 0, 0, 2, 0, 0, 0, 1]);
     holds!(rt; done.shown.numbers() == [1, 2, 3, 4, 5, 6, 7, 8]);
-    holds!(rt; Shown::Nothing.numbers() == [0; 8]);
+    holds!(rt; ControlShown::Nothing.numbers() == [0; 8]);
     let waits = Refusal {
         errno: 11,
         wait: Wait::Change(63),

@@ -7,8 +7,8 @@ use crate::face::system::{FaceCalls, FaceDay, lives};
 use crate::holds;
 use mq_calls::Usage;
 use mq_face::{
-    Call, CallKind, Done, IPC_CREAT, IPC_INFO, IPC_RMID, IPC_SET, IPC_STAT, MSG_EXCEPT,
-    MSG_NOERROR, MSG_STAT, Shown,
+    Call, CallKind, ControlShown, Done, IPC_CREAT, IPC_INFO, IPC_RMID, IPC_SET, IPC_STAT,
+    MSG_EXCEPT, MSG_NOERROR, MSG_STAT,
 };
 use mq_queue::Figures;
 use std::process::Abort;
@@ -19,7 +19,7 @@ fn changed(entry: u64) -> Done {
         value: 0,
         slot: 1,
         entry: Some(entry),
-        shown: Shown::Nothing,
+        shown: ControlShown::Nothing,
     }
 }
 
@@ -57,7 +57,7 @@ fn both() -> Done {
         value: 0,
         slot: 1,
         entry: None,
-        shown: Shown::Queue(Figures {
+        shown: ControlShown::Queue(Figures {
             qnum: 2,
             cbytes: 8,
             qbytes: 131_072,
@@ -76,7 +76,7 @@ fn all() -> Done {
         value: 1,
         slot: 0,
         entry: None,
-        shown: Shown::Usage(Usage {
+        shown: ControlShown::Usage(Usage {
             queues: 2,
             messages: 2,
             bytes: 8,
