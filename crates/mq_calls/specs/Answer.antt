@@ -2,12 +2,12 @@
 -- msgctl(2)).
 use Rattle.std.specs.Prelude.{ℕ, ℤ, pos, int_lt, if◌then◌else◌, List, Some, None, Result, Ok, Err}
 use Rattle.mq_arena.specs.Text.{PlainText}
+use Rattle.mq_message.specs.declared.header.Header.{Header}
 use Rattle.mq_message.specs.declared.message.Message.{Message}
 use Rattle.mq_queue.specs.declared.error.QueueError.{QueueError}
 use Rattle.mq_queue.specs.declared.error.QueueError.TheVariants.{TypeInvalid, TooLong, Full}
 use Rattle.mq_queue.specs.declared.error.QueueError.TheVariants.{NoMessage, TooBig}
 use Rattle.mq_queue.specs.declared.error.QueueError.TheVariants.{OverLimit, Memory}
-use Rattle.mq_table.specs.Calls.{Receipt}
 use Rattle.mq_table.specs.Shown.{by_standing}
 use Rattle.mq_table.specs.SlotList.{Standing}
 use Rattle.mq_table.specs.declared.refusal.IdRefusal.{IdRefusal}
@@ -65,19 +65,19 @@ once (Err refused) answer = Err refused
 abbrev pub send : {A : Type 0} → ℤ → Result A Refused → Result A Refused
 send mtype answer = if int_lt mtype (pos 1) then Err (refused_early EINVAL) else answer
 
--- what a receiver is handed of what waits: the message and its text, cut to the size
-abbrev pub delivered : List (ℕ × Message PlainText) → ℕ → Receipt → Delivered PlainText
-delivered messages size r = record {
-  entry = r.entry;
-  mtype = r.message.mtype;
-  sender = r.message.seat;
-  tag = r.message.tag;
-  length = r.message.length;
-  text = cut_to size (text_at r.message.place messages);
+-- what a receiver is handed of what waits, at this entry: the message and its text, cut to the size
+abbrev pub delivered : List (ℕ × Message PlainText) → ℕ → ℕ → Header → Delivered PlainText
+delivered messages size entry m = record {
+  entry = entry;
+  mtype = m.mtype;
+  sender = m.seat;
+  tag = m.tag;
+  length = m.length;
+  text = cut_to size (text_at m.place messages);
 }
 
 -- msgrcv: that is handed out, unless the queue refuses (msgop(2), msgrcv)
-abbrev pub delivers : {S : Type 0} → List (ℕ × Message PlainText) → ℕ
-    → Result (Receipt × S) QueueError → Result (Delivered PlainText × S) QueueError
-delivers messages size (Ok turn) = Ok (delivered messages size turn.0, turn.1)
-delivers messages size (Err refusal) = Err refusal
+abbrev pub delivers : {S : Type 0} → List (ℕ × Message PlainText) → ℕ → ℕ
+    → Result (Header × S) QueueError → Result (Delivered PlainText × S) QueueError
+delivers messages size entry (Ok turn) = Ok (delivered messages size entry turn.0, turn.1)
+delivers messages size entry (Err refusal) = Err refusal

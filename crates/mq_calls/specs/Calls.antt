@@ -29,7 +29,7 @@ msgsnd s seat id mtype tag text moment =
 -- msgrcv (msgop(2), msgrcv)
 abbrev pub msgrcv : QueuesState → ℕ → ℕ → ℕ → ℤ → Bool → Bool → ℕ → Answer (Delivered PlainText)
 msgrcv s seat id size mtype except noerror moment = in_queue s id (λ slot.
-    delivers slot.messages size
+    delivers slot.messages size (entries_of slot)
     (kept_receives slot size (selection_of mtype except) noerror seat moment))
 
 -- IPC_SET: the quota is set (msgctl(2), IPC_SET)

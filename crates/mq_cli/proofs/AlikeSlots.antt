@@ -134,7 +134,7 @@ module _ (last_seq : ℕ) (a b : KeptSlot PlainText) (k : AreAlike last_seq a b)
         by (Ok m) its =
             let e : Event = event.Received seat moment m.place selection size noerror in
             let log = last_log k.list in (
-              rw entries_alike refl,
+              refl,
               record {
                 list = k.list ++ e ∷ [];
                 lawful = list_more last_seq k.list k.lawful e live refl

@@ -8,12 +8,12 @@ use Rattle.mq_tree.specs.Blocks.{PlainBlock}
 use Rattle.mq_tree.specs.LentSet.{Lending, free_pages}
 use Rattle.mq_arena.specs.Lent.{lend}
 use Rattle.mq_arena.specs.Text.{PlainText, order_for}
+use Rattle.mq_message.specs.declared.header.Header.{Header}
 use Rattle.mq_message.specs.declared.message.Message.{Message}
 use Rattle.mq_queue.specs.declared.limits.TheConstants.{MSGMAX}
 use Rattle.mq_queue.specs.declared.event.Event.{Event}
 use Rattle.mq_queue.specs.declared.event.Event.TheVariants as event
 use Rattle.mq_message.specs.Selection.{selection_of}
-use Rattle.mq_table.specs.Calls.{Receipt}
 use Rattle.mq_table.specs.Cut.{kept_cuts}
 use Rattle.mq_table.specs.Ids.{slot_of}
 use Rattle.mq_table.specs.Keys.{forget}
@@ -114,12 +114,14 @@ module _ (last_seq : ℕ) (s t : System) (k : AreLike last_seq s t) where
       moment))
 
   -- msgrcv
-  delivers_like : (held other : List (ℕ × Message PlainText)) (size : ℕ) → held ≡ other
-      → (x y : KeptTurn PlainText Receipt) → TurnAlike last_seq x y
-      → TurnAlike last_seq (delivers held size x) (delivers other size y)
-  delivers_like held other size is (Ok x) (Ok y) same = (cc (same.0, is), same.1)
-  delivers_like held other size is (Err d) (Err e) same = same
-  delivers_like held other size is _ _ same = absurd same
+  delivers_like : (held other : List (ℕ × Message PlainText)) (size entry later : ℕ)
+      → held ≡ other → entry ≡ later
+      → (x y : KeptTurn PlainText Header) → TurnAlike last_seq x y
+      → TurnAlike last_seq (delivers held size entry x) (delivers other size later y)
+  delivers_like held other size entry later is here (Ok x) (Ok y) same =
+      (cc (same.0, is, here), same.1)
+  delivers_like held other size entry later is here (Err d) (Err e) same = same
+  delivers_like held other size entry later is here _ _ same = absurd same
 
   msgrcv_like : (seat id size : ℕ) (mtype : ℤ) (except noerror : Bool) (moment : ℕ)
       → AnswerAlike last_seq (msgrcv s seat id size mtype except noerror moment)
@@ -127,9 +129,9 @@ module _ (last_seq : ℕ) (s t : System) (k : AreLike last_seq s t) where
   msgrcv_like seat id size mtype except noerror moment =
       let alike = slot_like last_seq s t k (slot_of id) in
       in_queue_like last_seq s t k id
-      (λ slot. delivers slot.messages size
+      (λ slot. delivers slot.messages size (entries_of slot)
       (kept_receives slot size (selection_of mtype except) noerror seat moment))
-      (λ live. delivers_like _ _ size alike.messages _ _
+      (λ live. delivers_like _ _ size _ _ alike.messages (entries_alike last_seq _ _ alike) _ _
       (receives_alike last_seq _ _ alike live size (selection_of mtype except) noerror seat
       moment))
 

@@ -1,5 +1,5 @@
 -- The lines that are told at the end, one after another.
-use Rattle.std.proofs.Common.{◌≡◌, ℕ, ◌+◌, ◌<◌, suc, Bool, List, [], ◌∷◌, ◌++◌, length, drop, refl, sym, ap, ◌∙◌, subst, append_assoc, arith, add-one, drop-cons}
+use Rattle.std.proofs.Common.{◌≡◌, ℕ, ◌+◌, ◌<◌, suc, List, ◌∷◌, ◌++◌, length, drop, refl, sym, ap, ◌∙◌, append_assoc, arith, add-one, drop-cons}
 use Rattle.std.proofs.Math.ListN.{get_or}
 use Rattle.mq_calls.specs.declared.close.ClosedSlot.{ClosedSlot}
 use Rattle.mq_cli.specs.declared.outcome.Outcome.{Outcome}

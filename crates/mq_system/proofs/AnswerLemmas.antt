@@ -2,12 +2,13 @@
 use Rattle.std.proofs.Common.{◌≡◌, ℕ, ℤ, if◌then◌else◌, ◌&&◌, Bool, List, length, Option, None, Some, Result, Ok, Err, refl, ap, sym, ◌∙◌}
 use Rattle.std.specs.Ordering.{int_eq}
 use Rattle.mq_arena.specs.Text.{PlainText}
+use Rattle.mq_message.specs.declared.header.Header.{Header}
 use Rattle.mq_message.specs.declared.message.Message.{Message}
 use Rattle.mq_queue.specs.declared.error.QueueError.{QueueError}
 use Rattle.mq_queue.specs.Queue.{rest_of}
 use Rattle.mq_queue.specs.Row.{is_live, last_log, live_key}
 use Rattle.mq_queue.specs.declared.event.Event.{Event}
-use Rattle.mq_table.specs.Calls.{Receipt, SlotTurn, refusal_of}
+use Rattle.mq_table.specs.Calls.{SlotTurn, refusal_of}
 use Rattle.mq_table.specs.Kept.{KeptSlot, is_live_kept}
 use Rattle.mq_table.specs.KeptPart.{IsKeptPart, whole}
 use Rattle.mq_table.specs.KeptShown.{last_id_now}
@@ -40,10 +41,11 @@ module _ (s : SlotState PlainText) where
   refused_by (Err refused) there turn refusal r why is = cc
 
 -- why a receiver is refused
-pub not_delivered : (messages : List (ℕ × Message PlainText)) (size : ℕ)
-    (turn : SlotTurn PlainText Receipt) → refusal_of turn ≡ refusal_of (delivers messages size turn)
-not_delivered messages size (Ok turn) = refl
-not_delivered messages size (Err refusal) = refl
+pub not_delivered : (messages : List (ℕ × Message PlainText)) (size entry : ℕ)
+    (turn : SlotTurn PlainText Header)
+    → refusal_of turn ≡ refusal_of (delivers messages size entry turn)
+not_delivered messages size entry (Ok turn) = refl
+not_delivered messages size entry (Err refusal) = refl
 
 -- the id of the queue, where it is there and has this key, or none
 abbrev pub id_where : Bool → Bool → ℕ → Option ℕ

@@ -1,5 +1,5 @@
 -- The queue that a slot list ends with: its log, its making, and its key.
-use Rattle.std.proofs.Common.{◌≡◌, ℕ, ℤ, pos, ◌+◌, ◌-◌, ◌==◌, ◌<◌, ◌≤◌, ◌≢◌, ◌⊎◌, inl, inr, ◌&&◌, if◌then◌else◌, nat_le, Bool, true, false, not, List, [], ◌∷◌, ◌++◌, append_assoc, fold, length, take, slice_get, Option, Some, None, unwrap_or, refl, ap, sym, subst, ◌∙◌, true≢false, arith, All}
+use Rattle.std.proofs.Common.{◌≡◌, ℕ, ℤ, pos, ◌+◌, ◌-◌, ◌==◌, ◌<◌, ◌≤◌, ◌≢◌, ◌⊎◌, inl, inr, ◌&&◌, if◌then◌else◌, nat_le, Bool, true, false, not, List, [], ◌∷◌, ◌++◌, append_assoc, fold, length, slice_get, Option, Some, None, unwrap_or, refl, ap, sym, subst, ◌∙◌, true≢false, arith, All}
 use Rattle.std.specs.Prelude.{MatchOption}
 use Rattle.std.specs.Ordering.{int_eq}
 use Rattle.std.proofs.Math.Seq.{take-append_seam}

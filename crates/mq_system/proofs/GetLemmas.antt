@@ -1,12 +1,11 @@
 -- What was so at some moment of a call, once its seat knows more.
-use Rattle.std.proofs.Common.{◌≡◌, ◌≢◌, ◌⊎◌, inl, inr, ℕ, ℤ, pos, ◌+◌, ◌<◌, ◌≤◌, ◌==◌, true, false, List, length, take, slice_get, Option, None, Some, true≢false, sym, refl, ap, ◌∙◌, subst, arith}
+use Rattle.std.proofs.Common.{◌≡◌, ◌≢◌, ◌⊎◌, inl, inr, ℕ, ℤ, pos, ◌+◌, ◌<◌, ◌==◌, true, false, List, length, Option, None, Some, refl, ap, subst, arith}
 use Rattle.std.specs.Prelude.{MatchOption, MatchResult, OnErr, Result, Ok, Err}
 use Rattle.std.proofs.lemmas.Bool.Decides.{eqb_tells}
 use Rattle.std.proofs.lemmas.List.{length-append}
-use mathlib.Core.List.{IsPrefix}
 use Rattle.mq_queue.specs.declared.event.Event.{Event}
 use Rattle.mq_queue.specs.declared.event.Event.TheVariants as event
-use Rattle.mq_table.specs.Ids.{seq_of, slot_of}
+use Rattle.mq_table.specs.Ids.{slot_of}
 use Rattle.mq_board.proofs.Fronts.{prefix_self, prefix_trans}
 use Rattle.mq_calls.specs.declared.errno.Errno.{Errno}
 use Rattle.mq_calls.specs.declared.errno.Errno.TheVariants.{ENOMEM, ENOSPC}
@@ -17,7 +16,7 @@ use Rattle.mq_system.specs.Outcome.{IsLook}
 use Rattle.mq_system.specs.Seat.{IsLater, SeatState, front_of}
 use Rattle.mq_system.specs.Seen.{IsDone, Verdict}
 use Rattle.mq_system.proofs.LaterLemmas.{later_self, look_trans, step_after}
-use Rattle.mq_system.specs.Get.{HadFree, IsFound, IsFree, IsGot, IsNew, IsNotGot, IsNotNew, IsNotFree, MayRefuse, Was, WasAt, WasBelow, WasLacked, WhyNotGot, may_make}
+use Rattle.mq_system.specs.Get.{HadFree, IsFound, IsFree, IsGot, IsNew, IsNotGot, IsNotNew, IsNotFree, MayRefuse, WasAt, WasBelow, WasLacked, WhyNotGot, may_make}
 
 -- it is so now
 pub was_now : (fact : List Event → Type 0) (old new : SeatState) (slot : ℕ) → IsLater old new

@@ -1,5 +1,5 @@
 -- The names of a system that a caller picks: those of its ledgers and boards, and its size.
-use Rattle.std.proofs.Common.{◌≡◌, ℕ, ◌+◌, vec_len, refl}
+use Rattle.std.proofs.Common.{◌≡◌, ◌+◌, vec_len, refl}
 use Rattle.mq_board.specs.declared.naming.Naming as naming
 use Rattle.mq_board.specs.Named.{board_of, roll_of}
 use Rattle.mq_board.proofs.Names.{named}

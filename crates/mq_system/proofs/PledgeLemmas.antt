@@ -17,7 +17,7 @@ use Rattle.mq_queue.specs.declared.received.Received.{Received}
 use Rattle.mq_queue.specs.Answer.{handed_out, received_header}
 use Rattle.mq_queue.specs.Row.{last_log}
 use Rattle.mq_queue.specs.Waiting.{waiting}
-use Rattle.mq_table.specs.Calls.{Receipt, SlotTurn, receipt_of, received, receives}
+use Rattle.mq_table.specs.Calls.{SlotTurn, received, receives}
 use Rattle.mq_table.specs.Slot.{SlotState}
 use Rattle.mq_calls.specs.Calls.{delivered, delivers}
 use Rattle.mq_calls.specs.Texts.{bytes_of, cut_to}
@@ -38,7 +38,7 @@ delivery r = record {
 -- what is handed out is the text that waited, cut to the size
 delivered_is : (messages : List (ℕ × Message PlainText)) (size : ℕ) (r : Received PlainText)
     → IsSomeAnd (message_at r.place messages) (λ m. (r.body.bytes ≡ take size m.body.bytes) × (r.body.block ≡ m.body.block))
-    → delivered messages size (receipt_of r) ≡ delivery r
+    → delivered messages size r.entry (received_header r) ≡ delivery r
 delivered_is messages size r body =
     ap (λ (text : PlainText). record {
       entry = r.entry;
@@ -56,12 +56,15 @@ delivered_is messages size r body =
     by (Some m) waits = λ i. record { bytes = (sym waits.0) i; block = (sym waits.1) i }
 
 -- so it is what the call answers
-pub delivers_it : (messages : List (ℕ × Message PlainText)) (size : ℕ) (r : Received PlainText)
-    (turn : SlotTurn PlainText Receipt) (t : SlotState PlainText) → turn ≡ Ok (receipt_of r, t)
+pub delivers_it : (messages : List (ℕ × Message PlainText)) (size entry : ℕ)
+    (r : Received PlainText) → r.entry ≡ entry
+    → (turn : SlotTurn PlainText Header) (t : SlotState PlainText)
+    → turn ≡ Ok (received_header r, t)
     → IsSomeAnd (message_at r.place messages) (λ m. (r.body.bytes ≡ take size m.body.bytes) × (r.body.block ≡ m.body.block))
-    → delivers messages size turn ≡ Ok (delivery r, t)
-delivers_it messages size r turn t is body =
-    ap (delivers messages size) is
+    → delivers messages size entry turn ≡ Ok (delivery r, t)
+delivers_it messages size entry r at turn t is body =
+    ap (delivers messages size entry) is
+    ∙ ap (λ n. Ok (delivered messages size n (received_header r), t)) (sym at)
     ∙ ap (λ (d : Delivered PlainText). Ok (d, t)) (delivered_is messages size r body)
 
 module _ (kept : Pledged) where
@@ -100,9 +103,9 @@ module _ (kept : Pledged) where
     meets_whole h fits =
         rw (h.cut, take_all size h.whole (omega (arith, fits, h.long))) h.pledge
 
--- the header of a receipt
-abbrev header : Result (Receipt × SlotState PlainText) QueueError → Header → Header
-header (Ok turn) other = turn.0.message
+-- the header of what is received, or this one
+abbrev header : Result (Header × SlotState PlainText) QueueError → Header → Header
+header (Ok turn) other = turn.0
 header (Err refusal) other = other
 
 -- the header that is handed out, or this one
@@ -123,18 +126,18 @@ handed_fits size (Some h) m e = by (nat_le h.length size) refl
     by false is = let none = rw is at e in cc
 
 module _ (s t : SlotState PlainText) (size : ℕ) (selection : Selection) (seat moment : ℕ)
-    (r : Receipt) where
+    (r : Header) where
   fits_by : (noerror : Bool) (answer : Result Header QueueError)
       → ((m : Header) → answer ≡ Ok m → m.length ≤ size)
       → received s (λ m. event.Received seat moment m.place selection size noerror) answer
       ≡ Ok (r, t)
-      → r.message.length ≤ size
+      → r.length ≤ size
   fits_by noerror (Ok m) small e =
       rw (← ap (λ turn. (header turn m).length) e) (small m refl)
   fits_by noerror (Err refusal) small e = cc
 
   pub receipt_fits : (noerror : Bool) → noerror ≡ false
-      → receives s size selection noerror seat moment ≡ Ok (r, t) → r.message.length ≤ size
+      → receives s size selection noerror seat moment ≡ Ok (r, t) → r.length ≤ size
   receipt_fits true is e = absurd (true≢false is)
   receipt_fits false is e =
       let o = pick (λ m. m.mtype) (waiting (last_log s.events)) selection in

@@ -147,7 +147,7 @@ module _ (s : SlotState PlainText) (nowait : Bool) where
   abbrev picked : Result (Unit {0}) IdRefusal → (Header → Event) → ℕ → Bool → Option Header → Refused
   picked looked e size noerror o =
       refused_or_memory_in_slot s
-      (once (by_id_in_slot s looked) (answered_in_slot s (delivers s.messages size (received s e (handed_out size noerror o)))))
+      (once (by_id_in_slot s looked) (answered_in_slot s (delivers s.messages size (length s.events) (received s e (handed_out size noerror o)))))
 
   picked_may : (looked : Result (Unit {0}) IdRefusal) (e : Header → Event) (size : ℕ)
       (noerror : Bool) (o : Option Header)

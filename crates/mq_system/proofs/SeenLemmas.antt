@@ -1,8 +1,7 @@
 -- What a seat knows of a change or a refusal once it knows all of the slot.
-use Rattle.std.proofs.Common.{◌≡◌, ℕ, ℤ, pos, ◌+◌, ◌<◌, ◌≤◌, int_lt, if◌then◌else◌, Bool, true, false, true≢false, List, [], ◌∷◌, ◌++◌, length, take, slice_get, slice_set, Option, None, Some, unwrap_or, Result, Ok, Err, refl, ap, sym, ◌∙◌, subst, arith}
+use Rattle.std.proofs.Common.{◌≡◌, ℕ, ℤ, pos, ◌+◌, ◌<◌, ◌≤◌, int_lt, Bool, true, false, List, [], ◌∷◌, ◌++◌, length, take, slice_get, slice_set, Option, None, Some, unwrap_or, Result, Ok, Err, refl, ap, sym, ◌∙◌, subst, arith}
 use Rattle.std.proofs.Math.Seq.{take-append_seam, take-length}
 use Rattle.std.proofs.lemmas.List.{length-append, length_push}
-use mathlib.Core.List.{IsPrefix}
 use Rattle.mq_arena.specs.Text.{PlainText}
 use Rattle.mq_message.specs.declared.message.Message.{Message}
 use Rattle.mq_message.specs.declared.header.Header.{Header}
@@ -16,7 +15,7 @@ use Rattle.mq_queue.specs.Waiting.{waiting}
 use Rattle.mq_queue.specs.declared.error.QueueError.{QueueError}
 use Rattle.mq_queue.specs.declared.event.Event.{Event}
 use Rattle.mq_queue.specs.declared.event.Event.TheVariants as event
-use Rattle.mq_table.specs.Calls.{Receipt, SlotTurn, with_event, makes, received, receives, removes, sends, sets, changed_unless}
+use Rattle.mq_table.specs.Calls.{SlotTurn, with_event, makes, received, removes, sends, sets, changed_unless}
 use Rattle.mq_table.specs.Ids.{seq_of}
 use Rattle.mq_table.specs.Shown.{by_standing}
 use Rattle.mq_table.specs.Slot.{SlotState, next_id}
@@ -25,7 +24,6 @@ use Rattle.mq_table.specs.declared.limits.TheConstants.{MAX_SLOTS}
 use Rattle.mq_calls.specs.Calls.{delivered, delivers}
 use Rattle.mq_calls.specs.Look.{once, refused_early}
 use Rattle.mq_calls.specs.Texts.{bytes_of}
-use Rattle.mq_calls.specs.declared.errno.Errno.{Errno}
 use Rattle.mq_calls.specs.declared.errno.Errno.TheVariants.{EINVAL, ENOMEM}
 use Rattle.mq_calls.specs.declared.results.Delivered.{Delivered}
 use Rattle.mq_calls.specs.declared.results.Got.{Got}
@@ -36,7 +34,7 @@ use Rattle.mq_system.specs.Held.{HasNoted}
 use Rattle.mq_system.specs.Making.{IsMade, make_verdict}
 use Rattle.mq_system.specs.Outcome.{IsLook, IsStep, IsUnderLock}
 use Rattle.mq_system.specs.Seat.{IsCounted, SeatState, front_of}
-use Rattle.mq_system.specs.Seen.{IsDecided, IsDone, IsReceipt, IsRefused, Verdict, unless_refused, receive_verdict, remove_verdict, send_verdict, set_verdict}
+use Rattle.mq_system.specs.Seen.{IsDecided, IsDone, IsReceipt, Verdict, unless_refused, receive_verdict, remove_verdict, send_verdict, set_verdict}
 use Rattle.mq_system.proofs.KeysLemmas.{seq_of_id, slot_of_next}
 use Rattle.mq_system.proofs.LaterLemmas.{front_set, later_set, look_trans, step_after}
 use Rattle.mq_system.proofs.RefusalLemmas.{if_false}
@@ -302,13 +300,12 @@ module _ (old now new : SeatState) (slot : ℕ) (s : SlotState PlainText) (h : I
 
         by : (named : Result Header QueueError)
             → receive_answer (waiting (last_log s.events)) size selection noerror ≡ named
-            → answers s (standing s.events (seq_of id)) (delivers s.messages size (received s e named)) ≡ Ok (d, t)
+            → answers s (standing s.events (seq_of id)) (delivers s.messages size (length s.events) (received s e named)) ≡ Ok (d, t)
             → IsStep old new slot × IsReceipt old new slot (seq_of id) size selection noerror moment d
         by (Ok m) picked its =
             let after : SlotState PlainText = with_event s (e m) (without m.place s.messages) in
-            let receipt : Receipt = record { entry = length s.events; message = m } in
-            let turn = turn_ok s (standing s.events (seq_of id)) (Ok (delivered s.messages size receipt, after)) (d, t) its in
-            let same : delivered s.messages size receipt ≡ d = ap (λ turn. (told turn).0) turn.turns in
+            let turn = turn_ok s (standing s.events (seq_of id)) (Ok (delivered s.messages size (length s.events) m, after)) (d, t) its in
+            let same : delivered s.messages size (length s.events) m ≡ d = ap (λ turn. (told turn).0) turn.turns in
             let left : after ≡ t = ap (λ turn. (told turn).1) turn.turns in
             let grew = grown (e m) (without m.place s.messages) t left noted in
             let front : front_of new slot ≡ s.events ++ e m ∷ [] =
@@ -332,9 +329,9 @@ module _ (old now new : SeatState) (slot : ℕ) (s : SlotState PlainText) (h : I
               },
             )
         by (Err refusal) picked its =
-            no (turn_ok s (standing s.events (seq_of id)) (delivers s.messages size (received s e (Err refusal))) (d, t) its).turns
+            no (turn_ok s (standing s.events (seq_of id)) (delivers s.messages size (length s.events) (received s e (Err refusal))) (d, t) its).turns
           where
-            no : delivers s.messages size (received s e (Err refusal)) ≡ Ok (d, t)
+            no : delivers s.messages size (length s.events) (received s e (Err refusal)) ≡ Ok (d, t)
                 → IsStep old new slot × IsReceipt old new slot (seq_of id) size selection noerror moment d
             no is = cc
 
@@ -346,7 +343,7 @@ module _ (old now new : SeatState) (slot : ℕ) (s : SlotState PlainText) (h : I
     decided_receive id size selection noerror seat moment r learned is =
         let named = receive_answer (waiting (last_log s.events)) size selection noerror in
         decided_at (receive_verdict (seq_of id) size selection noerror) learned r
-        (is ∙ turn_refused s (standing s.events (seq_of id)) (delivers s.messages size (received s e named))
+        (is ∙ turn_refused s (standing s.events (seq_of id)) (delivers s.messages size (length s.events) (received s e named))
         ∙ ap (λ o. answer.refused_here s (unwrap_or (unless_refused (standing s.events (seq_of id)) o) ENOMEM))
         (why_received named))
       where
@@ -354,7 +351,7 @@ module _ (old now new : SeatState) (slot : ℕ) (s : SlotState PlainText) (h : I
         e m = event.Received seat moment m.place selection size noerror
 
         why_received : (named : Result Header QueueError)
-            → why (delivers s.messages size (received s e named)) ≡ receive_refusal named
+            → why (delivers s.messages size (length s.events) (received s e named)) ≡ receive_refusal named
         why_received (Ok m) = refl
         why_received (Err refusal) = refl
 

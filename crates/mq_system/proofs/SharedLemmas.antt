@@ -6,7 +6,6 @@ use Rattle.mq_arena.specs.Text.{PlainText}
 use Rattle.mq_message.specs.declared.message.Message.{Message}
 use Rattle.mq_message.specs.declared.selection.Selection.{Selection}
 use Rattle.mq_message.specs.declared.header.Header.{Header}
-use Rattle.mq_message.specs.Waiting.{without}
 use Rattle.mq_queue.specs.declared.error.QueueError.{QueueError}
 use Rattle.mq_queue.specs.declared.event.Event.{Event}
 use Rattle.mq_queue.specs.declared.event.Event.TheVariants as event
@@ -14,7 +13,7 @@ use Rattle.mq_queue.specs.Answer.{receive_answer, send_refusal, set_refusal}
 use Rattle.mq_queue.specs.Room.{quota}
 use Rattle.mq_queue.specs.Row.{made_count, is_live, last_log}
 use Rattle.mq_queue.specs.Waiting.{waiting}
-use Rattle.mq_table.specs.Calls.{Receipt, with_event, makes, received, receives, removes, sends}
+use Rattle.mq_table.specs.Calls.{with_event, makes, received, receives, removes, sends}
 use Rattle.mq_table.specs.Calls.{sets}
 use Rattle.mq_table.specs.Kept.{KeptSlot, kept_figures}
 use Rattle.mq_table.specs.KeptCalls.{kept_makes, kept_receives, kept_removes, kept_sends, kept_sets}
@@ -38,7 +37,7 @@ abbrev pub AllPledged : Pledged → List (ℕ × Message PlainText) → Type 0
 AllPledged kept messages = All (λ m. IsPledged kept m.1) messages
 
 -- the slot that a receipt leaves, or this one
-abbrev left : Result (Receipt × SlotState PlainText) QueueError → SlotState PlainText
+abbrev left : Result (Header × SlotState PlainText) QueueError → SlotState PlainText
     → SlotState PlainText
 left (Ok turn) s = turn.1
 left (Err refusal) s = s
@@ -67,7 +66,7 @@ module _ (kept : Pledged) (s t : SlotState PlainText) (h : AllPledged kept s.mes
       rw (← ap (λ (x : SlotState PlainText). x.messages) is) h
 
   receive_pledged : (size : ℕ) (selection : Selection) (noerror : Bool) (seat moment : ℕ)
-      (r : Receipt) → receives s size selection noerror seat moment ≡ Ok (r, t)
+      (r : Header) → receives s size selection noerror seat moment ≡ Ok (r, t)
       → AllPledged kept t.messages
   receive_pledged size selection noerror seat moment r e =
       by (receive_answer (waiting (last_log s.events)) size selection noerror) e
@@ -179,11 +178,11 @@ module _ (kept : Pledged) (slots last_seq parts amount : ℕ) (desk due : Desk)
 
       -- msgrcv
       pub receive_changes : (size : ℕ) (selection : Selection) (noerror : Bool) (seat moment : ℕ)
-          (r : Receipt) → kept_receives s size selection noerror seat moment ≡ Ok (r, t)
-          → Took (event.Received seat moment r.message.place selection size noerror)
+          (r : Header) → kept_receives s size selection noerror seat moment ≡ Ok (r, t)
+          → Took (event.Received seat moment r.place selection size noerror)
           → Change seat (λ x. receives (whole desk.events s) size selection noerror seat moment ≡ Ok (r, x))
       receive_changes size selection noerror seat moment r answer took =
-          let e = event.Received seat moment r.message.place selection size noerror in
+          let e = event.Received seat moment r.place selection size noerror in
           let told = (receives_whole desk.events s h.published.kept live size selection noerror seat moment r t answer).answers in
           changes e
           (received_turned last_seq desk.events s h.published.kept h.lawful live size selection noerror seat moment r t answer)

@@ -60,7 +60,8 @@ abbrev pub receive_in_slot : SlotState PlainText → ℕ → ℕ → Selection �
     → SlotAnswer (Delivered PlainText)
 receive_in_slot s id size selection noerror seat moment =
     in_slot_queue s id
-    (call.delivers s.messages size (receives s size selection noerror seat moment))
+    (call.delivers s.messages size (length s.events)
+    (receives s size selection noerror seat moment))
 
 -- IPC_SET (msgctl(2), IPC_SET)
 abbrev pub set_in_slot : SlotState PlainText → ℕ → ℕ → ℕ → ℕ → SlotAnswer ℕ

@@ -1,5 +1,5 @@
 -- What msgget may answer, and what a seat's fronts show of it (msgget(2)).
-use Rattle.std.specs.Prelude.{◌≡◌, ◌≢◌, ℕ, ℤ, pos, ◌<◌, ◌&&◌, ◌||◌, Bool, true, false, List, length, None, Some, Option, IsSome, MatchOption}
+use Rattle.std.specs.Prelude.{◌≡◌, ◌≢◌, ℕ, ℤ, pos, ◌<◌, ◌&&◌, ◌||◌, Bool, true, false, List, None, Some, Option, MatchOption}
 use Rattle.std.specs.Ordering.{int_eq}
 use mathlib.Core.List.{IsPrefix}
 use Rattle.mq_queue.specs.declared.event.Event.{Event}

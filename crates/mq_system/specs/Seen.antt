@@ -1,6 +1,6 @@
 -- What a seat's front decides of its calls: after which events of a slot a change was made, and why
 -- a call was refused.
-use Rattle.std.specs.Prelude.{◌≡◌, ℕ, ℤ, ◌≤◌, Bool, List, length, take, slice_get, Option, None, Some, MatchOption, unwrap_or, Result, Ok, Err}
+use Rattle.std.specs.Prelude.{◌≡◌, ℕ, ℤ, ◌≤◌, Bool, List, length, take, slice_get, Option, None, Some, MatchOption, unwrap_or, Ok}
 use Rattle.mq_arena.specs.Text.{PlainText}
 use Rattle.mq_message.specs.declared.header.Header.{Header}
 use Rattle.mq_message.specs.declared.selection.Selection.{Selection}

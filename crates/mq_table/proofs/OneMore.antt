@@ -15,7 +15,6 @@ use Rattle.mq_queue.specs.QueueCalls.{sending}
 use Rattle.mq_queue.specs.Replay.{after_event}
 use Rattle.mq_queue.proofs.Found.{headers_without}
 use Rattle.mq_queue.proofs.Sends.{map_push}
-use Rattle.mq_table.specs.Calls.{Receipt}
 use Rattle.mq_table.specs.Kept.{KeptSlot, places_now, quota_now, waiting_now}
 use Rattle.mq_table.specs.KeptCalls.{kept_goes_on, kept_received, kept_receives, kept_sends, kept_sets, kept_unless}
 use Rattle.mq_table.specs.KeptPart.{WaitsNow}
@@ -42,14 +41,12 @@ left_by (Some refusal) s after t n e = cc
 
 -- the same of a receipt
 taken_by : {B : Type 0} (s t : KeptSlot B) (e : Header → Event) (answer : Result Header QueueError)
-    (r : Receipt) → kept_received s e answer ≡ Ok (r, t)
-    → (answer ≡ Ok r.message)
-    × (t ≡ kept_goes_on s (e r.message) (without r.message.place s.messages))
-taken_by s t e (Ok m) r is =
-    IfOk-at_ok (λ turn. (◌≡◌ {A = Result Header QueueError} (Ok m) (Ok turn.0.message))
-    × (turn.1 ≡ kept_goes_on s (e turn.0.message) (without turn.0.message.place s.messages)))
-    is (refl, refl)
-taken_by s t e (Err refusal) r is = cc
+    (m : Header) → kept_received s e answer ≡ Ok (m, t)
+    → (answer ≡ Ok m) × (t ≡ kept_goes_on s (e m) (without m.place s.messages))
+taken_by s t e (Ok named) m is =
+    IfOk-at_ok (λ turn. (◌≡◌ {A = Result Header QueueError} (Ok named) (Ok turn.0))
+    × (turn.1 ≡ kept_goes_on s (e turn.0) (without turn.0.place s.messages))) is (refl, refl)
+taken_by s t e (Err refusal) m is = cc
 
 module _ {B : Type 0} (bytes : B → List ℕ) (s t : KeptSlot B) where
   -- msgsnd
@@ -72,20 +69,19 @@ module _ {B : Type 0} (bytes : B → List ℕ) (s t : KeptSlot B) where
 
   -- msgrcv
   pub received_more : (size : ℕ) (selection : Selection) (noerror : Bool) (seat moment : ℕ)
-      (r : Receipt) → kept_receives s size selection noerror seat moment ≡ Ok (r, t)
-      → IsOneMore bytes s t (event.Received seat moment r.message.place selection size noerror)
-  received_more size selection noerror seat moment r is =
+      (m : Header) → kept_receives s size selection noerror seat moment ≡ Ok (m, t)
+      → IsOneMore bytes s t (event.Received seat moment m.place selection size noerror)
+  received_more size selection noerror seat moment m is =
       let by = taken_by s t (λ m. event.Received seat moment m.place selection size noerror)
-      (receive_answer (waiting_now s) size selection noerror) r is in record {
-        messages = without r.message.place s.messages;
+      (receive_answer (waiting_now s) size selection noerror) m is in record {
+        messages = without m.place s.messages;
         left = by.1;
         unmade = refl;
         stays = refl;
         untold = refl;
         allowed =
-            received_can (waiting_now s) (quota_now s) seat moment size selection noerror r.message
-            by.0;
-        waits = λ waits. rw (headers_without bytes s.messages r.message.place, waits) refl;
+            received_can (waiting_now s) (quota_now s) seat moment size selection noerror m by.0;
+        waits = λ waits. rw (headers_without bytes s.messages m.place, waits) refl;
       }
 
   -- IPC_SET

@@ -2,6 +2,7 @@
 -- part.
 use Rattle.std.proofs.Common.{◌≡◌, ℕ, ℤ, ◌≤◌, List, [], ◌∷◌, ◌++◌, length, None, Ok, Bool, true, false, not, refl, ap, sym, ◌∙◌}
 use Rattle.mq_message.specs.declared.message.Message.{Message}
+use Rattle.mq_message.specs.declared.header.Header.{Header}
 use Rattle.mq_message.specs.declared.selection.Selection.{Selection}
 use Rattle.mq_queue.specs.declared.event.Event.{Event}
 use Rattle.mq_queue.specs.declared.event.Event.TheVariants as event
@@ -9,7 +10,6 @@ use Rattle.mq_queue.specs.Lawful.{CanHappen}
 use Rattle.mq_queue.specs.Log.{is_made, is_removed, key_told}
 use Rattle.mq_queue.specs.Row.{is_live, last_log, made_count}
 use Rattle.mq_queue.proofs.Steps.{none_ahead, waits_after}
-use Rattle.mq_table.specs.Calls.{Receipt}
 use Rattle.mq_table.specs.Cut.{kept_cuts}
 use Rattle.mq_table.specs.Kept.{KeptSlot, is_live_kept, made_of, quota_now, waiting_now}
 use Rattle.mq_table.specs.KeptCalls.{kept_goes_on, kept_makes, kept_receives, kept_removes, kept_sends, kept_sets}
@@ -87,13 +87,12 @@ module _ {B : Type 0} (last_seq : ℕ) (list : List Event) (s : KeptSlot B) (k :
 
     -- msgrcv
     pub received_turned : (size : ℕ) (selection : Selection) (noerror : Bool) (seat moment : ℕ)
-        (r : Receipt) (t : KeptSlot B)
-        → kept_receives s size selection noerror seat moment ≡ Ok (r, t)
-        → IsTurned last_seq list
-        (event.Received seat moment r.message.place selection size noerror) s t
-    received_turned size selection noerror seat moment r t is =
+        (m : Header) (t : KeptSlot B)
+        → kept_receives s size selection noerror seat moment ≡ Ok (m, t)
+        → IsTurned last_seq list (event.Received seat moment m.place selection size noerror) s t
+    received_turned size selection noerror seat moment m t is =
         more_turned (λ _. []) t _
-        (received_more (λ _. []) s t size selection noerror seat moment r is)
+        (received_more (λ _. []) s t size selection noerror seat moment m is)
 
     -- IPC_SET
     pub set_turned : (qbytes seat moment entry : ℕ) (t : KeptSlot B)

@@ -12,7 +12,7 @@ use Rattle.mq_queue.specs.QueueCalls.{sending}
 use Rattle.mq_queue.specs.Room.{quota}
 use Rattle.mq_queue.specs.Row.{is_live, last_log}
 use Rattle.mq_queue.specs.Waiting.{waiting}
-use Rattle.mq_table.specs.Calls.{Receipt, SlotTurn, with_event, received, receives, sends, sets, changed_unless, refusal_of}
+use Rattle.mq_table.specs.Calls.{SlotTurn, with_event, received, receives, sends, sets, changed_unless, refusal_of}
 use Rattle.mq_table.specs.Kept.{KeptSlot}
 use Rattle.mq_table.specs.KeptCalls.{kept_goes_on, kept_received, kept_receives, kept_refusal_of, kept_sends, kept_sets, kept_unless}
 use Rattle.mq_table.specs.KeptPart.{IsKeptPart, whole}
@@ -43,14 +43,13 @@ module _ {B : Type 0} (list : List Event) (s : KeptSlot B) (k : IsKeptPart list 
   unless_whole e messages entry t (Some refusal) is = cc
 
   -- a receipt
-  received_whole : (e : Header → Event) (r : Receipt) (t : KeptSlot B)
-      (a : Result Header QueueError) → kept_received s e a ≡ Ok (r, t)
-      → received (whole list s) e a ≡ Ok (r, whole (list ++ e r.message ∷ []) t)
-  received_whole e r t (Ok m) is =
-      IfOk-at_ok (λ turn. received (whole list s) e (Ok m)
-      ≡ Ok (turn.0, whole (list ++ e turn.0.message ∷ []) turn.1)) is
-      (rw (entries_is list s k) refl)
-  received_whole e r t (Err refusal) is = cc
+  received_whole : (e : Header → Event) (m : Header) (t : KeptSlot B)
+      (a : Result Header QueueError) → kept_received s e a ≡ Ok (m, t)
+      → received (whole list s) e a ≡ Ok (m, whole (list ++ e m ∷ []) t)
+  received_whole e m t (Ok named) is =
+      IfOk-at_ok (λ turn. received (whole list s) e (Ok named)
+      ≡ Ok (turn.0, whole (list ++ e turn.0 ∷ []) turn.1)) is refl
+  received_whole e m t (Err refusal) is = cc
 
   received_refused : (e : Header → Event) (a : Result Header QueueError)
       → kept_refusal_of (kept_received s e a) ≡ refusal_of (received (whole list s) e a)
@@ -84,12 +83,12 @@ module _ {B : Type 0} (list : List Event) (s : KeptSlot B) (k : IsKeptPart list 
     abbrev answer : Result Header QueueError
     answer = receive_answer (waiting (last_log list)) size selection noerror
 
-    pub receives_whole : (r : Receipt) (t : KeptSlot B)
-        → kept_receives s size selection noerror seat moment ≡ Ok (r, t)
-        → IsWholeTurn list (got r.message)
-        (receives (whole list s) size selection noerror seat moment) r t
-    receives_whole r t is =
-        record { answers = received_whole got r t answer (rw (waits_last list s k live) at is) }
+    pub receives_whole : (m : Header) (t : KeptSlot B)
+        → kept_receives s size selection noerror seat moment ≡ Ok (m, t)
+        → IsWholeTurn list (got m)
+        (receives (whole list s) size selection noerror seat moment) m t
+    receives_whole m t is =
+        record { answers = received_whole got m t answer (rw (waits_last list s k live) at is) }
 
     -- why it is refused
     pub receive_refused : kept_refusal_of (kept_receives s size selection noerror seat moment)

@@ -7,7 +7,6 @@ use Rattle.mq_message.specs.Waiting.{without}
 use Rattle.mq_queue.specs.declared.error.QueueError.{QueueError}
 use Rattle.mq_queue.specs.declared.error.QueueError.TheVariants.{Memory}
 use Rattle.mq_queue.specs.declared.event.Event.{Event}
-use Rattle.mq_queue.specs.declared.received.Received.{Received}
 use Rattle.mq_queue.specs.declared.event.Event.TheVariants as event
 use Rattle.mq_queue.specs.Answer.{send_refusal, receive_answer, set_refusal}
 use Rattle.mq_queue.specs.Room.{quota}
@@ -43,37 +42,14 @@ sends bytes s m moment =
     changed_unless (send_refusal (waiting log) (quota log) m.mtype n) s
     (with_event s (event.Sent m.sender moment m.tag m.mtype n) (s.messages ++ (length log, m) ∷ []))
 
--- what a receiver is told beside the text: the entry of the receipt in the slot list, and the
--- message as it was sent, with its place in the queue's log
-pub record Receipt : Type 0 where
-  pub entry : ℕ
-  pub message : Header
-
--- the same, out of what a call answered
-abbrev pub receipt_of : {B : Type 0} → Received B → Receipt
-receipt_of r = record {
-  entry = r.entry;
-  message = record {
-    place = r.place;
-    seat = r.sender;
-    tag = r.tag;
-    mtype = r.mtype;
-    length = r.length;
-  };
-}
-
--- what msgrcv does in the slot's queue, where the queue answers so
+-- what msgrcv does in the slot's queue, where the queue answers so: the message as it was sent
 abbrev pub received : {B : Type 0} → SlotState B → (Header → Event) → Result Header QueueError
-    → SlotTurn B Receipt
-received s e (Ok m) =
-    Ok (
-      record { entry = length s.events; message = m },
-      with_event s (e m) (without m.place s.messages),
-    )
+    → SlotTurn B Header
+received s e (Ok m) = Ok (m, with_event s (e m) (without m.place s.messages))
 received s e (Err refusal) = Err refusal
 
 -- what msgrcv does in the slot's queue
-abbrev pub receives : {B : Type 0} → SlotState B → ℕ → Selection → Bool → ℕ → ℕ → SlotTurn B Receipt
+abbrev pub receives : {B : Type 0} → SlotState B → ℕ → Selection → Bool → ℕ → ℕ → SlotTurn B Header
 receives s size selection noerror seat moment =
     received s (λ m. event.Received seat moment m.place selection size noerror)
     (receive_answer (waiting (last_log s.events)) size selection noerror)

@@ -12,7 +12,6 @@ use Rattle.mq_queue.specs.declared.event.Event.{Event}
 use Rattle.mq_queue.specs.declared.event.Event.TheVariants as event
 use Rattle.mq_queue.specs.Queue.{CutLog}
 use Rattle.mq_queue.specs.Answer.{send_refusal, receive_answer, set_refusal}
-use Rattle.mq_table.specs.Calls.{Receipt}
 use Rattle.mq_table.specs.Kept.{KeptSlot, base_now, entries_of, places_now, quota_now, waiting_now}
 
 -- what a call answers, with the slot that it leaves; or why the call is refused
@@ -41,19 +40,15 @@ kept_sends bytes s m moment =
     (kept_goes_on s (event.Sent m.sender moment m.tag m.mtype n)
     (s.messages ++ (places_now s, m) ∷ []))
 
--- what msgrcv does in the slot's queue, where the queue answers so
+-- what msgrcv does in the slot's queue, where the queue answers so: the message as it was sent
 abbrev pub kept_received : {B : Type 0} → KeptSlot B → (Header → Event) → Result Header QueueError
-    → KeptTurn B Receipt
-kept_received s e (Ok m) =
-    Ok (
-      record { entry = entries_of s; message = m },
-      kept_goes_on s (e m) (without m.place s.messages),
-    )
+    → KeptTurn B Header
+kept_received s e (Ok m) = Ok (m, kept_goes_on s (e m) (without m.place s.messages))
 kept_received s e (Err refusal) = Err refusal
 
 -- what msgrcv does in the slot's queue
 abbrev pub kept_receives : {B : Type 0} → KeptSlot B → ℕ → Selection → Bool → ℕ → ℕ
-    → KeptTurn B Receipt
+    → KeptTurn B Header
 kept_receives s size selection noerror seat moment =
     kept_received s (λ m. event.Received seat moment m.place selection size noerror)
     (receive_answer (waiting_now s) size selection noerror)

@@ -4,10 +4,10 @@ use Rattle.std.specs.Prelude.{◌≡◌, ℕ, ℤ, Bool, Ok, List}
 use Rattle.mq_message.specs.declared.message.Message.{Message}
 use Rattle.mq_message.specs.declared.selection.Selection.{Selection}
 use Rattle.mq_queue.specs.declared.received.Received.{Received}
+use Rattle.mq_queue.specs.Answer.{received_header}
 use Rattle.mq_queue.specs.Queue.{CutLog}
 use Rattle.mq_queue.specs.QueueCalls.{IsWhatWaited}
-use Rattle.mq_table.specs.Calls.{receipt_of}
-use Rattle.mq_table.specs.Kept.{KeptSlot}
+use Rattle.mq_table.specs.Kept.{KeptSlot, entries_of}
 use Rattle.mq_table.specs.KeptCalls.{kept_makes, kept_receives, kept_removes, log_removed}
 use Rattle.mq_table.specs.KeptShown.{last_id_now, next_id_now}
 use Rattle.mq_table.specs.Keys.{entered, forget}
@@ -16,7 +16,8 @@ use Rattle.mq_table.specs.Keys.{entered, forget}
 pub record IsTakenIn {B : Type 0} (bytes : B → List ℕ) (keeps : B → B → Type 0) (size : ℕ)
     (selection : Selection) (noerror : Bool) (seat moment : ℕ) (old new : KeptSlot B)
     (r : Received B) : Type 0 where
-  pub ok : kept_receives old size selection noerror seat moment ≡ Ok (receipt_of r, new)
+  pub ok : kept_receives old size selection noerror seat moment ≡ Ok (received_header r, new)
+  pub entry : r.entry ≡ entries_of old
   pub waited : IsWhatWaited bytes keeps size old.messages r
 
 -- a queue was made in the slot, and its key is in the table

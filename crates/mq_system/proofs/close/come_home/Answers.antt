@@ -1,4 +1,4 @@
-use Rattle.std.proofs.Common.{◌≡◌, ap, refl, sym, ◌∙◌, subst, arith}
+use Rattle.std.proofs.Common.{ap, refl, rules, sym, ◌∙◌, subst, arith}
 use mathlib.Core.List.{IsPrefix}
 use Rattle.mq_system.proofs.HomeLemmas.{back_again, none_out, one_out}
 use Rattle.mq_system.proofs.close.come_home.Goals as goal
@@ -6,7 +6,7 @@ use Rattle.mq_system.proofs.close.come_home.Goals as goal
 pub loop-seat-init : goal.loop-seat-init
 loop-seat-init g c = (
   refl,
-  none_out c.args.writer.now.events c.args.fronts.now.items c.args.writer.now.home,
+  search (rules, none_out c.args.writer.now.events c.args.fronts.now.items c.args.writer.now.home),
 )
 
 pub loop-seat-preserved : goal.loop-seat-preserved

@@ -1,4 +1,4 @@
-use Rattle.std.proofs.Common.{ℕ, ◌≡◌, ◌∙◌, arith, rules, ap, sym, length, length-append, ◌∷◌, []}
+use Rattle.std.proofs.Common.{◌≡◌, ◌∙◌, arith, ap, sym, length, length-append, ◌∷◌, []}
 use Rattle.std.specs.Global.{Vec}
 use Rattle.mq_board.specs.Readers.{ReaderState, seats}
 use Rattle.mq_arena.specs.Text.{PlainText}

@@ -1,4 +1,4 @@
-use Rattle.std.proofs.Common.{rules, ◌∙◌}
+use Rattle.std.proofs.Common.{rules}
 use Rattle.mq_table.proofs.Kepts.{live_is, standing_is}
 use Rattle.mq_system.proofs.slot.SharedSlot.look.Goals as goal
 

@@ -1,7 +1,8 @@
-use Rattle.std.proofs.Common.{◌≡◌, refl, rules, ◌∙◌}
-use Rattle.mq_table.specs.Calls.{receipt_of, receives}
+use Rattle.std.proofs.Common.{◌≡◌, length, refl, rules, ◌∙◌}
+use Rattle.mq_queue.specs.Answer.{received_header}
+use Rattle.mq_table.specs.Calls.{receives}
 use Rattle.mq_table.specs.KeptPart.{whole}
-use Rattle.mq_table.proofs.Kepts.{live_is}
+use Rattle.mq_table.proofs.Kepts.{entries_is, live_is}
 use Rattle.mq_table.proofs.Whole.{receive_refused}
 use Rattle.mq_calls.specs.Look.{errno_of}
 use Rattle.mq_system.specs.Answer.{refused_here}
@@ -21,7 +22,7 @@ publish-requires-clause-due g c =
     let short = rw (← c.self.view_is) at c.holds.ensures.few in
     let few = rw (← c.self.view_is) at c.holds.ensures.made in
     rw (← c.number-number.ensures) (receive_changes _ _ _ _ _ c.self.inside.writer _ _ c.receive.new.self c.self.invariant short few live c.args.size
-    c.args.selection c.args.noerror c.number-number.result c.args.moment (receipt_of c.in-Ok.received) (cc (c.in-Ok.ensures.answer.ok))
+    c.args.selection c.args.noerror c.number-number.result c.args.moment (received_header c.in-Ok.received) (cc (c.in-Ok.ensures.answer.ok))
     c.in-Ok.ensures.noticed).due
 
 pub publish-requires-clause-known : goal.publish-requires-clause-known
@@ -43,11 +44,12 @@ returns-in-Ok-clause-answer g c =
     c.args.selection c.args.noerror c.number-number.result c.args.moment _ c.in-Ok.ensures.answer.ok
     c.in-Ok.ensures.noticed in
     let there = rw (← c.self.view_is) at c.in_ok-look.ensures.value in
-    let turn = delivers_it c.self.inside.slot.messages c.args.size c.in-Ok.received _ _ its.left c.in-Ok.ensures.answer.waited.body in
+    let at = c.in-Ok.ensures.answer.entry ∙ entries_is _ _ c.self.invariant.published.kept in
+    let turn = delivers_it c.self.inside.slot.messages c.args.size _ c.in-Ok.received at _ _ its.left c.in-Ok.ensures.answer.waited.body in
     let ok = rw c.number-number.ensures at (answered_by (whole c.self.inside.writer.events c.self.inside.slot) _ there _ _ _ turn) in
     rw (← c.self.view_is, c.of.ensures)
-    (has_changed _ _ _ _ _ _ c.self.inside.writer _ _ _ _ its _ c.publish.ensures.events _ _
-    c.publish.ensures.noted _ _ ok)
+    (search (rules, has_changed _ _ _ _ _ _ c.self.inside.writer _ _ _ _ its _
+    c.publish.ensures.events _ _ c.publish.ensures.noted _ _ ok))
 
 pub returns-in-Ok-clause-pledge : goal.returns-in-Ok-clause-pledge
 returns-in-Ok-clause-pledge g c =
@@ -77,7 +79,7 @@ returns-in-Err-clause-answer g c =
     let why = c.in-Err.ensures.answer.refused
     ∙ receive_refused _ _ c.self.invariant.published.kept live c.args.size c.args.selection
     c.args.noerror c.number-number.result c.args.moment
-    ∙ not_delivered c.self.inside.slot.messages c.args.size
+    ∙ not_delivered c.self.inside.slot.messages c.args.size (length c.self.inside.writer.events)
     (receives (whole c.self.inside.writer.events c.self.inside.slot) c.args.size c.args.selection c.args.noerror c.number-number.result c.args.moment) in
     let s = whole c.self.inside.writer.events c.self.inside.slot in
     let is : c.refused.result ≡ refused_here s (errno_of c.in-Err.refusal) = search rules in

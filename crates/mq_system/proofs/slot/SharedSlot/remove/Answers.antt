@@ -1,10 +1,11 @@
-use Rattle.std.proofs.Common.{◌≡◌, ap, ◌∙◌, subst, sym}
+use Rattle.std.proofs.Common.{◌≡◌, Ok, ap, rules, ◌∙◌, subst, sym}
 use Rattle.mq_queue.specs.Queue.{CutLog, rest_of}
 use Rattle.mq_queue.specs.Row.{last_log}
 use Rattle.mq_table.specs.Calls.{removes}
 use Rattle.mq_table.specs.KeptPart.{whole}
 use Rattle.mq_table.proofs.Kepts.{entries_is, last_id_is, live_is}
 use Rattle.mq_table.proofs.LogLeft.{log_left}
+use Rattle.mq_calls.specs.declared.results.Removal.{Removal}
 use Rattle.mq_system.proofs.AnswerLemmas.{removed_by}
 use Rattle.mq_system.proofs.KeysLemmas.{left_within}
 use Rattle.mq_system.proofs.SharedLemmas.{has_changed, remove_changes}
@@ -66,8 +67,10 @@ returns-clause-answer g c =
     let there = rw (← c.self.view_is) at c.in_ok-look.ensures.value in
     let s = whole c.self.inside.writer.events c.self.inside.slot in
     let after = removes s c.number-number.result c.args.moment in
-    let ok = rw c.number-number.ensures at (removed_by s _ there after _ entry
-    (subst (λ n. c.in-Ok.log ≡ rest_of n (last_log after.events)) (sym places) log)) in
+    let removed : Removal = record { entry = c.events-entry.result; log = c.in-Ok.log } in
+    let ok = rw c.number-number.ensures at (removed_by s _ there after removed entry
+    (subst (λ n. c.in-Ok.log ≡ rest_of n (last_log after.events)) (sym places) log)
+    ∙ ap (λ t. Ok (removed, t)) (sym its.left)) in
     rw (← c.self.view_is)
-    (has_changed _ _ _ _ _ _ c.self.inside.writer _ _ _ _ its _ c.publish.ensures.events _ _
-    c.publish.ensures.noted _ _ (rw (its.left, c.number-number.ensures) ok))
+    (search (rules, has_changed _ _ _ _ _ _ c.self.inside.writer _ _ _ _ its _
+    c.publish.ensures.events _ _ c.publish.ensures.noted _ _ ok))

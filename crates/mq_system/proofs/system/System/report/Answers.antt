@@ -1,4 +1,4 @@
-use Rattle.std.proofs.Common.{◌≡◌, ◌+◌, ◌<◌, ◌∙◌, length, slice_set, arith, rules, sym}
+use Rattle.std.proofs.Common.{◌≡◌, ◌+◌, ◌<◌, length, slice_set, arith, rules}
 use Rattle.mq_system.proofs.LaterLemmas.{look_trans}
 use Rattle.mq_system.proofs.ReportLemmas.{AreRows, all_rows, rows_more}
 use Rattle.mq_system.proofs.system.System.report.Goals as goal

@@ -20,8 +20,8 @@ returns-in-Ok g c =
       answer = record {
         early = in_slots g.N.Names.slots c.args.id within;
         step = done.0;
-        done = done.1;
-        log = done.2;
+        done = search (rules, done.1);
+        log = search (rules, done.2);
         lawful = is_removal g.N.Names.last_seq s _ _ _ _ _ told.answer.ok told.lawful;
       };
     }
