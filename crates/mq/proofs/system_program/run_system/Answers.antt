@@ -19,7 +19,9 @@ returns-clause-after g c =
       run = rw (c.of.ensures.answer, same) c.run-answer.ensures.after;
       changes = record {
         numbers = c.close-closed.ensures.numbers;
-        end = rw (c.of.ensures.slots, c.requires.names.last_seq) c.close-closed.ensures.ends;
-        total = rw c.of.ensures.slots c.close-closed.ensures.total;
+        end =
+            rw (c.of.ensures.slots, c.requires.names.last_seq)
+            (search (rules, c.close-closed.ensures.ends));
+        total = rw c.of.ensures.slots (search (rules, c.close-closed.ensures.total));
       };
     }

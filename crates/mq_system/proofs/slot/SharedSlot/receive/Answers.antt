@@ -48,8 +48,11 @@ returns-in-Ok-clause-answer g c =
     let turn = delivers_it c.self.inside.slot.messages c.args.size _ c.in-Ok.received at _ _ its.left c.in-Ok.ensures.answer.waited.body in
     let ok = rw c.number-number.ensures at (answered_by (whole c.self.inside.writer.events c.self.inside.slot) _ there _ _ _ turn) in
     rw (← c.self.view_is, c.of.ensures)
-    (search (rules, has_changed _ _ _ _ _ _ c.self.inside.writer _ _ _ _ its _
-    c.publish.ensures.events _ _ c.publish.ensures.noted _ _ ok))
+    (search (
+      rules,
+      has_changed _ _ _ _ _ _ c.self.inside.writer _ _ _ _ its _
+          c.publish.ensures.events _ _ c.publish.ensures.noted _ _ ok,
+    ))
 
 pub returns-in-Ok-clause-pledge : goal.returns-in-Ok-clause-pledge
 returns-in-Ok-clause-pledge g c =

@@ -72,5 +72,8 @@ returns-clause-answer g c =
     (subst (λ n. c.in-Ok.log ≡ rest_of n (last_log after.events)) (sym places) log)
     ∙ ap (λ t. Ok (removed, t)) (sym its.left)) in
     rw (← c.self.view_is)
-    (search (rules, has_changed _ _ _ _ _ _ c.self.inside.writer _ _ _ _ its _
-    c.publish.ensures.events _ _ c.publish.ensures.noted _ _ ok))
+    (search (
+      rules,
+      has_changed _ _ _ _ _ _ c.self.inside.writer _ _ _ _ its _
+          c.publish.ensures.events _ _ c.publish.ensures.noted _ _ ok,
+    ))

@@ -81,8 +81,11 @@ returns-in-Ok-send-clause-answer g c =
     let queue = answered_by (whole c.self.inside.writer.events c.self.inside.slot) _ there _ _ _ its.left in
     let ok = rw c.number.ensures at (if_false (int_lt c.args.mtype (pos 1)) (Err (refused_early EINVAL)) _ sent ∙ queue) in
     rw (← c.self.view_is)
-    (search (rules, has_changed _ _ _ _ _ _ c.self.inside.writer _ _ _ _ its _
-    c.publish.ensures.events _ _ c.publish.ensures.noted _ _ ok))
+    (search (
+      rules,
+      has_changed _ _ _ _ _ _ c.self.inside.writer _ _ _ _ its _
+          c.publish.ensures.events _ _ c.publish.ensures.noted _ _ ok,
+    ))
 
 pub returns-in-Err-send-clause-answer : goal.returns-in-Err-send-clause-answer
 returns-in-Err-send-clause-answer g c =

@@ -42,8 +42,11 @@ returns-in-Ok g c =
     record {
       answer =
           rw (← c.self.view_is)
-          (search (rules, has_changed _ _ _ _ _ _ c.self.inside.writer _ _ _ _ its _
-          c.publish.ensures.events _ _ c.publish.ensures.noted _ _ ok));
+          (search (
+            rules,
+            has_changed _ _ _ _ _ _ c.self.inside.writer _ _ _ _ its _
+                c.publish.ensures.events _ _ c.publish.ensures.noted _ _ ok,
+          ));
     }
 
 pub returns-in-Err : goal.returns-in-Err
