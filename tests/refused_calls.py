@@ -45,11 +45,11 @@ TOLD = 3
 # The allocations that are refused one by one, as far as a lane comes in so many seconds; beyond
 # them the steps grow.
 EACH = 600
-PATIENCE = 10
+PATIENCE = 3
 # The runs of a test that are tried side by side, and those of all tests. Of those of tests whose
 # threads wait, most use no processor.
 LANES = 4
-ALL_LANES = 2 * os.cpu_count()
+ALL_LANES = 4 * os.cpu_count()
 # The tests that are named as those that took longest.
 LONGEST = 5
 # The seconds after which a run counts as one that hangs.
@@ -126,7 +126,7 @@ def allocations(lane, begun):
     while True:
         yield nth
         each = nth < EACH and time.monotonic() - begun < PATIENCE
-        nth += LANES if each else max(LANES, LANES * nth // 32)
+        nth += LANES if each else max(LANES, LANES * nth // 16)
 
 
 def is_untold(test, run):
