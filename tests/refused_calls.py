@@ -45,7 +45,7 @@ TOLD = 3
 # The allocations that are refused one by one, as far as a lane comes in so many seconds; beyond
 # them the steps grow.
 EACH = 600
-PATIENCE = 3
+PATIENCE = 10
 # The runs of a test that are tried side by side, and those of all tests. Of those of tests whose
 # threads wait, most use no processor.
 LANES = 4
@@ -126,7 +126,7 @@ def allocations(lane, begun):
     while True:
         yield nth
         each = nth < EACH and time.monotonic() - begun < PATIENCE
-        nth += LANES if each else max(LANES, LANES * nth // 16)
+        nth += LANES if each else max(LANES, LANES * nth // 32)
 
 
 def is_untold(test, run):
