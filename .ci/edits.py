@@ -2,13 +2,14 @@
 `test`, which must see it; a `goal` or none; the `file` below the crate's folder; and pairs of `old`
 and `new`. Each old text stands exactly once in the file as the pairs before it left it. What can't
 be tried is a ValueError."""
+import itertools
 import re
 
 # A function that has a body, in the layout of `rt fmt`: the body begins on a line that is as far in
 # as the function's own, and ends with that line, or else with the next brace as far in.
 FUNCTION = re.compile(
-    r"""(?mx)^(?P<in>\ *)(?:pub(?:\(\w+\))?\ )?(?:const\ |extern\ "C"\ )?fn\ (?P<name>\w+)
-    (?:.*?|(?:.*\n(?!.*\bfn\ \w))+?(?P=in)(?:[^\s{].*?)?)
+    r"""(?mx)^(?P<head>(?P<in>\ *)(?:pub(?:\(\w+\))?\ )?(?:const\ |extern\ "C"\ )?fn\ (?P<name>\w+)
+    (?:.*?|(?:.*\n(?!.*\bfn\ \w))+?(?P=in)(?:[^\s{].*?)?))
     (?P<body>\{.*\}$|\{\n(?:.*\n)*?(?P=in)\}$)"""
 )
 
@@ -66,9 +67,6 @@ def changed_body(before, after):
 
 
 def with_bodies(source, body):
-    """A file's text where each function has the body that is made of its number and its own."""
-    text, last = "", 0
-    for number, it in enumerate(FUNCTION.finditer(source)):
-        text += source[last : it.start("body")] + body(number, it["body"])
-        last = it.end()
-    return text + source[last:]
+    """A file's text where each function has the body that is made of its number and of itself."""
+    numbers = itertools.count()
+    return FUNCTION.sub(lambda it: it["head"] + body(next(numbers), it), source)

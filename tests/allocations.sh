@@ -45,6 +45,21 @@ one_worker_lacked() {
         && [ "$(wc -l < "$seen/out")" -eq "$(wc -l < "$seen/whole")" ]
 }
 
+# Whether what was written is a prefix of the answers. No more than one program is begun, since this
+# is asked for each run.
+is_prefix() {
+    local said
+    cmp "$seen/out" "$seen/whole" > "$seen/differ" 2> "$seen/end" && return
+    read -r said < "$seen/end" && [[ $said = "cmp: EOF on $seen/out"* ]]
+}
+
+# Whether the one line on standard error is $1.
+is_said() {
+    local lines
+    mapfile -t lines < "$seen/err"
+    [ "${#lines[@]}" -eq 1 ] && [ "${lines[0]}" = "$1" ]
+}
+
 # Whether the run that has ended with status $1 may end so.
 is_right() {
     if [ "$1" -eq "$usual" ] && cmp -s "$seen/out" "$seen/whole"; then
@@ -53,11 +68,10 @@ is_right() {
     case $1 in
         0) [ "${list[0]-}" = threads ] && one_worker_lacked ;;
         6) [ "${list[0]-}" = threads ] && sed '/^worker/,$d' "$seen/whole" | cmp -s - "$seen/out" \
-            && [ "$(< "$seen/err")" = "mqsim: thread not started" ] ;;
+            && is_said "mqsim: thread not started" ;;
         2) [ ! -s "$seen/out" ] \
             && grep -qx '\(mqsim: command line\|error\): out of memory' "$seen/err" ;;
-        5) cmp -s -n "$(stat -c %s "$seen/out")" "$seen/out" "$seen/whole" \
-            && [ "$(< "$seen/err")" = "mqsim: out of memory" ] ;;
+        5) is_prefix && is_said "mqsim: out of memory" ;;
         *) false ;;
     esac
 }
@@ -68,14 +82,13 @@ try() {
     seen=$1
     local list usual=0 status n passed=0 failed=0
     read -ra list <<< "$3"
-    local bounded=(env "LD_PRELOAD=$shim")
-    # Only workers may wait for good.
-    [ "${list[0]-}" != threads ] || bounded=(timeout 60 "${bounded[@]}")
+    # Only workers may wait for good. What stops them makes allocations of its own.
+    local bounded=() preload=$shim
+    [ "${list[0]-}" != threads ] || { bounded=(timeout 60 env "LD_PRELOAD=$shim") preload=; }
     "$program" "${list[@]}" < "$2" > "$seen/whole" 2> "$seen/err" || usual=$?
     for ((n = 1; n < 10000; n++)); do
         status=0
-        rm -f "$seen/mark"
-        REFUSE_NTH=$n REFUSE_MARK="$seen/mark" "${bounded[@]}" \
+        LD_PRELOAD=$preload REFUSE_NTH=$n REFUSE_MARK="$seen/mark$n" "${bounded[@]}" \
             "$program" "${list[@]}" < "$2" > "$seen/out" 2> "$seen/err" || status=$?
         if is_right "$status"; then
             passed=$((passed + 1))
@@ -85,9 +98,9 @@ try() {
             # A run that hangs is not tried again.
             [ "$status" -ne 124 ] || break
         fi
-        [ -e "$seen/mark" ] || break
+        [ -e "$seen/mark$n" ] || break
     done
-    if [ "$n" -eq 1 ] && [ ! -e "$seen/mark" ]; then
+    if [ "$n" -eq 1 ] && [ ! -e "$seen/mark1" ]; then
         failed=$((failed + 1))
         echo "allocations: mqsim $3 < $2: no allocation was refused"
     fi

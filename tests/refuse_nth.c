@@ -11,10 +11,15 @@
 #include <unistd.h>
 
 static atomic_long made;
+/* Which one, once it was asked for: to read it at each allocation would take longer than these. */
+static atomic_long nth = -1;
 
 static int refused(void) {
-    const char *nth = getenv("REFUSE_NTH");
-    if (!nth || atomic_fetch_add(&made, 1) + 1 != atol(nth))
+    if (nth == -1) {
+        const char *told = getenv("REFUSE_NTH");
+        nth = told ? atol(told) : 0;
+    }
+    if (nth == 0 || atomic_fetch_add(&made, 1) + 1 != nth)
         return 0;
     const char *mark = getenv("REFUSE_MARK");
     if (mark)
@@ -22,7 +27,14 @@ static int refused(void) {
     return 1;
 }
 
-#define REAL(name) ((__typeof__(&name))dlsym(RTLD_NEXT, #name))
+/* The C library's own, found at the first call. */
+#define REAL(name)                                                                                 \
+    ({                                                                                             \
+        static _Atomic(__typeof__(&name)) found;                                                   \
+        if (!found)                                                                                \
+            found = (__typeof__(&name))dlsym(RTLD_NEXT, #name);                                    \
+        found;                                                                                     \
+    })
 
 void *malloc(size_t size) {
     return refused() ? NULL : REAL(malloc)(size);

@@ -5,8 +5,8 @@ ghost use Rattle.std.specs.Prelude.{◌+◌, ◌<◌, All, OnOk};
 
 use crate::words::Words;
 use anyhow::Result;
-use mq_index::{ByType, IndexWaiting};
-use mq_message::{ListWaiting, Message, Selection, VecBody, Waiting, discard};
+use mq_index::{ByType, IndexWaiting, ListWaiting};
+use mq_message::{Message, Selection, VecBody, Waiting, discard};
 use std::alloc::{AllocError, Global};
 
 /// What is measured.

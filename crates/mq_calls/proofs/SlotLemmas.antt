@@ -21,7 +21,7 @@ pub length_new : (count : ℕ) → length (empty_slots count) ≡ count
 length_new count = length-map-range_with_len empty_kept 0 count
 
 -- a sound queue's figures count what waits
-pub count_of : (bytes : PlainText → List ℕ) (queue : Queue PlainText) (kept : Figures) → kept ≡ figures_from queue.base queue.tail → IsSoundFrom bytes queue.base queue.tail queue.messages → kept.qnum ≡ length queue.messages
+pub count_of : {B : Type 0} (bytes : B → List ℕ) (queue : Queue B) (kept : Figures) → kept ≡ figures_from queue.base queue.tail → IsSoundFrom bytes queue.base queue.tail queue.messages → kept.qnum ≡ length queue.messages
 count_of bytes queue kept e sound =
     ap (λ (f : Figures). f.qnum) e
     ∙ ap (λ (b : Bool). (cond b no_figures (live_figures_from queue.base queue.tail)).qnum) sound.live

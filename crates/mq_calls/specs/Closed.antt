@@ -17,7 +17,7 @@ pub record Ending : Type 0 where
   pub left : ℕ
 
 -- how a slot ends
-abbrev pub ends : KeptSlot PlainText → Ending
+abbrev pub ends : {B : Type 0} → KeptSlot B → Ending
 ends slot = record { cut = cut_of slot; left = length slot.messages }
 
 -- what a slot that was closed tells of its list

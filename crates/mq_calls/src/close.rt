@@ -1,15 +1,13 @@
 //! How a slot ends, and what it leaves.
 
-ghost use Rattle.std.specs.Prelude.{◌≡◌};
+ghost use Rattle.std.specs.Prelude.{◌≡◌, [], IfNone, IfSome};
 ghost use Rattle.mq_table.specs.SlotParts.{either, some_base};
 ghost use Rattle.mq_calls.specs.Closed.{ending_of, ends};
-ghost use Rattle.mq_calls.specs.Texts.{spends_all};
 
-use crate::TextSlot;
-use crate::home::take_home;
 use mq_arena::ArenaState;
+use mq_message::{Body, Waiting};
 use mq_queue::{Base, Event};
-use mq_table::Cut;
+use mq_table::{Cut, Slot};
 use std::sync::ledger::Ledger;
 
 /// What a slot leaves at the end.
@@ -45,10 +43,11 @@ fn base_told(own: Base, removed: Option<Base>) -> Option<Base>
     if own.places == 0 { removed } else { Some(own) }
 }
 
-/// Ends a slot, and spends the texts that wait in it.
-pub fn end_slot<L: Ledger>(arena: &mut ArenaState<L>, slot: TextSlot<L>) -> ClosedSlot
-    ensures slot { ending_of result ≡ ends slot }
-    ensures arena { arena.new ≡ spends_all slot.messages arena.old }
+/// Ends a slot: what it leaves, and what waits in the queue that is in it, if one is there.
+pub fn end_slot<B: Body, W: Waiting<B>>(slot: Slot<B, W>) -> (ClosedSlot, Option<W>)
+    ensures slot { ending_of result.0 ≡ ends slot }
+    ensures messages { IfSome result.1 (λ waiting. W.messages waiting ≡ slot.messages) }
+    ensures none { IfNone result.1 (slot.messages ≡ []) }
 {
     let (cut, live) = slot.into_parts();
     let Cut {
@@ -63,25 +62,28 @@ pub fn end_slot<L: Ledger>(arena: &mut ArenaState<L>, slot: TextSlot<L>) -> Clos
             queue.holds();
             let left = queue.figures().qnum;
             let (log, waiting) = queue.into_parts();
-            take_home(arena, waiting);
             let (own, last) = log.into_parts();
             let base = base_told(own, base);
-            ClosedSlot {
+            let closed = ClosedSlot {
                 first,
                 made,
                 base,
                 past,
                 last,
                 left,
-            }
+            };
+            (closed, Some(waiting))
         }
-        None => ClosedSlot {
-            first,
-            made,
-            base,
-            past,
-            last,
-            left: 0,
-        },
+        None => {
+            let closed = ClosedSlot {
+                first,
+                made,
+                base,
+                past,
+                last,
+                left: 0,
+            };
+            (closed, None)
+        }
     }
 }

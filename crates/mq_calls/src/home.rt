@@ -1,10 +1,9 @@
 //! Texts that are spent: their blocks go home.
 
-ghost use Rattle.std.specs.Prelude.{◌≡◌};
+ghost use Rattle.std.specs.Prelude.{◌≡◌, []};
 ghost use Rattle.mq_calls.specs.Texts.{comes_home, spends, spends_all};
 
 use mq_arena::{ArenaState, Homecoming, Text};
-use mq_index::IndexWaiting;
 use mq_message::Waiting;
 use std::sync::ledger::Ledger;
 
@@ -21,12 +20,12 @@ pub fn take_back<L: Ledger>(arena: &mut ArenaState<L>, text: Text<L>) -> Homecom
     }
 }
 
-/// Spends the texts of all that waits.
-pub fn take_home<L: Ledger>(arena: &mut ArenaState<L>, mut waiting: IndexWaiting<Text<L>>)
-    ensures { arena.new ≡ spends_all waiting.messages arena.old }
+/// Spends the texts of all that waits, and leaves an empty list.
+pub fn take_home<L: Ledger, W: Waiting<Text<L>>>(arena: &mut ArenaState<L>, waiting: &mut W)
+    ensures arena { arena.new ≡ spends_all (W.messages waiting.old) arena.old }
+    ensures empty { W.messages waiting.new ≡ [] }
 {
     while let Some(message) = waiting.pop_any() {
         take_back(arena, message.into_body());
     }
-    waiting.end();
 }

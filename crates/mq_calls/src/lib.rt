@@ -11,7 +11,6 @@ pub mod home;
 mod limits;
 mod results;
 mod shown;
-mod text_slot;
 mod usage;
 pub mod worked;
 
@@ -23,5 +22,4 @@ pub use limits::MAX_SEATS;
 pub use mq_table::{Cut, MAX_SEQ, MAX_SLOTS};
 pub use mq_tree::MAX_HEIGHT;
 pub use results::{Delivered, GetFlags, Got, Refused, Removal, SendRefused};
-pub use text_slot::TextSlot;
 pub use usage::Usage;

@@ -4,6 +4,7 @@ pub mod Heap
 pub mod Held
 pub mod Index
 pub mod Layered
+pub mod Lowest
 pub mod Outcome
 pub mod Queue
 pub mod Same

@@ -7,8 +7,8 @@ ghost use Rattle.std.specs.VecDeque.{deque_len, deque_capacity};
 ghost use Rattle.mq_index.specs.Crossing.{HaveMoved};
 ghost use Rattle.mq_index.specs.Outcome.{HasCrossed};
 
-use crate::Layered;
-use mq_message::{Body, ListWaiting, Placed, Selection, Waiting};
+use crate::{Layered, ListWaiting, Placed};
+use mq_message::{Body, Selection, Waiting};
 use std::alloc::{AllocError, Global};
 use std::collections::VecDeque;
 

@@ -5,9 +5,9 @@ ghost use Rattle.mq_message.specs.Selection.{pick};
 ghost use Rattle.mq_index.specs.Layered.{joins, prefers, reaches, room_for};
 ghost use Rattle.mq_index.specs.Outcome.{CanPut, HasCrossed, IsFresh, IsPopped, IsPut};
 
-use crate::ByType;
 use crate::same::SameType;
-use mq_message::{Body, Header, ListWaiting, Message, Selection, Waiting};
+use crate::{ByType, ListWaiting};
+use mq_message::{Body, Header, Message, Selection, Waiting};
 use std::alloc::{AllocError, Global};
 use std::marker::Model;
 

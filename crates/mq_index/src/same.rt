@@ -5,7 +5,8 @@ ghost use Rattle.mq_message.specs.Waiting.{headers_of, message_at};
 ghost use Rattle.mq_index.specs.Outcome.{CanPut, IsFresh, IsPrepared, IsPut, IsTaken};
 ghost use Rattle.mq_index.specs.Same.{listed_of, picks, KeepsType};
 
-use mq_message::{Body, Header, ListWaiting, Message, Selection, Waiting};
+use crate::ListWaiting;
+use mq_message::{Body, Header, Message, Selection, Waiting};
 use std::alloc::{AllocError, Global};
 use std::marker::Model;
 use std::mem;

@@ -1,3 +1,2 @@
-pub mod FirstLowest
 pub mod Lowest
 pub mod Places

@@ -1,5 +1,4 @@
 pub mod Laws
-pub mod Lowest
 pub mod Selection
 pub mod Waiting
 pub mod Worked

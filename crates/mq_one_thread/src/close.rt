@@ -1,9 +1,30 @@
 ghost use Rattle.std.specs.Prelude.{◌≡◌, map, All};
 ghost use Rattle.mq_calls.specs.Closed.{all_home, ending_of, ends, IsClosed};
+ghost use Rattle.mq_calls.specs.Texts.{spends_all};
 
 use crate::OneThread;
-use mq_calls::{Closed, end_slot};
+use crate::one_thread::TextSlot;
+use mq_arena::ArenaState;
+use mq_calls::home::take_home;
+use mq_calls::{Closed, ClosedSlot, end_slot};
+use mq_message::Waiting;
 use std::sync::ledger::Ledger;
+
+/// Ends a slot, and spends the texts that wait in it.
+fn end_texts<L: Ledger>(arena: &mut ArenaState<L>, slot: TextSlot<L>) -> ClosedSlot
+    ensures slot { ending_of result ≡ ends slot }
+    ensures arena { arena.new ≡ spends_all slot.messages arena.old }
+{
+    let (closed, waiting) = end_slot(slot);
+    match waiting {
+        Some(mut waiting) => {
+            take_home(arena, &mut waiting);
+            waiting.end();
+        }
+        None => (),
+    }
+    closed
+}
 
 impl<L: Ledger> OneThread<L> {
     /// Ends the system. It takes no memory.
@@ -20,7 +41,7 @@ impl<L: Ledger> OneThread<L> {
             mut closed,
         } = self;
         while let Some(slot) = slots.pop() {
-            closed.push_reserved(end_slot(&mut arena, slot));
+            closed.push_reserved(end_texts(&mut arena, slot));
         }
         slots.destroy_empty();
         closed.reverse();

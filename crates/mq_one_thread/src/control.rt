@@ -8,6 +8,7 @@ ghost use Rattle.mq_calls.specs.Usages.{usage_of};
 use crate::OneThread;
 use mq_calls::home::take_home;
 use mq_calls::{Errno, Refused, Removal, Usage};
+use mq_message::Waiting;
 use mq_queue::{Figures, NoNotice};
 use mq_table::{Id, remove_under};
 use std::sync::ledger::Ledger;
@@ -41,8 +42,9 @@ impl<L: Ledger> OneThread<L> {
             moment,
             &mut NoNotice,
         ) {
-            Ok((log, waiting)) => {
-                take_home(&mut self.arena, waiting);
+            Ok((log, mut waiting)) => {
+                take_home(&mut self.arena, &mut waiting);
+                waiting.end();
                 Ok(Removal { entry, log })
             }
             Err(_) => Err(self.refused(k, Errno::ENOMEM)),

@@ -18,12 +18,16 @@ use mq_arena::{
     ArenaState, Block, Homecoming, INLINE_LEN, LEDGER_PARTS, Text, Unopened, order_for,
 };
 use mq_calls::home::take_back;
-use mq_calls::{ClosedSlot, Config, DraftError, SysError, TextSlot};
+use mq_calls::{ClosedSlot, Config, DraftError, SysError};
+use mq_index::IndexWaiting;
 use mq_queue::{BoardRow, MSGMAX};
 use mq_table::{KeyTable, MAX_SEQ, MAX_SLOTS, Slot};
 use std::alloc::Global;
 use std::marker::Model;
 use std::sync::ledger::{Blank, Ledger};
+
+/// A slot whose messages are texts.
+pub(crate) type TextSlot<L> = Slot<Text<L>, IndexWaiting<Text<L>>>;
 
 /// The queues of one thread, by the calls of the manual, of which none waits: a full queue answers
 /// EAGAIN, and a queue with no message to hand out ENOMSG. `close` ends it.

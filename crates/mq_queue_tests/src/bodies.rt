@@ -1,6 +1,6 @@
 use crate::steps::{Step, places};
-use mq_index::{ByType, IndexWaiting, Layered};
-use mq_message::{ListWaiting, Selection, VecBody, Waiting};
+use mq_index::{ByType, IndexWaiting, Layered, ListWaiting};
+use mq_message::{Selection, VecBody, Waiting};
 use std::alloc::{AllocError, Global};
 use std::process::Abort;
 use std::test::Fail;

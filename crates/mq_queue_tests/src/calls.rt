@@ -1,4 +1,5 @@
-use mq_message::{Body, ListWaiting, Message, Selection, VecBody, discard};
+use mq_index::ListWaiting;
+use mq_message::{Body, Message, Selection, VecBody, discard};
 use mq_queue::{Log, NoNotice, QueueError, QueueState, Received};
 use std::alloc::{AllocError, Global};
 use std::process::Abort;

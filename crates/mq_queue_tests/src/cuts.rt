@@ -1,7 +1,8 @@
 //! A queue whose log is cut: what is handed out, and what is answered afterwards.
 
 use crate::calls::{Answer, Queue, close, message, receive, send, set};
-use mq_message::{ListWaiting, Selection, VecBody, discard};
+use mq_index::ListWaiting;
+use mq_message::{Selection, VecBody, discard};
 use mq_queue::{Base, BaseEntries, Event, Figures, Log, NO_FIGURES, NoNotice, QueueState};
 use std::alloc::{AllocError, Global};
 use std::process::Abort;

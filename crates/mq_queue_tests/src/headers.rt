@@ -1,5 +1,5 @@
-use mq_index::{ByType, IndexWaiting};
-use mq_message::{Header, ListWaiting, Message, Selection, VecBody, Waiting, discard};
+use mq_index::{ByType, IndexWaiting, ListWaiting};
+use mq_message::{Header, Message, Selection, VecBody, Waiting, discard};
 use mq_queue::{Event, Log, NoNotice, QueueError, QueueState};
 use std::alloc::{AllocError, Global};
 use std::process::Abort;

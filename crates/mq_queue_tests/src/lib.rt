@@ -1,5 +1,5 @@
-//! Tests of waiting lists, plain and found by type, of one queue, and of texts on their way through
-//! queues.
+//! Tests of waiting lists, plain and found by type, of one queue, of texts on their way through
+//! queues, and, in `table`, of ids, keys, slots and boards.
 
 #![tactic(auto)]
 
@@ -51,5 +51,7 @@ mod notices;
 mod parts;
 #[cfg(test)]
 mod steps;
+#[cfg(test)]
+mod table;
 #[cfg(test)]
 mod texts;

@@ -1,7 +1,8 @@
 ghost use Rattle.std.specs.Prelude.{◌+◌, ◌<◌, All, OnOk};
 
+use mq_index::ListWaiting;
 use mq_message::Selection::{Any, Exact, Except, UpTo};
-use mq_message::{Body, ListWaiting, Message, Selection, VecBody, Waiting, discard};
+use mq_message::{Body, Message, Selection, VecBody, Waiting, discard};
 use std::alloc::{AllocError, Global};
 use std::process::Abort;
 use std::test::Fail;

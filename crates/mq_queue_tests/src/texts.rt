@@ -3,7 +3,8 @@ ghost use Rattle.std.specs.Prelude.{◌≡◌, ◌^◌, ◌<◌, length};
 ghost use Rattle.mq_arena.specs.Text.{count_of};
 
 use mq_arena::{ArenaState, Homecoming, LEDGER_PARTS, PAGE_LEN, Page, Text, Unopened, fill};
-use mq_message::{Body, ListWaiting, Message, Selection, Waiting};
+use mq_index::ListWaiting;
+use mq_message::{Body, Message, Selection, Waiting};
 use mq_queue::{NoNotice, QueueError, QueueState, Received};
 use std::alloc::Global;
 use std::marker::Brand;

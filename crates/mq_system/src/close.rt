@@ -5,8 +5,8 @@ ghost use Rattle.mq_system.specs.Sizes.{all_changes};
 ghost use Rattle.mq_table.specs.KeptPart.{IsKeptPart, whole};
 ghost use Rattle.mq_table.specs.Slot.{Waits};
 ghost use Rattle.mq_table.specs.SlotList.{IsSlotList};
-ghost use Rattle.mq_calls.specs.Closed.{IsClosed, IsEndOf};
-ghost use Rattle.mq_calls.specs.Texts.{bytes_of};
+ghost use Rattle.mq_calls.specs.Closed.{IsClosed, IsEndOf, ending_of, ends};
+ghost use Rattle.mq_calls.specs.Texts.{bytes_of, spends_all};
 ghost use Rattle.mq_system.specs.Closed.{AreDistinct, AreWithout, IsEnd, IsRecorded, entries_in};
 ghost use Rattle.mq_system.specs.Closed.{known_by};
 
@@ -17,6 +17,8 @@ use crate::{
 use mq_arena::ArenaState;
 use mq_board::BoardWriter;
 use mq_calls::end_slot;
+use mq_calls::home::take_home;
+use mq_message::Waiting;
 use std::hint::spin_loop;
 use std::marker::Model;
 use std::sync::Wait;
@@ -145,6 +147,22 @@ fn come_home<N: Names>(writer: &mut BoardWriter<N>, fronts: &mut Vec<Fronts<N>>)
     }
 }
 
+/// Ends a slot, and spends the texts that wait in it.
+pub(crate) fn end_texts<N: Names>(arena: &mut ArenaState<Pages<N>>, slot: SlotOf<N>) -> ClosedSlot
+    ensures slot { ending_of result ≡ ends slot }
+    ensures arena { arena.new ≡ spends_all slot.messages arena.old }
+{
+    let (closed, waiting) = end_slot(slot);
+    match waiting {
+        Some(mut waiting) => {
+            take_home(arena, &mut waiting);
+            waiting.end();
+        }
+        None => (),
+    }
+    closed
+}
+
 /// Gives up the board of a slot that nobody uses any more, ends the slot, and spends the texts that
 /// wait in it.
 fn end_place<N: Names>(
@@ -158,7 +176,7 @@ fn end_place<N: Names>(
     ensures ends { IsEndOf N.last_seq writer.events result }
     ensures height { arena.new.height ≡ arena.old.height }
 {
-    end_slot(arena, slot)
+    end_texts(arena, slot)
 }
 
 /// Tells what all parts have, once they are together.

@@ -2,8 +2,8 @@ ghost use Rattle.std.specs.Prelude.{ℕ, ◌+◌};
 
 use mq_arena::{OfHeight, Text};
 use mq_board::Naming;
-use mq_calls::TextSlot;
 use mq_index::IndexWaiting;
+use mq_table::Slot;
 use std::marker::{Brand, PhantomData};
 use std::sync::ledger::Ledger;
 
@@ -78,4 +78,4 @@ pub type TextOf<N> = Text<Pages<N>>;
 pub type WaitingOf<N> = IndexWaiting<TextOf<N>>;
 
 /// A slot of a system.
-pub type SlotOf<N> = TextSlot<Pages<N>>;
+pub type SlotOf<N> = Slot<TextOf<N>, WaitingOf<N>>;

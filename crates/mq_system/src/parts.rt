@@ -6,12 +6,12 @@ ghost use Rattle.mq_system.specs.Seat.{fresh_seat};
 ghost use Rattle.mq_system.specs.Sizes.{all_changes};
 ghost use Rattle.mq_system.specs.Started.{AreEmpty, AreFresh};
 
+use crate::close::end_texts;
 use crate::{
     Fronts, MAX_SLOTS, Names, Pages, Pledge, Seat, SharedSlot, SlotMonitor, SlotParts, Tally,
 };
 use mq_arena::ArenaState;
 use mq_board::{BoardReader, OpenedBoard, next_board};
-use mq_calls::end_slot;
 use mq_table::Slot;
 use std::alloc::{AllocError, Global};
 
@@ -70,7 +70,7 @@ pub(crate) fn give_up<P: Pledge, N: Names>(
             writer: _,
             entries: _,
         } = slot.into_parts();
-        end_slot(arena, slot);
+        end_texts(arena, slot);
     }
     slots.destroy_empty();
 }

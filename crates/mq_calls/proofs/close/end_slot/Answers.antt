@@ -1,10 +1,7 @@
 use Rattle.std.proofs.Common.{◌≡◌, sym, ap, ◌∙◌}
 use Rattle.mq_queue.specs.declared.base.Base.{Base}
-use Rattle.mq_arena.specs.Text.{PlainText}
 use Rattle.mq_table.specs.Kept.{KeptSlot}
 use Rattle.mq_table.specs.SlotParts.{either, some_base}
-use Rattle.mq_calls.specs.Texts.{bytes_of, spends_all}
-use Rattle.mq_calls.proofs.HomeLemmas.{none_home}
 use Rattle.mq_calls.proofs.SlotLemmas.{count_of}
 use Rattle.mq_calls.proofs.close.end_slot.Goals as goal
 
@@ -18,25 +15,21 @@ returns-in-Some-clause-slot g c =
     ∙ ap (λ (base : Base). either (some_base base) c.into_parts-cut.result.0.base) own in
     let tail = c.into_parts-own.ensures.tail ∙ c.into_parts-log.ensures.tail in
     let left =
-    count_of bytes_of c.in-Some.queue c.figures-left.result c.figures-left.ensures
+    count_of g.B.Body.bytes c.in-Some.queue c.figures-left.result c.figures-left.ensures
     c.holds.ensures in
     rw parts (cc (based, tail, left))
 
-pub returns-in-Some-clause-arena : goal.returns-in-Some-clause-arena
-returns-in-Some-clause-arena g c =
+pub returns-in-Some-clause-messages : goal.returns-in-Some-clause-messages
+returns-in-Some-clause-messages g c =
     let parts = rw c.in-Some.is at c.into_parts-cut.ensures.parts in
-    c.take_home.ensures
-    ∙ ap (λ ms. spends_all ms c.args.arena.now)
-    (c.into_parts-log.ensures.messages ∙ sym (ap (λ (s : KeptSlot PlainText). s.messages) parts))
+    c.into_parts-log.ensures.messages ∙ sym (ap (λ (s : KeptSlot _). s.messages) parts)
 
 pub returns-in-None-clause-slot : goal.returns-in-None-clause-slot
 returns-in-None-clause-slot g c =
     let parts = rw c.in-None.is at c.into_parts-cut.ensures.parts in
     rw parts (cc c.into_parts-cut.ensures.none)
 
-pub returns-in-None-clause-arena : goal.returns-in-None-clause-arena
-returns-in-None-clause-arena g c =
+pub returns-in-None-clause-none : goal.returns-in-None-clause-none
+returns-in-None-clause-none g c =
     let parts = rw c.in-None.is at c.into_parts-cut.ensures.parts in
-    sym (none_home c.args.arena.now)
-    ∙ ap (λ ms. spends_all ms c.args.arena.now)
-    (sym (ap (λ (s : KeptSlot PlainText). s.messages) parts))
+    ap (λ (s : KeptSlot _). s.messages) parts

@@ -12,15 +12,16 @@ loop-message-smaller g c = let fewer = length_permutation _ _ (c.in-Some.ensures
 pub loop-message-preserved : goal.loop-message-preserved
 loop-message-preserved g c =
     let came = c.in-Some.ensures.some in
-    let left = c.pop_any.new.self.messages in
+    let left = g.W.Waiting.messages c.pop_any.new.self in
     ap (λ (a : Lending). spends_all left a)
     (c.take_back.ensures.back ∙ ap (λ (t : PlainText). spends t c.loop-message.arena) c.into_body.ensures)
     ∙ sym (one_home came.0 c.in-Some.message left c.loop-message.arena)
-    ∙ order_home ((came.0, c.in-Some.message) ∷ left) c.loop-message.waiting.messages c.loop-message.arena came.1
+    ∙ order_home ((came.0, c.in-Some.message) ∷ left) (g.W.Waiting.messages c.loop-message.waiting)
+    c.loop-message.arena came.1
     ∙ c.loop-message.invariant
 
-pub returns : goal.returns
-returns g c =
+pub returns-clause-arena : goal.returns-clause-arena
+returns-clause-arena g c =
     let nothing = c.in_default.ensures.none in
     sym (none_home c.loop-message.arena)
     ∙ ap (λ messages. spends_all messages c.loop-message.arena) (sym nothing.0)

@@ -3,9 +3,10 @@ use Rattle.mq_calls.specs.Texts.{spends_all}
 use Rattle.mq_calls.proofs.home.take_home.Given as goal
 
 abbrev pub decreases-loop-message : goal.decreases-loop-message
-decreases-loop-message g l = length l.waiting.messages
+decreases-loop-message g l = length (g.W.Waiting.messages l.waiting)
 
 -- once all that is left is home, all that waited is
 abbrev pub invariant-loop-message : goal.invariant-loop-message
 invariant-loop-message g l =
-    spends_all l.waiting.messages l.arena ≡ spends_all l.initial.waiting.messages l.initial.arena
+    spends_all (g.W.Waiting.messages l.waiting) l.arena
+    ≡ spends_all (g.W.Waiting.messages l.initial.waiting) l.initial.arena

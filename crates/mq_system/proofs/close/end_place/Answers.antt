@@ -10,10 +10,10 @@ returns-clause-ends g c =
     let events = c.args.writer.events in
     let slot = c.args.slot in
     let kept = c.requires.kept in
-    let ends : IsEndOf g.N.Names.last_seq events c.end_slot.result =
-    ends_with_list g.N.Names.last_seq events slot c.end_slot.result c.end_slot.ensures.slot kept
+    let ends : IsEndOf g.N.Names.last_seq events c.end_texts.result =
+    ends_with_list g.N.Names.last_seq events slot c.end_texts.result c.end_texts.ensures.slot kept
     c.requires.lawful (c.requires.waits ∙ sym (waiting_is events slot kept)) in
     search (rules, ends)
 
 pub returns-clause-height : goal.returns-clause-height
-returns-clause-height g c = ap (λ (a : Lending). a.height) c.end_slot.ensures.arena
+returns-clause-height g c = ap (λ (a : Lending). a.height) c.end_texts.ensures.arena

@@ -16,13 +16,13 @@ loop-slot-preserved g c =
     let inv = c.loop-slot.invariant in
     let grown = c.push_reserved.ensures.items in (
       rw grown
-          (endings_kept left c.in-Some.slot c.loop-slot.closed.items c.end_slot.result (map ends c.self.inside.slots.items)
-          c.end_slot.ensures.slot (rw parted at inv.0)),
-      ap (λ (a : Lending). all_home left a) c.end_slot.ensures.arena
+          (endings_kept left c.in-Some.slot c.loop-slot.closed.items c.end_texts.result (map ends c.self.inside.slots.items)
+          c.end_texts.ensures.slot (rw parted at inv.0)),
+      ap (λ (a : Lending). all_home left a) c.end_texts.ensures.arena
           ∙ sym (last_home left c.in-Some.slot c.loop-slot.arena)
           ∙ ap (λ ss. all_home ss c.loop-slot.arena) (sym parted)
           ∙ inv.1,
-      omega (arith, ap length parted, length-append left (c.in-Some.slot ∷ []), ap length grown, length-append c.loop-slot.closed.items (c.end_slot.result ∷ []), inv.2, c.push_reserved.ensures.capacity),
+      omega (arith, ap length parted, length-append left (c.in-Some.slot ∷ []), ap length grown, length-append c.loop-slot.closed.items (c.end_texts.result ∷ []), inv.2, c.push_reserved.ensures.capacity),
     )
 
 pub returns-clause-slots : goal.returns-clause-slots
