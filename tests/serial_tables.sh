@@ -230,6 +230,146 @@ case_of 'serial --slots 2 --last-seq 0' \
     'get 0 c\nget 0 c\nsnd 0 1 =a\nsnd 1 1 =b\nrcv 1 9 0\nrcv 1 9 0\nrcv 0 9 0\nrm 0\nget 0 c\n' \
     'id 0\nid 1\nat 1\nat 1\nmsg 1 seat 1 tag 4 len 1 =b\nENOMSG\nmsg 1 seat 1 tag 3 len 1 =a\nat 3 events 4\nENOSPC\n'
 
+table an_id_is_never_given_then_live_then_removed
+# Each removal's entry tells at which entry its queue was made.
+case_of 'serial --height 0 --slots 2' \
+    'stat 0\nget 5 c\nstat 0\nstat 64\nstat 1\nget 0\nstat 1\nrm 0\nstat 0\nstat 64\nget 5 c\nstat 0\nstat 64\nstat 128\nrm 64\nget 6 c\nstat 0\nstat 64\nstat 128\nstat 192\nstat 1\nrm 128\nrm 1\n' \
+    'EINVAL\nid 0\nqnum 0 cbytes 0 qbytes 131072 lspid 0 lrpid 0 stime 0 rtime 0 ctime 2\nEINVAL\nEINVAL\nid 1\nqnum 0 cbytes 0 qbytes 131072 lspid 0 lrpid 0 stime 0 rtime 0 ctime 6\nat 1 events 2\nEIDRM\nEINVAL\nid 64\nEIDRM\nqnum 0 cbytes 0 qbytes 131072 lspid 0 lrpid 0 stime 0 rtime 0 ctime 11\nEINVAL\nat 3 events 2\nid 128\nEIDRM\nEIDRM\nqnum 0 cbytes 0 qbytes 131072 lspid 0 lrpid 0 stime 0 rtime 0 ctime 16\nEINVAL\nqnum 0 cbytes 0 qbytes 131072 lspid 0 lrpid 0 stime 0 rtime 0 ctime 6\nat 5 events 2\nat 1 events 2\n'
+
+table an_id_past_the_slots_was_never_given
+case_of 'serial --height 0 --slots 2 --last-seq 9' \
+    'get 5 c\nget 6 c\nstat 2\nstat 63\nstat 4294967295\nsnd 2 1 =a\nsnd 63 1 =\nsnd 4294967295 1 =a\nrcv 2 9 0\nrcv 4294967295 9 0\nset 63 1\nset 4294967295 131073\nrm 66\nrm 4294967295\nrm 0\nrm 1\narena\n' \
+    'id 0\nid 1\nEINVAL\nEINVAL\nEINVAL\nEINVAL\nEINVAL\nEINVAL\nEINVAL\nEINVAL\nEINVAL\nEINVAL\nEINVAL\nEINVAL\nat 1 events 2\nat 1 events 2\npages 1 free 1 largest 0\n'
+# The last id is of the last slot.
+case_of 'serial --height 0 --slots 64' \
+    'rm 63\nrm 4294967295\nset 4294967295 1\nsnd 4294967295 1 =a\nstat 4294967295\ncut 63\n' \
+    'EINVAL\nEINVAL\nEINVAL\nEINVAL\nEINVAL\ncut from 0 to 0\n'
+
+table a_refused_call_changes_nothing
+# Of a queue that is empty, full, too long to be received, removed and never given.
+case_of 'serial --height 0 --slots 1 --last-seq 9' \
+    'rm 0\nget 5 c\nrcv 0 9 0\nset 0 131073\nset 0 2\nsnd 0 1 =abc\nsnd 0 1 =ab\nrcv 0 1 0\nstat 0\nrcv 0 2 0\nrm 0\nsnd 0 1 =ab\nrcv 0 2 0\nset 0 131073\nrm 0\nsnd 64 1 =ab\nrcv 64 2 0\nrm 4294967232\nsnd 0 0 =ab\nsnd 0 -9223372036854775808 =ab\ncut 0\narena\n' \
+    'EINVAL\nid 0\nENOMSG\nEPERM\nat 1\nEAGAIN\nat 2\nE2BIG\nqnum 1 cbytes 2 qbytes 2 lspid 1 lrpid 0 stime 7 rtime 0 ctime 5\nmsg 1 seat 1 tag 7 len 2 =ab\nat 4 events 5\nEIDRM\nEIDRM\nEIDRM\nEIDRM\nEINVAL\nEINVAL\nEINVAL\nEINVAL\nEINVAL\ncut from 0 to 5\npages 1 free 1 largest 0\n'
+# A text that is not made is not sent.
+case_of 'serial --height 0 --slots 1 --last-seq 9' \
+    'get 0 c\nsnd 0 0 *65537\nsnd 0 0 *65536\nsnd 0 1 *1\nsnd 0 1 *1\nsnd 0 1 *0\nstat 0\n' \
+    'id 0\nEINVAL\nENOMEM\nat 1\nENOMEM\nat 2\nqnum 2 cbytes 1 qbytes 131072 lspid 1 lrpid 0 stime 6 rtime 0 ctime 1\n'
+
+table a_slot_is_used_up_after_its_last_seq
+case_of 'serial --height 0 --slots 1 --last-seq 1' \
+    'get 0 c\nrm 0\nget 9 c\nrm 64\nget 9 c\nget 0 c\nstat 0\nstat 64\nstat 128\n' \
+    'id 0\nat 1 events 2\nid 64\nat 3 events 2\nENOSPC\nENOSPC\nEIDRM\nEIDRM\nEINVAL\n'
+case_of 'serial --height 0 --slots 2 --last-seq 0' \
+    'get 0 c\nrm 0\nget 0 c\nrm 1\nget 0 c\n' \
+    'id 0\nat 1 events 2\nid 1\nat 1 events 2\nENOSPC\n'
+
+table the_least_free_slot_is_taken
+case_of 'serial --height 0 --slots 3 --last-seq 9' \
+    'get 0 c\nget 0 c\nget 0 c\nrm 2\nrm 1\nget 0 c\nrm 0\nget 0 c\nget 0 c\nrm 64\nrm 65\nrm 66\n' \
+    'id 0\nid 1\nid 2\nat 1 events 2\nat 1 events 2\nid 65\nat 1 events 2\nid 64\nid 66\nat 3 events 2\nat 3 events 2\nat 3 events 2\n'
+
+table a_key_is_found_or_made_as_the_flags_say
+# Alone, IPC_EXCL says nothing. What is found is not made again: no entry comes between.
+case_of 'serial --height 0 --slots 1 --last-seq 9' \
+    'get 9\nget 9 c\nget 9 cx\nget 9\nget 9 c\nget 8 c\nget 9 x\nget 8 x\nget 0\nrm 0\nget 9\nget 9 c\nstat 0\nstat 1\nstat 64\nstat 128\nget 9\nrm 64\n' \
+    'ENOENT\nid 0\nEEXIST\nid 0\nid 0\nENOSPC\nid 0\nENOENT\nENOSPC\nat 1 events 2\nENOENT\nid 64\nEIDRM\nEINVAL\nqnum 0 cbytes 0 qbytes 131072 lspid 0 lrpid 0 stime 0 rtime 0 ctime 12\nEINVAL\nid 64\nat 3 events 2\n'
+# IPC_PRIVATE makes a queue at each call.
+case_of 'serial --height 0 --slots 4 --last-seq 9' \
+    'get 0\nget 0 cx\nget 0 x\nget 0 c\nget 0 c\nget 0\nrm 0\nrm 1\nrm 2\nrm 3\n' \
+    'id 0\nid 1\nid 2\nid 3\nENOSPC\nENOSPC\nat 1 events 2\nat 1 events 2\nat 1 events 2\nat 1 events 2\n'
+
+table each_key_keeps_its_own_queue
+# A queue without a key takes no key with it, and one with a key takes that one alone.
+case_of 'serial --height 0 --slots 4 --last-seq 9' \
+    'get -2147483648 c\nget 2147483647 cx\nget 0 c\nget -1 c\nget -2147483648\nget 2147483647\nget -1\nrm 2\nget -2147483648 c\nget 2147483647 c\nget -1\nrm 1\nget 2147483647\nget -2147483648\nget -1 cx\nget 1 c\nget 2147483647 c\nget 2147483647\nget 2 c\nrm 0\nrm 3\nrm 65\nrm 66\n' \
+    'id 0\nid 1\nid 2\nid 3\nid 0\nid 1\nid 3\nat 1 events 2\nid 0\nid 1\nid 3\nat 1 events 2\nENOENT\nid 0\nEEXIST\nid 65\nid 66\nid 66\nENOSPC\nat 1 events 2\nat 1 events 2\nat 3 events 2\nat 3 events 2\n'
+
+table a_queue_is_made_filled_shown_and_removed
+case_of 'serial --height 0 --slots 1 --last-seq 9' \
+    'get 0 cx\nseat 2\nrcv 0 9 0\nseat 1\nsnd 0 0 =hi\narena\nsnd 0 1 =hi\nstat 0\nipcs\narena\nrm 0\narena\nstat 0\nipcs\ncut 0\n' \
+    'id 0\nENOMSG\nEINVAL\npages 1 free 1 largest 0\nat 1\nqnum 1 cbytes 2 qbytes 131072 lspid 1 lrpid 0 stime 7 rtime 0 ctime 1\nslot      id         key   qnum  cbytes  qbytes lspid lrpid\n   0       0           0      1       2  131072     1     0\npages 1 free 0 largest none\nat 2 events 3\npages 1 free 1 largest 0\nEIDRM\nslot      id         key   qnum  cbytes  qbytes lspid lrpid\ncut from 0 to 3\n'
+# Each row shows its own slot.
+case_of 'serial --height 0 --slots 3 --last-seq 9' \
+    'get 0\nget -8 cx\nsnd 1 1 =hi\nipcs\nstat 0\nstat 1\nstat 2\n' \
+    'id 0\nid 1\nat 1\nslot      id         key   qnum  cbytes  qbytes lspid lrpid\n   0       0           0      0       0  131072     0     0\n   1       1          -8      1       2  131072     1     0\nqnum 0 cbytes 0 qbytes 131072 lspid 0 lrpid 0 stime 0 rtime 0 ctime 1\nqnum 1 cbytes 2 qbytes 131072 lspid 1 lrpid 0 stime 3 rtime 0 ctime 2\nEINVAL\n'
+# What waits at the end is of two queues; a third was removed, and a slot never used.
+case_of 'serial --height 3 --slots 4 --last-seq 9' \
+    'get 5 c\nsnd 0 1 =gone\nrm 0\nget 5 c\nget 6 c\nget 7 c\nrm 1\nsnd 64 1 =one\nsnd 64 1 =two\nsnd 2 1 =outside\nsnd 2 1 =four\narena\nseat 2\nrcv 2 9 0\narena\ncut 0\ncut 1\ncut 2\ncut 3\n' \
+    'id 0\nat 1\nat 2 events 3\nid 64\nid 1\nid 2\nat 1 events 2\nat 4\nat 5\nat 1\nat 2\npages 8 free 4 largest 2\nmsg 1 seat 1 tag 10 len 7 =outside\npages 8 free 5 largest 2\ncut from 0 to 6\ncut from 0 to 2\ncut from 0 to 4\ncut from 0 to 0\n'
+
+table what_waits_outlives_cuts
+case_of 'serial --height 1 --slots 2 --last-seq 9' \
+    'cut 0\nget 9 cx\nsnd 0 1 =one\nsnd 0 2 =four\ncut 0\nget 9\nstat 0\nipcs\ncut 0\nget 9\nstat 0\nipcs\nseat 2\nrcv 0 9 0\ncut 0\nget 9\nstat 0\nipcs\nseat 1\nsnd 0 1 =two\ncut 1\narena\ncut 0\n' \
+    'cut from 0 to 0\nid 0\nat 1\nat 2\ncut from 0 to 3\nid 0\nqnum 2 cbytes 7 qbytes 131072 lspid 1 lrpid 0 stime 4 rtime 0 ctime 2\nslot      id         key   qnum  cbytes  qbytes lspid lrpid\n   0       0           9      2       7  131072     1     0\ncut from 3 to 3\nid 0\nqnum 2 cbytes 7 qbytes 131072 lspid 1 lrpid 0 stime 4 rtime 0 ctime 2\nslot      id         key   qnum  cbytes  qbytes lspid lrpid\n   0       0           9      2       7  131072     1     0\nmsg 1 seat 1 tag 3 len 3 =one\ncut from 3 to 4\nid 0\nqnum 1 cbytes 4 qbytes 131072 lspid 1 lrpid 2 stime 4 rtime 14 ctime 2\nslot      id         key   qnum  cbytes  qbytes lspid lrpid\n   0       0           9      1       4  131072     1     2\nat 4\ncut from 0 to 0\npages 2 free 0 largest none\ncut from 4 to 5\n'
+# A removed queue's entries are counted with those that were cut off.
+case_of 'serial --height 1 --slots 2 --last-seq 9' \
+    'get 9 cx\nsnd 0 1 =one\nsnd 0 2 =four\ncut 0\ncut 0\nseat 2\nrcv 0 9 0\nseat 1\nrm 0\narena\ncut 0\n' \
+    'id 0\nat 1\nat 2\ncut from 0 to 3\ncut from 3 to 3\nmsg 1 seat 1 tag 2 len 3 =one\nat 4 events 5\npages 2 free 2 largest 1\ncut from 3 to 5\n'
+
+table entries_and_ids_count_on_over_cuts
+case_of 'serial --height 0 --slots 1 --last-seq 9' \
+    'cut 0\nget 9 c\nsnd 0 1 =abc\ncut 0\ncut 0\nget 9 cx\nstat 0\nrcv 0 9 0\nsnd 0 2 =four\ncut 0\nset 0 100\nrm 0\nstat 0\nget 9\nget 8 c\nsnd 64 1 =\ncut 0\ncut 0\nrm 64\ncut 0\ncut 0\nget 8 c\nrm 128\n' \
+    'cut from 0 to 0\nid 0\nat 1\ncut from 0 to 2\ncut from 2 to 2\nEEXIST\nqnum 1 cbytes 3 qbytes 131072 lspid 1 lrpid 0 stime 3 rtime 0 ctime 2\nmsg 1 seat 1 tag 3 len 3 =abc\nat 3\ncut from 2 to 4\nat 4\nat 5 events 6\nEIDRM\nENOENT\nid 64\nat 7\ncut from 4 to 8\ncut from 8 to 8\nat 8 events 3\ncut from 8 to 9\ncut from 9 to 9\nid 128\nat 10 events 2\n'
+
+table a_text_takes_the_smallest_block
+script='get 0 c\n'
+answers='id 0\n'
+line=1
+for beside in '0 64 6' '1 63 5' '1024 63 5' '1025 62 5' '2048 62 5' '2049 60 5' '4096 60 5' \
+    '4097 56 5' '8192 56 5' '8193 48 5' '16384 48 5' '16385 32 5' '32768 32 5' '32769 0 none' \
+    '65536 0 none'; do
+    read -r length free largest <<< "$beside"
+    script+="snd 0 1 *$length\narena\nrcv 0 0 0 n\narena\n"
+    answers+="at $((line / 2 + 1))\npages 64 free $free largest $largest\n"
+    answers+="msg 1 seat 1 tag $((line + 1)) len $length =\npages 64 free 64 largest 6\n"
+    line=$((line + 4))
+done
+case_of 'serial --height 6 --slots 1 --last-seq 9' "$script" "$answers"
+
+table a_text_is_refused_where_it_is_too_long_or_no_run_is_free
+case_of 'serial --height 3 --slots 1 --last-seq 9' \
+    'get 0 c\nsnd 0 1 *1\narena\nsnd 0 1 *8192\nsnd 0 1 *65537\nrcv 0 9 0\nsnd 0 1 *8192\narena\nsnd 0 1 *1\nsnd 0 1 *8193\nsnd 0 1 *65536\nsnd 0 1 *65537\nsnd 0 1 *18446744073709551615\nsnd 0 2 *0\nrcv 0 0 2\nrcv 0 0 0 n\narena\n' \
+    'id 0\nat 1\npages 8 free 7 largest 2\nENOMEM\nEINVAL\nmsg 1 seat 1 tag 2 len 1 =a\nat 3\npages 8 free 0 largest none\nENOMEM\nENOMEM\nENOMEM\nEINVAL\nEINVAL\nat 4\nmsg 2 seat 1 tag 14 len 0 =\nmsg 1 seat 1 tag 7 len 8192 =\npages 8 free 8 largest 3\n'
+# Beside a page of 64 the longest text has no run, and one of half its length has one.
+case_of 'serial --height 6 --slots 1 --last-seq 9' \
+    'get 0 c\nsnd 0 1 *1\nsnd 0 1 *65536\nsnd 0 1 *32769\nsnd 0 2 *32768\nsnd 0 1 *16385\nsnd 0 3 *8193\nsnd 0 1 *8193\narena\nrcv 0 1 1\nrcv 0 0 3 n\nrcv 0 0 2 n\narena\nsnd 0 1 *65536\narena\nrcv 0 0 0 n\narena\n' \
+    'id 0\nat 1\nENOMEM\nENOMEM\nat 2\nENOMEM\nat 3\nENOMEM\npages 64 free 15 largest 3\nmsg 1 seat 1 tag 2 len 1 =a\nmsg 3 seat 1 tag 7 len 8193 =\nmsg 2 seat 1 tag 5 len 32768 =\npages 64 free 64 largest 6\nat 7\npages 64 free 0 largest none\nmsg 1 seat 1 tag 14 len 65536 =\npages 64 free 64 largest 6\n'
+
+table each_flag_of_msgrcv_does_its_own
+case_of 'serial --height 2 --slots 1 --last-seq 9' \
+    'get 0 c\nsnd 0 2 *4\nsnd 0 1 *3\nsnd 0 1 *0\narena\nseat 2\nrcv 0 9 -2\nrcv 0 9 1 e\nrcv 0 9 1 e\nrcv 0 1 1 n\narena\nset 0 9\n' \
+    'id 0\nat 1\nat 2\nat 3\npages 4 free 2 largest 1\nmsg 1 seat 1 tag 3 len 3 =abc\nmsg 2 seat 1 tag 2 len 4 =abcd\nENOMSG\nmsg 1 seat 1 tag 4 len 0 =\npages 4 free 4 largest 2\nat 7\n'
+# A text that is cut tells its whole length, and its page comes home.
+case_of 'serial --height 1 --slots 1 --last-seq 9' \
+    'get 9 c\nsnd 0 1 =before\nsnd 0 3 =hello\nrcv 0 9 1\narena\nseat 2\nrcv 0 4 0\nrcv 0 2 0 n\narena\n' \
+    'id 0\nat 1\nat 2\nmsg 1 seat 1 tag 2 len 6 =before\npages 2 free 1 largest 0\nE2BIG\nmsg 3 seat 1 tag 3 len 5 =he\npages 2 free 2 largest 1\n'
+
+# Forty messages of five types, of which one has a text that takes all pages; after twenty receipts
+# the log is cut off.
+table a_list_of_calls_is_answered_over_cuts
+script='get 9 c\nget 0 c\n'
+answers='id 0\nid 1\n'
+for place in {0..39}; do
+    script+="snd 0 $((place % 5 + 1)) *$((place == 17 ? 8193 : 0))\n"
+    answers+="at $((place + 1))\n"
+done
+script+='cut 0\nseat 2\n'
+answers+='cut from 0 to 41\n'
+for place in {0..39}; do
+    sent=$((place % 8 * 5 + place / 8))
+    length=$((sent == 17 ? 8193 : 0))
+    script+="rcv 0 $length $((sent % 5 + 1))\n"
+    answers+="msg $((sent % 5 + 1)) seat 1 tag $((sent + 3)) len $length "
+    answers+="=$(printf 'abcdefghijklmnopqrstuvwxyz%.0s' {1..316} | head -c $length)\n"
+    if [ "$place" -eq 19 ]; then
+        script+='cut 0\n'
+        answers+='cut from 41 to 61\n'
+    fi
+done
+case_of 'serial --height 4 --slots 2 --last-seq 1' \
+    "${script}seat 1\nset 0 100\nstat 0\nrm 0\ncut 0\nget 9 c\ncut 0\n" \
+    "${answers}at 81\nqnum 0 cbytes 0 qbytes 100 lspid 1 lrpid 2 stime 42 rtime 85 ctime 87\nat 82 events 83\ncut from 61 to 83\nid 64\ncut from 83 to 84\n"
+
 table a_line_that_is_not_well_formed_has_its_cause
 case_of 'serial --height 0' '\tget 0 c' '' 'mqsim: line 1: byte\n'
 case_of 'serial --height 0' 'get 0 c\177' '' 'mqsim: line 1: byte\n'

@@ -18,11 +18,6 @@ pub(crate) const CREATE: GetFlags = GetFlags {
     exclusive: false,
 };
 
-pub(crate) const EXCLUSIVE: GetFlags = GetFlags {
-    create: false,
-    exclusive: true,
-};
-
 pub(crate) const NEW: GetFlags = GetFlags {
     create: true,
     exclusive: true,
@@ -183,11 +178,18 @@ pub(crate) fn cut<S: Calls>(rt: &impl Abort, system: &mut S, slot: u8) -> Cut {
     }
 }
 
-/// A text of so many zero bytes.
-pub(crate) fn draft<S: Calls>(system: &mut S, length: u64) -> Result<S::Text, DraftError> {
+/// A text of so many zero bytes. Where there is no memory for it at first, all pages are left.
+pub(crate) fn drafted<S: Calls>(rt: &impl Abort, system: &mut S, length: u64) -> S::Text {
+    let (free, largest) = (system.free_pages(), system.largest());
     match system.draft(length) {
-        Err(DraftError::Memory) => system.draft(length),
-        answer => answer,
+        Ok(text) => return text,
+        Err(refusal) => holds(rt, refusal == DraftError::Memory, "not drafted"),
+    }
+    holds(rt, system.free_pages() == free, "a page is taken");
+    holds(rt, system.largest() == largest, "another order fits");
+    match system.draft(length) {
+        Ok(text) => text,
+        Err(_) => panic!(rt; "not drafted twice"),
     }
 }
 

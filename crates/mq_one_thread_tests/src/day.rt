@@ -3,7 +3,7 @@ ghost use Rattle.std.specs.Prelude.{◌≡◌, ◌<◌};
 
 use crate::holds;
 use crate::system::Calls;
-use mq_calls::{Closed, ClosedSlot, Config, SysError};
+use mq_calls::{Closed, Config, SysError};
 use mq_one_thread::OneThread;
 use std::alloc::Global;
 use std::marker::Brand;
@@ -16,14 +16,6 @@ pub(crate) const PARTS: u64 = 1025;
 /// What a test does with a system that was just made.
 pub(crate) trait Day {
     fn spend<S: Calls, R: Abort>(&self, rt: &R, system: &mut S);
-}
-
-/// What a system leaves at its end.
-#[derive(Drop)]
-pub(crate) struct Left {
-    pub(crate) slots: Vec<ClosedSlot>,
-    pub(crate) pages: u32,
-    pub(crate) free_pages: u32,
 }
 
 pub(crate) fn config(height: u8, slots: u8, last_seq: u32) -> Config {
@@ -52,38 +44,19 @@ pub(crate) fn made<L: Ledger>(
     }
 }
 
-fn lived<L: Ledger, D: Day, R: Abort>(
-    rt: &R,
-    alloc: Global,
-    config: Config,
-    ledger: Blank,
-    day: &D,
-) -> Left
+fn lived<L: Ledger, D: Day, R: Abort>(rt: &R, alloc: Global, config: Config, ledger: Blank, day: &D)
     requires name { ledger.name ≡ L.name }
     requires parts { ledger.parts ≡ L.parts }
     requires enough { 1024 < ledger.parts }
 {
     let mut system = made::<L>(rt, alloc, config, ledger);
     day.spend(rt, &mut system);
-    let Closed { slots, arena } = system.close();
-    Left {
-        slots,
-        pages: arena.pages(),
-        free_pages: arena.free_pages(),
-    }
-}
-
-/// What a system of this size leaves after this day.
-pub(crate) fn left_by<D: Day, R: Abort>(rt: &R, alloc: Global, config: Config, day: &D) -> Left {
-    lived::<Brand, D, R>(rt, alloc, config, Blank::new(PARTS), day)
+    let Closed { slots: _, arena } = system.close();
+    let free = arena.free_pages() == arena.pages();
+    holds(rt, free, "all pages are free at the end");
 }
 
 /// A system of this size lives this day, and all its pages are free at the end.
 pub(crate) fn lives<D: Day, R: Abort>(rt: &R, alloc: Global, config: Config, day: &D) {
-    let left = left_by(rt, alloc, config, day);
-    holds(
-        rt,
-        left.free_pages == left.pages,
-        "all pages are free at the end",
-    );
+    lived::<Brand, D, R>(rt, alloc, config, Blank::new(PARTS), day);
 }

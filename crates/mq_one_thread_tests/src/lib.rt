@@ -27,29 +27,21 @@ macro_rules! holds {
 #[cfg(test)]
 mod calls;
 #[cfg(test)]
-mod cuts;
-#[cfg(test)]
 mod day;
-#[cfg(test)]
-mod ending;
 #[cfg(test)]
 mod face;
 #[cfg(test)]
 mod first;
 #[cfg(test)]
-mod ids;
-#[cfg(test)]
-mod keys;
-#[cfg(test)]
-mod life;
-#[cfg(test)]
 mod limits;
 #[cfg(test)]
 mod list;
 #[cfg(test)]
+mod logs;
+#[cfg(test)]
 mod names;
 #[cfg(test)]
-mod steps;
+mod refusals;
 #[cfg(test)]
 mod system;
 #[cfg(test)]

@@ -14,10 +14,6 @@ use std::sync::ledger::{Blank, Ledger};
 /// The pages and slots of a new system, or why it is not made.
 type Size = Result<(u32, u8), SysError>;
 
-fn is(rt: &impl Abort, size: Size, wanted: Size) {
-    holds(rt, size == wanted, "a system of another size");
-}
-
 /// A new system has so many pages and slots, or is not made.
 fn sized<L: Ledger, R: Abort>(rt: &R, alloc: Global, config: Config, ledger: Blank, wanted: Size)
     requires name { ledger.name ≡ L.name }
@@ -26,11 +22,12 @@ fn sized<L: Ledger, R: Abort>(rt: &R, alloc: Global, config: Config, ledger: Bla
 {
     match OneThread::<L>::new(alloc, config, ledger) {
         Ok(system) => {
-            is(rt, Ok((system.pages(), system.slots())), wanted);
+            let size = Ok((system.pages(), system.slots()));
+            holds(rt, size == wanted, "a system of another size");
             let Closed { slots: _, arena: _ } = system.close();
         }
         Err(SysError::Memory) => panic!(rt; "out of memory"),
-        Err(SysError::Config) => is(rt, Err(SysError::Config), wanted),
+        Err(SysError::Config) => holds(rt, wanted == Err(SysError::Config), "no system"),
     }
 }
 

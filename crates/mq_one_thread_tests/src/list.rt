@@ -1,12 +1,14 @@
 //! A list of all calls that change something, each made once more where there was no memory. It is
 //! run with each allocation refused in turn, and must answer as if none had been.
 
-use crate::calls::{CREATE, Wanted, cut, draft, first, get, receive, remove, send, set, spent};
+use crate::calls::{
+    CREATE, Wanted, cut, delivered, drafted, first, get, remove, set, spent, taken,
+};
 use crate::day::{Day, config, lives};
 use crate::holds;
 use crate::system::Calls;
-use mq_calls::{Delivered, Got, Removal, SendRefused};
-use mq_queue::{Base, Log};
+use mq_calls::{Delivered, Got, Removal};
+use mq_queue::{Base, Figures, Log};
 use mq_table::{Cut, Id};
 use std::ops::Range;
 use std::process::Abort;
@@ -46,26 +48,14 @@ fn makes<S: Calls>(rt: &impl Abort, system: &mut S, key: i32, id: u32, entry: u6
     holds(rt, made, "no memory for a queue");
 }
 
-fn drafted<S: Calls>(rt: &impl Abort, system: &mut S, place: u64) -> S::Text {
-    match draft(system, length_of(place)) {
-        Ok(text) => text,
-        Err(_) => panic!(rt; "the text at {place} is not drafted"),
-    }
-}
-
 fn sends<S: Calls>(rt: &impl Abort, system: &mut S, place: u64) {
-    let text = drafted(rt, system, place);
-    match send(system, 0, type_of(place), text, place) {
-        Ok(entry) => holds(
-            rt,
-            entry == place.saturating_add(1),
-            "sent at another entry",
-        ),
-        Err(SendRefused { refused, text }) => {
-            spent(rt, system, text);
-            panic!(rt; "{place} is not sent: {refused}");
-        }
-    }
+    let text = drafted(rt, system, length_of(place));
+    let entry = taken(rt, system, 0, type_of(place), text);
+    holds(
+        rt,
+        entry == place.saturating_add(1),
+        "sent at another entry",
+    );
 }
 
 /// The text of the message that was sent at this place, as it is received at that one.
@@ -87,22 +77,15 @@ fn text_of<T>(rt: &impl Abort, delivered: Delivered<T>, sent: u64, place: u64) -
     text
 }
 
-fn received<S: Calls>(rt: &impl Abort, system: &mut S, sent: u64, place: u64) -> S::Text {
-    let wanted = Wanted {
-        msgtyp: type_of(sent),
-        ..first(length_of(sent))
-    };
-    match receive(system, 0, wanted, place) {
-        Ok(delivered) => text_of(rt, delivered, sent, place),
-        Err(refused) => panic!(rt; "{place} is not received: {refused}"),
-    }
-}
-
 /// The messages at these places of those that are received.
 fn receives<S: Calls>(rt: &impl Abort, system: &mut S, places: Range<u64>) {
     for place in places {
         let sent = received_at(place);
-        let text = received(rt, system, sent, place);
+        let wanted = Wanted {
+            msgtyp: type_of(sent),
+            ..first(length_of(sent))
+        };
+        let text = text_of(rt, delivered(rt, system, 0, wanted), sent, place);
         let length = system.shape(&text).len;
         holds(rt, length == length_of(sent), "another text");
         spent(rt, system, text);
@@ -128,74 +111,119 @@ fn removes<S: Calls>(rt: &impl Abort, system: &mut S) {
     }
 }
 
+/// What is shown of the queue at the end.
+const FIGURES: Figures = Figures {
+    qnum: 0,
+    cbytes: 0,
+    qbytes: 100,
+    stime: 5,
+    rtime: 6,
+    ctime: 90,
+    lspid: 1,
+    lrpid: 2,
+};
+
 fn changes<S: Calls>(rt: &impl Abort, system: &mut S) {
     holds(rt, set(system, 0, 100, 90) == Ok(81), "no new quota");
-    match system.stat(Id::from_number(0)) {
-        Ok(figures) => {
-            holds(rt, figures.qnum == 0, "a message waits");
-            holds(rt, figures.qbytes == 100, "another quota is shown");
-        }
-        Err(errno) => panic!(rt; "{errno}"),
-    }
+    let shown = system.stat(Id::from_number(0)) == Ok(FIGURES);
+    holds(rt, shown, "other figures");
     removes(rt, system);
 }
 
-/// What is known of the entries before a cut is that so many messages were waiting, if it is known.
-fn is_base(rt: &impl Abort, base: Option<Base>, first: u64, waiting: Option<u64>) {
+/// What a cut tells of the entries before it: how many there are, how many of these are makings,
+/// and of the queue that they leave, if they leave one, how many there are, and how many messages
+/// waited.
+#[derive(Clone, Copy)]
+struct Before {
+    first: u64,
+    made: u32,
+    base: Option<(u64, u64)>,
+}
+
+fn is_base(rt: &impl Abort, base: Option<Base>, wanted: Option<(u64, u64)>) {
     match base {
         Some(base) => {
-            holds(rt, Some(base.waiting.len()) == waiting, "other messages");
-            holds(rt, base.places == first, "another base");
+            let known = Some((base.places, base.waiting.len()));
+            holds(rt, known == wanted, "another base");
         }
-        None => holds(rt, waiting.is_none(), "a base is missing"),
+        None => holds(rt, wanted.is_none(), "a base is missing"),
     }
 }
 
-/// A cut counts so many entries before it, and hands out so many of removed queues and of the last.
-fn counts(rt: &impl Abort, cut: &Cut, first: u64, past: usize, last: usize) {
-    holds(rt, cut.first == first, "as much was not cut off");
-    holds(rt, cut.made == u32::from(first != 0), "other makings");
+/// Slot 0 is cut, which hands out so many entries of removed queues and of the one that is there.
+fn cuts<S: Calls>(rt: &impl Abort, system: &mut S, before: Before, past: usize, last: usize) {
+    let cut = cut(rt, system, 0);
+    holds(rt, cut.first == before.first, "as much was not cut off");
+    holds(rt, cut.made == before.made, "other makings");
     holds(rt, cut.past.len() == past, "other removed queues");
     holds(rt, cut.last.len() == last, "another queue");
+    is_base(rt, cut.base, before.base);
 }
 
-/// Slot 0 is cut: so many entries were cut off before, of which so many messages were waiting if
-/// they left a queue, and so many are handed out of a removed queue and of the one that is there.
-fn cuts<S: Calls>(
-    rt: &impl Abort,
-    system: &mut S,
-    first: u64,
-    waiting: Option<u64>,
-    past: usize,
-    last: usize,
-) {
-    let cut = cut(rt, system, 0);
-    counts(rt, &cut, first, past, last);
-    is_base(rt, cut.base, first, waiting);
-}
+/// What cuts tell of the entries before them, one after another.
+const BEFORE: [Before; 5] = [
+    Before {
+        first: 0,
+        made: 0,
+        base: None,
+    },
+    Before {
+        first: 41,
+        made: 1,
+        base: Some((41, 40)),
+    },
+    Before {
+        first: 61,
+        made: 1,
+        base: Some((61, 20)),
+    },
+    Before {
+        first: 85,
+        made: 2,
+        base: Some((2, 1)),
+    },
+    Before {
+        first: 86,
+        made: 2,
+        base: None,
+    },
+];
 
 #[derive(Drop)]
 struct Listed;
 
 impl Day for Listed {
     fn spend<S: Calls, R: Abort>(&self, rt: &R, system: &mut S) {
+        cuts(rt, system, BEFORE[0], 0, 0);
         makes(rt, system, 9, 0, 0);
         makes(rt, system, 0, 1, 0);
         for place in 0..MESSAGES {
             sends(rt, system, place);
         }
-        cuts(rt, system, 0, None, 0, 41);
+        cuts(rt, system, BEFORE[0], 0, 41);
         receives(rt, system, 0..HALF);
-        cuts(rt, system, 41, Some(40), 0, 20);
+        cuts(rt, system, BEFORE[1], 0, 20);
         receives(rt, system, HALF..MESSAGES);
         changes(rt, system);
-        cuts(rt, system, 61, Some(20), 22, 0);
-        makes(rt, system, 9, 64, 83);
-        cuts(rt, system, 83, None, 0, 1);
+        again(rt, system);
     }
+}
+
+/// Two more queues in slot 0. The cut after the first tells of the one before too.
+fn again<S: Calls>(rt: &impl Abort, system: &mut S) {
+    makes(rt, system, 9, 64, 83);
+    let text = drafted(rt, system, 0);
+    holds(rt, taken(rt, system, 64, 1, text) == 84, "another entry");
+    cuts(rt, system, BEFORE[2], 22, 2);
+    cuts(rt, system, BEFORE[3], 0, 0);
+    holds(rt, remove(system, 64, 92).is_ok(), "not removed");
+    cuts(rt, system, BEFORE[3], 1, 0);
+    cuts(rt, system, BEFORE[4], 0, 0);
+    makes(rt, system, 9, 128, 86);
+    cuts(rt, system, BEFORE[4], 0, 1);
 }
 
 #[test]
 fn a_list_of_calls_answers_as_if_memory_had_never_run_out(rt: HostRuntime) {
-    lives(&rt, rt.alloc(), config(4, 2, 1), &Listed);
+    lives(&rt, rt.alloc(), config(4, 2, 2), &Listed);
 }

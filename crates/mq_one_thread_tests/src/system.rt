@@ -23,10 +23,6 @@ pub(crate) struct Shape {
 pub(crate) trait Calls {
     type Text;
 
-    fn slots(&self) -> u8;
-
-    fn pages(&self) -> u32;
-
     fn free_pages(&self) -> u32;
 
     fn largest(&self) -> Option<u8>;
@@ -86,14 +82,6 @@ pub(crate) trait Calls {
 
 impl<L: Ledger> Calls for OneThread<L> {
     type Text = Text<L>;
-
-    fn slots(&self) -> u8 {
-        self.slots()
-    }
-
-    fn pages(&self) -> u32 {
-        self.pages()
-    }
 
     fn free_pages(&self) -> u32 {
         self.free_pages()

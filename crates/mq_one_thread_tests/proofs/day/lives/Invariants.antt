@@ -1,4 +1,4 @@
-use Rattle.mq_one_thread_tests.proofs.day.left_by.Given as goal
+use Rattle.mq_one_thread_tests.proofs.day.lives.Given as goal
 
 -- the ledger that is opened
 abbrev pub ghosts-lived : goal.ghosts-lived
