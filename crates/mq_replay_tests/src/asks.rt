@@ -1,7 +1,6 @@
 //! Calls of a system, each with the answer that is kept.
 
 use crate::calls::{Answer, Asked, Handed, Kept, KeptCut, KeptLog, SLOTS, byte_of};
-use crate::parts::Part;
 use mq::{
     BoardRow, Delivered, Figures, GetFlags, Id, Names, Pledge, RecvFlags, Refused, Removal, Seat,
     SendFlags, System, TextOf,
@@ -185,7 +184,8 @@ fn cut<N: Names, R: Wait>(
     }
     match system.cut_log(rt, seat, slot) {
         Ok(cut) => {
-            let end = Part::of_cut(&cut).end();
+            let entries = (cut.past.len() as u64).wrapping_add(cut.last.len() as u64);
+            let end = cut.first.wrapping_add(entries);
             let _ = cuts.push(KeptCut { slot, cut });
             Some(Answer::Cut(end))
         }

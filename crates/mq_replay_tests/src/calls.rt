@@ -7,7 +7,7 @@ use std::alloc::{AllocError, Global};
 pub(crate) const SLOTS: usize = 3;
 
 /// What a call asks for. An id is its number, and a text is told by its length and its tag.
-#[derive(Clone, Copy)]
+#[derive(Clone, Copy, Debug)]
 pub(crate) enum Asked {
     Get {
         key: i32,
@@ -45,7 +45,7 @@ pub(crate) enum Asked {
 }
 
 /// A message as its receiver got it.
-#[derive(Clone, Copy)]
+#[derive(Clone, Copy, Debug)]
 pub(crate) struct Handed {
     pub(crate) entry: u64,
     pub(crate) mtype: i64,
@@ -60,7 +60,7 @@ pub(crate) struct Handed {
 }
 
 /// What a call was answered.
-#[derive(Clone, Copy)]
+#[derive(Clone, Copy, Debug)]
 pub(crate) enum Answer {
     /// The id, and the entry of a making.
     Got(u32, Option<u64>),
@@ -77,7 +77,7 @@ pub(crate) enum Answer {
     Refused(Errno, Option<u64>),
 }
 
-#[derive(Clone, Copy)]
+#[derive(Clone, Copy, Debug)]
 pub(crate) struct Call {
     pub(crate) moment: u64,
     pub(crate) asked: Asked,
@@ -107,6 +107,15 @@ pub(crate) struct Kept {
     pub(crate) cuts: Vec<KeptCut>,
     /// Where the bytes of a text stand before it is drafted.
     pub(crate) text: Vec<u8>,
+}
+
+/// What a seat tells at the end.
+#[derive(Drop)]
+pub(crate) struct Told {
+    pub(crate) seat: u16,
+    pub(crate) kept: Kept,
+    /// How many changes the seat counted in each slot.
+    pub(crate) counts: [u64; SLOTS],
 }
 
 impl Kept {

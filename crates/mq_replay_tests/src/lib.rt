@@ -1,5 +1,5 @@
-//! Many calls of sixteen threads, each reply of which is found again in what the slots list at the
-//! end.
+//! Many calls of sixteen threads, each of which `tests/replay.py` finds again in what the slots list
+//! at the end.
 
 #![tactic(auto)]
 
@@ -10,24 +10,8 @@ mod calls;
 #[cfg(test)]
 mod chooser;
 #[cfg(test)]
-mod cut_mistakes;
-#[cfg(test)]
-mod flaws;
-#[cfg(test)]
-mod history;
-#[cfg(test)]
-mod judge;
-#[cfg(test)]
-mod mistakes;
-#[cfg(test)]
-mod model;
-#[cfg(test)]
-mod parts;
+mod printed;
 #[cfg(test)]
 mod runs;
-#[cfg(test)]
-mod scenes;
-#[cfg(test)]
-mod seen;
 #[cfg(test)]
 mod worker;

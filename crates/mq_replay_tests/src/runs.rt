@@ -1,16 +1,17 @@
 //! Sixteen threads that call at once.
 
 use crate::asks::Nothing;
-use crate::calls::{Kept, SLOTS};
+use crate::calls::{Kept, SLOTS, Told};
 use crate::chooser::NEVER;
-use crate::judge::judge;
+use crate::printed::print_round;
 use crate::worker::{ALL, Asker};
-use mq::{Config, WorkersError, with_workers};
+use mq::{Config, Ended, WorkersError, with_workers};
 use std::alloc::{AllocError, Global};
 use std::process::Abort;
 use std::sync::Wait;
 use std::sync::atomic::AtomicU32;
 use std::thread::Threads;
+use std::{env, io};
 
 const SEATS: u16 = 16;
 
@@ -45,8 +46,12 @@ fn askers<'a>(
     Ok(askers)
 }
 
-/// Sixteen threads call, and each reply is right.
-fn replays<R: Abort + Threads + Wait + Sync>(rt: &R, alloc: Global, round: u16) {
+/// Sixteen threads call. All of them end, and no page is lost.
+fn replays<R: Abort + Threads + Wait + Sync>(
+    rt: &R,
+    alloc: Global,
+    round: u16,
+) -> Ended<Vec<Told>> {
     let through = AtomicU32::new(0);
     let Ok(askers) = askers(alloc, &through, round) else {
         panic!(rt; "out of memory");
@@ -56,15 +61,25 @@ fn replays<R: Abort + Threads + Wait + Sync>(rt: &R, alloc: Global, round: u16) 
         Err(WorkersError::Memory | WorkersError::Thread) => panic!(rt; "out of memory"),
         Err(error) => panic!(rt; "{error}"),
     };
-    let told = ended.answer.as_slice();
-    let judged = judge(alloc, ended.slots.as_slice(), told, CONFIG.last_seq);
-    assert!(rt; judged == Ok(()), "round {round}: {judged:?}");
+    let workers = ended.answer.len();
+    assert!(rt;
+        workers == SEATS as usize,
+        "round {round}: {workers} workers ended"
+    );
     assert!(rt; ended.free_pages == 1024, "round {round}: a page is lost");
+    ended
 }
 
+/// With the number of a round behind this test's name only that round is run, and all its calls are
+/// printed with their answers, which `tests/replay.py` judges.
 #[test]
-fn each_reply_is_that_of_the_slots_list(rt: HostRuntime) {
-    for round in 0..ROUNDS {
-        replays(&rt, rt.alloc(), round);
+fn each_reply_is_that_of_the_slots_list(rt: HostRuntime) -> io::Result<()> {
+    if let Some(word) = env::args(&rt)?.nth(2) {
+        let round = word.parse().unwrap_or(ROUNDS);
+        return print_round(&rt, &replays(&rt, rt.alloc(), round));
     }
+    for round in 0..ROUNDS {
+        let _ = replays(&rt, rt.alloc(), round);
+    }
+    Ok(())
 }

@@ -1,9 +1,8 @@
 //! What each thread does.
 
 use crate::asks::{Nothing, answer, counts, report};
-use crate::calls::{Answer, Asked, Call, Kept};
+use crate::calls::{Answer, Asked, Call, Kept, Told};
 use crate::chooser::Chooser;
-use crate::judge::Told;
 use mq::{Errno, Names, Seat, System, Worker};
 use std::alloc::Global;
 use std::sync::Wait;
