@@ -1,4 +1,5 @@
-//! Tests of calls that wait, of who wakes them, and of the slots that calls reach.
+//! Tests of calls that wait, of who wakes them, and of the slots that calls reach; and, in `replay`,
+//! many calls that sixteen threads make at once.
 
 #![tactic(auto)]
 
@@ -50,6 +51,8 @@ mod ends;
 mod pages;
 #[cfg(test)]
 mod places;
+#[cfg(test)]
+mod replay;
 #[cfg(test)]
 mod sleeps;
 #[cfg(test)]

@@ -1,6 +1,6 @@
 //! Calls of a system, each with the answer that is kept.
 
-use crate::calls::{Answer, Asked, Handed, Kept, KeptCut, KeptLog, SLOTS, byte_of};
+use crate::replay::calls::{Answer, Asked, Handed, Kept, KeptCut, KeptLog, SLOTS, byte_of};
 use mq::{
     BoardRow, Delivered, Figures, GetFlags, Id, Names, Pledge, RecvFlags, Refused, Removal, Seat,
     SendFlags, System, TextOf,

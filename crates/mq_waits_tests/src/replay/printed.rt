@@ -1,6 +1,6 @@
 //! What is printed of a round. Each line is a value, as `{:?}` prints it.
 
-use crate::calls::{KeptCut, KeptLog, Told};
+use crate::replay::calls::{KeptCut, KeptLog, Told};
 use mq::{Base, ClosedSlot, Ended};
 use std::io;
 

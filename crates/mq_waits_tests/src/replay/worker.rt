@@ -1,8 +1,8 @@
 //! What each thread does.
 
-use crate::asks::{Nothing, answer, counts, report};
-use crate::calls::{Answer, Asked, Call, Kept, Told};
-use crate::chooser::Chooser;
+use crate::replay::asks::{Nothing, answer, counts, report};
+use crate::replay::calls::{Answer, Asked, Call, Kept, Told};
+use crate::replay::chooser::Chooser;
 use mq::{Errno, Names, Seat, System, Worker};
 use std::alloc::Global;
 use std::sync::Wait;

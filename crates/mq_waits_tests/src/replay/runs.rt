@@ -1,10 +1,10 @@
 //! Sixteen threads that call at once.
 
-use crate::asks::Nothing;
-use crate::calls::{Kept, SLOTS, Told};
-use crate::chooser::NEVER;
-use crate::printed::print_round;
-use crate::worker::{ALL, Asker};
+use crate::replay::asks::Nothing;
+use crate::replay::calls::{Kept, SLOTS, Told};
+use crate::replay::chooser::NEVER;
+use crate::replay::printed::print_round;
+use crate::replay::worker::{ALL, Asker};
 use mq::{Config, Ended, WorkersError, with_workers};
 use std::alloc::{AllocError, Global};
 use std::process::Abort;

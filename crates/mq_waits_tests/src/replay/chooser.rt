@@ -1,7 +1,7 @@
 //! What a seat asks for next: numbers that look random and are the same in each run.
 ghost use Rattle.std.specs.Prelude.{◌<◌};
 
-use crate::calls::{Answer, Asked, SLOTS};
+use crate::replay::calls::{Answer, Asked, SLOTS};
 use mq::{Errno, GetFlags};
 
 /// How many of each 64 calls are of each kind. Sends and receipts are together so many, by turns
