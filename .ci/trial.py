@@ -16,7 +16,6 @@ pub fn after_next(n: u8) -> u8
     ensures { result ≡ n + 2 }
 { next(n) + 1 }
 """
-# A proof of what `after_next` answers.
 ANSWERS = """use Rattle.std.proofs.Common.{arith}
 use Rattle.trial.proofs.after_next.Goals as goal
 
