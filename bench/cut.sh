@@ -7,7 +7,7 @@
 # Fails nothing. Wants valgrind, and for the times a machine with nothing else to do.
 set -euo pipefail
 cd "$(dirname "$0")/.."
-(cd crates/bench && rt run > /dev/null)
+(cd crates/bench_cut && rt run > /dev/null)
 folder=$(mktemp -d)
 trap 'rm -rf "$folder"' EXIT
 python3 - "${1:-21}" "$folder" <<'PYTHON'
@@ -19,24 +19,24 @@ import sys
 import time
 
 ROUNDS, FOLDER = int(sys.argv[1]), sys.argv[2]
-OURS = ["crates/bench/out/bench", "cycle"]
+OURS = ["crates/bench_cut/out/bench_cut"]
 SIZES = [(entries, waiting) for entries in (0, 1_000, 100_000) for waiting in (0, 1_000)]
 
 
-def command(entries, waiting, rounds, cuts):
-    return [*OURS, *map(str, (16, entries // 2, rounds, cuts, waiting))]
+def run(*words):
+    subprocess.run([*OURS, *map(str, words)], check=True, stdout=subprocess.DEVNULL)
 
 
 def seconds(*words):
     begin = time.perf_counter()
-    subprocess.run(command(*words), check=True, stdout=subprocess.DEVNULL)
+    run(*words)
     return time.perf_counter() - begin
 
 
 def instructions(*words):
     out = f"{FOLDER}/callgrind"
-    done = subprocess.run(["valgrind", "--tool=callgrind", f"--callgrind-out-file={out}",
-                           *command(*words)], check=True, capture_output=True, text=True)
+    done = subprocess.run(["valgrind", "--tool=callgrind", f"--callgrind-out-file={out}", *OURS,
+                           *map(str, words)], check=True, capture_output=True, text=True)
     return int(re.search(r"Collected : (\d+)", done.stderr)[1])
 
 
@@ -54,7 +54,7 @@ for entries, waiting in SIZES:
                + instructions(entries, waiting, few, 0)) / few
     print(f"{entries:7,} {waiting:5,}: {statistics.median(differences):12,.0f} {counted:12,.0f}")
 
-process = subprocess.Popen(command(100_000, 0, 200, 1), stdout=subprocess.DEVNULL)
+process = subprocess.Popen([*OURS, "100000", "0", "200", "1"], stdout=subprocess.DEVNULL)
 seen = []
 while process.poll() is None:
     try:

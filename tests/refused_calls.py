@@ -72,7 +72,6 @@ MAKE_NONE = {
     "mq_one_thread_tests names::a_refusal_is_named_as_in_the_manual",
     "mq_one_thread_tests names::each_layers_refusal_has_its_errno",
     "mq_queue_tests lists::a_msgtyp_is_read_as_the_manual_says",
-    "mq_queue_tests table::cuts::a_slot_without_a_queue_hands_out_an_empty_cut",
     "mq_queue_tests table::keys::an_id_is_told_by_slot_and_seq_up_to_the_bounds",
     "mq_system_tests shared::no_parts_are_opened_for_no_slot",
     "mq_system_tests waiters::a_patience_says_how_long_it_waits",

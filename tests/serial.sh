@@ -39,6 +39,6 @@ case_of 'serial --slots 1' \
     "$(awk 'BEGIN { for (k = 0; k < 32768; k++) printf "get 0 c\\nrm %d\\n", 64 * k }')get 0 c\n" \
     "$(awk 'BEGIN { for (k = 0; k < 32768; k++) \
         printf "id %d\\nat %d events 2\\n", 64 * k, 2 * k + 1 }')ENOSPC\n"
-at_least 172
+at_least 185
 echo "serial: $passed passed, $failed failed"
 [ "$failed" -eq 0 ]

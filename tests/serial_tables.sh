@@ -5,6 +5,92 @@
 #                           mqsim with these words, a script, what it writes, and, where a line is
 #                           not well formed, what it says of that on standard error, all for printf
 
+table a_receipt_makes_room_by_as_much_as_was_sent
+case_of 'serial --height 8' \
+    'get 0 c\nsnd 0 1 *65536\nsnd 0 1 *65536\nrcv 0 1 0 n\nsnd 0 1 *65536\nsnd 0 1 =a\n' \
+    'id 0\nat 1\nat 2\nmsg 1 seat 1 tag 2 len 65536 =a\nat 4\nEAGAIN\n'
+
+table a_size_of_zero_takes_an_empty_text_or_cuts
+case_of '' \
+    'get 0 c\nsnd 0 1 =\nsnd 0 1 *65536\nsnd 0 1 =\nrcv 0 0 0 n\nrcv 0 0 0\nrcv 0 0 0 n\nrcv 0 0 0\nrcv 0 0 0 n\nsnd 0 1 =\n' \
+    'id 0\nat 1\nat 2\nat 3\nmsg 1 seat 1 tag 2 len 0 =\nE2BIG\nmsg 1 seat 1 tag 3 len 65536 =\nmsg 1 seat 1 tag 4 len 0 =\nENOMSG\nat 7\n'
+
+# Below 1 no type is taken, and from 1 on each; the greatest size and bound take any.
+table the_first_type_and_the_last_are_taken
+case_of '' \
+    'get 0 c\nsnd 0 0 *65537\nsnd 0 -9223372036854775808 =\nsnd 0 9223372036854775807 =ab\nsnd 0 1 =abc\nrcv 0 18446744073709551615 -9223372036854775808\n' \
+    'id 0\nEINVAL\nEINVAL\nat 1\nat 2\nmsg 1 seat 1 tag 5 len 3 =abc\n'
+
+table the_lowest_type_comes_first_in_the_order_of_sending
+case_of '' \
+    'get 0 c\nsnd 0 3 =a\nsnd 0 1 =ab\nsnd 0 2 =abc\nsnd 0 1 =abcd\nrcv 0 4 -2\nrcv 0 3 -2\nrcv 0 4 -2\nrcv 0 4 1\nrcv 0 4 3 e\n' \
+    'id 0\nat 1\nat 2\nat 3\nat 4\nmsg 1 seat 1 tag 3 len 2 =ab\nE2BIG\nmsg 1 seat 1 tag 5 len 4 =abcd\nENOMSG\nmsg 2 seat 1 tag 4 len 3 =abc\n'
+
+# The quota is full when it is set; then one text is empty after another.
+table a_quota_limits_bytes_and_messages
+case_of '' \
+    'get 0 c\nsnd 0 1 =ab\nsnd 0 1 =cd\nset 0 4\nsnd 0 1 =ef\nsnd 0 1 =\nsnd 0 1 =\nsnd 0 1 =\n' \
+    'id 0\nat 1\nat 2\nat 3\nEAGAIN\nat 4\nat 5\nEAGAIN\n'
+
+# Until it is under its quota; and so is an empty queue with none.
+table a_queue_over_a_lowered_quota_refuses_an_empty_text
+case_of '' \
+    'get 0 c\nsnd 0 1 =abcdef\nset 0 4\nsnd 0 1 =\nrcv 0 6 0\nsnd 0 1 =\nset 0 131073\nset 0 131072\nset 0 0\nsnd 0 1 =\n' \
+    'id 0\nat 1\nat 2\nEAGAIN\nmsg 1 seat 1 tag 2 len 6 =abcdef\nat 4\nEPERM\nat 5\nat 6\nEAGAIN\n'
+
+# It is an entry all the same.
+table a_quota_is_set_to_what_it_is
+case_of '' \
+    'get 0 c\nset 0 131072\nset 0 131072\nsnd 0 1 =a\n' \
+    'id 0\nat 1\nat 2\nat 3\n'
+
+table a_received_text_is_the_front_of_what_was_sent
+case_of '' \
+    'get 7 c\nseat 3\nsnd 0 5 =hello\nseat 4\nrcv 0 2 0 n\nstat 0\n' \
+    'id 0\nat 1\nmsg 5 seat 3 tag 3 len 5 =he\nqnum 0 cbytes 0 qbytes 131072 lspid 3 lrpid 4 stime 3 rtime 5 ctime 1\n'
+
+table refusals_leave_a_new_queue
+case_of '' \
+    'get 7 c\nstat 0\nsnd 0 0 =a\nsnd 0 1 *65537\nrcv 0 9 0 n\nset 0 131073\nstat 0\nsnd 0 1 =a\n' \
+    'id 0\nqnum 0 cbytes 0 qbytes 131072 lspid 0 lrpid 0 stime 0 rtime 0 ctime 1\nEINVAL\nEINVAL\nENOMSG\nEPERM\nqnum 0 cbytes 0 qbytes 131072 lspid 0 lrpid 0 stime 0 rtime 0 ctime 1\nat 1\n'
+
+# Of the queues of the last slot, each of which is made at the line after 63 others and eight lines
+# and more for each queue before it.
+table an_id_is_never_given_then_live_then_removed_for_good
+script=$(printf 'get 0 c\\n%.0s' {0..62})
+answers=$(printf 'id %d\\n' {0..62})
+line=63
+for id in 63 127 191 255; do
+    script+="stat $id\nget 0 c\nstat $id\nstat $((id + 64))\nstat 4294967295\n"
+    answers+="EINVAL\nid $id\nqnum 0 cbytes 0 qbytes 131072 lspid 0 lrpid 0 stime 0 rtime 0 "
+    answers+="ctime $((line + 2))\nEINVAL\nEINVAL\n"
+    for ((earlier = 63; earlier < id; earlier += 64)); do
+        script+="stat $earlier\n"
+        answers+='EIDRM\n'
+        line=$((line + 1))
+    done
+    script+="rm $id\nstat $id\n"
+    answers+="at $((id / 64 * 2 + 1)) events 2\nEIDRM\n"
+    line=$((line + 7))
+done
+case_of 'serial --height 0 --slots 64' "$script" "$answers"
+
+# Three queues of the last slot, and no more; one that is there takes no other beside it.
+table a_slot_takes_as_many_queues_as_its_seqs_allow
+case_of 'serial --height 0 --slots 64 --last-seq 2' \
+    "$(printf 'get 0 c\\n%.0s' {0..62})get 0 c\nget 0 c\nrm 63\nget 7 c\nrm 127\nrm 127\nget -2147483648 c\nrm 191\nget 0 c\n" \
+    "$(printf 'id %d\\n' {0..62})id 63\nENOSPC\nat 1 events 2\nid 127\nat 3 events 2\nEIDRM\nid 191\nat 5 events 2\nENOSPC\n"
+
+table a_removed_queues_quota_is_not_the_next_ones
+case_of 'serial --height 0 --slots 6' \
+    'get 0 c\nget 0 c\nget 0 c\nget 0 c\nget 0 c\nget 1 c\nset 5 0\nsnd 5 1 =\nset 5 131073\nrm 5\nget 1 c\nsnd 69 0 =a\nsnd 69 1 =\n' \
+    'id 0\nid 1\nid 2\nid 3\nid 4\nid 5\nat 1\nEAGAIN\nEPERM\nat 2 events 3\nid 69\nEINVAL\nat 4\n'
+
+table a_quota_holds_over_a_cut
+case_of 'serial --height 2 --slots 6' \
+    'get 0 c\nget 0 c\nget 0 c\nget 0 c\nget 0 c\nget 1 c\nset 5 7\nsnd 5 1 =abcde\ncut 5\nsnd 5 1 =fgh\nsnd 5 1 =ij\ncut 5\nrcv 5 4 0\nrcv 5 5 0\nsnd 5 1 =klmno\nrcv 5 2 0\n' \
+    'id 0\nid 1\nid 2\nid 3\nid 4\nid 5\nat 1\nat 2\ncut from 0 to 3\nEAGAIN\nat 3\ncut from 3 to 4\nE2BIG\nmsg 1 seat 1 tag 8 len 5 =abcde\nat 5\nmsg 1 seat 1 tag 11 len 2 =ij\n'
+
 table each_script_writes_its_answers
 case_of '' \
     '' \

@@ -1,8 +1,8 @@
 //! A queue whose log is cut: what is handed out, and what is answered afterwards.
 
-use crate::calls::{Answer, Queue, close, message, receive, send, set};
+use crate::calls::{Answer, Queue, close, message, receive, removed, send, set};
 use mq_index::ListWaiting;
-use mq_message::{Selection, VecBody, discard};
+use mq_message::{Selection, VecBody};
 use mq_queue::{Base, BaseEntries, Event, Figures, Log, NO_FIGURES, NoNotice, QueueState};
 use std::alloc::{AllocError, Global};
 use std::process::Abort;
@@ -140,21 +140,6 @@ fn a_second_cut_at_once_hands_out_no_event(rt: HostRuntime) -> Result<(), Fail> 
     Ok(())
 }
 
-/// The log of a queue that is removed, at the second try where there was no memory.
-fn removed(queue: Queue) -> Log {
-    let answer = match queue.remove(2, 90, &mut NoNotice) {
-        Err(queue) => queue.remove(2, 90, &mut NoNotice),
-        answer => answer,
-    };
-    match answer {
-        Ok((log, waiting)) => {
-            discard(waiting);
-            log
-        }
-        Err(queue) => close(queue),
-    }
-}
-
 /// Checks the log of a queue that is removed after its beginning was cut off and a quota set.
 fn check_removed(rt: &impl Abort, log: Log) {
     holds!(rt; (log.first(), log.len()) == (5, 7));
@@ -174,7 +159,7 @@ fn a_removed_queue_hands_out_its_base(rt: HostRuntime) -> Result<(), Fail> {
     let _ = cut(&rt, &mut queue);
     let quota = set(&mut queue, 3, 70);
     let full = queue.refuses_send(5, 0);
-    let log = removed(queue);
+    let log = removed(queue, 90);
     holds!(rt; quota == Answer::At(5));
     holds!(rt; full.is_some(), "four bytes wait, and three may");
     check_removed(&rt, log);

@@ -1,5 +1,5 @@
-use crate::calls::{Answer, Queue, Step, check, close, message, receive, send, set};
-use mq_message::{Selection, discard};
+use crate::calls::{Answer, Queue, Step, check, close, message, receive, removed, send, set};
+use mq_message::Selection;
 use mq_queue::{Event, Figures, Log, NoNotice, QueueError};
 use std::alloc::{AllocError, Global};
 use std::process::Abort;
@@ -63,42 +63,51 @@ fn figures_show_the_last_moment_whatever_it_is(rt: HostRuntime) -> Result<(), Fa
     Ok(())
 }
 
+/// A queue of at most three bytes, which wait.
+const FILLED: [(Step, Answer); 2] = [
+    (Step::Set(3), Answer::At(1)),
+    (Step::Send(1, 3), Answer::At(2)),
+];
+
+/// Each refusal of such a queue, and the first in order of those that come together.
+const REFUSED: [(Step, Answer); 7] = [
+    (
+        Step::Send(0, 65_537),
+        Answer::Refused(QueueError::TypeInvalid),
+    ),
+    (Step::Send(1, 65_537), Answer::Refused(QueueError::TooLong)),
+    (Step::Send(1, 1), Answer::Refused(QueueError::Full)),
+    (
+        Step::Receive(9, Selection::Exact(2), true),
+        Answer::Refused(QueueError::NoMessage),
+    ),
+    (
+        Step::Receive(2, Selection::Any, false),
+        Answer::Refused(QueueError::TooBig),
+    ),
+    (Step::Set(131_073), Answer::Refused(QueueError::OverLimit)),
+    (Step::Set(u64::MAX), Answer::Refused(QueueError::OverLimit)),
+];
+
+/// The figures of a queue that was filled, to which each call is then refused.
+fn refused(rt: &impl Abort, alloc: Global, queue: &mut Queue) -> Result<Figures, AllocError> {
+    check(rt, alloc, queue, &FILLED)?;
+    let figures = queue.figures();
+    check(rt, alloc, queue, &REFUSED)?;
+    Ok(figures)
+}
+
 #[test]
 fn refusals_leave_log_and_figures(rt: HostRuntime) -> Result<(), Fail> {
     let mut queue = Queue::made(rt.alloc(), 7, 2, 50, &mut NoNotice)?;
-    let before = queue.figures();
-    let steps = [
-        (Step::Send(0, 1), Answer::Refused(QueueError::TypeInvalid)),
-        (Step::Send(1, 65_537), Answer::Refused(QueueError::TooLong)),
-        (
-            Step::Receive(9, Selection::Any, true),
-            Answer::Refused(QueueError::NoMessage),
-        ),
-        (Step::Set(131_073), Answer::Refused(QueueError::OverLimit)),
-    ];
-    let checked = check(&rt, rt.alloc(), &mut queue, &steps);
+    let refused = refused(&rt, rt.alloc(), &mut queue);
     let after = queue.figures();
     let count = queue.log_len();
     close(queue);
-    checked?;
-    holds!(rt; (after, count) == (before, 1));
-    holds!(rt; (before.qbytes, before.ctime) == (131_072, 50));
+    let before = refused?;
+    holds!(rt; (after, count) == (before, 3));
+    holds!(rt; (before.qbytes, before.ctime) == (3, 90));
     Ok(())
-}
-
-/// The log of a queue that is removed, at the second try where there was no memory.
-fn removed(queue: Queue, moment: u64) -> Log {
-    let answer = match queue.remove(2, moment, &mut NoNotice) {
-        Err(queue) => queue.remove(2, moment, &mut NoNotice),
-        answer => answer,
-    };
-    match answer {
-        Ok((log, waiting)) => {
-            discard(waiting);
-            log
-        }
-        Err(queue) => close(queue),
-    }
 }
 
 const LAST_CHANGE: Event = Event::Changed {

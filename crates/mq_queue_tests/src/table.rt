@@ -3,7 +3,6 @@
 
 mod answers;
 mod calls;
-mod cuts;
 mod ends;
 mod entering;
 mod fronts;

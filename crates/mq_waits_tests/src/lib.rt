@@ -1,5 +1,5 @@
-//! Tests of calls that wait, of who wakes them, and of the slots that calls reach; and, in `replay`,
-//! many calls that sixteen threads make at once.
+//! Tests of calls that wait, of who wakes them, and of the slots that calls reach; in `replay`,
+//! of many calls that sixteen threads make at once.
 
 #![tactic(auto)]
 

@@ -11,7 +11,7 @@ use std::process::Abort;
 pub(crate) type Place = Slot<VecBody, ListWaiting<VecBody>>;
 
 /// What a slot shows, beside the events of its list.
-#[derive(Clone, Copy)]
+#[derive(Clone, Copy, PartialEq)]
 pub(crate) struct Shown {
     pub(crate) first: u64,
     pub(crate) events: u64,
@@ -24,7 +24,7 @@ pub(crate) struct Shown {
 }
 
 /// What a slot shows of a queue that is there.
-#[derive(Clone, Copy)]
+#[derive(Clone, Copy, PartialEq)]
 pub(crate) struct Live {
     pub(crate) id: Id,
     pub(crate) figures: Figures,
@@ -38,11 +38,14 @@ pub(crate) enum Answer {
     At(u64),
     /// The entry in the slot list, the place in the queue's log, and the length that is left.
     Got(u64, u64, u64),
-    /// How many events the removed queue's log has.
-    Events(u64),
+    /// Where the removed queue's log begins and ends.
+    Log(u64, u64),
     /// Where a cut begins, how many makings are before it, the places of its base, and how many
     /// entries it has of removed queues and of the queue that is there.
     Cut(u64, u32, Option<u64>, usize, usize),
+    Looked(Option<Result<(), IdRefusal>>),
+    Event(Option<Event>),
+    Shown(Shown),
     Refused(QueueError),
     /// The call was not refused as the slot had foretold.
     Unforetold,
@@ -93,31 +96,111 @@ impl SlotCalls for Place {
     }
 
     fn look(&self, id: Id) -> Option<Result<(), IdRefusal>> {
-        look(self, id)
+        if id.slot() != self.number() {
+            return None;
+        }
+        Some(self.look(id))
     }
 
     fn make(&mut self, keys: &mut KeyTable, key: i32, last_seq: u32) -> Option<Id> {
-        make(keys, self, key, last_seq)
+        // Where there is no memory, the second call is as the first one would have been.
+        for _ in 0..2 {
+            if last_seq > MAX_SEQ || !self.is_free(last_seq) || keys.look(key).is_some() {
+                return None;
+            }
+            let (events, count) = (self.events(), keys.len());
+            match make_under(keys, self, key, 1, 10, &mut NoNotice) {
+                Ok(id) => return Some(id),
+                Err(_) if self.is_live() || self.events() != events || keys.len() != count => {
+                    return None;
+                }
+                Err(_) => (),
+            }
+        }
+        None
     }
 
     fn remove(&mut self, keys: &mut KeyTable) -> Option<Log> {
-        remove(keys, self)
+        for _ in 0..2 {
+            if !self.is_live() {
+                return None;
+            }
+            let (events, count) = (self.events(), keys.len());
+            match remove_under(keys, self, 2, 20, &mut NoNotice) {
+                Ok((log, waiting)) => {
+                    discard(waiting);
+                    return Some(log);
+                }
+                Err(_) if self.events() != events || keys.len() != count => return None,
+                Err(_) => (),
+            }
+        }
+        None
     }
 
     fn send(&mut self, message: Message<VecBody>) -> Answer {
-        sent(self, message)
+        if !self.is_live() {
+            return Answer::Unasked;
+        }
+        let foretold = self.refuses_send(message.mtype, message.body.len());
+        let answer = match self.send(message, 30, &mut NoNotice) {
+            Err((QueueError::Memory, message)) if self.is_live() => self.send(
+                message,
+                30,
+                &mut NoNotice,
+            ),
+            answer => answer,
+        };
+        match answer {
+            Ok(entry) if foretold.is_none() => Answer::At(entry),
+            Ok(_) => Answer::Unforetold,
+            Err((refusal, _)) => refused(refusal, foretold),
+        }
     }
 
     fn receive(&mut self, size: u64) -> Answer {
-        received(self, size)
+        if !self.is_live() {
+            return Answer::Unasked;
+        }
+        let foretold = self.refuses_receive(size, Selection::Any, false);
+        let answer = match self.receive(size, Selection::Any, false, 4, 40, &mut NoNotice) {
+            Err(QueueError::Memory) if self.is_live() => {
+                self.receive(size, Selection::Any, false, 4, 40, &mut NoNotice)
+            }
+            answer => answer,
+        };
+        match answer {
+            Ok(received) => got(received, foretold),
+            Err(refusal) => refused(refusal, foretold),
+        }
     }
 
     fn set(&mut self, qbytes: u64) -> Answer {
-        set(self, qbytes)
+        if !self.is_live() {
+            return Answer::Unasked;
+        }
+        let answer = match self.set(qbytes, 5, 50, &mut NoNotice) {
+            Err(QueueError::Memory) if self.is_live() => self.set(qbytes, 5, 50, &mut NoNotice),
+            answer => answer,
+        };
+        match answer {
+            Ok(entry) => Answer::At(entry),
+            Err(refusal) => Answer::Refused(refusal),
+        }
     }
 
     fn cut<R: Abort>(&mut self, rt: &R) -> Cut {
-        cut(rt, self)
+        let before = self.shown();
+        if let Ok(cut) = self.cut() {
+            return cut;
+        }
+        if self.shown() != before {
+            panic!(rt; "a refused cut changes the slot");
+        }
+        match self.cut() {
+            Ok(cut) => cut,
+            Err(AllocError) => panic!(rt; "out of memory"),
+        }
     }
 }
 
@@ -131,52 +214,6 @@ fn queue_of(slot: &Place) -> Option<Live> {
     })
 }
 
-/// Makes a queue in a slot that is free by this last seq.
-fn make(keys: &mut KeyTable, slot: &mut Place, key: i32, last_seq: u32) -> Option<Id> {
-    // Where there is no memory, the second call is as the first one would have been.
-    for _ in 0..2 {
-        if last_seq > MAX_SEQ || !slot.is_free(last_seq) || keys.look(key).is_some() {
-            return None;
-        }
-        let (events, count) = (slot.events(), keys.len());
-        match make_under(keys, slot, key, 1, 10, &mut NoNotice) {
-            Ok(id) => return Some(id),
-            Err(_) if slot.is_live() || slot.events() != events || keys.len() != count => {
-                return None;
-            }
-            Err(_) => (),
-        }
-    }
-    None
-}
-
-/// Removes the queue that is in the slot, by seat 2 at the moment 20.
-fn remove(keys: &mut KeyTable, slot: &mut Place) -> Option<Log> {
-    for _ in 0..2 {
-        if !slot.is_live() {
-            return None;
-        }
-        let (events, count) = (slot.events(), keys.len());
-        match remove_under(keys, slot, 2, 20, &mut NoNotice) {
-            Ok((log, waiting)) => {
-                discard(waiting);
-                return Some(log);
-            }
-            Err(_) if slot.events() != events || keys.len() != count => return None,
-            Err(_) => (),
-        }
-    }
-    None
-}
-
-/// What the slot says of an id that has its number.
-fn look(slot: &Place, id: Id) -> Option<Result<(), IdRefusal>> {
-    if id.slot() != slot.number() {
-        return None;
-    }
-    Some(slot.look(id))
-}
-
 /// The refusal of a call, which the slot had to foretell.
 fn refused(refusal: QueueError, foretold: Option<QueueError>) -> Answer {
     if foretold == Some(refusal) {
@@ -186,95 +223,12 @@ fn refused(refusal: QueueError, foretold: Option<QueueError>) -> Answer {
     }
 }
 
-fn sent(slot: &mut Place, message: Message<VecBody>) -> Answer {
-    if !slot.is_live() {
-        return Answer::Unasked;
-    }
-    let foretold = slot.refuses_send(message.mtype, message.body.len());
-    let answer = match slot.send(message, 30, &mut NoNotice) {
-        Err((QueueError::Memory, message)) if slot.is_live() => slot.send(
-            message,
-            30,
-            &mut NoNotice,
-        ),
-        answer => answer,
-    };
-    match answer {
-        Ok(entry) if foretold.is_none() => Answer::At(entry),
-        Ok(_) => Answer::Unforetold,
-        Err((refusal, _)) => refused(refusal, foretold),
-    }
-}
-
 /// What was received, whose receipt the slot had to foretell.
 fn got(received: Received<VecBody>, foretold: Option<QueueError>) -> Answer {
     if foretold.is_some() {
         return Answer::Unforetold;
     }
     Answer::Got(received.entry, received.place, received.body.len())
-}
-
-fn received(slot: &mut Place, size: u64) -> Answer {
-    if !slot.is_live() {
-        return Answer::Unasked;
-    }
-    let foretold = slot.refuses_receive(size, Selection::Any, false);
-    let answer = match slot.receive(size, Selection::Any, false, 4, 40, &mut NoNotice) {
-        Err(QueueError::Memory) if slot.is_live() => {
-            slot.receive(size, Selection::Any, false, 4, 40, &mut NoNotice)
-        }
-        answer => answer,
-    };
-    match answer {
-        Ok(received) => got(received, foretold),
-        Err(refusal) => refused(refusal, foretold),
-    }
-}
-
-fn set(slot: &mut Place, qbytes: u64) -> Answer {
-    if !slot.is_live() {
-        return Answer::Unasked;
-    }
-    let answer = match slot.set(qbytes, 5, 50, &mut NoNotice) {
-        Err(QueueError::Memory) if slot.is_live() => slot.set(qbytes, 5, 50, &mut NoNotice),
-        answer => answer,
-    };
-    match answer {
-        Ok(entry) => Answer::At(entry),
-        Err(refusal) => Answer::Refused(refusal),
-    }
-}
-
-/// What a slot shows of its list.
-#[derive(Clone, Copy, PartialEq)]
-struct ListShown {
-    first: u64,
-    events: u64,
-    made: u32,
-    row: BoardRow,
-}
-
-fn list_of(slot: &Place) -> ListShown {
-    ListShown {
-        first: slot.first(),
-        events: slot.events(),
-        made: slot.made(),
-        row: slot.row(),
-    }
-}
-
-fn cut(rt: &impl Abort, slot: &mut Place) -> Cut {
-    let before = list_of(slot);
-    if let Ok(cut) = slot.cut() {
-        return cut;
-    }
-    if list_of(slot) != before {
-        panic!(rt; "a refused cut changes the slot");
-    }
-    match slot.cut() {
-        Ok(cut) => cut,
-        Err(AllocError) => panic!(rt; "out of memory"),
-    }
 }
 
 fn letters(alloc: Global, length: usize) -> Result<Vec<u8>, AllocError> {

@@ -1,13 +1,13 @@
-//! What a slot answers to lists of calls.
+//! What a slot answers to lists of calls, and shows between them.
 
-use crate::table::place::{Answer, Place, SlotCalls, close, message};
-use mq_queue::{Base, QueueError};
-use mq_table::{Cut, Id, KeyTable, MAX_SLOTS};
+use crate::table::place::{Answer, Live, Place, Shown, SlotCalls, close, message};
+use mq_queue::{Base, BoardRow, Event, Figures, MSGMNB, NO_FIGURES, QueueError};
+use mq_table::{Cut, Id, IdRefusal, KeyTable, MAX_SLOTS};
 use std::alloc::Global;
 use std::process::Abort;
 
 #[derive(Clone, Copy)]
-enum Step {
+pub(crate) enum Step {
     /// A key.
     Make(i32),
     /// A type and a length.
@@ -18,10 +18,15 @@ enum Step {
     Set(u64),
     Remove,
     Cut,
+    /// An id's number.
+    Look(u32),
+    /// An entry of the slot list.
+    Event(u64),
+    Show,
 }
 
 /// What a cut hands out.
-pub(crate) fn handed(cut: &Cut) -> Answer {
+fn handed(cut: &Cut) -> Answer {
     let places = match &cut.base {
         Some(Base { places, .. }) => Some(*places),
         None => None,
@@ -39,7 +44,7 @@ fn made(id: Option<Id>) -> Answer {
 
 fn removed<S: SlotCalls>(keys: &mut KeyTable, slot: &mut S) -> Answer {
     match slot.remove(keys) {
-        Some(log) => Answer::Events(log.len()),
+        Some(log) => Answer::Log(log.first(), log.len()),
         None => Answer::Unasked,
     }
 }
@@ -59,6 +64,9 @@ fn called<S: SlotCalls>(
         Step::Set(qbytes) => slot.set(qbytes),
         Step::Remove => removed(keys, slot),
         Step::Cut => handed(&slot.cut(rt)),
+        Step::Look(number) => Answer::Looked(slot.look(Id::from_number(number))),
+        Step::Event(entry) => Answer::Event(slot.event(entry)),
+        Step::Show => Answer::Shown(slot.shown()),
     }
 }
 
@@ -78,26 +86,99 @@ fn calls<S: SlotCalls>(
     }
 }
 
-/// A new slot with this number answers these calls so, one after another.
-fn plays(rt: &impl Abort, alloc: Global, number: u8, steps: &[(Step, Answer)]) {
+/// A new slot with this number, which answers these calls so, one after another.
+pub(crate) fn played(
+    rt: &impl Abort,
+    alloc: Global,
+    number: u8,
+    steps: &[(Step, Answer)],
+) -> Place {
     if number >= MAX_SLOTS {
         panic!(rt; "there is no slot {number}");
     }
     let mut keys = KeyTable::new(alloc);
     let mut slot = Place::new(alloc, number);
     calls(rt, alloc, &mut keys, &mut slot, steps);
-    close(slot);
+    slot
 }
 
-/// The entries go on from queue to queue, and the places of messages begin anew.
+/// The figures of a new queue.
+pub(crate) const NEW: Figures = Figures {
+    qbytes: MSGMNB,
+    ctime: 10,
+    ..NO_FIGURES
+};
+
+/// One message of five bytes waits.
+pub(crate) const FIVE: Figures = Figures {
+    qnum: 1,
+    cbytes: 5,
+    stime: 30,
+    lspid: 3,
+    ..NEW
+};
+
+pub(crate) const REMOVED: Event = Event::Removed {
+    seat: 2,
+    moment: 20,
+};
+
+pub(crate) const MADE: Event = Event::Made {
+    seat: 1,
+    moment: 10,
+    key: 7,
+};
+
+/// The slot shows this queue, with where its list begins and ends, and the queue begins.
+pub(crate) fn live(number: u32, key: i32, list: [u64; 3], figures: Figures) -> Answer {
+    let id = Id::from_number(number);
+    let made = id.seq().saturating_add(1);
+    let [first, events, offset] = list;
+    Answer::Shown(Shown {
+        first,
+        events,
+        offset,
+        made,
+        key,
+        row: BoardRow {
+            made,
+            live: true,
+            key,
+            figures,
+        },
+        live: Some(Live { id, figures }),
+    })
+}
+
+/// The slot shows no queue, but how many were made, and where its list begins and ends.
+pub(crate) fn no_queue(made: u32, first: u64, events: u64) -> Answer {
+    Answer::Shown(Shown {
+        first,
+        events,
+        offset: events,
+        made,
+        key: 0,
+        row: BoardRow {
+            made,
+            live: false,
+            key: 0,
+            figures: NO_FIGURES,
+        },
+        live: None,
+    })
+}
+
+/// The entries go on from queue to queue, and the places of messages begin anew. Each refusal is
+/// foretold.
 #[test]
 fn entries_go_on_from_queue_to_queue(rt: HostRuntime) {
-    let steps: [(Step, Answer); 13] = [
+    let steps: [(Step, Answer); 18] = [
         (Step::Send(1, 5), Answer::Unasked),
         (Step::Make(9), Answer::Id(0)),
+        (Step::Make(0), Answer::Unasked),
         (Step::Send(1, 5), Answer::At(1)),
         (Step::Send(1, 4), Answer::At(2)),
-        (Step::Remove, Answer::Events(4)),
+        (Step::Remove, Answer::Log(0, 4)),
         (Step::Receive(5), Answer::Unasked),
         (Step::Make(9), Answer::Id(64)),
         (Step::Receive(5), Answer::Refused(QueueError::NoMessage)),
@@ -105,50 +186,26 @@ fn entries_go_on_from_queue_to_queue(rt: HostRuntime) {
         (Step::Receive(2), Answer::Refused(QueueError::TooBig)),
         (Step::Receive(3), Answer::Got(6, 1, 3)),
         (Step::Set(4), Answer::At(7)),
-        (Step::Remove, Answer::Events(5)),
-    ];
-    plays(&rt, rt.alloc(), 0, &steps);
-}
-
-/// Three queues, and no more: the last seq is 2. A queue that is there takes no other.
-#[test]
-fn a_slot_takes_as_many_queues_as_its_seqs_allow(rt: HostRuntime) {
-    let steps: [(Step, Answer); 9] = [
-        (Step::Make(0), Answer::Id(63)),
-        (Step::Make(0), Answer::Unasked),
-        (Step::Remove, Answer::Events(2)),
-        (Step::Make(7), Answer::Id(127)),
-        (Step::Remove, Answer::Events(2)),
+        (
+            Step::Send(0, 65_537),
+            Answer::Refused(QueueError::TypeInvalid),
+        ),
+        (Step::Send(1, 65_537), Answer::Refused(QueueError::TooLong)),
+        (Step::Send(1, 5), Answer::Refused(QueueError::Full)),
+        (Step::Remove, Answer::Log(0, 5)),
         (Step::Remove, Answer::Unasked),
-        (Step::Make(i32::MIN), Answer::Id(191)),
-        (Step::Remove, Answer::Events(2)),
-        (Step::Make(0), Answer::Unasked),
     ];
-    plays(&rt, rt.alloc(), 63, &steps);
-}
-
-/// A removed queue's quota is not the next one's.
-#[test]
-fn a_removed_queues_quota_is_not_the_next_ones(rt: HostRuntime) {
-    let steps: [(Step, Answer); 8] = [
-        (Step::Make(1), Answer::Id(5)),
-        (Step::Set(0), Answer::At(1)),
-        (Step::Send(1, 0), Answer::Refused(QueueError::Full)),
-        (Step::Set(131_073), Answer::Refused(QueueError::OverLimit)),
-        (Step::Remove, Answer::Events(3)),
-        (Step::Make(1), Answer::Id(69)),
-        (Step::Send(0, 1), Answer::Refused(QueueError::TypeInvalid)),
-        (Step::Send(1, 0), Answer::At(4)),
-    ];
-    plays(&rt, rt.alloc(), 5, &steps);
+    close(played(&rt, rt.alloc(), 0, &steps));
 }
 
 /// Entries and places go on over cuts. The base of a queue is handed out with what came after it,
 /// also where the queue was removed since; two cuts hand out nothing twice.
 #[test]
 fn entries_and_places_go_on_over_cuts(rt: HostRuntime) {
-    let steps: [(Step, Answer); 16] = [
+    let steps: [(Step, Answer); 18] = [
         (Step::Cut, Answer::Cut(0, 0, None, 0, 0)),
+        (Step::Cut, Answer::Cut(0, 0, None, 0, 0)),
+        (Step::Show, no_queue(0, 0, 0)),
         (Step::Make(9), Answer::Id(0)),
         (Step::Send(1, 5), Answer::At(1)),
         (Step::Send(1, 4), Answer::At(2)),
@@ -157,31 +214,62 @@ fn entries_and_places_go_on_over_cuts(rt: HostRuntime) {
         (Step::Cut, Answer::Cut(3, 1, Some(3), 0, 1)),
         (Step::Cut, Answer::Cut(4, 1, Some(4), 0, 0)),
         (Step::Send(1, 3), Answer::At(4)),
-        (Step::Remove, Answer::Events(6)),
+        (Step::Remove, Answer::Log(4, 6)),
         (Step::Cut, Answer::Cut(4, 1, Some(4), 2, 0)),
         (Step::Make(9), Answer::Id(64)),
         (Step::Send(1, 2), Answer::At(7)),
-        (Step::Remove, Answer::Events(3)),
+        (Step::Remove, Answer::Log(0, 3)),
         (Step::Make(0), Answer::Id(128)),
         (Step::Cut, Answer::Cut(6, 1, None, 3, 1)),
     ];
-    plays(&rt, rt.alloc(), 0, &steps);
+    close(played(&rt, rt.alloc(), 0, &steps));
 }
 
-/// A quota that is cut off holds.
+/// What was cut off is not read again, and the slot shows its queue as before.
 #[test]
-fn a_quota_holds_over_a_cut(rt: HostRuntime) {
-    let steps: [(Step, Answer); 10] = [
-        (Step::Make(1), Answer::Id(5)),
-        (Step::Set(7), Answer::At(1)),
-        (Step::Send(1, 5), Answer::At(2)),
-        (Step::Cut, Answer::Cut(0, 0, None, 0, 3)),
-        (Step::Send(1, 3), Answer::Refused(QueueError::Full)),
-        (Step::Send(1, 2), Answer::At(3)),
-        (Step::Cut, Answer::Cut(3, 1, Some(3), 0, 1)),
-        (Step::Receive(4), Answer::Refused(QueueError::TooBig)),
-        (Step::Receive(5), Answer::Got(4, 2, 5)),
-        (Step::Send(1, 5), Answer::At(5)),
+fn a_slot_that_is_cut_goes_on_as_before(rt: HostRuntime) {
+    let steps: [(Step, Answer); 23] = [
+        (Step::Make(9), Answer::Id(8)),
+        (Step::Send(5, 5), Answer::At(1)),
+        (Step::Cut, Answer::Cut(0, 0, None, 0, 2)),
+        (Step::Cut, Answer::Cut(2, 1, Some(2), 0, 0)),
+        (Step::Show, live(8, 9, [2, 2, 0], FIVE)),
+        (Step::Event(0), Answer::Event(None)),
+        (Step::Event(1), Answer::Event(None)),
+        (Step::Event(2), Answer::Event(None)),
+        (Step::Look(8), Answer::Looked(Some(Ok(())))),
+        (Step::Send(6, 1), Answer::At(2)),
+        (Step::Remove, Answer::Log(2, 4)),
+        (Step::Show, no_queue(1, 2, 4)),
+        (Step::Event(1), Answer::Event(None)),
+        (Step::Event(3), Answer::Event(Some(REMOVED))),
+        (Step::Cut, Answer::Cut(2, 1, Some(2), 2, 0)),
+        (Step::Cut, Answer::Cut(4, 1, None, 0, 0)),
+        (Step::Look(8), Answer::Looked(Some(Err(IdRefusal::Removed)))),
+        (Step::Look(72), Answer::Looked(Some(Err(IdRefusal::Never)))),
+        (Step::Make(7), Answer::Id(72)),
+        (Step::Show, live(72, 7, [4, 5, 4], NEW)),
+        (Step::Event(3), Answer::Event(None)),
+        (Step::Event(4), Answer::Event(Some(MADE))),
+        (Step::Event(5), Answer::Event(None)),
     ];
-    plays(&rt, rt.alloc(), 5, &steps);
+    close(played(&rt, rt.alloc(), 8, &steps));
+}
+
+#[test]
+fn a_queue_made_after_a_cut_begins_its_own_log(rt: HostRuntime) {
+    let steps: [(Step, Answer); 11] = [
+        (Step::Make(9), Answer::Id(8)),
+        (Step::Cut, Answer::Cut(0, 0, None, 0, 1)),
+        (Step::Remove, Answer::Log(1, 2)),
+        (Step::Make(7), Answer::Id(72)),
+        (Step::Send(5, 5), Answer::At(3)),
+        (Step::Show, live(72, 7, [1, 4, 2], FIVE)),
+        (Step::Event(0), Answer::Event(None)),
+        (Step::Event(1), Answer::Event(Some(REMOVED))),
+        (Step::Event(2), Answer::Event(Some(MADE))),
+        (Step::Cut, Answer::Cut(1, 1, Some(1), 1, 2)),
+        (Step::Cut, Answer::Cut(4, 2, Some(2), 0, 0)),
+    ];
+    close(played(&rt, rt.alloc(), 8, &steps));
 }
