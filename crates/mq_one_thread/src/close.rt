@@ -11,6 +11,8 @@ use mq_message::Waiting;
 use std::sync::ledger::Ledger;
 
 /// Ends a slot, and spends the texts that wait in it.
+// Not in `mq_calls`: the checker does not follow calls of a function that is generic in the list
+// of texts and takes the slot by value.
 fn end_texts<L: Ledger>(arena: &mut ArenaState<L>, slot: TextSlot<L>) -> ClosedSlot
     ensures slot { ending_of result ≡ ends slot }
     ensures arena { arena.new ≡ spends_all slot.messages arena.old }

@@ -148,6 +148,8 @@ fn come_home<N: Names>(writer: &mut BoardWriter<N>, fronts: &mut Vec<Fronts<N>>)
 }
 
 /// Ends a slot, and spends the texts that wait in it.
+// Not in `mq_calls`: the checker does not follow calls of a function that is generic in the list
+// of texts and takes the slot by value.
 pub(crate) fn end_texts<N: Names>(arena: &mut ArenaState<Pages<N>>, slot: SlotOf<N>) -> ClosedSlot
     ensures slot { ending_of result ≡ ends slot }
     ensures arena { arena.new ≡ spends_all slot.messages arena.old }
