@@ -1,7 +1,6 @@
 """Edits of a crate's files. One is a text file of lines `WORD: TEXT`: an `error`, a `function` or a
 `test`, which must see it; a `goal` or none; the `file` below the crate's folder; and pairs of `old`
-and `new`. Each old text stands exactly once in the file as the pairs before it left it. What can't
-be tried is a ValueError."""
+and `new`. Each old text stands once in the file as the pairs before left it. Else: a ValueError."""
 import itertools
 import re
 

@@ -7,7 +7,7 @@
 # Fails nothing. Wants valgrind, and for the times a machine with nothing else to do.
 set -euo pipefail
 cd "$(dirname "$0")/.."
-(cd crates/bench_cut && rt run > /dev/null)
+(cd crates/bench && rt run > /dev/null)
 folder=$(mktemp -d)
 trap 'rm -rf "$folder"' EXIT
 python3 - "${1:-21}" "$folder" <<'PYTHON'
@@ -19,7 +19,7 @@ import sys
 import time
 
 ROUNDS, FOLDER = int(sys.argv[1]), sys.argv[2]
-OURS = ["crates/bench_cut/out/bench_cut"]
+OURS = ["crates/bench/out/bench", "cycle", "16"]
 SIZES = [(entries, waiting) for entries in (0, 1_000, 100_000) for waiting in (0, 1_000)]
 
 
@@ -45,16 +45,15 @@ for entries, waiting in SIZES:
     cuts = max(20, 2_000_000 // max(entries, 1_000))
     differences = []
     for _ in range(ROUNDS):
-        with_cuts = seconds(entries, waiting, cuts, 1)
-        without = seconds(entries, waiting, cuts, 0)
+        with_cuts = seconds(entries // 2, waiting, cuts, 1)
+        without = seconds(entries // 2, waiting, cuts, 0)
         differences.append((with_cuts - without) / cuts * 1e9)
     few = 4
-    counted = (instructions(entries, waiting, 2 * few, 1) - instructions(entries, waiting, few, 1)
-               - instructions(entries, waiting, 2 * few, 0)
-               + instructions(entries, waiting, few, 0)) / few
+    count = lambda rounds, cuts: instructions(entries // 2, waiting, rounds, cuts)
+    counted = (count(2 * few, 1) - count(few, 1) - count(2 * few, 0) + count(few, 0)) / few
     print(f"{entries:7,} {waiting:5,}: {statistics.median(differences):12,.0f} {counted:12,.0f}")
 
-process = subprocess.Popen([*OURS, "100000", "0", "200", "1"], stdout=subprocess.DEVNULL)
+process = subprocess.Popen([*OURS, "50000", "0", "200", "1"], stdout=subprocess.DEVNULL)
 seen = []
 while process.poll() is None:
     try:

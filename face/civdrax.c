@@ -71,7 +71,9 @@ static pid_t sent_by[MAX_SLOTS], received_by[MAX_SLOTS];
 static pid_t self;
 
 static enum { NEW, NONE, READY, RUNS } state;
-static int end_error, height, slots;
+/* Why no call is answered, where none is. */
+static int end_error = ENOSYS;
+static int height, slots;
 
 /* The call that is made, how many of its bytes were given and of its answer taken, and how many of
    the text in either way. */
@@ -149,15 +151,19 @@ static void serve(void) {
   for (;;) come_out();
 }
 
-/* A number of the environment within its limits, or -1 and a line that says so. */
+/* A number of the environment within its limits, or -1 and a line that says so. A thread that is
+   cancelled as it writes that line would keep the lock. */
 static int configured(const char *name, int low, int high, int otherwise) {
   const char *text = secure_getenv(name);
   char *end;
+  int kept;
   if (!text) return otherwise;
   errno = 0;
   long n = strtol(text, &end, 10);
   if (text[0] >= '0' && text[0] <= '9' && !*end && !errno && n >= low && n <= high) return n;
+  pthread_setcancelstate(PTHREAD_CANCEL_DISABLE, &kept);
   dprintf(2, "civdrax: %s is '%.40s': a number from %d to %d is wanted\n", name, text, low, high);
+  pthread_setcancelstate(kept, &kept);
   return -1;
 }
 
@@ -181,6 +187,13 @@ static void in_child(void) {
   pthread_mutex_unlock(&lock);
 }
 
+/* Before any call: a fork that began before it knew of these would copy the lock as it is. */
+__attribute__((constructor)) static void expect_forks(void) {
+  if (!pthread_atfork(before_fork, in_parent, in_child)) return;
+  state = NONE;
+  end_error = ENOMEM;
+}
+
 /* Makes the stack of the proved part, below which a page lies that cannot be touched, and what is
    called first on it. */
 static int make_stack(void) {
@@ -194,23 +207,21 @@ static int make_stack(void) {
   return 0;
 }
 
-/* Reads the size. 0, or ENOMEM. */
-static int prepare(void) {
-  if (pthread_atfork(before_fork, in_parent, in_child)) return ENOMEM;
+/* Reads the size. */
+static void prepare(void) {
   height = configured("CIVDRAX_HEIGHT", 0, MAX_HEIGHT, MAX_HEIGHT);
   slots = configured("CIVDRAX_SLOTS", 1, MAX_SLOTS, MAX_SLOTS);
   self = getpid();
   make_conditions();
   state = height < 0 || slots < 0 ? NONE : READY;
-  return 0;
 }
 
 /* Under the lock: begins the loop, which comes out where it reads its first call; `call` has that
    call already. 0, or why no call is answered: where there was no memory the next call tries again. */
 static int begin(void) {
   if (state == RUNS) return 0;
-  if (state == NEW && prepare()) return ENOMEM;
-  if (state == NONE) return ENOSYS;
+  if (state == NEW) prepare();
+  if (state == NONE) return end_error;
   int error = make_stack();
   if (error) return error;
   state = RUNS;
@@ -264,13 +275,14 @@ static int wait_for(int place, const struct timespec *end) {
   return error;
 }
 
-/* Under the lock: makes a call, again after each wait. 0, or why it is refused. */
+/* Under the lock: makes a call, again after each wait, also after one whose time came: others may
+   have changed what it waits for before it had the lock. 0, or why it is refused. */
 static int make(const void *in, void *out, const struct timespec *end) {
-  for (;; call.waited = 1) {
+  for (int ended = 0;; call.waited = 1) {
     int error = ask(in, out);
     if (!error || !answer.wait) return error;
-    error = wait_for(answer.wait == WAIT_PAGES ? PAGES : (int)answer.slot, end);
-    if (error) return error;
+    if (ended) return ended;
+    ended = wait_for(answer.wait == WAIT_PAGES ? PAGES : (int)answer.slot, end);
   }
 }
 

@@ -18,7 +18,8 @@ extern "C" {
    another value each call answers ENOSYS, and a line on standard error says so.
 
    A call that waits is not ended by a signal: EINTR is never answered. None of these may be called
-   from a signal handler, nor left by a longjmp. A thread may be cancelled while it waits. */
+   from a signal handler, nor left by a longjmp; and a handler that forks while its thread is in one
+   may never return. A thread may be cancelled while it waits. */
 int civdrax_msgget(key_t key, int msgflg);
 int civdrax_msgsnd(int msqid, const void *msgp, size_t msgsz, int msgflg);
 ssize_t civdrax_msgrcv(int msqid, void *msgp, size_t msgsz, long msgtyp, int msgflg);

@@ -2,6 +2,7 @@
 #define _GNU_SOURCE
 #include "civdrax.h"
 #include <dlfcn.h>
+#include <pthread.h>
 #include <stdio.h>
 #include <stdlib.h>
 #include <string.h>
@@ -28,19 +29,23 @@ int msgctl(int id, int cmd, struct msqid_ds *buf) {
   return civdrax_msgctl(id, cmd, buf);
 }
 
-/* PHP opens its extensions with RTLD_DEEPBIND, under which a preloaded name is not seen. */
+/* PHP opens its extensions with RTLD_DEEPBIND, under which a preloaded name is not seen. The C
+   library searches by the paths of the caller, which it knows by the address that it returns to: so
+   the last call must be a jump, as the Makefile's flags for this file have it. */
 void *dlopen(const char *name, int flags) {
   void *(*next)(const char *, int) = (void *(*)(const char *, int))dlsym(RTLD_NEXT, "dlopen");
   return next(name, flags & ~RTLD_DEEPBIND);
 }
 
 /* With CIVDRAX_COUNT a process that ends adds a line to that file: how many of its calls came here.
-   A program may have changed its environment by then. */
+   A program may have changed its environment by then, and a child counts its own. */
 static const char *count_name;
+
+static void count_anew(void) { calls = 0; }
 
 __attribute__((constructor)) static void begin_to_count(void) {
   const char *name = secure_getenv("CIVDRAX_COUNT");
-  if (name) count_name = strdup(name);
+  if (name && !pthread_atfork(NULL, NULL, count_anew)) count_name = strdup(name);
 }
 
 __attribute__((destructor)) static void tell_count(void) {

@@ -12,9 +12,10 @@
 #   status 0, and of just one worker it is told that it ended with ENOMEM: it has then sent and
 #   received no more than it should, the others have done all, the slots have as many entries as
 #   that, and all pages are free.
-# Such a run that does not end within a minute is stopped, and fails. So does a script of which no
-# allocation is refused, or whose answers are others where none is. Wants mqsim to be built, and `cc`.
-# Prints the runs that fail; the last line counts.
+# A run that does not end within a minute, where workers may wait, or else within a minute of a
+# processor's time, is stopped, and fails. So does a script of which no allocation is refused, or whose
+# answers are others where none is. Wants mqsim to be built, and `cc`. Prints the runs that fail; the
+# last line counts.
 set -uo pipefail
 cd "$(dirname "$0")/.."
 program=crates/mqsim/out/mqsim
@@ -62,7 +63,7 @@ is_said() {
 
 # Whether the run that has ended with status $1 may end so.
 is_right() {
-    if [ "$1" -eq "$usual" ] && cmp -s "$seen/out" "$seen/whole"; then
+    if [ "$1" -eq "$usual" ] && [ "$1" -lt 124 ] && cmp -s "$seen/out" "$seen/whole"; then
         return 0
     fi
     case $1 in
@@ -82,10 +83,12 @@ try() {
     seen=$1
     local list usual=0 status n passed=0 failed=0
     read -ra list <<< "$3"
-    # Only workers may wait for good. What stops them makes allocations of its own.
+    # Only workers may wait for good. What stops them makes allocations of its own, and would take
+    # longer than most other runs.
+    ulimit -t 60
     local bounded=() preload=$shim
     [ "${list[0]-}" != threads ] || { bounded=(timeout 60 env "LD_PRELOAD=$shim") preload=; }
-    "$program" "${list[@]}" < "$2" > "$seen/whole" 2> "$seen/err" || usual=$?
+    "${bounded[@]}" "$program" "${list[@]}" < "$2" > "$seen/whole" 2> "$seen/err" || usual=$?
     for ((n = 1; n < 10000; n++)); do
         status=0
         LD_PRELOAD=$preload REFUSE_NTH=$n REFUSE_MARK="$seen/mark$n" "${bounded[@]}" \
@@ -95,8 +98,8 @@ try() {
         else
             failed=$((failed + 1))
             echo "allocations: mqsim $3 < $2, allocation $n: status $status"
-            # A run that hangs is not tried again.
-            [ "$status" -ne 124 ] || break
+            # A run that was stopped is not tried again.
+            [ "$status" -lt 124 ] || break
         fi
         [ -e "$seen/mark$n" ] || break
     done
@@ -155,12 +158,14 @@ begin "$folder/queues" 'threads --slots 64'
 begin "$folder/long" 'threads --height 7'
 
 source tests/serial_tables.sh || exit 1
-for words in '' 'serial --height 6 --slots 16 --last-seq 32767' 'serial --height 2 --slots 2' \
-    '--help' 'serial --height 11'; do
+for words in '' 'serial --height 6 --slots 16 --last-seq 32767' 'serial --height 2 --slots 2'; do
     for script in crates/mqsim/stdin tests/scripts/* examples/{keys,pages,quota}; do
         begin "$script" "$words"
     done
 done
+# These read no script.
+begin /dev/null '--help'
+begin /dev/null 'serial --height 11'
 wait
 passed=0
 failed=0
@@ -169,8 +174,8 @@ for ((job = 1; job <= jobs; job++)); do
     passed=$((passed + right))
     failed=$((failed + wrong))
 done
-if [ $((passed + failed)) -lt 15000 ]; then
-    echo "allocations: of at least 15,000 runs only $((passed + failed)) were made"
+if [ $((passed + failed)) -lt 14100 ]; then
+    echo "allocations: of at least 14,100 runs only $((passed + failed)) were made"
     failed=$((failed + 1))
 fi
 echo "allocations: $passed passed, $failed failed"

@@ -5,8 +5,9 @@ Each line of its ```rust blocks is a signature of the sources, in the form that 
 says, and the crate `mq` hands on the types that it names. Each public call of System, Caller,
 OneThread and Seat, and each name that `mq` hands on, has a place on the page; a call that refuses, in
 such a block. The refusals of a section's table are those that the comment of each of its functions
-names, or the variants of its error, in that order. Each clause of a sentence 'Proved' is one of the
-section's functions. The last line counts.
+names, or the variants of its error, in that order; a call that is another one with more around it
+need not name them again. Each clause of a sentence 'Proved' is one of the section's functions. The
+last line counts.
 """
 import re
 import sys
@@ -17,6 +18,9 @@ PAGE = CRATES.parent / "docs" / "CALLS.md"
 TYPES = ["System", "Caller", "OneThread", "Seat"]
 # Errors whose variants stand in the order of the refusals.
 ERRORS = ["DraftError", "SysError", "WorkersError"]
+# Calls that are another one of their section: at a seat and with its flags, with bytes in place of a
+# text, or with an end of the wait.
+LIKE_ANOTHER = re.compile(r"Caller::|\w+_bytes$|.*_within$")
 # What a signature names of the language.
 KNOWN = ["Result", "Option", "Vec", "Answer"]
 # Parameters of nearly every call, which a signature shows without their types.
@@ -84,6 +88,11 @@ def refusals(signature, doc, sources):
     return re.findall(r"^    (\w+),", bodies[0], re.M)
 
 
+def must_name(name, signature):
+    """Whether a call's comment, or its error, has to name what it refuses."""
+    return "-> Result<" in signature and not LIKE_ANOTHER.match(name)
+
+
 def main():
     names, sources = handed_on()
     calls = functions(sources)
@@ -102,8 +111,8 @@ def main():
         placed |= set(own)
         table = re.search(r"^\| Refuses.*\n\|[-| ]*\n((?:\|.*\n)*)", section, re.M)
         told = re.findall(r"^\| `(\w+)`", table.group(1), re.M) if table else []
-        checks += [(refused[it] in (None, told), f"{title}: {it} refuses {refused[it]}, not {told}")
-                   for it in own]
+        checks += [(refused[it] == told, f"{title}: {it} refuses {refused[it]}, not {told}")
+                   for it in own if refused[it] or must_name(it, calls[it][0])]
         clauses = {clause for name in own for clause in calls[name][2]}
         checks += [(it in clauses, f"{title}: no clause `{it}`")
                    for said in re.findall(r"\bProved[^.]*", section)

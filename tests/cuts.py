@@ -90,10 +90,11 @@ def run(words, script):
     return ended.stdout, ended.stderr, ended.returncode
 
 
-def slots_cut(script):
-    """The slots of the cuts of a script, in their order."""
-    return [int(line[4:]) for line in script_model.lines_of(script)
-            if re.fullmatch(rb"cut [0-9]+", line)]
+def slots_cut(script, fault):
+    """The slots of the cuts of a script, in their order, up to the line that its fault names."""
+    named = re.match(rb"mqsim: line (\d+):", fault)
+    lines = script_model.lines_of(script)[:int(named[1]) - 1 if named else None]
+    return [int(line[4:]) for line in lines if re.fullmatch(rb"cut [0-9]+", line)]
 
 
 def is_right(case):
@@ -103,9 +104,9 @@ def is_right(case):
     lines = told.split(b"\n")
     cuts = [CUT.fullmatch(line) for line in lines if CUT.fullmatch(line)]
     others = b"\n".join(line for line in lines if not CUT.fullmatch(line))
-    ends = {}
-    chained = True
-    for slot, cut in zip(slots_cut(script), cuts):
+    slots, ends = slots_cut(script, fault), {}
+    chained = len(slots) == len(cuts)
+    for slot, cut in zip(slots, cuts):
         first, end = int(cut[1]), int(cut[2])
         chained = chained and ends.get(slot, 0) == first <= end
         ends[slot] = end
@@ -126,7 +127,7 @@ def main():
     for _ in range(RANDOM_SCRIPTS):
         cases.append(([], *with_cuts(dice, random_script(dice), script_model.SLOTS), True))
     right = wrong = 0
-    with concurrent.futures.ThreadPoolExecutor(os.cpu_count()) as pool:
+    with concurrent.futures.ThreadPoolExecutor(len(os.sched_getaffinity(0))) as pool:
         for good, said in pool.map(is_right, cases):
             right += good
             wrong += not good

@@ -23,6 +23,7 @@ messages=10000000
 # The most lines that the C part may have.
 most_lines=600
 warnings=(-std=gnu11 -Wall -Wextra -Werror -Wno-nonnull)
+preload=$PWD/face/out/libcivdrax_preload.so
 
 # Counts a case, which passed if $1 is 0, and else is told by the words from $2 on.
 count() {
@@ -34,18 +35,21 @@ count() {
     fi
 }
 
-# Runs a test program, with its words, and adds the checks that it counts in its last line.
+# Runs a test program, with its words, and adds the checks that it counts in its last line: one that
+# counts none has failed.
 checks() {
-    local status=0
+    local status=0 told=0
     timeout "$seconds" "$@" > "$folder/out" 2> "$folder/err" || status=$?
     if [[ $(tail -n 1 "$folder/out") =~ ^([0-9]+)\ passed,\ ([0-9]+)\ failed$ ]]; then
         passed=$((passed + BASH_REMATCH[1]))
         failed=$((failed + BASH_REMATCH[2]))
+        told=$((BASH_REMATCH[1] + BASH_REMATCH[2]))
         [ "${BASH_REMATCH[2]}" -eq 0 ] || head -n 5 "$folder/err"
     else
         head -n 5 "$folder/err"
     fi
-    count "$status" "$*: status $status"
+    [ "$status" -eq 0 ] && [ "$told" -gt 0 ]
+    count $? "$*: status $status, $told checks"
 }
 
 build() {
@@ -82,22 +86,51 @@ compile() {
 }
 
 programs() {
-    local test
-    for test in calls waits forks threads memory damaged many; do
+    local test calls
+    for test in calls waits late forks threads memory damaged many; do
         compile "$test" "$folder/$test" face/out/libcivdrax.a
     done
-    for test in calls waits forks threads memory; do
+    for test in calls waits late forks threads memory; do
         checks "$folder/$test"
     done
     checks "$folder/damaged" "$damaged"
     checks "$folder/many" "$messages"
-    compile calls "$folder/shared" -Lface/out -lcivdrax "-Wl,-rpath,$PWD/face/out"
-    checks "$folder/shared"
-    # The test of several threads is right over the kernel too.
+    # A program finds the library in any folder, though its path was told from here.
+    compile calls "$folder/shared" face/out/libcivdrax.so "-Wl,-rpath,$PWD/face/out"
+    checks env -C / "$folder/shared"
+    # The test of several threads is right over the kernel too; 80,000 messages come and go.
     compile threads "$folder/kernel_threads" -Dcivdrax_msgget=msgget -Dcivdrax_msgsnd=msgsnd \
         -Dcivdrax_msgrcv=msgrcv -Dcivdrax_msgctl=msgctl
     checks "$folder/kernel_threads"
-    checks env LD_PRELOAD="$PWD/face/out/libcivdrax_preload.so" "$folder/kernel_threads"
+    checks env CIVDRAX_COUNT="$folder/count" LD_PRELOAD="$preload" "$folder/kernel_threads"
+    calls=$(cat "$folder/count")
+    [ "${calls:-0}" -ge 160000 ]
+    count $? "face/tests/threads.c has made only ${calls:-0} calls here"
+}
+
+# What else the preloaded library does. The child counts its one call, and then its parent four.
+preloaded() {
+    local calls
+    rm -f "$folder/count"
+    compile preloaded "$folder/opened.so" -shared -fPIC -DOPENED
+    compile preloaded "$folder/preloaded" -Wl,--enable-new-dtags "-Wl,-rpath,$folder" -ldl
+    checks env CIVDRAX_COUNT="$folder/count" LD_PRELOAD="$preload" "$folder/preloaded"
+    calls=$(tr '\n' ' ' < "$folder/count")
+    [ "$calls" = '1 4 ' ]
+    count $? "face/tests/preloaded.c has made calls here: $calls"
+}
+
+# The header is C++ too.
+plus_plus() {
+    if ! command -v g++ > /dev/null; then
+        echo 'face: LEFT OUT: civdrax.h as C++: g++ is not here'
+        return
+    fi
+    g++ -Wall -Wextra -Werror -pedantic -Iface -x c++ - -x none face/out/libcivdrax.a -pthread \
+        -o "$folder/plus_plus" <<< '#include <civdrax.h>
+        int main() { return civdrax_msgctl(civdrax_msgget(7, IPC_CREAT), IPC_RMID, nullptr); }' \
+        && "$folder/plus_plus"
+    count $? "a C++ program with civdrax.h fails"
 }
 
 # With the address and undefined-behaviour sanitizers in the C part and in the tests.
@@ -110,7 +143,7 @@ sanitized() {
         -o "$folder/sanitized/libcivdrax.so" face/civdrax.c crates/civdrax/out/libcivdrax.a \
         "$heap" -Wl,--wrap=read,--wrap=write -Wl,--version-script=face/civdrax.map -pthread
     count $? "the C part does not compile with the sanitizers"
-    for test in calls waits forks threads memory damaged; do
+    for test in calls waits late forks threads memory damaged; do
         cc "${warnings[@]}" "${flags[@]}" -o "$folder/sanitized/$test" "face/tests/$test.c" \
             -L"$folder/sanitized" -lcivdrax "-Wl,-rpath,$folder/sanitized" -pthread
         count $? "face/tests/$test.c does not compile with the sanitizers"
@@ -161,9 +194,8 @@ client() {
     rm -f "$folder/count"
     timeout "$seconds" "${@:2}" 1 "$scripts" > "$folder/kernel" 2> "$folder/err"
     count $? "$1 over the kernel: $(head -n 1 "$folder/err")"
-    timeout "$seconds" env CIVDRAX_COUNT="$folder/count" \
-        LD_PRELOAD="$PWD/face/out/libcivdrax_preload.so" "${@:2}" 1 "$scripts" \
-        > "$folder/here" 2> "$folder/err"
+    timeout "$seconds" env CIVDRAX_COUNT="$folder/count" LD_PRELOAD="$preload" \
+        "${@:2}" 1 "$scripts" > "$folder/here" 2> "$folder/err"
     count $? "$1 over these queues: $(head -n 1 "$folder/err")"
     python3 - "$folder/kernel" "$folder/here" > "$folder/compared" <<'PYTHON'
 import sys
@@ -211,6 +243,8 @@ clients() {
 build
 library_names
 programs
+preloaded
+plus_plus
 sanitized
 allocations
 sizes

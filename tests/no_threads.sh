@@ -95,7 +95,8 @@ fi
 # mqsim, where it runs scripts of workers: fifteen, of whom fourteen wait for what the last one
 # sends. Where a thread is missing, what the main part answered is all that is written.
 if [ "$(id -u)" -eq 0 ]; then
-    place mqsim && "$folder/mqsim" threads < /dev/null > "$folder/out" 2> "$folder/err"
+    place mqsim \
+        && timeout "$seconds" "$folder/mqsim" threads < /dev/null > "$folder/out" 2> "$folder/err"
     count $? "mqsim threads, with an empty script: $(head -c 200 "$folder/err")"
     {
         printf 'get 0 c\n'
@@ -105,7 +106,7 @@ if [ "$(id -u)" -eq 0 ]; then
         printf 'worker\nput 0 1 14 10\n'
     } > "$folder/script"
     printf 'id 0\n' > "$folder/main"
-    "$folder/mqsim" threads < "$folder/script" > "$folder/whole"
+    timeout "$seconds" "$folder/mqsim" threads < "$folder/script" > "$folder/whole"
     for threads in 1 2 6 15; do
         refuses "$threads" 6 'mqsim: thread not started' "$folder/main" "$folder/script" \
             "$folder/mqsim" threads

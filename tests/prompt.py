@@ -25,7 +25,7 @@ LINES = [
     ("rcv 0 9 0", "msg 1 seat 1 tag 2 len 5 =hello\n"),
     ("rcv 0 9 0", "ENOMSG\n"),
 ]
-# The seconds in which an answer must come.
+# The seconds in which an answer must come, and a run end.
 PATIENCE = 20
 passed = failed = 0
 
@@ -57,6 +57,11 @@ def read_until(source, end):
 def start(words, source=subprocess.PIPE, prompts=subprocess.PIPE):
     pipes = {"stdin": source, "stdout": subprocess.PIPE, "stderr": prompts}
     return subprocess.Popen([PROGRAM, *words], **pipes)
+
+
+def ended(words, **pipes):
+    """A run that ends by itself."""
+    return subprocess.run([PROGRAM, *words], timeout=PATIENCE, **pipes)
 
 
 def over_pipes(words):
@@ -112,37 +117,38 @@ def threads_at_a_terminal():
 def progress():
     """What shows how long threads have run: standard error where it is a terminal, and nothing else;
     at the end it is taken away."""
-    script = b"get 7 c\nworker\ntake 0 9 1 within 2500\n"
+    script = b"get 7 c\nworker\ntake 0 9 1 within 3500\n"
     ours, theirs = pty.openpty()
     run = start(["threads"], prompts=theirs)
     os.close(theirs)
     said, _ = run.communicate(script, timeout=PATIENCE)
     shown = read_until(ours, b"\r\r").replace(" " * 40, "")
-    check(shown == "mqsim: running for 1 s\rmqsim: running for 2 s\r\r", f"progress: {shown!r}")
+    # Two seconds at least, and as many more as it is late.
+    seconds = range(1, max(2, shown.count("mqsim")) + 1)
+    wanted = "".join(f"mqsim: running for {it} s\r" for it in seconds)
+    check(shown == f"{wanted}\r", f"progress: {shown!r}")
     os.close(ours)
-    piped = subprocess.run([PROGRAM, "threads"], input=script, capture_output=True)
+    piped = ended(["threads"], input=script, capture_output=True)
     check((said, piped.stderr) == (piped.stdout, b""), f"progress over a pipe: {piped}")
 
 
 def ends():
     """How runs end that do not come to the end of what is typed."""
-    file = subprocess.run([PROGRAM, "-i", "script"], capture_output=True, text=True)
+    file = ended(["-i", "script"], capture_output=True, text=True)
     check(file.returncode == 2 and "SCRIPT" in file.stderr, f"-i and a file: {file}")
-    threads = subprocess.run([PROGRAM, "threads", "-i"], capture_output=True, text=True)
+    threads = ended(["threads", "-i"], capture_output=True, text=True)
     check(threads.returncode == 2 and "-i" in threads.stderr, f"threads -i: {threads}")
     # No process reads the pipe any more.
     reader, writer = os.pipe()
     os.close(reader)
-    full = subprocess.run([PROGRAM, "-i"], input=b"get 7 c\narena\n", stdout=writer,
-                          stderr=subprocess.PIPE)
+    full = ended(["-i"], input=b"get 7 c\narena\n", stdout=writer, stderr=subprocess.PIPE)
     os.close(writer)
     check(full.returncode == 4 and full.stderr.endswith(b"write failed\n"), f"a closed pipe: {full}")
     # Standard input is open for writing alone.
     with open(os.devnull, "wb") as null:
-        closed = subprocess.run([PROGRAM, "-i"], stdin=null, capture_output=True)
+        closed = ended(["-i"], stdin=null, capture_output=True)
     check(closed.returncode == 3 and closed.stderr.endswith(b"read failed\n"), f"no input: {closed}")
-    size = subprocess.run([PROGRAM, "serial", "-i", "--height", "0"], input=b"arena\n",
-                          capture_output=True)
+    size = ended(["serial", "-i", "--height", "0"], input=b"arena\n", capture_output=True)
     check(size.stdout == b"pages 1 free 1 largest 0\n", f"one page: {size}")
 
 

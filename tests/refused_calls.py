@@ -49,7 +49,7 @@ PATIENCE = 10
 # The runs of a test that are tried side by side, and those of all tests. Of those of tests whose
 # threads wait, most use no processor.
 LANES = 4
-ALL_LANES = 4 * os.cpu_count()
+ALL_LANES = 4 * len(os.sched_getaffinity(0))
 # The tests that are named as those that took longest.
 LONGEST = 5
 # The seconds after which a run counts as one that hangs.
@@ -72,7 +72,7 @@ MAKE_NONE = {
     "mq_one_thread_tests names::a_refusal_is_named_as_in_the_manual",
     "mq_one_thread_tests names::each_layers_refusal_has_its_errno",
     "mq_queue_tests lists::a_msgtyp_is_read_as_the_manual_says",
-    "mq_queue_tests table::keys::an_id_is_told_by_slot_and_seq_up_to_the_bounds",
+    "mq_queue_tests slots::keys::an_id_is_told_by_slot_and_seq_up_to_the_bounds",
     "mq_system_tests shared::no_parts_are_opened_for_no_slot",
     "mq_system_tests waiters::a_patience_says_how_long_it_waits",
     "mq_system_tests waiters::who_is_woken_before_it_sleeps_does_not_sleep",

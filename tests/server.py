@@ -29,7 +29,9 @@ def run(requests):
     """What the program prints, its status, and its greatest resident memory in MiB."""
     begun = time.monotonic()
     how = {"stdout": subprocess.PIPE, "env": {**os.environ, **HEAP}}
-    with subprocess.Popen([PROGRAM, str(requests), str(EVERY)], **how) as process:
+    # The memory of `timeout` is counted as the most of its own and the program's.
+    words = ["timeout", str(SECONDS), PROGRAM, str(requests), str(EVERY)]
+    with subprocess.Popen(words, **how) as process:
         told = process.stdout.read().decode()
         _, status, used = os.wait4(process.pid, 0)
         process.returncode = os.waitstatus_to_exitcode(status)

@@ -1,22 +1,73 @@
-/* A child has a copy of the queues of its own, also where threads of its parent wait. */
+/* A child has a copy of the queues of its own, also where threads of its parent wait, make calls
+   without a pause, or make the first. */
 #include "check.h"
+#include <semaphore.h>
+
+enum { WAITED_FOR = 9, SIZE = 8 };
 
 static struct message m;
+static sem_t fork_begins, call_begins;
+static volatile int is_over;
+
+/* The first call asks for its size, has the lock then, and takes its time. */
+char *secure_getenv(const char *name) {
+  sem_post(&call_begins);
+  usleep(100000);
+  return getenv(name);
+}
+
+/* The first fork begins before the first call, and goes on within it. */
+static void let_it_begin(void) {
+  static int is_later;
+  if (is_later++) return;
+  sem_post(&fork_begins);
+  sem_wait(&call_begins);
+}
+
+static void *makes_the_first_call(void *its) {
+  sem_wait(&fork_begins);
+  remove_queue(new_queue());
+  return its;
+}
 
 static void *waits(void *id) {
   static struct message its;
-  CHECK(civdrax_msgrcv(*(int *)id, &its, 10, 9, 0) == 4);
+  CHECK(civdrax_msgrcv(*(int *)id, &its, 10, WAITED_FOR, 0) == 4);
   return NULL;
 }
 
+/* Sends and receives numbers without a pause. */
+static void *is_busy(void *id) {
+  static struct message its;
+  int queue = *(int *)id, right = 1;
+  for (long i = 1; right && !is_over; i++) {
+    its.type = i;
+    memcpy(its.text, &i, SIZE);
+    right = civdrax_msgsnd(queue, &its, SIZE, 0) == 0
+            && civdrax_msgrcv(queue, &its, SIZE, 0, 0) == SIZE && its.type == i;
+  }
+  CHECK(right);
+  return NULL;
+}
+
+/* In a child: the queue has what its parent's thread had sent, whole, and takes more. */
+static void is_whole(int id) {
+  static struct message its;
+  ssize_t size = civdrax_msgrcv(id, &its, SIZE, 0, IPC_NOWAIT);
+  CHECK(size == SIZE ? !memcmp(its.text, &its.type, SIZE) : size == -1 && errno == ENOMSG);
+  REFUSED(civdrax_msgrcv(id, &its, SIZE, 0, IPC_NOWAIT), ENOMSG);
+  its.type = WAITED_FOR;
+  CHECK(civdrax_msgsnd(id, &its, SIZE, 0) == 0);
+  CHECK(civdrax_msgrcv(id, &its, SIZE, 0, 0) == SIZE && its.type == WAITED_FOR);
+}
+
 /* The child receives what waited at the fork, and what it sends stays its own. */
-static int child(int id, int waited_in) {
-  failed = passed = 0;
+static void has_its_own(int id, int waited_in) {
   CHECK(civdrax_msgrcv(id, &m, 10, 0, IPC_NOWAIT) == 3 && !memcmp(m.text, "abc", 3));
   REFUSED(civdrax_msgrcv(id, &m, 10, 0, IPC_NOWAIT), ENOMSG);
-  m.type = 9;
+  m.type = WAITED_FOR;
   for (int i = 0; i < 5; i++) CHECK(civdrax_msgsnd(waited_in, &m, 4, 0) == 0);
-  for (int i = 0; i < 5; i++) CHECK(civdrax_msgrcv(waited_in, &m, 4, 9, 0) == 4);
+  for (int i = 0; i < 5; i++) CHECK(civdrax_msgrcv(waited_in, &m, 4, WAITED_FOR, 0) == 4);
   struct msqid_ds ds;
   CHECK(civdrax_msgctl(waited_in, IPC_STAT, &ds) == 0 && ds.msg_lspid == getpid());
   int other = new_queue();
@@ -27,11 +78,46 @@ static int child(int id, int waited_in) {
   CHECK(civdrax_msgsnd(other, &m, 4, 0) == 0);
   CHECK(pthread_join(thread, NULL) == 0);
   remove_queue(id);
-  return failed != 0;
 }
 
-int main(void) {
-  watch(60);
+/* Forks, and returns 1 in the child, which ends by `end_child`. */
+static int is_child(void) {
+  pid_t pid = fork();
+  int status;
+  if (pid) CHECK(pid > 0 && waitpid(pid, &status, 0) == pid && status == 0);
+  else failed = passed = 0, watch(10);
+  return !pid;
+}
+
+static void end_child(void) { _exit(failed != 0); }
+
+static void forks_beside_the_first_call(void) {
+  pthread_t thread;
+  CHECK(sem_init(&fork_begins, 0, 0) == 0 && sem_init(&call_begins, 0, 0) == 0);
+  CHECK(pthread_atfork(let_it_begin, NULL, NULL) == 0);
+  CHECK(pthread_create(&thread, NULL, makes_the_first_call, NULL) == 0);
+  if (is_child()) {
+    remove_queue(new_queue());
+    end_child();
+  }
+  CHECK(pthread_join(thread, NULL) == 0);
+}
+
+static void forks_beside_calls(void) {
+  int id = new_queue();
+  pthread_t thread;
+  CHECK(pthread_create(&thread, NULL, is_busy, &id) == 0);
+  for (int i = 0; i < 200 && !failed; i++)
+    if (is_child()) {
+      is_whole(id);
+      end_child();
+    }
+  is_over = 1;
+  CHECK(pthread_join(thread, NULL) == 0);
+  remove_queue(id);
+}
+
+static void forks_beside_a_wait(void) {
   int id = new_queue(), waited_in = new_queue();
   m.type = 1;
   memcpy(m.text, "abc", 3);
@@ -39,20 +125,23 @@ int main(void) {
   pthread_t thread;
   CHECK(pthread_create(&thread, NULL, waits, &waited_in) == 0);
   usleep(50000);
-  for (int i = 0; i < 20; i++) {
-    pid_t pid = fork();
-    if (pid == 0) {
-      watch(30);
-      _exit(child(id, waited_in));
+  for (int i = 0; i < 20; i++)
+    if (is_child()) {
+      has_its_own(id, waited_in);
+      end_child();
     }
-    int status;
-    CHECK(pid > 0 && waitpid(pid, &status, 0) == pid && status == 0);
-  }
-  m.type = 9;
+  m.type = WAITED_FOR;
   CHECK(civdrax_msgsnd(waited_in, &m, 4, 0) == 0);
   CHECK(pthread_join(thread, NULL) == 0);
   CHECK(civdrax_msgrcv(id, &m, 10, 0, IPC_NOWAIT) == 3 && !memcmp(m.text, "abc", 3));
   struct msqid_ds ds;
   CHECK(civdrax_msgctl(id, IPC_STAT, &ds) == 0 && ds.msg_qnum == 0);
+}
+
+int main(void) {
+  watch(60);
+  forks_beside_the_first_call();
+  forks_beside_calls();
+  forks_beside_a_wait();
   return told();
 }

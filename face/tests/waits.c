@@ -188,8 +188,31 @@ static void a_cancelled_wait_holds_up_nobody(void) {
   free(job);
 }
 
+static void *is_cancelled_in_its_call(void *its) {
+  CHECK(pthread_cancel(pthread_self()) == 0);
+  REFUSED(new_queue(), ENOSYS);
+  return its;
+}
+
+/* Nor does one that is cancelled in the first call, which says here that there is no such size. */
+static void a_cancelled_first_call_holds_up_nobody(void) {
+  pid_t pid = fork();
+  if (!pid) {
+    pthread_t thread;
+    watch(10);
+    CHECK(setenv("CIVDRAX_HEIGHT", "none", 1) == 0);
+    CHECK(pthread_create(&thread, NULL, is_cancelled_in_its_call, NULL) == 0);
+    CHECK(pthread_join(thread, NULL) == 0);
+    REFUSED(new_queue(), ENOSYS);
+    _exit(failed != 0);
+  }
+  int status;
+  CHECK(pid > 0 && waitpid(pid, &status, 0) == pid && status == 0);
+}
+
 int main(void) {
   watch(120);
+  a_cancelled_first_call_holds_up_nobody();
   a_message_comes();
   room_comes();
   pages_come();

@@ -89,7 +89,7 @@ fn publish_all<J: Naming, R: Wait>(
 fn look_all<J: Naming>(reader: &mut BoardReader<J>, count: u32) -> u64 {
     let mut seen = 0u64;
     for _ in 0..count {
-        seen = seen.wrapping_add(u64::from(reader.figures().made));
+        seen = seen.wrapping_add(u64::from(reader.row().made));
     }
     seen
 }
@@ -106,7 +106,7 @@ fn measure<J: Naming, R: Wait>(
 {
     if !plan.looks {
         publish_all(rt, writer, plan.count / 2)?;
-        return Ok(u64::from(readers[0].figures().made));
+        return Ok(u64::from(readers[0].row().made));
     }
     come_and_go(rt, writer)?;
     Ok(look_all(&mut readers[0], plan.count))

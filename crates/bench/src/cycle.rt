@@ -1,4 +1,4 @@
-//! One thread that sends a text to a queue and receives it, again and again.
+//! One thread that sends a text to a queue and receives one, again and again.
 
 use crate::words::Words;
 use anyhow::Result;
@@ -11,33 +11,74 @@ use std::alloc::Global;
 #[derive(Drop)]
 struct Cycles {
     bytes: Vec<u8>,
+    /// How many cycles a round has.
     count: u32,
+    /// How many texts wait meanwhile.
+    waiting: u32,
+    rounds: u32,
+    /// Whether the log is cut after each round.
+    cuts: bool,
+}
+
+#[derive(Drop)]
+struct Came {
+    bytes: u64,
+    /// How many entries the cuts handed out.
+    entries: u64,
 }
 
 impl QueueProgram for Cycles {
-    type Answer = Result<u64, Errno>;
+    type Answer = Result<Came, Errno>;
 
     fn run<L: Ledger>(
         self,
         _alloc: Global,
         _config: Config,
         queues: &mut OneThread<L>,
-    ) -> Result<u64, Errno> {
+    ) -> Result<Came, Errno> {
         let flags = GetFlags {
             create: true,
             exclusive: false,
         };
         let id = queues.msgget(1, 1, flags, 0)?.id;
-        let mut came = 0u64;
-        for _ in 0..self.count {
-            came = came.wrapping_add(cycle(queues, id, &self.bytes)?);
+        let mut came = Came {
+            bytes: 0,
+            entries: 0,
+        };
+        // One round more goes ahead, in which nothing is received. So `msgsnd` is called at one
+        // place: by a second one the compiler would make another cycle.
+        for round in 0..=self.rounds {
+            let count = if round == 0 { self.waiting } else { self.count };
+            for _ in 0..count {
+                let length = cycle(queues, id, &self.bytes, round > 0)?;
+                came.bytes = came.bytes.wrapping_add(length);
+            }
+            if self.cuts {
+                came.entries = came.entries.wrapping_add(cut(queues, id)?);
+            }
         }
         Ok(came)
     }
 }
 
-// One text there and back; how many bytes came.
-fn cycle<L: Ledger>(queues: &mut OneThread<L>, id: Id, bytes: &[u8]) -> Result<u64, Errno> {
+/// Cuts the log off; how many entries it had.
+fn cut<L: Ledger>(queues: &mut OneThread<L>, id: Id) -> Result<u64, Errno> {
+    if id.slot() >= queues.slots() {
+        return Ok(0);
+    }
+    match queues.cut_log(id.slot()) {
+        Ok(cut) => Ok(cut.last.len() as u64),
+        Err(refused) => Err(refused.errno),
+    }
+}
+
+/// One text there, and the first back if it is to be received; how many bytes came.
+fn cycle<L: Ledger>(
+    queues: &mut OneThread<L>,
+    id: Id,
+    bytes: &[u8],
+    receives: bool,
+) -> Result<u64, Errno> {
     let text = match queues.draft_of(bytes) {
         Ok(text) => text,
         Err(refused) => return Err(refused.errno()),
@@ -46,6 +87,9 @@ fn cycle<L: Ledger>(queues: &mut OneThread<L>, id: Id, bytes: &[u8]) -> Result<u
         let SendRefused { refused, text } = refusal;
         queues.spend(text);
         return Err(refused.errno);
+    }
+    if !receives {
+        return Ok(0);
     }
     let received = match queues.msgrcv(2, id, MSGMAX, 0, false, false, 1) {
         Ok(received) => received,
@@ -63,19 +107,27 @@ fn cycle<L: Ledger>(queues: &mut OneThread<L>, id: Id, bytes: &[u8]) -> Result<u
     Ok(length)
 }
 
-/// `cycle BYTES CYCLES`: counts the bytes that came.
+/// `cycle BYTES CYCLES WAITING ROUNDS CUTS`: in each round so many cycles, while so many texts wait,
+/// with a cut of the log behind each round unless CUTS is 0. It counts the bytes that came, and the
+/// entries that were cut off.
 pub(crate) fn run(rt: &impl Print, alloc: Global, words: &Words) -> Result<()> {
     let size = words.number(1, 16)?;
-    let count = words.number(2, 10)?;
-    let bytes = vec![in alloc; b'x'; size as usize]?;
+    let cycles = Cycles {
+        bytes: vec![in alloc; b'x'; size as usize]?,
+        count: words.number(2, 10)?,
+        waiting: words.number(3, 0)?,
+        rounds: words.number(4, 1)?,
+        cuts: words.number(5, 0)? != 0,
+    };
     let config = Config {
         height: MAX_HEIGHT,
         ..DEFAULTS
     };
-    let ended = with_queues(alloc, config, Cycles { bytes, count })?;
+    let ended = with_queues(alloc, config, cycles)?;
+    let came = ended.answer?;
     println!(rt;
-        "{} bytes came, {} pages free",
-        ended.answer?, ended.free_pages
+        "{} bytes came, {} entries cut off, {} pages free",
+        came.bytes, came.entries, ended.free_pages
     )?;
     Ok(())
 }

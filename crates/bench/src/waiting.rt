@@ -117,18 +117,18 @@ fn measured<W: Waiting<VecBody>>(alloc: Global, plan: Plan) -> Result<u64, Alloc
 
 /// What the messages wait in.
 #[derive(Clone, Copy)]
-enum Body {
+enum Form {
     List,
     Typed,
     Index,
 }
 
-/// The body of that word; the index where it is of no other.
-fn body_of(word: &str) -> Body {
+/// The form of that word; the index where it is of no other.
+fn form_of(word: &str) -> Form {
     match word {
-        "list" => Body::List,
-        "typed" => Body::Typed,
-        _ => Body::Index,
+        "list" => Form::List,
+        "typed" => Form::Typed,
+        _ => Form::Index,
     }
 }
 
@@ -143,8 +143,8 @@ fn picks_of(word: &str) -> Picks {
     }
 }
 
-/// `waiting BODY WAITING TYPES SELECTION PAIRS`, where BODY is `list`, `typed`, or `index`, which
-/// is the one or the other by how many wait. The messages are of the types from 1 on in turn, and
+/// `waiting FORM WAITING TYPES SELECTION PAIRS`, where FORM is `list`, `typed`, or `index`, which is
+/// a list or in layers by how many wait. The messages are of the types from 1 on in turn, and
 /// SELECTION is `any`, `exact`, `except` or `upto`; or `last`, where those of the pairs are of a
 /// type that no other is of, and selected by it: counts the messages that came.
 pub(crate) fn run(rt: &impl Print, alloc: Global, words: &Words) -> Result<()> {
@@ -154,10 +154,10 @@ pub(crate) fn run(rt: &impl Print, alloc: Global, words: &Words) -> Result<()> {
         selection: picks_of(words.word(4)),
         pairs: words.number(5, 10)?,
     };
-    let came = match body_of(words.word(1)) {
-        Body::List => measured::<ListWaiting<VecBody>>(alloc, plan)?,
-        Body::Typed => measured::<ByType<VecBody>>(alloc, plan)?,
-        Body::Index => measured::<IndexWaiting<VecBody>>(alloc, plan)?,
+    let came = match form_of(words.word(1)) {
+        Form::List => measured::<ListWaiting<VecBody>>(alloc, plan)?,
+        Form::Typed => measured::<ByType<VecBody>>(alloc, plan)?,
+        Form::Index => measured::<IndexWaiting<VecBody>>(alloc, plan)?,
     };
     println!(rt; "{came} messages came")?;
     Ok(())

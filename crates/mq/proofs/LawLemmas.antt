@@ -8,7 +8,7 @@ use Rattle.std.proofs.Math.Seq.{take-append-add, take-length}
 use mathlib.Core.List.{IsPrefix}
 use Rattle.mq_queue.proofs.Lists.{slice_get_front}
 use Rattle.mq_queue.proofs.Logs.{front_follows}
-use Rattle.mq_queue.specs.Answer.{receive_answer, receive_refusal, send_refusal, set_refusal}
+use Rattle.mq_queue.specs.Answer.{receive_refusal, send_refusal, set_refusal}
 use Rattle.mq_queue.specs.Figures.{figures}
 use Rattle.mq_queue.specs.Lawful.{AllFollow, Lawful}
 use Rattle.mq_queue.specs.Log.{ends_with_removed}
@@ -207,7 +207,7 @@ refused_from_then_on last_seq old new slot seq k = (
       (λ events. send_refusal (waiting (last_log events)) (quota (last_log events)) mtype n)) k,
   λ size selection noerror. found_removed last_seq old new slot seq
       (receive_verdict seq size selection noerror) (tells_removed seq
-      (λ events. receive_refusal (receive_answer (waiting (last_log events)) size selection noerror))) k,
+      (λ events. receive_refusal (waiting (last_log events)) size selection noerror)) k,
   λ qbytes. found_removed last_seq old new slot seq (set_verdict seq qbytes)
       (tells_removed seq (λ events. set_refusal qbytes)) k,
   found_removed last_seq old new slot seq (remove_verdict seq) (tells_removed seq (λ events. None)) k,

@@ -4,13 +4,13 @@ use Rattle.std.proofs.lemmas.List.{length-take}
 use Rattle.mq_arena.specs.Text.{PlainText}
 use Rattle.mq_message.specs.declared.header.Header.{Header}
 use Rattle.mq_message.specs.Selection.{selection_of}
+use Rattle.mq_queue.specs.Memory.{or_memory}
 use Rattle.mq_table.specs.Ids.{slot_of}
 use Rattle.mq_table.specs.Kept.{entries_of}
 use Rattle.mq_table.specs.KeptCalls.{KeptTurn, kept_receives}
 use Rattle.mq_calls.specs.Answer.{delivered, delivers, once}
 use Rattle.mq_calls.specs.Calls.{msgrcv}
 use Rattle.mq_calls.specs.Look.{Answer, in_slot, look}
-use Rattle.mq_calls.specs.Memory.{or_memory}
 use Rattle.mq_calls.specs.State.{QueuesState, slot_at}
 use Rattle.mq_calls.specs.Texts.{text_at}
 use Rattle.mq_calls.specs.declared.results.Delivered.{Delivered}

@@ -1,23 +1,20 @@
 use Rattle.std.proofs.Common.{◌≡◌, ℕ, ℤ, List, length, slice_index_or, Some, Result, Ok, Err, IsOk, ◌<◌, ◌⊎◌, inl, inr, refl, sym, ap, ◌∙◌}
 use Rattle.mq_arena.specs.Text.{PlainText}
 use Rattle.mq_arena.specs.declared.order.TheConstants.{INLINE_LEN}
+use Rattle.mq_queue.specs.Memory.{or_memory}
 use Rattle.mq_table.specs.Ids.{slot_of}
 use Rattle.mq_table.specs.Kept.{KeptSlot, entries_of}
 use Rattle.mq_table.specs.SlotParts.{empty_kept}
 use Rattle.mq_one_thread.proofs.DraftLemmas.{spent_after}
 use Rattle.mq_calls.specs.Calls.{msgsnd}
 use Rattle.mq_calls.specs.Look.{Answer, refused_early, refused_or_memory}
-use Rattle.mq_calls.specs.State.{QueuesState, with_arena}
-use Rattle.mq_calls.specs.Texts.{draft_errno, draft_refusal, drafts, drafts_of, spends, filled_with}
+use Rattle.mq_calls.specs.State.{QueuesState}
+use Rattle.mq_calls.specs.Texts.{draft_errno, drafts, drafts_of, filled_with}
 use Rattle.mq_calls.specs.declared.draft_error.DraftError.{DraftError}
 use Rattle.mq_calls.specs.declared.draft_error.DraftError.TheVariants.{Memory}
 use Rattle.mq_calls.specs.declared.errno.Errno.TheVariants.{ENOMEM}
 use Rattle.mq_calls.specs.declared.results.Refused.{Refused}
 use Rattle.mq.specs.Bytes.{MayLackMemory, sends_bytes, sends_draft}
-
--- the queues once the text is spent
-abbrev pub spent : PlainText → QueuesState → QueuesState
-spent text s = with_arena s (spends text s.arena)
 
 -- a text that was drafted with its bytes is sent as it is
 abbrev sends_text : ℕ → ℕ → ℤ → ℕ → ℕ → Result (PlainText × QueuesState) DraftError → Answer ℕ
@@ -37,12 +34,12 @@ sends_drafted q after seat id mtype tag bytes moment text e =
 
 -- a draft that is refused is a send that is refused, unless memory did it
 pub refused_draft : (q : QueuesState) (seat id : ℕ) (mtype : ℤ) (tag : ℕ) (bytes : List ℕ) (moment : ℕ) (refused : DraftError)
-    → refused ≡ draft_refusal (drafts_of q bytes) → (refused ≡ Memory → INLINE_LEN < length bytes)
+    → refused ≡ or_memory Memory (drafts_of q bytes) → (refused ≡ Memory → INLINE_LEN < length bytes)
     → (draft_errno refused ≡ (refused_or_memory q id (sends_bytes q seat id mtype tag bytes moment)).errno)
     ⊎ ((draft_errno refused ≡ ENOMEM) × MayLackMemory q bytes)
 refused_draft q seat id mtype tag bytes moment refused is over = by_draft (drafts q (length bytes)) is
   where
-    by_draft : (d : Result (PlainText × QueuesState) DraftError) → refused ≡ draft_refusal (filled_with bytes d)
+    by_draft : (d : Result (PlainText × QueuesState) DraftError) → refused ≡ or_memory Memory (filled_with bytes d)
         → (draft_errno refused ≡ (refused_or_memory q id (sends_draft seat id mtype tag bytes moment d)).errno)
         ⊎ ((draft_errno refused ≡ ENOMEM) × ((INLINE_LEN < length bytes) × IsOk d))
     by_draft (Ok d) is = inr (ap draft_errno is, (over is, refl))

@@ -2,11 +2,11 @@
 use Rattle.std.specs.Prelude.{◌≡◌, ◌⊎◌, ℕ, ℤ, ◌<◌, Bool, List, length, Result, Ok, Err, IsOk}
 use Rattle.mq_arena.specs.Text.{PlainText}
 use Rattle.mq_arena.specs.declared.order.TheConstants.{INLINE_LEN}
+use Rattle.mq_queue.specs.Memory.{or_memory}
 use Rattle.mq_calls.specs.Calls.{msgrcv, msgsnd}
 use Rattle.mq_calls.specs.Look.{Answer, refused_early}
-use Rattle.mq_calls.specs.Memory.{or_memory}
-use Rattle.mq_calls.specs.State.{QueuesState, with_arena}
-use Rattle.mq_calls.specs.Texts.{draft_errno, drafts, spends}
+use Rattle.mq_calls.specs.State.{QueuesState}
+use Rattle.mq_calls.specs.Texts.{draft_errno, drafts, text_spent}
 use Rattle.mq_calls.specs.declared.draft_error.DraftError.{DraftError}
 use Rattle.mq_calls.specs.declared.errno.Errno.{Errno}
 use Rattle.mq_calls.specs.declared.errno.Errno.TheVariants.{ENOMEM}
@@ -44,7 +44,7 @@ with_text d text = record {
 abbrev pub copied_out : Answer (Delivered PlainText) → Answer (Delivered (List ℕ))
 copied_out (Ok turn) =
     let text = turn.0.text in
-    Ok (with_text turn.0 text.bytes, with_arena turn.1 (spends text turn.1.arena))
+    Ok (with_text turn.0 text.bytes, text_spent text turn.1)
 copied_out (Err refused) = Err refused
 
 -- the bytes of a message are received

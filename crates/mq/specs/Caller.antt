@@ -1,17 +1,17 @@
 -- What a caller of bytes knows: of them, of its seat, and of why a call is refused.
-use Rattle.std.specs.Prelude.{◌≡◌, ◌⊎◌, ℕ, ℤ, ◌<◌, ◌≤◌, nat_lt, Bool, false, true, List, length, None, Option}
+use Rattle.std.specs.Prelude.{◌≡◌, ◌⊎◌, ℕ, ℤ, ◌<◌, ◌≤◌, Bool, false, true, List, length}
+use Rattle.std.specs.Prelude.{None, Option}
 use Rattle.mq_arena.specs.Text.{PlainText, order_for}
 use Rattle.mq_arena.specs.declared.order.TheConstants.{INLINE_LEN}
-use Rattle.mq_queue.specs.declared.limits.TheConstants.{MSGMAX}
 use Rattle.mq_message.specs.declared.selection.Selection.{Selection}
 use Rattle.mq_table.specs.Ids.{seq_of, slot_of}
 use Rattle.mq_calls.specs.declared.errno.Errno.{Errno}
-use Rattle.mq_calls.specs.declared.errno.Errno.TheVariants.{EINVAL, ENOMEM}
+use Rattle.mq_calls.specs.declared.errno.Errno.TheVariants.{ENOMEM}
 use Rattle.mq_calls.specs.declared.results.Delivered.{Delivered}
 use Rattle.mq_calls.specs.declared.results.GetFlags.{GetFlags}
 use Rattle.mq_system.specs.Outcome.{IsLook, IsReceived, IsRefusal}
 use Rattle.mq_system.specs.Pledge.{Pledged}
-use Rattle.mq_system.specs.Refusals.{MayReceive, MaySend, never_sent, out_of_slots}
+use Rattle.mq_system.specs.Refusals.{MayNotDraft, MayReceive, MaySend, never_sent, out_of_slots}
 use Rattle.mq_system.specs.Seat.{SeatState}
 use Rattle.mq_system.specs.Seen.{Verdict, receive_verdict, send_verdict}
 use Rattle.mq_system.specs.Get.{IsGot}
@@ -50,13 +50,6 @@ IsUnasked old new = new ≡ old
 -- there was no memory for so many bytes, and the system was not asked
 abbrev pub HasNoRoom : ℕ → SeatState → SeatState → Errno → Type 0
 HasNoRoom size old new errno = (errno ≡ ENOMEM) × (0 < size) × IsUnasked old new
-
--- why no text was drafted of so many bytes: they are too many, or no run of pages is free for
--- them, or no memory
-abbrev pub MayNotDraft : ℕ → Errno → Type 0
-MayNotDraft n EINVAL = nat_lt MSGMAX n ≡ true
-MayNotDraft n ENOMEM = (0 < n) × (n ≤ MSGMAX)
-MayNotDraft n _ = ⊥
 
 -- no text was drafted of so many bytes, and the system was not asked
 abbrev pub IsNotDrafted : ℕ → SeatState → SeatState → Errno → Type 0

@@ -253,7 +253,7 @@ impl<'a, N: Names, R: Wait> Caller<'a, N, R> {
             noerror: false,
             except: false,
         };
-        self.receive_with(system, id, size, msgtyp, flags)
+        self.receive_within(system, id, size, msgtyp, flags, &mut Forever)
     }
 
     /// Receives the bytes of the first message that the selection names, with these flags. Room for

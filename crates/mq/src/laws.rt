@@ -14,7 +14,8 @@ pub fn what_a_seat_knows_is_a_slots_list()
     ensures { BeginsLawfully }
 {}
 
-/// A seat that knows of a removal gets EIDRM from each call of the removed id from then on.
+/// A seat that knows of a removal gets EIDRM from each call of the removed id from then on: in a
+/// lawful list, which the end tells each to be.
 pub fn a_removed_id_is_refused_from_then_on()
     ensures { StaysRefused }
 {}

@@ -1,7 +1,7 @@
 ghost use Rattle.std.specs.Prelude.{◌≡◌, ◌↔◌, ◌≤◌, ℕ, List, true, false, length, IfOk, IsErrOf};
 ghost use Rattle.mq_calls.specs.Limits.{keeps_limits};
 ghost use Rattle.mq_calls.specs.declared.config.Config.{Config as Sizes};
-ghost use Rattle.mq_system.specs.Seat.{SeatState, AreNumbered};
+ghost use Rattle.mq_system.specs.Seat.{SeatState};
 ghost use Rattle.mq_system.specs.Sizes.{AreNames};
 ghost use Rattle.mq_system.specs.Started.{AreFresh};
 ghost use Rattle.mq.specs.Ended.{IsAfterAll, IsEnded};
@@ -34,9 +34,11 @@ pub trait SystemProgram<P: Pledge>: Drop {
     ) -> Self::Answer
         requires before { before self config }
         requires limits { keeps_limits config ≡ true }
+        requires height { N.height ≡ config.height }
         requires slots { N.slots ≡ config.slots }
-        requires seats { length seats.old ≡ config.seats }
-        requires numbers { AreNumbered seats.old }
+        requires seats { N.seats ≡ config.seats }
+        requires last_seq { N.last_seq ≡ config.last_seq }
+        requires count { length seats.old ≡ config.seats }
         requires fresh { AreFresh N.slots seats.old }
         ensures after { after self config seats.new result };
 }

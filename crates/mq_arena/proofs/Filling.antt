@@ -3,7 +3,7 @@ use Rattle.std.proofs.Common.{◌≡◌, ℕ, ◌+◌, ◌*◌, ◌≤◌, ◌<�
 use Rattle.std.proofs.lemmas.List.{append-nil, length-take, length-take-le, take_at, take_all, drop_all, drop-append-le, take-append-drop, drop_more, take_more_set, drop-set-lt, nil_from_length}
 use Rattle.std.proofs.lemmas.Bool.{cases_lt}
 use Rattle.std.proofs.lemmas.List.Elements.{All-head, All-tail, All-take}
-use Rattle.std.proofs.Math.Seq.{drop-append-add}
+use Rattle.std.proofs.Math.Seq.{drop-append-add, take-append-add}
 use Rattle.std.proofs.lemmas.List.Folds.{concat-append}
 use Rattle.std.specs.List.{concat, All, refill}
 use Rattle.mq_arena.specs.Bytes.{AreWhole, over, filled}
@@ -50,6 +50,25 @@ concat-filled n (page ∷ pages) bytes whole fits =
       | inl more ↦ goes_on n page (concat pages) bytes long (omega arith)
       | inr few ↦ ends_here n page (concat pages) bytes long few
     ]
+
+-- joined, pages that the bytes reach the end of are the first bytes
+pub concat-full : (n : ℕ) (pages : List (List ℕ)) (bytes : List ℕ) → All (λ page. length page ≡ n) pages
+    → n * length pages ≤ length bytes → concat (filled n pages bytes) ≡ take (n * length pages) bytes
+concat-full n [] bytes whole enough =
+    let none : n * 0 ≡ 0 = omega arith in
+    rw none refl
+concat-full n (page ∷ pages) bytes whole enough =
+    let long : length page ≡ n = All-head (λ p. length p ≡ n) page pages whole in
+    let rest : All (λ p. length p ≡ n) pages = All-tail (λ p. length p ≡ n) page pages whole in
+    let more : n * suc (length pages) ≡ n * length pages + n = mul_one_more n (length pages) in
+    let cut : length (take n bytes) ≡ n = length-take-le n bytes (omega (arith, more, enough)) in
+    let left : n * length pages ≤ length (drop n bytes) = omega (arith, length-drop n bytes, more, enough) in
+    let first : over (take n bytes) page ≡ take n bytes =
+    rw (drop_all (length (take n bytes)) page (omega (arith, cut, long))) (append-nil (take n bytes)) in
+    let all : n * suc (length pages) ≡ length (take n bytes) + n * length pages = omega (arith, more, cut) in
+    rw (first, concat-full n pages (drop n bytes) rest left)
+    (sym (take-append-add (take n bytes) (drop n bytes) (n * length pages))
+    ∙ ap (take (length (take n bytes) + n * length pages)) (take-append-drop n bytes) ∙ ap (λ k. take k bytes) (sym all))
 
 -- one page on
 pub filled_more : (n : ℕ) (pages : List (List ℕ)) (i : ℕ) (d : List ℕ) (rest : List ℕ) → i < length pages

@@ -6,7 +6,7 @@ use Rattle.std.proofs.lemmas.List.Elements.{All-replicate}
 use Rattle.std.specs.List.{concat}
 use Rattle.mq_arena.specs.Bytes.{over, filled, pages_with}
 use Rattle.mq_arena.specs.declared.page.TheConstants.{PAGE_LEN}
-use Rattle.mq_arena.proofs.Filling.{concat-filled}
+use Rattle.mq_arena.proofs.Filling.{concat-filled, concat-full}
 
 -- the bytes of pages that are all zero
 pub concat-replicate : (n k : ℕ) → concat (replicate k (replicate n 0)) ≡ replicate (n * k) 0
@@ -64,3 +64,17 @@ concat_bytes count bytes fits =
     (All-replicate (λ page. length page ≡ PAGE_LEN) count blank (length-replicate {A = ℕ} PAGE_LEN 0))
     (omega (arith, long, ap (λ k. PAGE_LEN * k) long))
     ∙ ap (over bytes) (concat-replicate PAGE_LEN count) ∙ over_zeros (PAGE_LEN * count) bytes
+
+-- joined, pages that the bytes fill are as many of the bytes as fit
+pub concat_first : (count : ℕ) (bytes : List ℕ) → PAGE_LEN * count ≤ length bytes
+    → concat (pages_with count bytes) ≡ take (PAGE_LEN * count) bytes
+concat_first count bytes enough =
+    let blank : List ℕ = replicate PAGE_LEN 0 in
+    let long : length (replicate count blank) ≡ count = length-replicate count blank in
+    concat-full PAGE_LEN (replicate count blank) bytes
+    (All-replicate (λ page. length page ≡ PAGE_LEN) count blank (length-replicate {A = ℕ} PAGE_LEN 0))
+    (omega (arith, long, ap (λ k. PAGE_LEN * k) long, enough))
+    ∙ ap (λ k. take (PAGE_LEN * k) bytes) long
+
+-- what pages hold once bytes are written over them: none, as many as fit, or more
+pub ruleset written = (no_bytes, concat_bytes, concat_first)

@@ -118,7 +118,9 @@ impl<L: Ledger> Block<L> {
         writes::fill(self.pages.as_mut_slice(), bytes);
     }
 
-    /// Writes the bytes over the first ones of the block, and zeros over the rest: each byte once.
+    /// Writes the bytes over the first ones of the block, as many as fit, and zeros over the rest:
+    /// each byte once.
+    #[tactic(auto, using(crate::proofs::Overwriting::written))]
     pub fn overwrite(&mut self, bytes: &[u8])
         ensures start { self.new.start ≡ self.old.start }
         ensures order { self.new.order ≡ self.old.order }
@@ -127,6 +129,8 @@ impl<L: Ledger> Block<L> {
         ensures bytes { length bytes.now ≤ PAGE_LEN * 2 ^ self.old.order
             → concat self.new.pages ≡ bytes.now
             ++ replicate (PAGE_LEN * 2 ^ self.old.order - length bytes.now) 0 }
+        ensures full { PAGE_LEN * 2 ^ self.old.order ≤ length bytes.now
+            → concat self.new.pages ≡ take (PAGE_LEN * 2 ^ self.old.order) bytes.now }
     {
         self.write_over(bytes);
     }

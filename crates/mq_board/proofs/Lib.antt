@@ -4,4 +4,4 @@ pub mod Fronts
 pub mod Names
 pub mod Rolling
 pub mod Rows
-pub mod Seats
+pub mod NewReaders

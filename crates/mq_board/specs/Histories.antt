@@ -19,7 +19,7 @@ pub record IsRowKnown (name : TableId) (shown : Shown) (pass : Pass) : Type 0 wh
   pub shown_is : IsRowOf shown (known pass).events
 
 -- what was told is of a pass that was made for it
-pub record IsPublishedList (name : TableId) (shown : Shown) (pass : Pass) : Type 0 where
+pub record IsToldList (name : TableId) (shown : Shown) (pass : Pass) : Type 0 where
   pub kept : IsRowKnown name shown pass
   pub reads : (known pass).writes ≡ false
   pub alone : pass.me.1 ≡ []

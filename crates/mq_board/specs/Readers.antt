@@ -15,12 +15,12 @@ pub record ReaderState : Type 0 where
   pub events : List Event
 
 -- the reader with this place, before it has seen anything
-abbrev pub seat : ℕ → ℕ → ReaderState
-seat board place = record { board = board; place = place; events = [] }
+abbrev pub new_reader : ℕ → ℕ → ReaderState
+new_reader board place = record { board = board; place = place; events = [] }
 
 -- so many readers, with the places from 1 on
-abbrev pub seats : ℕ → ℕ → List ReaderState
-seats board count = map (seat board) (range_with_len 1 count)
+abbrev pub new_readers : ℕ → ℕ → List ReaderState
+new_readers board count = map (new_reader board) (range_with_len 1 count)
 
 -- the same reader, whose front begins with the front before
 pub record HasSeenMore (old new : ReaderState) : Type 0 where

@@ -14,7 +14,7 @@ abbrev pub posting : Event → Figures → Posting
 posting event after = record { event = event; after = after }
 
 -- a writer: its board, the published list, what is pending, and the places that came home
-pub record Desk : Type 0 where
+pub record WriterState : Type 0 where
   pub board : ℕ
   pub events : List Event
   pub pending : List Posting

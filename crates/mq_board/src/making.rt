@@ -3,7 +3,7 @@
 ghost use Rattle.std.specs.Prelude.{◌≡◌, ◌+◌, ◌<◌, ◌≤◌, [], vec_len, IfOk};
 ghost use Rattle.std.specs.Arc.{arc_value};
 ghost use Rattle.mq_board.specs.Named.{AreNamed};
-ghost use Rattle.mq_board.specs.Readers.{seat, seats};
+ghost use Rattle.mq_board.specs.Readers.{new_reader, new_readers};
 
 use crate::cell::Cell;
 use crate::naming::Naming;
@@ -39,7 +39,7 @@ pub fn next_board<J: Naming>(
     ensures number { IfOk result (λ made. made.0.board ≡ number) }
     ensures empty { IfOk result (λ made. (made.0.events ≡ []) × (made.0.pending ≡ [])) }
     ensures out { IfOk result (λ made. made.0.home ≡ []) }
-    ensures readers { IfOk result (λ made. made.1.items ≡ seats number readers) }
+    ensures readers { IfOk result (λ made. made.1.items ≡ new_readers number readers) }
     ensures named { AreNamed J.board J.roll (number + 1) opened.new.items }
     ensures left { vec_len opened.new + 1 ≡ vec_len opened.old }
 {
@@ -63,17 +63,17 @@ pub fn board<J: Naming>(
     ensures number { IfOk result (λ made. made.0.board ≡ number) }
     ensures empty { IfOk result (λ made. (made.0.events ≡ []) × (made.0.pending ≡ [])) }
     ensures out { IfOk result (λ made. made.0.home ≡ []) }
-    ensures readers { IfOk result (λ made. made.1.items ≡ seats number readers) }
+    ensures readers { IfOk result (λ made. made.1.items ≡ new_readers number readers) }
 {
     let OpenedBoard { cell, pass, roll } = opened;
     let roll = roll.number::<J>(number);
     let cell = Arc::new(alloc, cell)?;
-    let made = seat_all(alloc, &cell, &roll, readers as u16)?;
+    let made = make_readers(alloc, &cell, &roll, readers as u16)?;
     Ok((BoardWriter::new(alloc, cell, pass, roll), made))
 }
 
 /// So many readers, with the places from 1 on.
-fn seat_all<J: Naming>(
+fn make_readers<J: Naming>(
     alloc: Global,
     cell: &Arc<Cell, Global>,
     roll: &Roll<J>,
@@ -81,25 +81,25 @@ fn seat_all<J: Naming>(
 ) -> Result<Vec<BoardReader<J>>, AllocError>
     requires named { (arc_value cell.now).table.shared.table_id ≡ J.board roll.now.board }
     requires count { count ≤ 16 }
-    ensures { IfOk result (λ readers. readers.items ≡ seats roll.now.board count) }
+    ensures { IfOk result (λ readers. readers.items ≡ new_readers roll.now.board count) }
 {
     let mut readers = Vec::new(alloc);
     for given in 0..count {
-        let reader = seat_one(cell, roll, given)?;
+        let reader = make_reader(cell, roll, given)?;
         readers.push(reader)?;
     }
     Ok(readers)
 }
 
 /// The next reader, where so many have their place.
-fn seat_one<J: Naming>(
+fn make_reader<J: Naming>(
     cell: &Arc<Cell, Global>,
     roll: &Roll<J>,
     given: u16,
 ) -> Result<BoardReader<J>, AllocError>
     requires named { (arc_value cell.now).table.shared.table_id ≡ J.board roll.now.board }
     requires given { given < 16 }
-    ensures { IfOk result (λ reader. reader ≡ seat roll.now.board (given + 1)) }
+    ensures { IfOk result (λ reader. reader ≡ new_reader roll.now.board (given + 1)) }
 {
     let Some(place) = roll.give_out(given) else {
         return Err(AllocError);

@@ -1,14 +1,14 @@
 ghost use Rattle.std.specs.Prelude.{◌≡◌, ◌<◌, ◌≤◌, [], length, IfSome, MatchBool};
 ghost use Rattle.std.specs.Arc.{arc_value};
 ghost use Rattle.mq_queue.specs.Row.{row};
-ghost use Rattle.mq_board.specs.Readers.{HasSeenMore, seat};
+ghost use Rattle.mq_board.specs.Readers.{HasSeenMore, new_reader};
 ghost use Rattle.mq_board.specs.Shown.{known};
 
 use crate::cell::{Cell, Pass};
 use crate::naming::Naming;
-use crate::posted::PublishedList;
 use crate::roll::BoardPlace;
 use crate::shown::{NOTHING, Shown};
+use crate::told::ToldList;
 use mq_queue::BoardRow;
 use std::alloc::Global;
 use std::marker::Model;
@@ -45,7 +45,7 @@ impl<J: Naming> Model for BoardReader<J> {
 impl<J: Naming> BoardReader<J> {
     pub(crate) fn new(cell: Arc<Cell, Global>, place: BoardPlace<J>) -> BoardReader<J>
         requires { (arc_value cell).table.shared.table_id ≡ J.board place.board }
-        ensures { result ≡ seat place.board place.number }
+        ensures { result ≡ new_reader place.board place.number }
     {
         let pass = cell.pass();
         BoardReader {
@@ -73,7 +73,7 @@ impl<J: Naming> BoardReader<J> {
     /// The row of a published list that begins with the front, and that is the front then. It waits
     /// for nobody, takes no lock and no memory. Where each of many looks finds that the row is just
     /// being written, the row of the front is answered.
-    pub fn figures(&mut self) -> BoardRow
+    pub fn row(&mut self) -> BoardRow
         ensures later { HasSeenMore self.old self.new }
         ensures row { result ≡ row self.new.events }
     {
@@ -100,14 +100,14 @@ impl<J: Naming> BoardReader<J> {
     }
 
     /// Learns what the board's writer told, if the list is at least as long as the front.
-    pub fn learn(&mut self, told: PublishedList<J>) -> bool
+    pub fn learn(&mut self, told: ToldList<J>) -> bool
         requires { told.board ≡ self.old.board }
         ensures later { HasSeenMore self.old self.new }
         ensures told { MatchBool result
             ((self.new.events ≡ told.events) × (length self.old.events ≤ length told.events))
             ((self.new ≡ self.old) × (length told.events < length self.old.events)) }
     {
-        let PublishedList {
+        let ToldList {
             number: _,
             shown,
             pass,

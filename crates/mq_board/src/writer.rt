@@ -11,12 +11,12 @@ ghost use Rattle.mq_board.specs.Writers.{HasOnePending, posting};
 
 use crate::cell::{Cell, Pass};
 use crate::naming::Naming;
-use crate::posted::PublishedList;
 use crate::posting::Posting;
 use crate::reader::BoardReader;
 use crate::roll::Roll;
 use crate::row::{next_key, next_row};
 use crate::shown::{NOTHING, News, Shown};
+use crate::told::ToldList;
 use mq_queue::{BoardRow, Event, Figures, Notice};
 use std::alloc::{AllocError, Global};
 use std::marker::{Model, PhantomData};
@@ -40,9 +40,9 @@ impl<J: Naming> Model for BoardWriter<J> {
     ghost use Rattle.std.specs.Prelude.{◌≡◌};
     ghost use Rattle.std.specs.Arc.{arc_value};
     ghost use Rattle.mq_board.specs.Shown.{known};
-    ghost use Rattle.mq_board.specs.Writers.{Desk, IsWriter};
+    ghost use Rattle.mq_board.specs.Writers.{WriterState, IsWriter};
 
-    ghost Value = { Desk };
+    ghost Value = { WriterState };
 
     ghost view = { λ w. record {
       board = w.roll.board;
@@ -110,11 +110,11 @@ impl<J: Naming> BoardWriter<J> {
     }
 
     /// Names the published list.
-    pub fn tell(&mut self) -> PublishedList<J>
+    pub fn tell(&mut self) -> ToldList<J>
         ensures told { result ≡ history self.old.board self.old.events }
         ensures same { self.new ≡ self.old }
     {
-        PublishedList {
+        ToldList {
             number: self.board(),
             shown: self.kept,
             pass: self.cell.tell(&mut self.pass),

@@ -8,8 +8,6 @@ use Rattle.mq_queue.specs.declared.error.QueueError.{QueueError}
 use Rattle.mq_queue.specs.declared.error.QueueError.TheVariants.{TypeInvalid, TooLong, Full}
 use Rattle.mq_queue.specs.declared.error.QueueError.TheVariants.{NoMessage, TooBig}
 use Rattle.mq_queue.specs.declared.error.QueueError.TheVariants.{OverLimit, Memory}
-use Rattle.mq_table.specs.Shown.{by_standing}
-use Rattle.mq_table.specs.SlotList.{Standing}
 use Rattle.mq_table.specs.declared.refusal.IdRefusal.{IdRefusal}
 use Rattle.mq_table.specs.declared.refusal.IdRefusal.TheVariants.{Never, Removed}
 use Rattle.mq_calls.specs.Texts.{cut_to, text_at}
@@ -46,10 +44,6 @@ refused_after entries errno = record { errno = errno; entry = Some entries }
 abbrev pub by_id : ℕ → Result (Unit {0}) IdRefusal → Result (Unit {0}) Refused
 by_id entries (Ok _) = Ok tt
 by_id entries (Err refusal) = Err (refused_after entries (errno_of_id refusal))
-
--- the same by what became of the id
-abbrev pub looks : ℕ → Standing → Result (Unit {0}) Refused
-looks entries standing = by_id entries (by_standing standing)
 
 -- what is answered where the slot's queue answers so
 abbrev pub answered : {A : Type 0} → ℕ → Result A QueueError → Result A Refused

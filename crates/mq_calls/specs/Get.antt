@@ -57,7 +57,7 @@ MayRunOut (Ok turn) = IsSome turn.0.made
 MayRunOut (Err errno) = Unit {0}
 
 -- a queue can be made in slot k: none is in it, and a seq is left
-pub record IsFreePlace (s : QueuesState) (k : ℕ) : Type 0 where
+pub record IsFreeSlot (s : QueuesState) (k : ℕ) : Type 0 where
   pub within : k < length s.slots
   pub empty : is_live_kept (slot_at s k) ≡ false
   pub unused : made_of (slot_at s k) ≤ MAX_SEQ

@@ -4,7 +4,6 @@ pub mod Closed
 pub mod Get
 pub mod Limits
 pub mod Look
-pub mod Memory
 pub mod Names
 pub mod State
 pub mod Texts

@@ -2,15 +2,15 @@
 use Rattle.std.specs.Prelude.{◌≡◌, ℕ, ◌<◌, nat_lt, true, if◌then◌else◌, length, Result, Ok, Err}
 use Rattle.mq_arena.specs.Text.{PlainText}
 use Rattle.mq_queue.specs.declared.error.QueueError.{QueueError}
+use Rattle.mq_queue.specs.Memory.{or_memory}
 use Rattle.mq_table.specs.declared.refusal.IdRefusal.{IdRefusal}
 use Rattle.mq_table.specs.Ids.{slot_of, seq_of}
 use Rattle.mq_table.specs.Kept.{KeptSlot, entries_of, is_live_kept}
 use Rattle.mq_table.specs.KeptCalls.{KeptTurn}
 use Rattle.mq_table.specs.KeptShown.{standing_now}
-use Rattle.mq_table.specs.Shown.{by_standing}
+use Rattle.mq_table.specs.SlotList.{by_standing}
 pub use Rattle.mq_calls.specs.Answer.{errno_of, errno_of_id, once, refused_early}
 use Rattle.mq_calls.specs.Answer.{answered, by_id, refused_after}
-use Rattle.mq_calls.specs.Memory.{or_memory}
 use Rattle.mq_calls.specs.State.{QueuesState, slot_at, with_slot}
 use Rattle.mq_calls.specs.declared.errno.Errno.{Errno}
 use Rattle.mq_calls.specs.declared.errno.Errno.TheVariants.{EINVAL, ENOMEM}
@@ -40,7 +40,7 @@ look s id =
     else Err (refused_early EINVAL)
 
 -- slot k has the live queue with this id
-pub record IsPlace (s : QueuesState) (id k : ℕ) : Type 0 where
+pub record IsSlotOfId (s : QueuesState) (id k : ℕ) : Type 0 where
   pub slot : k ≡ slot_of id
   pub within : k < length s.slots
   pub live : is_live_kept (slot_at s k) ≡ true

@@ -14,7 +14,6 @@ use Rattle.mq_arena.specs.Text.{PlainText, no_text, order_for}
 use Rattle.mq_message.specs.declared.message.Message.{Message}
 use Rattle.mq_queue.specs.declared.limits.TheConstants.{MSGMAX}
 use Rattle.mq_message.specs.Waiting.{message_at}
-use Rattle.mq_calls.specs.Memory.{or_memory}
 use Rattle.mq_calls.specs.State.{QueuesState, with_arena}
 use Rattle.mq_calls.specs.declared.draft_error.DraftError.{DraftError}
 use Rattle.mq_calls.specs.declared.draft_error.DraftError.TheVariants.{TooLong, NoRun, Memory}
@@ -63,6 +62,10 @@ cut_to size text = record { bytes = take size text.bytes; block = text.block }
 abbrev pub spends : PlainText → Lending → Lending
 spends text arena = option_map_or (λ b. gives_back b arena) text.block arena
 
+-- the queues once a text is spent
+abbrev pub text_spent : PlainText → QueuesState → QueuesState
+text_spent text s = with_arena s (spends text s.arena)
+
 -- a text comes home unless it has a block that is not lent
 abbrev pub at_home : Bool → Homecoming
 at_home true = Home
@@ -91,7 +94,3 @@ draft_errno Memory = ENOMEM
 abbrev pub by_take : TakeError → DraftError
 by_take take.NoRun = NoRun
 by_take take.Memory = Memory
-
--- where nothing refuses a draft that failed, memory did
-abbrev pub draft_refusal : Result (PlainText × QueuesState) DraftError → DraftError
-draft_refusal answer = or_memory Memory answer

@@ -1,7 +1,8 @@
 //! How a slot ends, and what it leaves.
 
 ghost use Rattle.std.specs.Prelude.{◌≡◌, [], IfNone, IfSome};
-ghost use Rattle.mq_table.specs.SlotParts.{either, some_base};
+ghost use Rattle.std.specs.Option.{option_or};
+ghost use Rattle.mq_table.specs.SlotParts.{some_base};
 ghost use Rattle.mq_calls.specs.Closed.{ending_of, ends};
 
 use mq_arena::ArenaState;
@@ -38,7 +39,7 @@ pub struct Closed<L: Ledger> {
 /// What is kept of the queue that the entries which were cut off leave live: the live queue, where
 /// that is one of which something was cut off, or else one that was removed since.
 fn base_told(own: Base, removed: Option<Base>) -> Option<Base>
-    ensures { result ≡ either (some_base own) removed }
+    ensures { result ≡ option_or (some_base own) removed }
 {
     if own.places == 0 { removed } else { Some(own) }
 }

@@ -12,8 +12,8 @@ use Rattle.mq_cli.specs.Laws.{CutsChangeNoOther}
 use Rattle.mq_cli.specs.Session.{SessionState, first_session}
 use Rattle.mq_table.specs.SlotParts.{empty_kept}
 use Rattle.mq_cli.specs.Transcript.{runs_on, output, run_from, said, step}
+use Rattle.mq_cli.proofs.AlikeQueues.{empty_alike}
 use Rattle.mq_cli.proofs.AlikeSlots.{AreAlike}
-use Rattle.mq_cli.proofs.AlikeSystems.{empty_alike}
 use Rattle.mq_cli.proofs.AlikeSteps.{RunsAlike, cut_alone, step_like}
 
 -- both runs begin alike

@@ -36,30 +36,30 @@ use Rattle.mq_cli.specs.Cuts.{is_cut}
 use Rattle.mq_calls.specs.Look.{look, once}
 use Rattle.mq_cli.specs.Reports.{line_of_row, table_of}
 use Rattle.mq_cli.specs.Session.{SessionState, by_errno}
-use Rattle.mq_calls.specs.State.{QueuesState as System, slot_at}
+use Rattle.mq_calls.specs.State.{QueuesState, slot_at}
 use Rattle.mq_calls.specs.Texts.{bytes_of, drafts, in_block, spends, spends_all, filled_with}
 use Rattle.mq_calls.specs.Usages.{no_usage, usage_of}
 use Rattle.mq_calls.proofs.UsageLemmas.{usage_same}
 use Rattle.mq_cli.specs.Transcript.{Reply, refused, at, gone, cut_step, arena as arena_told}
 use Rattle.mq_cli.specs.Transcript.{figures_reply, by_seat, get_step, output, receive_step}
 use Rattle.mq_cli.specs.Transcript.{remove_step, send_step, set_step, step, replied, usage}
+use Rattle.mq_cli.proofs.AlikeQueues.{AnswerAlike, AreLike, if_like, in_queue_like, look_like}
+use Rattle.mq_cli.proofs.AlikeQueues.{look_live, msgget_like, slot_like, slots_like}
+use Rattle.mq_cli.proofs.AlikeQueues.{with_arena_like, with_slot_like}
 use Rattle.mq_cli.proofs.AlikeSlots.{AreAlike, TurnAlike, cut_alike, entries_alike, figures_alike}
 use Rattle.mq_cli.proofs.AlikeSlots.{last_id_alike, places_alike, receives_alike, removes_alike}
 use Rattle.mq_cli.proofs.AlikeSlots.{row_alike, sends_alike, sets_alike}
-use Rattle.mq_cli.proofs.AlikeSystems.{AnswerAlike, AreLike, if_like, in_queue_like, look_like, look_live}
-use Rattle.mq_cli.proofs.AlikeSystems.{msgget_like, slot_like, slots_like, with_arena_like}
-use Rattle.mq_cli.proofs.AlikeSystems.{with_slot_like}
 
--- two replies that are written alike, and the systems after them
-pub record SaysAlike (last_seq : ℕ) (x y : Reply × System) : Type 0 where
+-- two replies that are written alike, and the queues after them
+pub record SaysAlike (last_seq : ℕ) (x y : Reply × QueuesState) : Type 0 where
   pub line : output x.0 ≡ output y.0
   pub left : AreLike last_seq x.1 y.1
 
-module _ (last_seq : ℕ) (s t : System) (k : AreLike last_seq s t) where
+module _ (last_seq : ℕ) (s t : QueuesState) (k : AreLike last_seq s t) where
   -- what is told of answers that are alike
-  told_like : {T : Type 0} (one other : T × System → Reply × System)
-      (x y : Result (T × System) Errno) → AnswerAlike last_seq x y
-      → ((r : T) (u v : System) → AreLike last_seq u v → SaysAlike last_seq (one (r, u))
+  told_like : {T : Type 0} (one other : T × QueuesState → Reply × QueuesState)
+      (x y : Result (T × QueuesState) Errno) → AnswerAlike last_seq x y
+      → ((r : T) (u v : QueuesState) → AreLike last_seq u v → SaysAlike last_seq (one (r, u))
       (other (r, v)))
       → SaysAlike last_seq (replied s one x) (replied t other y)
   told_like one other (Ok x) (Ok y) same by =
@@ -68,7 +68,7 @@ module _ (last_seq : ℕ) (s t : System) (k : AreLike last_seq s t) where
       record { line = ap (λ e. output (refused e)) same; left = k }
   told_like one other _ _ same by = absurd same
 
-  errno_like : {T : Type 0} (x y : Result (T × System) Refused) → AnswerAlike last_seq x y
+  errno_like : {T : Type 0} (x y : Result (T × QueuesState) Refused) → AnswerAlike last_seq x y
       → AnswerAlike last_seq (by_errno x) (by_errno y)
   errno_like (Ok x) (Ok y) same = same
   errno_like (Err d) (Err e) same = ap (λ r. r.errno) same
@@ -93,7 +93,7 @@ module _ (last_seq : ℕ) (s t : System) (k : AreLike last_seq s t) where
       bytes : List ℕ
       bytes = bytes_of_text text
 
-      named : (x y : Result (PlainText × System) DraftError) → AnswerAlike last_seq x y
+      named : (x y : Result (PlainText × QueuesState) DraftError) → AnswerAlike last_seq x y
           → AnswerAlike last_seq (by_draft_errno (filled_with bytes x))
           (by_draft_errno (filled_with bytes y))
       named (Ok x) (Ok y) same =
@@ -234,12 +234,12 @@ module _ (last_seq : ℕ) (s t : System) (k : AreLike last_seq s t) where
       put (a ∷ xs) (b ∷ ys) (suc n) d all = (all.0, put xs ys n d all.1)
       put _ _ _ d all = absurd all
 
-      pick : (b : Bool) (x y : Reply × System) → AreLike last_seq x.1 t → AreLike last_seq y.1 t
-          → AreLike last_seq (if b then x else y).1 t
+      pick : (b : Bool) (x y : Reply × QueuesState) → AreLike last_seq x.1 t
+          → AreLike last_seq y.1 t → AreLike last_seq (if b then x else y).1 t
       pick true x y one other = one
       pick false x y one other = other
 
-module _ (last_seq : ℕ) (s t : System) (k : AreLike last_seq s t) where
+module _ (last_seq : ℕ) (s t : QueuesState) (k : AreLike last_seq s t) where
   -- the calls of a line
   get_like : (n seat : ℕ) (key : ℤ) (flags : GetFlags) → SaysAlike last_seq
       (get_step n seat s key flags) (get_step n seat t key flags)
@@ -247,8 +247,8 @@ module _ (last_seq : ℕ) (s t : System) (k : AreLike last_seq s t) where
       told_like last_seq s t k _ _ _ _ (msgget_like last_seq s t k seat key flags n)
       (λ r u v left. record { line = refl; left = left })
 
-  sent_like : (n seat id : ℕ) (mtype : ℤ) (d e : System) (text : PlainText) → AreLike last_seq d e
-      → SaysAlike last_seq
+  sent_like : (n seat id : ℕ) (mtype : ℤ) (d e : QueuesState) (text : PlainText)
+      → AreLike last_seq d e → SaysAlike last_seq
       (replied s (λ t. (at t.0, t.1)) (by_errno (msgsnd d seat id mtype n text n)))
       (replied t (λ t. (at t.0, t.1)) (by_errno (msgsnd e seat id mtype n text n)))
   sent_like n seat id mtype d e text like =
@@ -297,7 +297,7 @@ pub record StepsAlike (last_seq : ℕ) (x y : Reply × SessionState) : Type 0 wh
 
 module _ (last_seq n : ℕ) (s t : SessionState) (k : RunsAlike last_seq s t) where
   -- what a seat's call says
-  by_seat_like : (f : ℕ → System → Reply × System)
+  by_seat_like : (f : ℕ → QueuesState → Reply × QueuesState)
       → ((seat : ℕ) → SaysAlike last_seq (f seat s.queues) (f seat t.queues))
       → StepsAlike last_seq (by_seat s (f s.seat s.queues)) (by_seat t (f t.seat t.queues))
   by_seat_like f says =

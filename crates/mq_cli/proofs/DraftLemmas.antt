@@ -5,18 +5,19 @@ use Rattle.std.specs.declared.alloc.AllocError.{AllocError}
 use Rattle.mq_arena.specs.Text.{PlainText}
 use Rattle.mq_arena.specs.declared.order.TheConstants.{INLINE_LEN}
 use Rattle.mq_queue.specs.declared.limits.TheConstants.{MSGMAX}
+use Rattle.mq_queue.specs.Memory.{or_memory}
 use Rattle.mq_one_thread.proofs.DraftLemmas.{spent_after}
 use Rattle.mq_calls.specs.Calls.{msgsnd}
 use Rattle.mq_calls.specs.Look.{Answer, refused_or_memory}
 use Rattle.mq_one_thread.specs.Outcome.{Answers}
 use Rattle.mq_calls.specs.State.{QueuesState}
-use Rattle.mq_calls.specs.Texts.{draft_errno, draft_refusal, drafts_of}
+use Rattle.mq_calls.specs.Texts.{draft_errno, drafts_of, text_spent}
 use Rattle.mq_calls.specs.declared.draft_error.DraftError.{DraftError}
 use Rattle.mq_calls.specs.declared.draft_error.DraftError.TheVariants.{Memory}
 use Rattle.mq_calls.specs.declared.errno.Errno.TheVariants.{ENOMEM}
 use Rattle.mq_calls.specs.declared.results.Refused.{Refused}
 use Rattle.mq_cli.specs.Commands.{AskedText}
-use Rattle.mq_cli.specs.Drafts.{Drafts, by_draft_errno, bytes_of_text, draft, letter, spent}
+use Rattle.mq_cli.specs.Drafts.{Drafts, by_draft_errno, bytes_of_text, draft, letter}
 use Rattle.mq_cli.specs.Serial.{Answered}
 use Rattle.mq_cli.specs.Session.{by_errno}
 use Rattle.mq_cli.specs.Transcript.{Reply, at, refused, output, replied, send_step}
@@ -34,17 +35,17 @@ drafted_as (Ok made) p e = let same : made ≡ p = cc in ap Ok same
 drafted_as (Err error) p e = absurd (cc e)
 
 -- what refuses a draft, but for want of memory, is told by the queues
-pub refused_as : (q : QueuesState) (text : AskedText) (e : DraftError) → e ≡ draft_refusal (drafts_of q (bytes_of_text text)) → e ≢ Memory
+pub refused_as : (q : QueuesState) (text : AskedText) (e : DraftError) → e ≡ or_memory Memory (drafts_of q (bytes_of_text text)) → e ≢ Memory
     → draft q text ≡ Err (draft_errno e)
 refused_as q text e is known = by_draft (drafts_of q (bytes_of_text text)) is
   where
-    by_draft : (d : Result (PlainText × QueuesState) DraftError) → e ≡ draft_refusal d → by_draft_errno d ≡ Err (draft_errno e)
+    by_draft : (d : Result (PlainText × QueuesState) DraftError) → e ≡ or_memory Memory d → by_draft_errno d ≡ Err (draft_errno e)
     by_draft (Ok made) is = absurd (known is)
     by_draft (Err refusal) is = ap (λ r. Err (draft_errno r)) (sym is)
 
 -- so a send without a text writes that refusal, and leaves all
 pub undrafted : (n seat : ℕ) (q : QueuesState) (id : ℕ) (mtype : ℤ) (text : AskedText) (e : DraftError) (last : QueuesState) (old new : List ℕ)
-    (done : Result (Unit {0}) AllocError) → e ≡ draft_refusal (drafts_of q (bytes_of_text text)) → e ≢ Memory → last ≡ q
+    (done : Result (Unit {0}) AllocError) → e ≡ or_memory Memory (drafts_of q (bytes_of_text text)) → e ≢ Memory → last ≡ q
     → OnOk done (new ≡ old ++ output (refused (draft_errno e))) → OnOk done (Answered (send_step n seat q id mtype text) old new last)
 undrafted n seat q id mtype text e last old new (Ok _) is known same line =
     let answer = ap (replied q (λ d. replied q (λ t. (at t.0, t.1)) (by_errno (msgsnd d.1 seat id mtype n d.0 n)))) (refused_as q text e is known) in
@@ -55,7 +56,7 @@ undrafted n seat q id mtype text e last old new (Ok _) is known same line =
 undrafted n seat q id mtype text e last old new (Err _) is known same line = tt
 
 -- a text that was drafted and given up leaves the queues as they were
-drafted_home : (q : QueuesState) (text : AskedText) (made : PlainText) (after : QueuesState) → draft q text ≡ Ok (made, after) → spent made after ≡ q
+drafted_home : (q : QueuesState) (text : AskedText) (made : PlainText) (after : QueuesState) → draft q text ≡ Ok (made, after) → text_spent made after ≡ q
 drafted_home q text made after e =
     let bytes : List ℕ = bytes_of_text text in
     spent_after q after bytes made (drafted_as (drafts_of q bytes) (made, after) e)
@@ -76,13 +77,13 @@ send_refused n seat q id mtype text made after r e is memory =
 -- the same of what a refused send writes and leaves
 pub refused_leaves : (n seat : ℕ) (q : QueuesState) (id : ℕ) (mtype : ℤ) (text : AskedText) (made : PlainText) (after : QueuesState) (r : Refused) (body : PlainText) (kept last : QueuesState)
     (old new : List ℕ) (done : Result (Unit {0}) AllocError) → draft q text ≡ Ok (made, after)
-    → r ≡ refused_or_memory after id (msgsnd after seat id mtype n made n) → body ≡ made → kept ≡ after → last ≡ spent body kept
+    → r ≡ refused_or_memory after id (msgsnd after seat id mtype n made n) → body ≡ made → kept ≡ after → last ≡ text_spent body kept
     → OnOk done (new ≡ old ++ output (refused r.errno)) → OnOk done (r.errno ≢ ENOMEM) → OnOk done (Answered (send_step n seat q id mtype text) old new last)
 refused_leaves n seat q id mtype text made after r body kept last old new (Ok _) e is same_text same_state gone line memory =
     let told = send_refused n seat q id mtype text made after r e is memory in
     record {
       line = line ∙ ap (λ (t : Reply × QueuesState). old ++ output t.0) (sym told);
-      state = gone ∙ ap (λ (t : PlainText). spent t kept) same_text ∙ ap (λ (k : QueuesState). spent made k) same_state
+      state = gone ∙ ap (λ (t : PlainText). text_spent t kept) same_text ∙ ap (λ (k : QueuesState). text_spent made k) same_state
           ∙ drafted_home q text made after e ∙ ap (λ (t : Reply × QueuesState). t.1) (sym told);
     }
 refused_leaves n seat q id mtype text made after r body kept last old new (Err _) e is same_text same_state gone line memory = tt
@@ -93,7 +94,7 @@ pub drafts_are : (q p : QueuesState) (text : AskedText) (bytes : List ℕ) (r : 
 drafts_are q p text bytes (Ok made) same answer memory =
     ap by_draft_errno (subst (λ (b : List ℕ). drafts_of q b ≡ Ok (made, p)) same answer)
 drafts_are q p text bytes (Err refusal) same answer memory = record {
-  refused = subst (λ (b : List ℕ). refusal ≡ draft_refusal (drafts_of q b)) same answer.refused;
+  refused = subst (λ (b : List ℕ). refusal ≡ or_memory Memory (drafts_of q b)) same answer.refused;
   memory = λ is. subst (λ (b : List ℕ). INLINE_LEN < length b) same (memory (ap (λ (e : DraftError). Err e) is));
   unchanged = answer.unchanged;
 }

@@ -1,7 +1,7 @@
+pub mod AlikeQueues
 pub mod AlikeRuns
 pub mod AlikeSlots
 pub mod AlikeSteps
-pub mod AlikeSystems
 pub mod ClosingLemmas
 pub mod DraftLemmas
 pub mod EndLemmas

@@ -5,8 +5,9 @@ use Rattle.std.specs.List.{range_with_len}
 use Rattle.mq_arena.specs.Text.{PlainText}
 use Rattle.mq_arena.specs.declared.order.TheConstants.{INLINE_LEN}
 use Rattle.mq_queue.specs.declared.limits.TheConstants.{MSGMAX}
-use Rattle.mq_calls.specs.State.{QueuesState, with_arena}
-use Rattle.mq_calls.specs.Texts.{drafts_of, draft_errno, draft_refusal, spends}
+use Rattle.mq_queue.specs.Memory.{or_memory}
+use Rattle.mq_calls.specs.State.{QueuesState}
+use Rattle.mq_calls.specs.Texts.{drafts_of, draft_errno}
 use Rattle.mq_calls.specs.declared.draft_error.DraftError.{DraftError}
 use Rattle.mq_calls.specs.declared.draft_error.DraftError.TheVariants.{TooLong, NoRun, Memory}
 use Rattle.mq_calls.specs.declared.errno.Errno.{Errno}
@@ -34,7 +35,7 @@ draft queues text = by_draft_errno (drafts_of queues (bytes_of_text text))
 -- text of many pages
 pub record HasNoDraft (before after : QueuesState) (text : AskedText) (refusal : DraftError)
     : Type 0 where
-  pub refused : refusal ≡ draft_refusal (drafts_of before (bytes_of_text text))
+  pub refused : refusal ≡ or_memory Memory (drafts_of before (bytes_of_text text))
   pub memory : refusal ≡ Memory → INLINE_LEN < length (bytes_of_text text)
   pub unchanged : after ≡ before
 
@@ -50,7 +51,3 @@ pub record DraftsBytes (bytes : List ℕ) (result : Result PlainText DraftError)
   pub too_long : IsErrOf result TooLong ↔ (nat_lt MSGMAX (length bytes) ≡ true)
   pub no_run : IsErrOf result NoRun → 0 < length bytes
   pub memory : IsErrOf result Memory → 0 < length bytes
-
--- a text gives its pages back
-abbrev pub spent : PlainText → QueuesState → QueuesState
-spent text queues = with_arena queues (spends text queues.arena)

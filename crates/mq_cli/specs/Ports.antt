@@ -1,32 +1,26 @@
 -- What the calls of a worker's port do at its seat (msgop(2), msgctl(2)).
-use Rattle.std.specs.Prelude.{◌≡◌, ◌⊎◌, ℕ, ◌<◌, ◌≤◌, ℤ, Bool, false, Result, Ok, Err}
+use Rattle.std.specs.Prelude.{◌≡◌, ◌⊎◌, ℕ, ℤ, Bool, false, Result, Ok, Err}
 use Rattle.mq_arena.specs.Text.{PlainText}
 use Rattle.mq_queue.specs.declared.limits.TheConstants.{MSGMAX}
 use Rattle.mq_message.specs.Selection.{selection_of}
 use Rattle.mq_table.specs.Ids.{seq_of, slot_of}
 use Rattle.mq_calls.specs.declared.errno.Errno.{Errno}
-use Rattle.mq_calls.specs.declared.errno.Errno.TheVariants.{EINVAL, ENOMEM}
 use Rattle.mq_calls.specs.declared.results.Delivered.{Delivered}
 use Rattle.mq_calls.specs.declared.results.Removal.{Removal}
 use Rattle.mq_system.specs.Outcome.{IsReceived, IsRefusal, IsRemoved, IsSent}
-use Rattle.mq_system.specs.Refusals.{MayReceive, MayRemove, MaySend, never_sent, out_of_slots}
+use Rattle.mq_system.specs.Refusals.{MayNotDraft, MayReceive, MayRemove, MaySend, never_sent}
+use Rattle.mq_system.specs.Refusals.{out_of_slots}
 use Rattle.mq_system.specs.Seat.{SeatState}
 use Rattle.mq_system.specs.Seen.{receive_verdict, remove_verdict, send_verdict}
 use Rattle.mq_cli.specs.declared.taken.Taken.{Taken}
 use Rattle.mq_cli.specs.Letters.{AreLetters}
-
--- why no text was drafted of n bytes: they are too many, or no pages or no memory were found
-abbrev pub PortMayNotDraft : ℕ → Errno → Type 0
-PortMayNotDraft n EINVAL = MSGMAX < n
-PortMayNotDraft n ENOMEM = (0 < n) × (n ≤ MSGMAX)
-PortMayNotDraft n _ = ⊥
 
 -- a text of n bytes was sent; or none was drafted, and no call was made; or the call was refused,
 -- with EAGAIN only where its waits end
 abbrev pub Sends : ℕ → SeatState → SeatState → ℕ → ℤ → ℕ → ℕ → Bool → ℕ → Result ℕ Errno → Type 0
 Sends slots old new id mtype tag n ends moment (Ok entry) =
     IsSent slots id mtype tag n moment old new entry
-Sends slots old new id mtype tag n ends moment (Err errno) = ((new ≡ old) × PortMayNotDraft n errno)
+Sends slots old new id mtype tag n ends moment (Err errno) = ((new ≡ old) × MayNotDraft n errno)
     ⊎ IsRefusal (never_sent slots id mtype) (MaySend ends) (slot_of id)
     (send_verdict (seq_of id) mtype n) old new errno
 

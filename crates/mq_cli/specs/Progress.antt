@@ -1,6 +1,6 @@
 -- How far a worker is, and what its notes say of what it received.
 use Rattle.std.specs.Prelude.{◌≡◌, ℕ, ◌+◌, ◌^◌, ◌<◌, ◌≤◌, Bool, ◌&&◌, List, ◌++◌, length, reverse}
-use Rattle.std.specs.Prelude.{Option, None, Some, Result, Ok, Err, OnOk, OnErr}
+use Rattle.std.specs.Prelude.{Option, Some, Result, OnOk, OnErr}
 use Rattle.std.specs.HashMap.{Updates, get}
 use Rattle.mq_calls.specs.declared.errno.Errno.{Errno}
 use Rattle.mq_cli.specs.declared.notes.Notes.{Notes}
@@ -53,11 +53,6 @@ pub record HasCounted (puts takes removes old new : ℕ) (before after : Progres
       (new + (before.sent + before.received) ≡ old + (after.sent + after.received) + removes)
   pub refused : OnErr result
       (new + (before.sent + before.received) ≡ old + (after.sent + after.received))
-
--- how a step ended
-abbrev pub end_of : Result (Unit {0}) Errno → Option Errno
-end_of (Ok _) = None
-end_of (Err errno) = Some errno
 
 -- a worker came further by some of these calls
 pub record ComesFurther {Q : Type 0} (eq : Stream → Stream → Bool) (puts : Puts Q) (takes : Takes Q)

@@ -12,7 +12,8 @@ use Rattle.mq_calls.specs.Calls.{msgsnd, msgrcv, rmid, cut_log}
 use Rattle.mq_calls.specs.Calls.{set as set_answer, stat as stat_answer}
 use Rattle.mq_calls.specs.Get.{msgget}
 use Rattle.mq_calls.specs.Names.{errno_name}
-use Rattle.mq_calls.specs.State.{QueuesState as System, slot_at}
+use Rattle.mq_calls.specs.State.{QueuesState, slot_at}
+use Rattle.mq_calls.specs.Texts.{text_spent}
 use Rattle.mq_calls.specs.Usages.{usage_of}
 use Rattle.mq_calls.specs.declared.config.Config.{Config}
 use Rattle.mq_calls.specs.declared.errno.Errno.{Errno}
@@ -24,7 +25,7 @@ use Rattle.mq_cli.specs.declared.fault.Cause.{Cause}
 use Rattle.mq_cli.specs.Lines.{lines_of}
 use Rattle.mq_cli.specs.Commands.{AskedCall, sit, show, get, snd, rcv, set, rm, stat, cut, ipcs, info}
 use Rattle.mq_cli.specs.Commands.{AskedText, reading}
-use Rattle.mq_cli.specs.Drafts.{draft, spent}
+use Rattle.mq_cli.specs.Drafts.{draft}
 use Rattle.mq_cli.specs.Reports.{table_of}
 use Rattle.mq_cli.specs.Session.{SessionState, by_errno, first_session}
 
@@ -39,7 +40,7 @@ pub data Reply : Type 0 where
   gone : (entry events : ℕ) → Reply
   figures : (queue : Figures) → Reply
   cut_off : (first end : ℕ) → Reply
-  table : (queues : System) → Reply
+  table : (queues : QueuesState) → Reply
   usage : (all : Usage) → Reply
 
 -- the answer of msgrcv, up to the text
@@ -102,40 +103,40 @@ output silent = []
 output reply = reply_text reply ++ 10 ∷ []
 
 -- the reply of an answer, and the state after it: a refused call changes nothing
-abbrev pub replied : {T : Type 0} → System → (T × System → Reply × System)
-    → Result (T × System) Errno
-    → Reply × System
+abbrev pub replied : {T : Type 0} → QueuesState → (T × QueuesState → Reply × QueuesState)
+    → Result (T × QueuesState) Errno
+    → Reply × QueuesState
 replied q reply (Ok turn) = reply turn
 replied q reply (Err e) = (refused e, q)
 
 -- what the calls of line n, made by a seat, reply, and the queues after them
-abbrev pub get_step : ℕ → ℕ → System → ℤ → GetFlags → Reply × System
+abbrev pub get_step : ℕ → ℕ → QueuesState → ℤ → GetFlags → Reply × QueuesState
 get_step n seat q key flags = replied q (λ t. (given t.0.id, t.1)) (msgget q seat key flags n)
 
 -- a text that cannot be made is refused whatever else the line says
-abbrev pub send_step : ℕ → ℕ → System → ℕ → ℤ → AskedText → Reply × System
+abbrev pub send_step : ℕ → ℕ → QueuesState → ℕ → ℤ → AskedText → Reply × QueuesState
 send_step n seat q id mtype text =
     replied q (λ d. replied q (λ t. (at t.0, t.1)) (by_errno (msgsnd d.1 seat id mtype n d.0 n)))
     (draft q text)
 
 -- a text that was handed out gives its pages back once it is written
-abbrev pub receive_step : ℕ → ℕ → System → ℕ → ℕ → ℤ → Bool → Bool → Reply × System
+abbrev pub receive_step : ℕ → ℕ → QueuesState → ℕ → ℕ → ℤ → Bool → Bool → Reply × QueuesState
 receive_step n seat q id size mtype except noerror =
-    replied q (λ t. (message t.0, spent t.0.text t.1))
+    replied q (λ t. (message t.0, text_spent t.0.text t.1))
     (by_errno (msgrcv q seat id size mtype except noerror n))
 
-abbrev pub set_step : ℕ → ℕ → System → ℕ → ℕ → Reply × System
+abbrev pub set_step : ℕ → ℕ → QueuesState → ℕ → ℕ → Reply × QueuesState
 set_step n seat q id qbytes =
     replied q (λ t. (at t.0, t.1)) (by_errno (set_answer q seat id qbytes n))
 
-abbrev pub remove_step : ℕ → ℕ → System → ℕ → Reply × System
+abbrev pub remove_step : ℕ → ℕ → QueuesState → ℕ → Reply × QueuesState
 remove_step n seat q id =
     replied q (λ t. (gone t.0.entry (t.0.log.base.places + length t.0.log.tail), t.1))
     (by_errno (rmid q seat id n))
 
 -- a slot's log is cut off where it ends: told are how many entries were cut off before, and how
 -- many the slot ever had
-abbrev pub cut_step : System → ℕ → Reply × System
+abbrev pub cut_step : QueuesState → ℕ → Reply × QueuesState
 cut_step q slot =
     if nat_lt slot (length q.slots)
     then (cut_off (slot_at q slot).first (entries_of (slot_at q slot)), (cut_log q slot).1)
@@ -146,13 +147,13 @@ abbrev pub figures_reply : Result Figures Errno → Reply
 figures_reply (Ok queue) = figures queue
 figures_reply (Err errno) = refused errno
 
-abbrev pub arena_reply : System → Reply
+abbrev pub arena_reply : QueuesState → Reply
 arena_reply q =
     arena (2 ^ q.arena.height) (free_pages q.arena.height q.arena.lent)
     (largest q.arena.height q.arena.lent)
 
 -- the same for the whole run, whose seat is kept
-abbrev pub by_seat : SessionState → Reply × System → Reply × SessionState
+abbrev pub by_seat : SessionState → Reply × QueuesState → Reply × SessionState
 by_seat s turn = (turn.0, record { queues = turn.1; seat = s.seat })
 
 -- what the command of line n replies, and the state after it
@@ -196,10 +197,6 @@ run_from n s (line ∷ lines) = runs_on n (said n s (reading line)) (λ t. run_f
 
 abbrev pub run_of : Config → List ℕ → Run
 run_of config script = run_from 1 (first_session config) (lines_of script)
-
--- all that a script writes, over a system of this size
-abbrev pub transcript : Config → List ℕ → List ℕ
-transcript config script = (run_of config script).written
 
 -- the first line of a script that is not well formed, with its cause
 abbrev pub fault_of : Config → List ℕ → Option (ℕ × Cause)

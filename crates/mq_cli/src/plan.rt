@@ -1,8 +1,9 @@
 ghost use Rattle.std.specs.Prelude.{◌≡◌, ◌+◌, ◌<◌, ◌^◌, replicate};
+ghost use Rattle.std.specs.Result.{result_err};
 ghost use Rattle.mq_cli.specs.Calls.{calls_of, receive, sends_after};
 ghost use Rattle.mq_cli.specs.Plans.{IsCountable, IsCarriedOut, HasGrown, puts_of, takes_of};
 ghost use Rattle.mq_cli.specs.Plans.{removes_of};
-ghost use Rattle.mq_cli.specs.Progress.{CanCount, ComesFurther, HasCounted, end_of, outcome_of};
+ghost use Rattle.mq_cli.specs.Progress.{CanCount, ComesFurther, HasCounted, outcome_of};
 ghost use Rattle.mq_cli.specs.Works.{HasWorked};
 
 use crate::notes::{Notes, Stream};
@@ -81,7 +82,7 @@ impl Progress {
         ensures counted { HasCounted (puts_of step) (takes_of step) (removes_of step)
             (Q.calls port.old) (Q.calls port.new) self.old self.new result }
         ensures called { ComesFurther ⟦<Stream as PartialEq>⟧.eq Q.puts Q.takes Q.removes
-            (calls_of self.old.sent step) port.old port.new self.old self.new (end_of result) }
+            (calls_of self.old.sent step) port.old port.new self.old self.new (result_err result) }
     {
         match step {
             Step::Put {
@@ -147,7 +148,7 @@ impl Progress {
             self.old self.new result }
         ensures called { ComesFurther ⟦<Stream as PartialEq>⟧.eq Q.puts Q.takes Q.removes
             (sends_after self.old.sent id mtype count length T.ends moment)
-            port.old port.new self.old self.new (end_of result) }
+            port.old port.new self.old self.new (result_err result) }
     {
         for _ in 0..count {
             match port.put(
@@ -186,7 +187,7 @@ impl Progress {
             self.old self.new result }
         ensures called { ComesFurther ⟦<Stream as PartialEq>⟧.eq Q.puts Q.takes Q.removes
             (replicate count (receive id msgtyp T.ends moment))
-            port.old port.new self.old self.new (end_of result) }
+            port.old port.new self.old self.new (result_err result) }
     {
         for _ in 0..count {
             match self.notes.reserve() {

@@ -1,7 +1,7 @@
 use Rattle.std.proofs.Common.{◌≡◌, ℕ, Bool, true, false, if◌then◌else◌, Ok, Err, None, refl, ap, sym, ◌∙◌}
+use Rattle.mq_queue.specs.Memory.{or_memory}
 use Rattle.mq_table.specs.Ids.{slot_of}
 use Rattle.mq_calls.specs.Look.{Answer, refused_or_memory}
-use Rattle.mq_calls.specs.Memory.{or_memory}
 use Rattle.mq_calls.specs.State.{QueuesState}
 use Rattle.mq_calls.specs.declared.errno.Errno.TheVariants.{ENOMEM}
 use Rattle.mq_calls.specs.declared.results.Delivered.{Delivered}

@@ -1,4 +1,4 @@
--- The commands of msgctl(2) that only show.
+-- The commands of msgctl(2), and what those answer that only show.
 use Rattle.std.specs.Prelude.{ℕ, ◌-◌, ◌==◌, nat_lt, ◌||◌, if◌then◌else◌, length}
 use Rattle.std.specs.Prelude.{Option, Some, None, Result, Ok, Err}
 use Rattle.mq_queue.specs.declared.figures.BoardRow.{BoardRow}

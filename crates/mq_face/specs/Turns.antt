@@ -1,6 +1,6 @@
 -- What each call answers and leaves, or why it is refused.
 use Rattle.std.specs.Prelude.{ℕ, ℤ, pos, int_lt, nat_lt, ◌*◌, ◌^◌, ◌||◌, Bool, if◌then◌else◌}
-use Rattle.std.specs.Prelude.{Option, Some, None, Result, Ok, Err}
+use Rattle.std.specs.Prelude.{Option, Some, None, IsSome, Result, Ok, Err}
 use Rattle.mq_arena.specs.declared.page.TheConstants.{PAGE_LEN}
 use Rattle.mq_arena.specs.Text.{PlainText}
 use Rattle.mq_queue.specs.declared.figures.Figures.{Figures}
@@ -10,8 +10,8 @@ use Rattle.mq_calls.specs.Get.{msgget}
 use Rattle.mq_calls.specs.Look.{Answer}
 use Rattle.mq_calls.specs.Names.{errno_number}
 use Rattle.mq_one_thread.specs.Outcome.{Answers}
-use Rattle.mq_calls.specs.State.{QueuesState, with_arena}
-use Rattle.mq_calls.specs.Texts.{drafts, spends}
+use Rattle.mq_calls.specs.State.{QueuesState}
+use Rattle.mq_calls.specs.Texts.{drafts}
 use Rattle.mq_calls.specs.declared.draft_error.DraftError.{DraftError}
 use Rattle.mq_calls.specs.declared.draft_error.DraftError.TheVariants as draft
 use Rattle.mq_calls.specs.declared.errno.Errno.{Errno}
@@ -42,6 +42,11 @@ Turn T = Result (T × QueuesState) Refusal
 abbrev pub AnswersTurn : {T : Type 0} → Turn T → QueuesState → QueuesState → Result T Refusal
     → Type 0
 AnswersTurn turn before after result = Answers turn (refusal ENOMEM) before after result
+
+-- a call that fails where nothing refuses it was to change a slot
+abbrev pub WantsMemory : Turn Done → Type 0
+WantsMemory (Ok turn) = IsSome turn.0.entry
+WantsMemory (Err r) = Unit {0}
 
 -- a call of the id that a number is
 abbrev pub with_id : {T : Type 0} → Result ℕ Refusal → (ℕ → Result T Refusal) → Result T Refusal
@@ -97,10 +102,6 @@ draft_turn s call =
     if int_lt call.mtype (pos 1) then Err (refusal EINVAL)
     else drafted s call id (drafts s call.size))
     else Err (fault EFAULT)
-
--- the queues once a text is spent
-abbrev pub with_text_spent : PlainText → QueuesState → QueuesState
-with_text_spent text s = with_arena s (spends text s.arena)
 
 -- a text that was drafted is sent (msgop(2), msgsnd)
 abbrev pub send_turn : QueuesState → Call → PlainText → Turn Done

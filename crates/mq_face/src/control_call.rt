@@ -1,7 +1,7 @@
-ghost use Rattle.std.specs.Prelude.{◌≡◌, ◌<◌, ◌≤◌, ◌+◌};
+ghost use Rattle.std.specs.Prelude.{◌≡◌, ◌<◌, ◌≤◌, ◌+◌, OnErr};
 ghost use Rattle.mq_table.specs.declared.limits.TheConstants.{MAX_SEQ, MAX_SLOTS};
 ghost use Rattle.mq_calls.specs.Calls.{stat as stat_answer};
-ghost use Rattle.mq_face.specs.Turns.{AnswersTurn, control_turn, remove_turn, set_turn};
+ghost use Rattle.mq_face.specs.Turns.{AnswersTurn, WantsMemory, control_turn, remove_turn, set_turn};
 ghost use Rattle.mq_face.specs.Commands.{info_reply, row_reply, show, slot_reply, stat_reply};
 
 use crate::manual::{EFAULT, SEAT};
@@ -16,6 +16,7 @@ use std::sync::ledger::Ledger;
 /// Does what the command says (msgctl(2)).
 pub fn control<L: Ledger>(queues: &mut OneThread<L>, call: Call) -> Result<Done, Refusal>
     ensures answer { AnswersTurn (control_turn queues.old call) queues.old queues.new result }
+    ensures memory { OnErr result (WantsMemory (control_turn queues.old call)) }
 {
     let id = id_of(call.number)?;
     match ControlCommand::of(call.flags) {

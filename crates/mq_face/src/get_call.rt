@@ -1,5 +1,5 @@
-ghost use Rattle.std.specs.Prelude.{◌≡◌};
-ghost use Rattle.mq_face.specs.Turns.{AnswersTurn, get_turn, got};
+ghost use Rattle.std.specs.Prelude.{◌≡◌, OnErr};
+ghost use Rattle.mq_face.specs.Turns.{AnswersTurn, WantsMemory, get_turn, got};
 ghost use Rattle.mq_face.specs.Flags.{get_flags};
 
 use crate::manual::{IPC_CREAT, IPC_EXCL, SEAT};
@@ -11,6 +11,7 @@ use std::sync::ledger::Ledger;
 /// The id of the queue with this key, or of a new queue (msgget(2)).
 pub fn get<L: Ledger>(queues: &mut OneThread<L>, call: Call) -> Result<Done, Refusal>
     ensures answer { AnswersTurn (get_turn queues.old call) queues.old queues.new result }
+    ensures memory { OnErr result (WantsMemory (get_turn queues.old call)) }
 {
     match queues.msgget(SEAT, call.number, get_flags(call), call.moment) {
         Ok(found) => Ok(got(found)),

@@ -1,7 +1,9 @@
-ghost use Rattle.std.specs.Prelude.{◌≡◌};
+ghost use Rattle.std.specs.Prelude.{◌≡◌, ◌<◌, OnErr, OnOk};
+ghost use Rattle.mq_arena.specs.declared.order.TheConstants.{INLINE_LEN};
 ghost use Rattle.mq_calls.specs.Calls.{stat as stat_answer};
+ghost use Rattle.mq_calls.specs.Texts.{text_spent};
 ghost use Rattle.mq_face.specs.Turns.{AnswersTurn, draft_turn, never_fits};
-ghost use Rattle.mq_face.specs.Turns.{send_turn, with_text_spent, without_pages};
+ghost use Rattle.mq_face.specs.Turns.{send_turn, without_pages};
 
 use crate::manual::{EFAULT, IPC_NOWAIT, SEAT};
 use crate::refusal::{blocked, gone, id_of};
@@ -16,6 +18,7 @@ use std::sync::ledger::Ledger;
 /// the caller writes them in place, once, and sends it.
 pub fn draft<L: Ledger>(queues: &mut OneThread<L>, call: Call) -> Result<Text<L>, Refusal>
     ensures answer { AnswersTurn (draft_turn queues.old call) queues.old queues.new result }
+    ensures memory { OnErr result (OnOk (draft_turn queues.old call) (INLINE_LEN < call.size)) }
 {
     if !call.buffer {
         return Err(Refusal::fault(EFAULT));
@@ -62,7 +65,7 @@ pub fn send<L: Ledger>(
     call: Call,
     text: Text<L>,
 ) -> Result<Done, Refusal>
-    ensures answer { AnswersTurn (send_turn queues.old call text) (with_text_spent text queues.old)
+    ensures answer { AnswersTurn (send_turn queues.old call text) (text_spent text queues.old)
         queues.new result }
 {
     let id = match id_of(call.number) {

@@ -1,10 +1,11 @@
-//! The numbers of Linux: proved of the constants alone.
+//! The numbers of Linux, and when a log is cut off: proved of the constants alone.
 
-ghost use Rattle.std.specs.Prelude.{◌≡◌, pos};
+ghost use Rattle.std.specs.Prelude.{◌≡◌, ◌-◌, ◌^◌, pos};
 
+use crate::log::LOG_BOUND;
 use crate::manual::{
     EFAULT, ENOSYS, IPC_CREAT, IPC_EXCL, IPC_INFO, IPC_NOWAIT, IPC_RMID, IPC_SET, IPC_STAT,
-    MSG_COPY, MSG_EXCEPT, MSG_INFO, MSG_NOERROR, MSG_STAT, MSG_STAT_ANY,
+    MSG_COPY, MSG_EXCEPT, MSG_INFO, MSG_NOERROR, MSG_STAT, MSG_STAT_ANY, SSIZE_MAX,
 };
 
 /// The flags, in the order of their bits.
@@ -32,4 +33,10 @@ pub fn the_commands()
 pub fn the_faults()
     ensures no_buffer { EFAULT ≡ pos 14 }
     ensures no_call { ENOSYS ≡ pos 38 }
+{}
+
+/// The greatest room for a text, and after how many entries a log is cut off.
+pub fn the_bounds()
+    ensures room { SSIZE_MAX ≡ 2 ^ 63 - 1 }
+    ensures log { LOG_BOUND ≡ 1024 }
 {}

@@ -10,23 +10,23 @@ use Rattle.std.proofs.lemmas.List.{append-nil}
 use Rattle.std.proofs.lemmas.List.Elements.{filter-append}
 use Rattle.std.proofs.lemmas.List.Folds.{find-append}
 use Rattle.mq_message.specs.Waiting.{message_at}
-use Rattle.mq_index.specs.Index.{first_place, merged, of_type, queue_at, queue_of, unless_empty, IsIndex}
+use Rattle.mq_index.specs.ByType.{first_place, merged, of_type, queue_at, queue_of, unless_empty, IsByType}
 use Rattle.mq_index.proofs.Merging.{at_is, int_eq-here, int_eq-same, merged_is, rising_append}
 
 -- the index of the messages of its queues, merged, which are these
 abbrev pub IsSettled : {X : Type 0} → (X → ℤ) → List (ℕ × X) → List (ℤ × List (ℕ × X)) → (ℤ → Option ℕ) → (ℕ → Option ℤ) → Option ℤ → Type 0
-IsSettled type_of all queues fronts types prepared =
-    (merged queues ≡ all) × IsIndex type_of (merged queues) queues fronts types prepared
+IsSettled type_of all queues firsts types prepared =
+    (merged queues ≡ all) × IsByType type_of (merged queues) queues firsts types prepared
 
 -- an index is one of the messages of its queues, merged
-pub settled : {X : Type 0} (type_of : X → ℤ) (all : List (ℕ × X)) (queues : List (ℤ × List (ℕ × X))) (fronts : ℤ → Option ℕ) (types : ℕ → Option ℤ) (prepared : Option ℤ) → IsIndex type_of all queues fronts types prepared → IsSettled type_of all queues fronts types prepared
-settled type_of all queues fronts types prepared h =
+pub settled : {X : Type 0} (type_of : X → ℤ) (all : List (ℕ × X)) (queues : List (ℤ × List (ℕ × X))) (firsts : ℤ → Option ℕ) (types : ℕ → Option ℤ) (prepared : Option ℤ) → IsByType type_of all queues firsts types prepared → IsSettled type_of all queues firsts types prepared
+settled type_of all queues firsts types prepared h =
     let is = merged_is type_of queues all h.rising h.ordered h.parted in
     (is, rw is h)
 
 -- an empty queue leaves
-pub forgotten : {X : Type 0} (type_of : X → ℤ) (all : List (ℕ × X)) (queues new : List (ℤ × List (ℕ × X))) (fronts : ℤ → Option ℕ) (types : ℕ → Option ℤ) (t : ℤ) → IsIndex type_of all queues fronts types (Some t) → IsStrictlySortedBy int_cmp (keys_of new) → ((s : ℤ) → queue_at new s ≡ cond (int_eq t s) (unless_empty (queue_at queues s)) (queue_at queues s)) → IsSettled type_of all new fronts types None
-forgotten type_of all queues new fronts types t h ordered at = settled _ _ _ _ _ _ (record {
+pub forgotten : {X : Type 0} (type_of : X → ℤ) (all : List (ℕ × X)) (queues new : List (ℤ × List (ℕ × X))) (firsts : ℤ → Option ℕ) (types : ℕ → Option ℤ) (t : ℤ) → IsByType type_of all queues firsts types (Some t) → IsStrictlySortedBy int_cmp (keys_of new) → ((s : ℤ) → queue_at new s ≡ cond (int_eq t s) (unless_empty (queue_at queues s)) (queue_at queues s)) → IsSettled type_of all new firsts types None
+forgotten type_of all queues new firsts types t h ordered at = settled _ _ _ _ _ _ (record {
   rising = h.rising;
   ordered = ordered;
   parted = λ s. grind (arith, at s, h.parted s);
@@ -36,8 +36,8 @@ forgotten type_of all queues new fronts types t h ordered at = settled _ _ _ _ _
 })
 
 -- there is a queue of one more type, and the older type's leaves if it is empty
-pub prepared : {X : Type 0} (type_of : X → ℤ) (all : List (ℕ × X)) (queues made new : List (ℤ × List (ℕ × X))) (fronts after : ℤ → Option ℕ) (types after_types : ℕ → Option ℤ) (older : Option ℤ) (t : ℤ) → IsIndex type_of all queues fronts types older → IsStrictlySortedBy int_cmp (keys_of new) → ((s : ℤ) → queue_at made s ≡ cond (int_eq t s) (Some (queue_of queues s)) (queue_at queues s)) → ((s : ℤ) → queue_of new s ≡ queue_of made s) → ((s : ℤ) → queue_at new s ≡ Some [] → int_eq t s ≡ false → (queue_at made s ≡ Some []) × (older ≡ Some s → ⊥)) → ((s : ℤ) → after s ≡ fronts s) → ((n : ℕ) → after_types n ≡ types n) → IsSettled type_of all new after after_types (Some t)
-prepared type_of all queues made new fronts after types after_types older t h ordered at same empty front type = settled _ _ _ _ _ _ (record {
+pub prepared : {X : Type 0} (type_of : X → ℤ) (all : List (ℕ × X)) (queues made new : List (ℤ × List (ℕ × X))) (firsts after : ℤ → Option ℕ) (types after_types : ℕ → Option ℤ) (older : Option ℤ) (t : ℤ) → IsByType type_of all queues firsts types older → IsStrictlySortedBy int_cmp (keys_of new) → ((s : ℤ) → queue_at made s ≡ cond (int_eq t s) (Some (queue_of queues s)) (queue_at queues s)) → ((s : ℤ) → queue_of new s ≡ queue_of made s) → ((s : ℤ) → queue_at new s ≡ Some [] → int_eq t s ≡ false → (queue_at made s ≡ Some []) × (older ≡ Some s → ⊥)) → ((s : ℤ) → after s ≡ firsts s) → ((n : ℕ) → after_types n ≡ types n) → IsSettled type_of all new after after_types (Some t)
+prepared type_of all queues made new firsts after types after_types older t h ordered at same empty front type = settled _ _ _ _ _ _ (record {
   rising = h.rising;
   ordered = ordered;
   parted = λ s. grind (arith, same s, at s, h.parted s);
@@ -52,8 +52,8 @@ at_last [] place n m above = grind (arith, nat_tests)
 at_last (x ∷ xs) place n m above = grind (arith, nat_tests, above.0, at_last xs place n m above.1)
 
 -- a message is put at the end
-pub put_last : {X : Type 0} (type_of : X → ℤ) (all : List (ℕ × X)) (queues new : List (ℤ × List (ℕ × X))) (fronts after : ℤ → Option ℕ) (types after_types : ℕ → Option ℤ) (t : ℤ) (place : ℕ) (m : X) → IsIndex type_of all queues fronts types (Some t) → type_of m ≡ t → AllByRecursion (λ x. x.0 < place) all → IsStrictlySortedBy int_cmp (keys_of new) → ((s : ℤ) → queue_at new s ≡ cond (int_eq t s) (Some (queue_of queues s ++ (place, m) ∷ [])) (queue_at queues s)) → ((s : ℤ) → after s ≡ option_or (fronts s) (cond (int_eq t s) (Some place) None)) → ((n : ℕ) → after_types n ≡ cond (nat_eq place n) (Some t) (types n)) → IsSettled type_of (all ++ (place, m) ∷ []) new after after_types None
-put_last {X} type_of all queues new fronts after types after_types t place m h is above ordered at front type = settled _ _ _ _ _ _ (record {
+pub put_last : {X : Type 0} (type_of : X → ℤ) (all : List (ℕ × X)) (queues new : List (ℤ × List (ℕ × X))) (firsts after : ℤ → Option ℕ) (types after_types : ℕ → Option ℤ) (t : ℤ) (place : ℕ) (m : X) → IsByType type_of all queues firsts types (Some t) → type_of m ≡ t → AllByRecursion (λ x. x.0 < place) all → IsStrictlySortedBy int_cmp (keys_of new) → ((s : ℤ) → queue_at new s ≡ cond (int_eq t s) (Some (queue_of queues s ++ (place, m) ∷ [])) (queue_at queues s)) → ((s : ℤ) → after s ≡ option_or (firsts s) (cond (int_eq t s) (Some place) None)) → ((n : ℕ) → after_types n ≡ cond (nat_eq place n) (Some t) (types n)) → IsSettled type_of (all ++ (place, m) ∷ []) new after after_types None
+put_last {X} type_of all queues new firsts after types after_types t place m h is above ordered at front type = settled _ _ _ _ _ _ (record {
   rising = rising_append all (place, m) h.rising above;
   ordered = ordered;
   parted = λ s. grind (arith, is, at s, h.parted s, filter-append (of s) all new_message, append-nil (of_type type_of all s));
@@ -69,8 +69,8 @@ put_last {X} type_of all queues new fronts after types after_types t place m h i
     of s x = int_eq (type_of x.1) s
 
 -- the index stays where the tables have the same entries
-pub same_index : {X : Type 0} (type_of : X → ℤ) (all : List (ℕ × X)) (queues : List (ℤ × List (ℕ × X))) (fronts after : ℤ → Option ℕ) (types after_types : ℕ → Option ℤ) (older : Option ℤ) → IsIndex type_of all queues fronts types older → ((s : ℤ) → after s ≡ fronts s) → ((n : ℕ) → after_types n ≡ types n) → IsIndex type_of all queues after after_types older
-same_index type_of all queues fronts after types after_types older h front type = record {
+pub same_index : {X : Type 0} (type_of : X → ℤ) (all : List (ℕ × X)) (queues : List (ℤ × List (ℕ × X))) (firsts after : ℤ → Option ℕ) (types after_types : ℕ → Option ℤ) (older : Option ℤ) → IsByType type_of all queues firsts types older → ((s : ℤ) → after s ≡ firsts s) → ((n : ℕ) → after_types n ≡ types n) → IsByType type_of all queues after after_types older
+same_index type_of all queues firsts after types after_types older h front type = record {
   rising = h.rising;
   ordered = h.ordered;
   parted = h.parted;
@@ -84,8 +84,8 @@ front_below type_of [] place t n above h = cc
 front_below type_of (x ∷ xs) place t n above h = grind (arith, above.0, front_below type_of xs place t n above.1)
 
 -- where no message waits and nothing is prepared there is no queue
-pub no_queues : {X : Type 0} (type_of : X → ℤ) (all : List (ℕ × X)) (queues : List (ℤ × List (ℕ × X))) (fronts : ℤ → Option ℕ) (types : ℕ → Option ℤ) → IsIndex type_of all queues fronts types None → all ≡ [] → queues ≡ []
-no_queues type_of all [] fronts types h none = refl
-no_queues type_of all (q ∷ qs) fronts types h none =
+pub no_queues : {X : Type 0} (type_of : X → ℤ) (all : List (ℕ × X)) (queues : List (ℤ × List (ℕ × X))) (firsts : ℤ → Option ℕ) (types : ℕ → Option ℤ) → IsByType type_of all queues firsts types None → all ≡ [] → queues ≡ []
+no_queues type_of all [] firsts types h none = refl
+no_queues type_of all (q ∷ qs) firsts types h none =
     let parted = rw none at (h.parted q.0) in
     grind (arith, at_is q.0 q.0, int_eq-here q.0, h.kept q.0, parted)

@@ -14,7 +14,7 @@ use Rattle.std.proofs.lemmas.Map.Entries.{length-keys_of}
 use Rattle.std.proofs.lemmas.Map.Keys.{IsDistinct-cons}
 use Rattle.std.proofs.lemmas.Map.Made.{is_some-lookup, length-from_same_keys}
 use Rattle.mq_message.specs.Waiting.{message_at}
-use Rattle.mq_index.specs.Index.{IsRising}
+use Rattle.mq_index.specs.ByType.{IsRising}
 
 -- places that rise, by index
 pub pairs_rise : {X : Type 0} (all : List (ℕ × X)) → IsRising all → AllPairs (λ a b. a.0 < b.0) all

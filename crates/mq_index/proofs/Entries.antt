@@ -16,7 +16,7 @@ use Rattle.std.proofs.lemmas.Map.Keys.{apart_from_distinct}
 use Rattle.std.proofs.lemmas.Option.{slice_get-get_or, slice_get_within, get_or_from_slice_get}
 use Rattle.indexmap.specs.IndexMap.{IndexMap, get, Updates, IsUnique, set_value_at, with_value_at}
 use Rattle.indexmap.proofs.CallerLemmas.{updates-with_value_at}
-use Rattle.mq_index.specs.Fronts.{IsLeastAt}
+use Rattle.mq_index.specs.FirstPlaces.{IsLeastAt}
 use Rattle.mq_index.specs.Heap.{place_at, type_at, IsHeap, IsLeastEntry, IsLeastUnder, IsHeapDownTo}
 use Rattle.mq_index.proofs.Merging.{int_eq-same}
 

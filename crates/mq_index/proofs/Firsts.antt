@@ -3,8 +3,8 @@ use Rattle.std.proofs.Common.{◌≡◌, ◌∙◌, refl, sym, ap, ℕ, ℤ, ◌
 use Rattle.std.specs.List.{AllByRecursion}
 use Rattle.std.specs.Option.{option_map}
 use Rattle.std.specs.Ordering.{int_eq}
-use Rattle.mq_index.specs.Fronts.{IsLeastAt}
-use Rattle.mq_index.specs.Index.{IsIndex, IsRising}
+use Rattle.mq_index.specs.FirstPlaces.{IsLeastAt}
+use Rattle.mq_index.specs.ByType.{IsByType, IsRising}
 use Rattle.mq_index.proofs.Merging.{all_filter, int_eq-same, int_eq-here}
 
 found_passes : {X : Type 0} (p : X → Bool) (xs : List X) (x : X) → find p xs ≡ Some x → p x ≡ true
@@ -52,9 +52,9 @@ pub found_kept : {X : Type 0} (p q : X → Bool) (xs : List X) (x : X) → find 
 found_kept p q [] x h k = cc
 found_kept p q (y ∷ ys) x h k = grind (arith, found_kept p q ys x)
 
--- the least of the fronts whose types pass is the place of the first message whose type passes
-pub least_found : {X : Type 0} (type_of : X → ℤ) (all : List (ℕ × X)) (queues : List (ℤ × List (ℕ × X))) (fronts : ℤ → Option ℕ) (types : ℕ → Option ℤ) (older : Option ℤ) (passes : ℤ → Bool) (r : Option ℕ) → IsIndex type_of all queues fronts types older → IsLeastAt passes fronts r → r ≡ option_map (λ m. m.0) (find (λ m. passes (type_of m.1)) all)
-least_found {X} type_of all queues fronts types older passes r index least = by (find p all) refl r least
+-- the least of the firsts whose types pass is the place of the first message whose type passes
+pub least_found : {X : Type 0} (type_of : X → ℤ) (all : List (ℕ × X)) (queues : List (ℤ × List (ℕ × X))) (firsts : ℤ → Option ℕ) (types : ℕ → Option ℤ) (older : Option ℤ) (passes : ℤ → Bool) (r : Option ℕ) → IsByType type_of all queues firsts types older → IsLeastAt passes firsts r → r ≡ option_map (λ m. m.0) (find (λ m. passes (type_of m.1)) all)
+least_found {X} type_of all queues firsts types older passes r index least = by (find p all) refl r least
   where
     p : ℕ × X → Bool
     p m = passes (type_of m.1)
@@ -65,13 +65,13 @@ least_found {X} type_of all queues fronts types older passes r index least = by 
     within : (t : ℤ) → passes t ≡ true → (m : ℕ × X) → of t m ≡ true → p m ≡ true
     within t ok m e = ap passes (int_eq-same _ _ e) ∙ ok
 
-    here : (x : ℕ × X) → find p all ≡ Some x → (p x ≡ true) × (fronts (type_of x.1) ≡ Some x.0)
+    here : (x : ℕ × X) → find p all ≡ Some x → (p x ≡ true) × (firsts (type_of x.1) ≡ Some x.0)
     here x h =
         let ok = found_passes p all x h in
         let first = found_too p (of (type_of x.1)) all x (within (type_of x.1) ok) h (int_eq-here (type_of x.1)) in
         (ok, index.fronted (type_of x.1) ∙ ap (option_map (λ (m : ℕ × X). m.0)) first)
 
-    by : (o : Option (ℕ × X)) → find p all ≡ o → (r : Option ℕ) → IsLeastAt passes fronts r → r ≡ option_map (λ m. m.0) o
+    by : (o : Option (ℕ × X)) → find p all ≡ o → (r : Option ℕ) → IsLeastAt passes firsts r → r ≡ option_map (λ m. m.0) o
     by None e None l = refl
     by None e (Some n) l =
         let none = none_too p (of l.0.0) all (within l.0.0 l.0.1) e in

@@ -8,7 +8,7 @@ use Rattle.std.proofs.lemmas.List.{append-nil, append_assoc}
 use Rattle.std.proofs.lemmas.List.Elements.{All-nil, All-cons, All-head, All-tail, filter-append, recursion_from_All}
 use Rattle.std.proofs.lemmas.List.Folds.{find-append}
 use Rattle.mq_message.specs.Waiting.{message_at, without, Listed}
-use Rattle.mq_index.specs.Index.{some_wait, IsRising}
+use Rattle.mq_index.specs.ByType.{some_wait, IsRising}
 use Rattle.mq_index.specs.Layered.{reaches, room_for}
 use Rattle.mq_index.specs.Same.{Same}
 use Rattle.mq_index.proofs.Merging.{int_eq-here, rising_append, rising_filter}

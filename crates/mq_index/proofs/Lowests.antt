@@ -15,7 +15,7 @@ use Rattle.mq_message.specs.Laws.{IsLowest}
 use Rattle.mq_message.specs.Selection.{least_of, pick}
 use Rattle.mq_message.proofs.Lowest.{finds_lowest}
 use Rattle.mq_message.proofs.Places.{find_none}
-use Rattle.mq_index.specs.Index.{of_type, queue_of, some_wait, IsIndex}
+use Rattle.mq_index.specs.ByType.{of_type, queue_of, some_wait, IsByType}
 use Rattle.mq_index.proofs.Merging.{at_is, int_eq-here, int_eq-same}
 
 -- of no type does a message wait; or of this one does, and of no lower one
@@ -71,8 +71,8 @@ bounded bound None = None
 bounded bound (Some low) = if int_le low (pos bound) then Some low else None
 
 -- the lowest type within a bound is that of the lowest of the queues, if it is within it
-pub least_found : {X : Type 0} (type_of : X → ℤ) (all : List (ℕ × X)) (queues : List (ℤ × List (ℕ × X))) (fronts : ℤ → Option ℕ) (types : ℕ → Option ℤ) (older : Option ℤ) (bound : ℕ) (low : Option ℤ) → IsIndex type_of all queues fronts types older → low ≡ option_map (λ q. q.0) (find (λ q. some_wait q.1) queues) → least_of bound (map (λ m. type_of m.1) all) ≡ bounded bound low
-least_found {X} type_of all queues fronts places older bound low index is = by (least_of bound types) (finds_lowest bound types) low (rw is (lowest_is queues index.ordered))
+pub least_found : {X : Type 0} (type_of : X → ℤ) (all : List (ℕ × X)) (queues : List (ℤ × List (ℕ × X))) (firsts : ℤ → Option ℕ) (types : ℕ → Option ℤ) (older : Option ℤ) (bound : ℕ) (low : Option ℤ) → IsByType type_of all queues firsts types older → low ≡ option_map (λ q. q.0) (find (λ q. some_wait q.1) queues) → least_of bound (map (λ m. type_of m.1) all) ≡ bounded bound low
+least_found {X} type_of all queues firsts places older bound low index is = by (least_of bound types) (finds_lowest bound types) low (rw is (lowest_is queues index.ordered))
   where
     types : List ℤ
     types = map (λ (m : ℕ × X). type_of m.1) all
@@ -97,12 +97,12 @@ least_found {X} type_of all queues fronts places older bound low index is = by (
 
 -- the place of the first message of a type, if there is one
 abbrev pub place_of_type : (ℤ → Option ℕ) → Option ℤ → Option ℕ
-place_of_type fronts None = None
-place_of_type fronts (Some t) = fronts t
+place_of_type firsts None = None
+place_of_type firsts (Some t) = firsts t
 
-pub place_found : {X : Type 0} (type_of : X → ℤ) (all : List (ℕ × X)) (queues : List (ℤ × List (ℕ × X))) (fronts : ℤ → Option ℕ) (types : ℕ → Option ℤ) (older : Option ℤ) (bound : ℕ) (low : Option ℤ) → IsIndex type_of all queues fronts types older → low ≡ least_of bound (map (λ m. type_of m.1) all) → place_of_type fronts low ≡ option_map (λ m. m.0) (pick (λ m. type_of m.1) all (UpTo bound))
-place_found {X} type_of all queues fronts types older bound low index is = by low ∙ ap (λ o. option_map (λ (m : ℕ × X). m.0) (find (λ m. option_map_or (int_eq (type_of m.1)) o false) all)) is
+pub place_found : {X : Type 0} (type_of : X → ℤ) (all : List (ℕ × X)) (queues : List (ℤ × List (ℕ × X))) (firsts : ℤ → Option ℕ) (types : ℕ → Option ℤ) (older : Option ℤ) (bound : ℕ) (low : Option ℤ) → IsByType type_of all queues firsts types older → low ≡ least_of bound (map (λ m. type_of m.1) all) → place_of_type firsts low ≡ option_map (λ m. m.0) (pick (λ m. type_of m.1) all (UpTo bound))
+place_found {X} type_of all queues firsts types older bound low index is = by low ∙ ap (λ o. option_map (λ (m : ℕ × X). m.0) (find (λ m. option_map_or (int_eq (type_of m.1)) o false) all)) is
   where
-    by : (o : Option ℤ) → place_of_type fronts o ≡ option_map (λ m. m.0) (find (λ (m : ℕ × X). option_map_or (int_eq (type_of m.1)) o false) all)
+    by : (o : Option ℤ) → place_of_type firsts o ≡ option_map (λ m. m.0) (find (λ (m : ℕ × X). option_map_or (int_eq (type_of m.1)) o false) all)
     by None = ap (option_map (λ (m : ℕ × X). m.0)) (sym (find_none all))
     by (Some t) = index.fronted t

@@ -14,7 +14,7 @@ use Rattle.std.proofs.lemmas.List.Elements.{All-filter, All-from_recursion, All-
 use Rattle.std.proofs.lemmas.Map.{lookup-none}
 use Rattle.std.proofs.lemmas.Map.Entries.{none_past_head}
 use Rattle.std.proofs.lemmas.Map.Keys.{sorted_tail, IsDistinct-from_sorted}
-use Rattle.mq_index.specs.Index.{placed_in, merge, merged, queue_of, of_type, IsRising}
+use Rattle.mq_index.specs.ByType.{placed_in, merge, merged, queue_of, of_type, IsRising}
 
 pub int_eq-same : (a b : ℤ) → int_eq a b ≡ true → a ≡ b
 int_eq-same a b e = (Decides-int_eq a b).0 e

@@ -2,7 +2,7 @@
 use Rattle.std.proofs.Common.{◌≡◌, ℕ, ℤ, Option, IsSome, List, Bor, MutBor, arith}
 use Rattle.std.specs.Option.{option_copied, option_copied_mut}
 use Rattle.mq_message.specs.Waiting.{message_at}
-use Rattle.mq_index.specs.Index.{queue_at, queue_of}
+use Rattle.mq_index.specs.ByType.{queue_at, queue_of}
 
 -- where a message waits in the queue of a type, there is such a queue
 pub has_queue : {X : Type 0} (queues : List (ℤ × List (ℕ × X))) (t : ℤ) (place : ℕ) → IsSome (message_at place (queue_of queues t)) → IsSome (queue_at queues t)

@@ -7,7 +7,7 @@ use Rattle.std.specs.Option.{option_map, IsSomeAnd}
 use Rattle.std.specs.Ordering.{int_cmp, int_eq}
 use Rattle.std.proofs.lemmas.Bool.Decides.{nat_tests}
 use Rattle.mq_message.specs.Waiting.{message_at, without}
-use Rattle.mq_index.specs.Index.{first_place, of_type, queue_at, queue_of, unless_empty, IsIndex, IsRising}
+use Rattle.mq_index.specs.ByType.{first_place, of_type, queue_at, queue_of, unless_empty, IsByType, IsRising}
 use Rattle.mq_index.proofs.Changes.{settled, IsSettled}
 use Rattle.mq_index.proofs.Firsts.{filter_later, first_is, found_kept, none_kept}
 use Rattle.mq_index.proofs.Merging.{filter_swap, int_eq-here, int_eq-same, rising_filter}
@@ -36,7 +36,7 @@ at_without : {X : Type 0} (place n : ℕ) (all : List (ℕ × X)) → message_at
 at_without place n [] = grind arith
 at_without place n (x ∷ xs) = grind (arith, nat_tests, at_without place n xs)
 
--- the front of a type is the place of the first message of its queue
+-- the first place of a type is that of the first message of its queue
 front_is : {X : Type 0} (type_of : X → ℤ) (all : List (ℕ × X)) (t : ℤ) → first_place type_of all t ≡ option_map (λ m. m.0) (slice_get (of_type type_of all t) 0)
 front_is {X} type_of all t = ap (option_map (λ (m : ℕ × X). m.0)) (first_is (λ (m : ℕ × X). int_eq (type_of m.1) t) all)
 
@@ -47,8 +47,8 @@ pub record IsPlaced {X : Type 0} (type_of : X → ℤ) (all : List (ℕ × X)) (
   pub type : type_of message ≡ t
   pub queued : message_at place (queue_of queues t) ≡ Some message
 
-pub placed : {X : Type 0} (type_of : X → ℤ) (all : List (ℕ × X)) (queues : List (ℤ × List (ℕ × X))) (fronts : ℤ → Option ℕ) (types : ℕ → Option ℤ) (older : Option ℤ) (place : ℕ) (t : ℤ) → IsIndex type_of all queues fronts types older → types place ≡ Some t → IsPlaced type_of all queues place t
-placed {X} type_of all queues fronts types older place t h at = by (message_at place all) refl (sym (h.typed place) ∙ at)
+pub placed : {X : Type 0} (type_of : X → ℤ) (all : List (ℕ × X)) (queues : List (ℤ × List (ℕ × X))) (firsts : ℤ → Option ℕ) (types : ℕ → Option ℤ) (older : Option ℤ) (place : ℕ) (t : ℤ) → IsByType type_of all queues firsts types older → types place ≡ Some t → IsPlaced type_of all queues place t
+placed {X} type_of all queues firsts types older place t h at = by (message_at place all) refl (sym (h.typed place) ∙ at)
   where
     by : (o : Option X) → message_at place all ≡ o → option_map type_of o ≡ Some t → IsPlaced type_of all queues place t
     by None e g = cc
@@ -56,18 +56,18 @@ placed {X} type_of all queues fronts types older place t h at = by (message_at p
         let same : type_of m ≡ t = cc in
         record { message = m; at = e; type = same; queued = rw (h.parted t, ← same) (in_queue type_of place all m e) }
 
-pub type_there : {X : Type 0} (type_of : X → ℤ) (all : List (ℕ × X)) (queues : List (ℤ × List (ℕ × X))) (fronts : ℤ → Option ℕ) (types : ℕ → Option ℤ) (older : Option ℤ) (place : ℕ) → IsIndex type_of all queues fronts types older → IsSome (message_at place all) → IsSome (types place)
-type_there type_of all queues fronts types older place h waits = grind (arith, h.typed place)
+pub type_there : {X : Type 0} (type_of : X → ℤ) (all : List (ℕ × X)) (queues : List (ℤ × List (ℕ × X))) (firsts : ℤ → Option ℕ) (types : ℕ → Option ℤ) (older : Option ℤ) (place : ℕ) → IsByType type_of all queues firsts types older → IsSome (message_at place all) → IsSome (types place)
+type_there type_of all queues firsts types older place h waits = grind (arith, h.typed place)
 
 -- the queues that are left
-left_in : {X : Type 0} (type_of : X → ℤ) (all : List (ℕ × X)) (queues new : List (ℤ × List (ℕ × X))) (fronts : ℤ → Option ℕ) (types : ℕ → Option ℤ) (older : Option ℤ) (place : ℕ) (t : ℤ) → IsIndex type_of all queues fronts types older → IsPlaced type_of all queues place t → ((s : ℤ) → queue_at new s ≡ cond (int_eq t s) (unless_empty (Some (without place (queue_of queues s)))) (queue_at queues s)) → (s : ℤ) → queue_of new s ≡ of_type type_of (without place all) s
-left_in {X} type_of all queues new fronts types older place t h p at s =
+left_in : {X : Type 0} (type_of : X → ℤ) (all : List (ℕ × X)) (queues new : List (ℤ × List (ℕ × X))) (firsts : ℤ → Option ℕ) (types : ℕ → Option ℤ) (older : Option ℤ) (place : ℕ) (t : ℤ) → IsByType type_of all queues firsts types older → IsPlaced type_of all queues place t → ((s : ℤ) → queue_at new s ≡ cond (int_eq t s) (unless_empty (Some (without place (queue_of queues s)))) (queue_at queues s)) → (s : ℤ) → queue_of new s ≡ of_type type_of (without place all) s
+left_in {X} type_of all queues new firsts types older place t h p at s =
     let kept : without place (queue_of queues s) ≡ of_type type_of (without place all) s = ap (without place) (h.parted s) ∙ filter_swap (λ (x : ℕ × X). int_eq (type_of x.1) s) (λ (x : ℕ × X). not (x.0 == place)) all in
     grind (arith, at s, h.parted s, kept, others type_of place all p.message t s h.rising p.at p.type)
 
 -- a message is taken out of the queue of its type
-pub taken_of : {X : Type 0} (type_of : X → ℤ) (all : List (ℕ × X)) (queues new : List (ℤ × List (ℕ × X))) (fronts after : ℤ → Option ℕ) (types after_types : ℕ → Option ℤ) (place : ℕ) (t : ℤ) → IsIndex type_of all queues fronts types None → IsPlaced type_of all queues place t → IsStrictlySortedBy int_cmp (keys_of new) → ((s : ℤ) → queue_at new s ≡ cond (int_eq t s) (unless_empty (Some (without place (queue_of queues s)))) (queue_at queues s)) → ((s : ℤ) → after s ≡ cond (int_eq t s) (option_map (λ (x : ℕ × X). x.0) (slice_get (queue_of new t) 0)) (fronts s)) → ((n : ℕ) → after_types n ≡ cond (nat_eq place n) None (types n)) → IsSettled type_of (without place all) new after after_types None
-taken_of {X} type_of all queues new fronts after types after_types place t h p ordered at front type = settled _ _ _ _ _ _ (record {
+pub taken_of : {X : Type 0} (type_of : X → ℤ) (all : List (ℕ × X)) (queues new : List (ℤ × List (ℕ × X))) (firsts after : ℤ → Option ℕ) (types after_types : ℕ → Option ℤ) (place : ℕ) (t : ℤ) → IsByType type_of all queues firsts types None → IsPlaced type_of all queues place t → IsStrictlySortedBy int_cmp (keys_of new) → ((s : ℤ) → queue_at new s ≡ cond (int_eq t s) (unless_empty (Some (without place (queue_of queues s)))) (queue_at queues s)) → ((s : ℤ) → after s ≡ cond (int_eq t s) (option_map (λ (x : ℕ × X). x.0) (slice_get (queue_of new t) 0)) (firsts s)) → ((n : ℕ) → after_types n ≡ cond (nat_eq place n) None (types n)) → IsSettled type_of (without place all) new after after_types None
+taken_of {X} type_of all queues new firsts after types after_types place t h p ordered at front type = settled _ _ _ _ _ _ (record {
   rising = rising_filter (λ (x : ℕ × X). not (x.0 == place)) all h.rising;
   ordered = ordered;
   parted = parted;
@@ -77,7 +77,7 @@ taken_of {X} type_of all queues new fronts after types after_types place t h p o
 })
   where
     parted : (s : ℤ) → queue_of new s ≡ of_type type_of (without place all) s
-    parted = left_in type_of all queues new fronts types None place t h p at
+    parted = left_in type_of all queues new firsts types None place t h p at
 
     fronted : (s : ℤ) → after s ≡ first_place type_of (without place all) s
     fronted s =
@@ -86,9 +86,9 @@ taken_of {X} type_of all queues new fronts after types after_types place t h p o
         grind (arith, int_eq-same t s, front s, parted s, old, new, h.fronted s, others type_of place all p.message t s h.rising p.at p.type)
 
 -- what is first in the queue that is left is no earlier than the front
-pub later_of : {X : Type 0} (type_of : X → ℤ) (all : List (ℕ × X)) (queues new : List (ℤ × List (ℕ × X))) (fronts : ℤ → Option ℕ) (types : ℕ → Option ℤ) (older : Option ℤ) (place : ℕ) (t : ℤ) (first : Option ℕ) → IsIndex type_of all queues fronts types older → IsPlaced type_of all queues place t → ((s : ℤ) → queue_at new s ≡ cond (int_eq t s) (unless_empty (Some (without place (queue_of queues s)))) (queue_at queues s)) → first ≡ option_map (λ (x : ℕ × X). x.0) (slice_get (queue_of new t) 0) → IfSome first (λ n. IsSomeAnd (fronts t) (λ k. k ≤ n))
-later_of {X} type_of all queues new fronts types older place t first h p at is =
-    by first (fronts t) (rw (left_in type_of all queues new fronts types older place t h p at t, ← front_is type_of (without place all) t) at is) (h.fronted t)
+pub later_of : {X : Type 0} (type_of : X → ℤ) (all : List (ℕ × X)) (queues new : List (ℤ × List (ℕ × X))) (firsts : ℤ → Option ℕ) (types : ℕ → Option ℤ) (older : Option ℤ) (place : ℕ) (t : ℤ) (first : Option ℕ) → IsByType type_of all queues firsts types older → IsPlaced type_of all queues place t → ((s : ℤ) → queue_at new s ≡ cond (int_eq t s) (unless_empty (Some (without place (queue_of queues s)))) (queue_at queues s)) → first ≡ option_map (λ (x : ℕ × X). x.0) (slice_get (queue_of new t) 0) → IfSome first (λ n. IsSomeAnd (firsts t) (λ k. k ≤ n))
+later_of {X} type_of all queues new firsts types older place t first h p at is =
+    by first (firsts t) (rw (left_in type_of all queues new firsts types older place t h p at t, ← front_is type_of (without place all) t) at is) (h.fronted t)
   where
     by : (first front : Option ℕ) → first ≡ first_place type_of (without place all) t → front ≡ first_place type_of all t → IfSome first (λ n. IsSomeAnd front (λ k. k ≤ n))
     by None front f g = tt

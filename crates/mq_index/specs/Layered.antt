@@ -8,7 +8,7 @@ use Rattle.mq_message.specs.declared.selection.Selection.{Selection}
 use Rattle.mq_message.specs.declared.selection.Selection.TheVariants.{Any, Exact, Except, UpTo}
 use Rattle.mq_message.specs.Selection.{least_of}
 use Rattle.mq_message.specs.Waiting.{Listed}
-use Rattle.mq_index.specs.Index.{some_wait, IsRising}
+use Rattle.mq_index.specs.ByType.{some_wait, IsRising}
 use Rattle.mq_index.specs.Same.{Same}
 
 -- whether the next message joins those of one type: none waits behind them, and it is of their type

@@ -1,8 +1,8 @@
 pub mod Crossing
-pub mod Fronts
+pub mod FirstPlaces
 pub mod Heap
-pub mod Held
-pub mod Index
+pub mod Forms
+pub mod ByType
 pub mod Layered
 pub mod Lowest
 pub mod Outcome

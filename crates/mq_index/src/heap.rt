@@ -5,7 +5,7 @@
 ghost use Rattle.std.specs.Prelude.{◌≡◌, ◌<◌, not, true};
 ghost use Rattle.std.specs.Ordering.{int_eq};
 ghost use Rattle.indexmap.specs.IndexMap.{get, index_map_len};
-ghost use Rattle.mq_index.specs.Fronts.{IsLeastAt};
+ghost use Rattle.mq_index.specs.FirstPlaces.{IsLeastAt};
 ghost use Rattle.mq_index.specs.Heap.{place_at, type_at, IsGreaterAbove, IsHeap, IsLeastEntry};
 ghost use Rattle.mq_index.specs.Heap.{IsHeapBut, IsHeapDownTo, IsHeapOf, IsHeapUpTo};
 ghost use Rattle.mq_index.specs.Heap.{IsLeastUnder, IsLesserUnder};

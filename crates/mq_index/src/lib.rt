@@ -6,7 +6,7 @@
 
 mod by_type;
 mod crossing;
-mod fronts;
+mod first_places;
 mod heap;
 mod index;
 mod layered;
@@ -17,7 +17,7 @@ mod room;
 mod same;
 
 pub use by_type::ByType;
-pub use fronts::FirstPlaces;
+pub use first_places::FirstPlaces;
 pub use index::IndexWaiting;
 pub use layered::Layered;
 pub use list::{ListWaiting, Placed};

@@ -14,9 +14,10 @@ use Rattle.mq_arena.specs.declared.take_error.TakeError.TheVariants as take
 use Rattle.mq_arena.specs.declared.order.TheConstants.{INLINE_LEN}
 use Rattle.mq_arena.specs.Text.{PlainText, no_text, order_for, text_in}
 use Rattle.mq_queue.specs.declared.limits.TheConstants.{MSGMAX}
+use Rattle.mq_queue.specs.Memory.{or_memory}
 use Rattle.mq_calls.specs.State.{QueuesState, with_arena}
-use Rattle.mq_calls.specs.Memory.{or_memory}
-use Rattle.mq_calls.specs.Texts.{by_take, in_block, drafts, drafts_of, spends, filled_with, zeros_lent}
+use Rattle.mq_calls.specs.Texts.{by_take, in_block, drafts, drafts_of, filled_with, text_spent}
+use Rattle.mq_calls.specs.Texts.{zeros_lent}
 use Rattle.mq_calls.specs.declared.draft_error.DraftError.{DraftError}
 use Rattle.mq_calls.specs.declared.draft_error.DraftError.TheVariants.{TooLong, NoRun, Memory}
 
@@ -96,7 +97,7 @@ pub ruleset byte_drafts = (too_long, drafted, refused_in)
 
 -- the queues once what was drafted is spent
 home : QueuesState → Result (PlainText × QueuesState) DraftError → QueuesState
-home s (Ok d) = with_arena d.1 (spends d.0 d.1.arena)
+home s (Ok d) = text_spent d.0 d.1
 home s (Err e) = s
 
 -- a block that was lent and is home again leaves the arena as it was
@@ -126,6 +127,6 @@ all_home s bytes = by (nat_lt MSGMAX n) (n == 0) (fit s.arena.height s.arena.len
 
 -- a text that is spent after it was drafted leaves the queues as they were
 pub spent_after : (s after : QueuesState) (bytes : List ℕ) (text : PlainText)
-    → drafts_of s bytes ≡ Ok (text, after) → with_arena after (spends text after.arena) ≡ s
+    → drafts_of s bytes ≡ Ok (text, after) → text_spent text after ≡ s
 unfolding home
 spent_after s after bytes text e = ap (home s) (sym e) ∙ all_home s bytes

@@ -1,11 +1,11 @@
 -- How a call turns out: it answers and leaves what its definition says, or it is refused.
 use Rattle.std.specs.Prelude.{◌≡◌, ℕ, Result, Ok, Err}
 use Rattle.mq_arena.specs.Text.{PlainText}
+use Rattle.mq_queue.specs.Memory.{or_memory}
 use Rattle.mq_table.specs.Cut.{cut_shown}
 use Rattle.mq_table.specs.declared.cut.Cut.{Cut}
 use Rattle.mq_calls.specs.Calls.{cut_log}
 use Rattle.mq_calls.specs.Look.{Answer, refused_in}
-use Rattle.mq_calls.specs.Memory.{or_memory}
 use Rattle.mq_calls.specs.State.{QueuesState}
 use Rattle.mq_calls.specs.declared.errno.Errno.TheVariants.{ENOMEM}
 use Rattle.mq_calls.specs.declared.results.Refused.{Refused}

@@ -1,6 +1,5 @@
 ghost use Rattle.std.specs.Prelude.{◌≡◌};
-ghost use Rattle.mq_calls.specs.Calls.{set as set_answer, rmid as rmid_answer};
-ghost use Rattle.mq_calls.specs.Calls.{stat as stat_answer};
+ghost use Rattle.mq_calls.specs.Calls.{rmid, set, stat};
 ghost use Rattle.mq_calls.specs.Look.{refused_at};
 ghost use Rattle.mq_one_thread.specs.Outcome.{Answers};
 ghost use Rattle.mq_calls.specs.Usages.{usage_of};
@@ -17,10 +16,10 @@ impl<L: Ledger> OneThread<L> {
     /// Sets the quota (msgctl(2), IPC_SET of msg_qbytes), and answers the entry. EINVAL, EIDRM,
     /// EPERM over MSGMNB, then ENOMEM.
     pub fn set(&mut self, seat: u16, id: Id, qbytes: u64, moment: u64) -> Result<u64, Refused>
-        ensures answer { Answers (set_answer self.old seat id qbytes moment)
+        ensures answer { Answers (set self.old seat id qbytes moment)
             (refused_at self.old id Errno.ENOMEM) self.old self.new result }
     {
-        let k = self.place_of(id)?;
+        let k = self.slot_of_id(id)?;
         match self.slots[k].set(qbytes, seat, moment, &mut NoNotice) {
             Ok(entry) => Ok(entry),
             Err(refusal) => Err(self.refused(k, Errno::from(refusal))),
@@ -30,10 +29,10 @@ impl<L: Ledger> OneThread<L> {
     /// Removes the queue (msgctl(2), IPC_RMID), and spends the texts that waited in it. EINVAL,
     /// EIDRM, then ENOMEM.
     pub fn rmid(&mut self, seat: u16, id: Id, moment: u64) -> Result<Removal, Refused>
-        ensures answer { Answers (rmid_answer self.old seat id moment)
+        ensures answer { Answers (rmid self.old seat id moment)
             (refused_at self.old id Errno.ENOMEM) self.old self.new result }
     {
-        let k = self.place_of(id)?;
+        let k = self.slot_of_id(id)?;
         let entry = self.slots[k].events();
         match remove_under(
             &mut self.keys,
@@ -53,9 +52,9 @@ impl<L: Ledger> OneThread<L> {
 
     /// What is shown of the queue (msgctl(2), IPC_STAT). EINVAL, then EIDRM.
     pub fn stat(&self, id: Id) -> Result<Figures, Errno>
-        ensures { result ≡ stat_answer self.now id }
+        ensures { result ≡ stat self.now id }
     {
-        match self.place_of(id) {
+        match self.slot_of_id(id) {
             Ok(k) => Ok(self.slots[k].figures()),
             Err(refused) => Err(refused.errno),
         }

@@ -1,6 +1,6 @@
 ghost use Rattle.std.specs.Prelude.{◌≡◌, ◌≢◌, pos, None, IfSome, OnErr};
 ghost use Rattle.mq_table.specs.Keys.{id_of_key};
-ghost use Rattle.mq_calls.specs.Get.{IsFreePlace, MayRunOut, free_slot, makes_one};
+ghost use Rattle.mq_calls.specs.Get.{IsFreeSlot, MayRunOut, free_slot, makes_one};
 ghost use Rattle.mq_calls.specs.Get.{msgget as msgget_answer};
 ghost use Rattle.mq_one_thread.specs.Outcome.{Answers};
 
@@ -64,7 +64,7 @@ impl<L: Ledger> OneThread<L> {
 
     fn least_free(&self) -> Option<usize>
         ensures first { result ≡ free_slot self.now }
-        ensures free { IfSome result (IsFreePlace self.now) }
+        ensures free { IfSome result (IsFreeSlot self.now) }
     {
         let last_seq = self.last_seq;
         self.slots.iter().position(|slot| slot.is_free(last_seq))

@@ -1,6 +1,6 @@
 ghost use Rattle.std.specs.Prelude.{◌≡◌, ◌<◌, Err, MatchResult, length};
 ghost use Rattle.mq_calls.specs.Calls.{msgsnd as msgsnd_answer, msgrcv as msgrcv_answer};
-ghost use Rattle.mq_calls.specs.Look.{IsPlace, look, refused_at, refused_in};
+ghost use Rattle.mq_calls.specs.Look.{IsSlotOfId, look, refused_at, refused_in};
 ghost use Rattle.mq_one_thread.specs.Outcome.{Answers, AnswersSend};
 
 use crate::OneThread;
@@ -33,7 +33,7 @@ impl<L: Ledger> OneThread<L> {
             };
             return Err(SendRefused { refused, text });
         }
-        let k = match self.place_of(id) {
+        let k = match self.slot_of_id(id) {
             Ok(k) => k,
             Err(refused) => return Err(SendRefused { refused, text }),
         };
@@ -69,7 +69,7 @@ impl<L: Ledger> OneThread<L> {
             (msgrcv_answer self.old seat id size msgtyp except noerror moment)
             (refused_at self.old id Errno.ENOMEM) self.old self.new result }
     {
-        let k = self.place_of(id)?;
+        let k = self.slot_of_id(id)?;
         let selection = Selection::read(msgtyp, except);
         match self.slots[k].receive(size, selection, noerror, seat, moment, &mut NoNotice) {
             Ok(received) => Ok(Delivered::of(received)),
@@ -78,8 +78,8 @@ impl<L: Ledger> OneThread<L> {
     }
 
     /// The slot of the live queue with this id, or why there is none.
-    pub(crate) fn place_of(&self, id: Id) -> Result<usize, Refused>
-        ensures { MatchResult result (IsPlace self.now id) (λ r. look self.now id ≡ Err r) }
+    pub(crate) fn slot_of_id(&self, id: Id) -> Result<usize, Refused>
+        ensures { MatchResult result (IsSlotOfId self.now id) (λ r. look self.now id ≡ Err r) }
     {
         let k = id.slot() as usize;
         if k >= self.slots.len() {

@@ -11,8 +11,8 @@ ghost use Rattle.mq_table.specs.KeptShown.{row_now};
 ghost use Rattle.mq_one_thread.specs.Holds.{AreKeysOf};
 ghost use Rattle.mq_calls.specs.Limits.{keeps_limits, empty_queues, empty_slots};
 ghost use Rattle.mq_one_thread.specs.Outcome.{Answers};
-ghost use Rattle.mq_calls.specs.State.{slot_at, with_arena};
-ghost use Rattle.mq_calls.specs.Texts.{bytes_of, comes_home, drafts, drafts_of, spends};
+ghost use Rattle.mq_calls.specs.State.{slot_at};
+ghost use Rattle.mq_calls.specs.Texts.{bytes_of, comes_home, drafts, drafts_of, text_spent};
 
 use mq_arena::{
     ArenaState, Block, Homecoming, INLINE_LEN, LEDGER_PARTS, Text, Unopened, order_for,
@@ -163,7 +163,7 @@ impl<L: Ledger> OneThread<L> {
     // Inlined for the same reason as `ArenaState::put`.
     #[inline(always)]
     pub fn spend(&mut self, text: Text<L>) -> Homecoming
-        ensures back { self.new ≡ with_arena self.old (spends text self.old.arena) }
+        ensures back { self.new ≡ text_spent text self.old }
         ensures home { result ≡ comes_home text self.old.arena }
     {
         take_back(&mut self.arena, text)

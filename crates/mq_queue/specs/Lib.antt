@@ -5,6 +5,7 @@ pub mod Lawful
 pub mod LawfulFrom
 pub mod Laws
 pub mod Log
+pub mod Memory
 pub mod Queue
 pub mod QueueCalls
 pub mod Replay

@@ -3,8 +3,9 @@ ghost use Rattle.std.specs.Prelude.{IfErr, IfOk, IfSome, MatchResult, OnOk};
 ghost use Rattle.std.specs.Option.{option_map};
 ghost use Rattle.mq_message.specs.Selection.{pick};
 ghost use Rattle.mq_message.specs.Waiting.{message_at};
-ghost use Rattle.mq_queue.specs.Answer.{receive_answer, receive_refusal, refusal_or_memory};
+ghost use Rattle.mq_queue.specs.Answer.{receive_answer, receive_refusal};
 ghost use Rattle.mq_queue.specs.Base.{figures_from, waiting_from};
+ghost use Rattle.mq_queue.specs.Memory.{or_memory};
 ghost use Rattle.mq_queue.specs.QueueCalls.{IsHandedOut, IsRefusedBy, IsWhatWaited};
 
 use crate::log::{append, reserve, whole_count};
@@ -32,8 +33,7 @@ impl<B: Body, W: Waiting<B>> QueueState<B, W> {
             receive_answer (waiting_from self.now.base self.now.tail) size selection noerror
             ≡ Err e) }
         ensures accepted { OnOk result (receive_refusal
-            (receive_answer (waiting_from self.now.base self.now.tail) size selection noerror)
-            ≡ None) }
+            (waiting_from self.now.base self.now.tail) size selection noerror ≡ None) }
         ensures picked { IfOk result (λ c. Some c.place
             ≡ option_map (λ m. m.0) (pick (λ m. m.1.mtype) self.now.messages selection)) }
         ensures length { IfOk result (λ c. IfSome (message_at c.place self.now.messages) (λ m.
@@ -58,8 +58,8 @@ impl<B: Body, W: Waiting<B>> QueueState<B, W> {
         selection: Selection,
         noerror: bool,
     ) -> Option<QueueError>
-        ensures { result ≡ receive_refusal
-            (receive_answer (waiting_from self.now.base self.now.tail) size selection noerror) }
+        ensures { result ≡ receive_refusal (waiting_from self.now.base self.now.tail) size
+            selection noerror }
     {
         self.choose(size, selection, noerror).err()
     }
@@ -79,7 +79,7 @@ impl<B: Body, W: Waiting<B>> QueueState<B, W> {
     ) -> Result<Received<B>, QueueError>
         ensures answer { MatchResult result
             (IsHandedOut size selection noerror seat moment self.old self.new)
-            (IsRefusedBy (refusal_or_memory (receive_answer
+            (IsRefusedBy (or_memory QueueError.Memory (receive_answer
             (waiting_from self.old.base self.old.tail) size selection noerror))
             self.old self.new) }
         ensures body { IfOk result (IsWhatWaited B.bytes B.keeps size self.old.messages) }

@@ -11,7 +11,7 @@ use Rattle.mq_queue.specs.Log.{ends_with_removed}
 use Rattle.mq_queue.specs.Row.{made_count, slot_figures}
 use Rattle.mq_queue.proofs.Uncut.{lawful_uncut}
 use Rattle.mq_table.proofs.Logs.{counted, last_log_is, made_once}
-use Rattle.mq_board.specs.Writers.{Desk, HasOnePending, posting}
+use Rattle.mq_board.specs.Writers.{WriterState, HasOnePending, posting}
 use Rattle.mq_queue_tests.specs.Shown.{IsPending, IsShown}
 
 -- once a queue is removed there are no figures, in its log as in its slot
@@ -40,17 +40,17 @@ ready events log event after is lawful same short = record {
 }
 
 -- so it may be where a writer that had nothing pending took it in
-pub taken : (old new : Desk) (log : List Event) (event : Event) → old.pending ≡ []
+pub taken : (old new : WriterState) (log : List Event) (event : Event) → old.pending ≡ []
     → new ≡ record old { pending = old.pending ++ posting event (figures log) ∷ [] }
     → log ≡ old.events ++ event ∷ [] → Lawful log → length old.events < 2 ^ 63
     → HasOnePending new.events new.pending
 taken old new log event idle took is lawful short =
-    let Ready : Desk → Type 0 = λ desk. HasOnePending desk.events desk.pending in
+    let Ready : WriterState → Type 0 = λ desk. HasOnePending desk.events desk.pending in
     subst Ready (sym took)
     (rw idle (ready old.events log event (figures log) is lawful refl short))
 
 -- so it may be of a queue whose log was not cut
-pub taken_from : (base : Base) (old new : Desk) (log : List Event) (event : Event)
+pub taken_from : (base : Base) (old new : WriterState) (log : List Event) (event : Event)
     → base ≡ base_of [] → old.pending ≡ []
     → new ≡ record old { pending = old.pending ++ posting event (figures_from base log) ∷ [] }
     → log ≡ old.events ++ event ∷ [] → LawfulFrom base log → length old.events < 2 ^ 63
@@ -61,7 +61,7 @@ taken_from base old new log event none idle took is lawful short =
     is (lawful_uncut log (subst (λ (b : Base). LawfulFrom b log) none lawful)) short
 
 -- and it is what is pending then
-pub pending : (base base' : Base) (before log : List Event) (old new : Desk)
+pub pending : (base base' : Base) (before log : List Event) (old new : WriterState)
     (event : Event) → base' ≡ base → IsShown base before old
     → new ≡ record old { pending = old.pending ++ posting event (figures_from base' log) ∷ [] }
     → log ≡ before ++ event ∷ [] → LawfulFrom base' log → length before < 2 ^ 63
@@ -70,7 +70,7 @@ pending base base' before log old new event same shown took is lawful short =
     let none : base' ≡ base_of [] = same ∙ shown.0 in
     let is' : log ≡ old.events ++ event ∷ [] = rw shown.1 is in
     let short' : length old.events < 2 ^ 63 = rw shown.1 short in
-    let Whole : Desk → Type 0 = λ desk. desk.events ++ map (λ p. p.event) desk.pending ≡ log in (
+    let Whole : WriterState → Type 0 = λ desk. desk.events ++ map (λ p. p.event) desk.pending ≡ log in (
       none,
       taken_from base' old new log event none shown.2 took is' lawful short',
       subst Whole (sym took) (rw shown.2 (sym is')),

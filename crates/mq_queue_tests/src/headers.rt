@@ -173,7 +173,7 @@ fn agrees<W: Waiting<VecBody>>(
     Ok(headers.len() == count && *headers.as_slice() == *wanted.as_slice())
 }
 
-/// The types of sixty messages, which are as many as make the list that crosses one found by type.
+/// The types of sixty messages, which are as many as make the list that crosses one in layers.
 fn sixty_types(alloc: Global) -> Result<Vec<i64>, AllocError> {
     let mut types = Vec::new(alloc);
     for i in 0..60u32 {

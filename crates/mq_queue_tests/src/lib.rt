@@ -1,5 +1,5 @@
 //! Tests of waiting lists, plain and found by type, of one queue, of texts on their way through
-//! queues, and, in `table`, of ids, keys, slots and boards.
+//! queues, of ids, keys, slots and boards.
 
 #![tactic(auto)]
 
@@ -32,13 +32,15 @@ macro_rules! holds {
 #[cfg(test)]
 mod bases;
 #[cfg(test)]
-mod bodies;
+mod boards;
 #[cfg(test)]
 mod calls;
 #[cfg(test)]
 mod cut_often;
 #[cfg(test)]
 mod cuts;
+#[cfg(test)]
+mod forms;
 #[cfg(test)]
 mod headers;
 #[cfg(test)]
@@ -50,8 +52,8 @@ mod notices;
 #[cfg(test)]
 mod parts;
 #[cfg(test)]
-mod steps;
+mod slots;
 #[cfg(test)]
-mod table;
+mod steps;
 #[cfg(test)]
 mod texts;

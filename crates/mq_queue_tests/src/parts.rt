@@ -1,6 +1,6 @@
 ghost use Rattle.std.specs.Prelude.{◌≡◌, ◌+◌, ◌<◌, ◌≤◌, ◌++◌, ◌∷◌, [], ℕ, ℤ, All, Some};
 ghost use Rattle.std.specs.Prelude.{IfNone, IfSome, OnOk, length, map};
-ghost use Rattle.mq_index.specs.Fronts.{first_of};
+ghost use Rattle.mq_index.specs.FirstPlaces.{first_of};
 
 use mq_index::{FirstPlaces, Room, TypeQueue};
 use mq_message::{Message, VecBody};

@@ -5,10 +5,12 @@ use Rattle.mq_arena.specs.Text.{PlainText}
 use Rattle.mq_message.specs.declared.header.Header.{Header}
 use Rattle.mq_message.specs.declared.message.Message.{Message}
 use Rattle.mq_queue.specs.declared.error.QueueError.{QueueError}
+use Rattle.mq_queue.specs.declared.error.QueueError.TheVariants.{Memory}
+use Rattle.mq_queue.specs.Memory.{or_memory}
 use Rattle.mq_queue.specs.Queue.{rest_of}
 use Rattle.mq_queue.specs.Row.{is_live, last_log, live_key}
 use Rattle.mq_queue.specs.declared.event.Event.{Event}
-use Rattle.mq_table.specs.Calls.{SlotTurn, refusal_of}
+use Rattle.mq_table.specs.Calls.{SlotTurn}
 use Rattle.mq_table.specs.Kept.{KeptSlot, is_live_kept}
 use Rattle.mq_table.specs.KeptPart.{IsKeptPart, whole}
 use Rattle.mq_table.specs.KeptShown.{last_id_now}
@@ -32,7 +34,7 @@ module _ (s : SlotState PlainText) where
   -- or it was
   pub refused_by : {T : Type 0} (looked : Result (Unit {0}) Refused) → Ok tt ≡ looked
       → (turn : SlotTurn PlainText T) (refusal : QueueError) (r : Refused)
-      → refusal ≡ refusal_of turn → r ≡ refused_here s (errno_of refusal)
+      → refusal ≡ or_memory Memory turn → r ≡ refused_here s (errno_of refusal)
       → r ≡ refused_or_memory_in_slot s (once looked (answered_in_slot s turn))
   refused_by (Ok _) there (Ok turn) refusal r why is =
       is ∙ ap (λ e. refused_here s (errno_of e)) why
@@ -43,7 +45,7 @@ module _ (s : SlotState PlainText) where
 -- why a receiver is refused
 pub not_delivered : (messages : List (ℕ × Message PlainText)) (size entry : ℕ)
     (turn : SlotTurn PlainText Header)
-    → refusal_of turn ≡ refusal_of (delivers messages size entry turn)
+    → or_memory Memory turn ≡ or_memory Memory (delivers messages size entry turn)
 not_delivered messages size entry (Ok turn) = refl
 not_delivered messages size entry (Err refusal) = refl
 

@@ -3,19 +3,19 @@ use Rattle.std.proofs.Common.{◌≡◌, ℕ, suc, ◌+◌, ◌-◌, ◌<◌, �
 use Rattle.std.proofs.lemmas.List.{append_cancel_right, length-append}
 use Rattle.std.specs.Global.{Vec}
 use Rattle.mq_queue.specs.declared.event.Event.{Event}
-use Rattle.mq_board.specs.Readers.{ReaderState, seat, seats}
-use Rattle.mq_board.proofs.Seats.{seats_more}
+use Rattle.mq_board.specs.Readers.{ReaderState, new_reader, new_readers}
+use Rattle.mq_board.proofs.NewReaders.{readers_more}
 use Rattle.mq_system.specs.Fronts.{fronts_of}
 
 -- from so many boards the reader with this place was taken
 pub record AreTaken (place boards : ℕ) (rows : List (Vec ReaderState)) (readers : List ReaderState)
     : Type 0 where
   pub count : length readers ≡ boards
-  pub taken : (k : ℕ) (d : ReaderState) → k < boards → slice_index_or readers k d ≡ seat k place
+  pub taken : (k : ℕ) (d : ReaderState) → k < boards → slice_index_or readers k d ≡ new_reader k place
   pub left : (k : ℕ) (d : Vec ReaderState) → k < boards
-      → (slice_index_or rows k d).items ≡ seats k (place - 1)
+      → (slice_index_or rows k d).items ≡ new_readers k (place - 1)
   pub rest : (k : ℕ) (d : Vec ReaderState) → boards ≤ k → k < length rows
-      → (slice_index_or rows k d).items ≡ seats k place
+      → (slice_index_or rows k d).items ≡ new_readers k place
 
 last_same : {X : Type 0} (xs ys : List X) (x y : X) → xs ++ x ∷ [] ≡ ys ++ y ∷ [] → x ≡ y
 last_same [] [] x y is = cc is
@@ -25,18 +25,18 @@ last_same (a ∷ xs) (b ∷ ys) x y is = last_same xs ys x y (cc is)
 
 -- the last of some readers, and the others
 pub last_seat : (board place : ℕ) (left : List ReaderState) (last : ReaderState) → 0 < place
-    → left ++ last ∷ [] ≡ seats board place
-    → (last ≡ seat board place) × (left ≡ seats board (place - 1))
+    → left ++ last ∷ [] ≡ new_readers board place
+    → (last ≡ new_reader board place) × (left ≡ new_readers board (place - 1))
 last_seat board place left last some is =
     let before = place - 1 in
     let next : before + 1 ≡ place = omega (arith, some) in
-    let more : seats board before ++ seat board place ∷ [] ≡ seats board place =
-    ap (λ k. seats board before ++ seat board k ∷ []) (sym next)
-    ∙ (seats_more board before ∙ ap (seats board) next) in
-    let same : last ≡ seat board place =
-    last_same left (seats board before) last (seat board place) (is ∙ sym more) in (
+    let more : new_readers board before ++ new_reader board place ∷ [] ≡ new_readers board place =
+    ap (λ k. new_readers board before ++ new_reader board k ∷ []) (sym next)
+    ∙ (readers_more board before ∙ ap (new_readers board) next) in
+    let same : last ≡ new_reader board place =
+    last_same left (new_readers board before) last (new_reader board place) (is ∙ sym more) in (
       same,
-      append_cancel_right left (seats board before) (seat board place ∷ [])
+      append_cancel_right left (new_readers board before) (new_reader board place ∷ [])
           (ap (λ r. left ++ r ∷ []) (sym same) ∙ (is ∙ sym more)),
     )
 

@@ -7,7 +7,7 @@ use Rattle.std.proofs.lemmas.Bool.Decides.{eqb_tells}
 use Rattle.std.proofs.lemmas.List.{append-nil, append_assoc, get_or-map, get_or-reverse, get_or-set_other, get_or-set_same, get_or-take, length-map, length-reverse, length-set, length-take-le, reverse-append, take-append-drop, take-append-le}
 use Rattle.std.proofs.lemmas.List.Elements.{All-cons}
 use Rattle.mq_queue.specs.declared.event.Event.{Event}
-use Rattle.mq_board.specs.Writers.{Desk}
+use Rattle.mq_board.specs.Writers.{WriterState}
 use Rattle.mq_system.specs.Fronts.{FrontsState}
 use Rattle.mq_system.specs.Seat.{SeatState, counted_by, front_of, seat_of}
 use Rattle.mq_system.specs.Closed.{AreCounted, AreDistinct, AreSeen, AreWithout, IsRecorded, IsWithout, known_by}
@@ -289,6 +289,6 @@ all_counted slots seats lists count recorded distinct seen total slot d low =
     prefixes i e within k below = seen i k e [] within (omega (arith, below, count))
 
 -- a writer that took one reader back after the other stays as it was but for these
-pub back_again : (a b c : Desk) → b ≡ record a { home = b.home }
+pub back_again : (a b c : WriterState) → b ≡ record a { home = b.home }
     → c ≡ record b { home = c.home } → c ≡ record a { home = c.home }
-back_again a b c first second = second ∙ ap (λ (w : Desk). record w { home = c.home }) first
+back_again a b c first second = second ∙ ap (λ (w : WriterState). record w { home = c.home }) first

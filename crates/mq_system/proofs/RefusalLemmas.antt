@@ -1,18 +1,14 @@
--- Which refusals a send may have, and what a removal tells.
-use Rattle.std.proofs.Common.{◌≡◌, ℕ, ℤ, pos, ◌+◌, int_lt, nat_le, nat_lt, if◌then◌else◌, ◌||◌, ◌<◌, Bool, true, false, true≢false, List, [], ◌∷◌, ◌++◌, length, Option, None, Some, Result, Ok, Err, refl, sym, ap, subst, ◌∙◌, arith}
+-- Which refusals a send and a receipt may have.
+use Rattle.std.proofs.Common.{◌≡◌, ℕ, ℤ, pos, int_lt, nat_le, nat_lt, if◌then◌else◌, ◌||◌, ◌<◌, Bool, true, false, true≢false, List, [], ◌∷◌, ◌++◌, length, Option, None, Some, Result, Ok, Err, refl, sym, ap, subst, ◌∙◌, arith}
 use Rattle.std.specs.Prelude.{IsSome}
 use Rattle.std.proofs.lemmas.Bool.Decides.{nat_tests}
-use Rattle.std.proofs.lemmas.List.{length_push}
-use Rattle.std.proofs.lemmas.List.Sums.{fold-append}
 use Rattle.mq_arena.specs.Text.{PlainText}
 use Rattle.mq_message.specs.declared.message.Message.{Message}
 use Rattle.mq_message.specs.Selection.{pick}
 use Rattle.mq_message.specs.declared.header.Header.{Header}
 use Rattle.mq_message.specs.declared.selection.Selection.{Selection}
 use Rattle.mq_queue.specs.Answer.{handed_out, send_refusal}
-use Rattle.mq_queue.specs.Log.{is_removed}
 use Rattle.mq_queue.specs.Room.{has_room, quota}
-use Rattle.mq_queue.specs.Queue.{rest_of}
 use Rattle.mq_queue.specs.Row.{last_log}
 use Rattle.mq_queue.specs.Waiting.{waiting}
 use Rattle.mq_queue.specs.declared.error.QueueError.{QueueError}
@@ -20,11 +16,10 @@ use Rattle.mq_queue.specs.declared.error.QueueError.TheVariants.{TypeInvalid, To
 use Rattle.mq_queue.specs.declared.event.Event.{Event}
 use Rattle.mq_queue.specs.declared.event.Event.TheVariants as event
 use Rattle.mq_queue.specs.declared.limits.TheConstants.{MSGMAX}
-use Rattle.mq_table.specs.Calls.{with_event, received, removes, sends, changed_unless}
+use Rattle.mq_table.specs.Calls.{with_event, received, sends, changed_unless}
 use Rattle.mq_table.specs.Ids.{seq_of, slot_of}
-use Rattle.mq_table.specs.Shown.{by_standing}
 use Rattle.mq_table.specs.Slot.{SlotState}
-use Rattle.mq_table.specs.SlotList.{IsSlotList, standing}
+use Rattle.mq_table.specs.SlotList.{by_standing, standing}
 use Rattle.mq_table.specs.declared.refusal.IdRefusal.{IdRefusal}
 use Rattle.mq_table.specs.declared.refusal.IdRefusal.TheVariants.{Never, Removed}
 use Rattle.mq_calls.specs.Calls.{delivers}
@@ -33,13 +28,11 @@ use Rattle.mq_calls.specs.Texts.{bytes_of}
 use Rattle.mq_calls.specs.declared.errno.Errno.{Errno}
 use Rattle.mq_calls.specs.declared.errno.Errno.TheVariants.{EAGAIN, ENOMSG}
 use Rattle.mq_calls.specs.declared.results.Refused.{Refused}
-use Rattle.mq_calls.specs.declared.results.Removal.{Removal}
-use Rattle.mq_system.specs.Answer.{SlotAnswer, answered_in_slot, by_id_in_slot, in_slot_queue, looks_in_slot, receive_in_slot, refused_or_memory_in_slot, remove_in_slot, send_in_slot}
+use Rattle.mq_system.specs.Answer.{SlotAnswer, answered_in_slot, by_id_in_slot, in_slot_queue, receive_in_slot, refused_or_memory_in_slot, send_in_slot}
 use Rattle.mq_system.specs.Outcome.{IsLook, IsTurnedAway}
 use Rattle.mq_system.specs.Refusals.{MayReceive, MaySend, Refuses, never_sent, out_of_slots}
 use Rattle.mq_system.specs.Seat.{SeatState}
 use Rattle.mq_system.specs.Seen.{IsDecided, Verdict}
-use Rattle.mq_system.specs.Shown.{IsRemoval}
 
 -- an id of one of the slots, and a message that its type does not refuse
 pub in_slots : (slots id : ℕ) → slot_of id < slots → out_of_slots slots id ≡ false
@@ -174,36 +167,3 @@ module _ (s : SlotState PlainText) (nowait : Bool) where
       (λ m. event.Received seat moment m.place selection size noerror) size noerror
       (pick (λ m. m.mtype) (waiting (last_log s.events)) selection)
       (λ same. again (ap (λ (x : Refused). x.errno) is ∙ same)))
-
--- the removal, and the slot that it leaves
-abbrev told : SlotAnswer Removal → Removal → Removal
-told (Ok turn) other = turn.0
-told (Err refused) other = other
-
-abbrev left : SlotAnswer Removal → SlotState PlainText → SlotState PlainText
-left (Ok turn) other = turn.1
-left (Err refused) other = other
-
--- what a removal tells
-pub is_removal : (last_seq : ℕ) (s t : SlotState PlainText) (id seat moment : ℕ) (r : Removal)
-    → remove_in_slot s id seat moment r.log.base.places ≡ Ok (r, t) → IsSlotList last_seq t.events → IsRemoval last_seq r
-is_removal last_seq s t id seat moment r is lawful = by (looks_in_slot s id) is
-  where
-    by : (looked : Result (Unit {0}) Refused)
-        → once {A = Removal × SlotState PlainText} looked
-        (Ok (record { entry = length s.events; log = rest_of r.log.base.places (last_log (removes s seat moment).events) }, removes s seat moment))
-        ≡ Ok (r, t)
-        → IsRemoval last_seq r
-    by (Err refused) e = cc
-    by (Ok _) e =
-        let after = removes s seat moment in
-        let same : after ≡ t = ap (λ a. left a s) e in
-        let its : record { entry = length s.events; log = rest_of r.log.base.places (last_log after.events) } ≡ r =
-        ap (λ a. told a r) e in
-        let removed = event.Removed seat moment in record {
-          events = after.events;
-          lawful = subst (λ (x : SlotState PlainText). IsSlotList last_seq x.events) (sym same) lawful;
-          entry = length_push s.events removed ∙ ap (λ (x : Removal). x.entry + 1) its;
-          log = sym (ap (λ (x : Removal). x.log) its);
-          removed = fold-append (λ _ e. is_removed e) false s.events (removed ∷ []);
-        }

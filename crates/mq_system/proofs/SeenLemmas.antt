@@ -2,12 +2,13 @@
 use Rattle.std.proofs.Common.{◌≡◌, ℕ, ℤ, pos, ◌+◌, ◌<◌, ◌≤◌, int_lt, Bool, true, false, List, [], ◌∷◌, ◌++◌, length, take, slice_get, slice_set, Option, None, Some, unwrap_or, Result, Ok, Err, refl, ap, sym, ◌∙◌, subst, arith}
 use Rattle.std.proofs.Math.Seq.{take-append_seam, take-length}
 use Rattle.std.proofs.lemmas.List.{length-append, length_push}
+use Rattle.std.specs.Result.{result_err}
 use Rattle.mq_arena.specs.Text.{PlainText}
 use Rattle.mq_message.specs.declared.message.Message.{Message}
 use Rattle.mq_message.specs.declared.header.Header.{Header}
 use Rattle.mq_message.specs.Waiting.{without}
 use Rattle.mq_message.specs.declared.selection.Selection.{Selection}
-use Rattle.mq_queue.specs.Answer.{receive_answer, receive_refusal, send_refusal, set_refusal}
+use Rattle.mq_queue.specs.Answer.{receive_answer, send_refusal, set_refusal}
 use Rattle.mq_queue.specs.Room.{quota}
 use Rattle.mq_queue.specs.Queue.{rest_of}
 use Rattle.mq_queue.specs.Row.{last_log, made_count}
@@ -17,9 +18,8 @@ use Rattle.mq_queue.specs.declared.event.Event.{Event}
 use Rattle.mq_queue.specs.declared.event.Event.TheVariants as event
 use Rattle.mq_table.specs.Calls.{SlotTurn, with_event, makes, received, removes, sends, sets, changed_unless}
 use Rattle.mq_table.specs.Ids.{seq_of}
-use Rattle.mq_table.specs.Shown.{by_standing}
 use Rattle.mq_table.specs.Slot.{SlotState, next_id}
-use Rattle.mq_table.specs.SlotList.{Standing, Never, Live, Removed, is_free, standing}
+use Rattle.mq_table.specs.SlotList.{Standing, Never, Live, Removed, by_standing, is_free, standing}
 use Rattle.mq_table.specs.declared.limits.TheConstants.{MAX_SLOTS}
 use Rattle.mq_calls.specs.Calls.{delivered, delivers}
 use Rattle.mq_calls.specs.Look.{once, refused_early}
@@ -250,6 +250,7 @@ module _ (old now new : SeatState) (slot : ℕ) (s : SlotState PlainText) (h : I
         → IsStep old new slot
         × IsDone old new slot (remove_verdict (seq_of id)) r.entry (event.Removed old.number moment)
         × (r.log ≡ rest_of r.log.base.places (last_log (take (r.entry + 1) (front_of new slot))))
+        × (take (r.entry + 1) (front_of new slot) ≡ t.events)
     done_remove id moment r t noted is =
         let e = event.Removed now.number moment in
         let after : SlotState PlainText = removes s now.number moment in
@@ -264,6 +265,7 @@ module _ (old now new : SeatState) (slot : ℕ) (s : SlotState PlainText) (h : I
           own (λ seat. IsDone old new slot (remove_verdict (seq_of id)) r.entry (event.Removed seat moment))
               (rw (← entry) (done_at (remove_verdict (seq_of id)) e front turn.allowed)),
           rw (← entry, front, take-whole s.events e) (sym (ap (λ (x : Removal). x.log) its)),
+          rw (← entry, front, take-whole s.events e) (ap (λ (x : SlotState PlainText). x.events) left),
         )
       where
         told : SlotTurn PlainText Removal → Removal × SlotState PlainText
@@ -351,7 +353,8 @@ module _ (old now new : SeatState) (slot : ℕ) (s : SlotState PlainText) (h : I
         e m = event.Received seat moment m.place selection size noerror
 
         why_received : (named : Result Header QueueError)
-            → why (delivers s.messages size (length s.events) (received s e named)) ≡ receive_refusal named
+            → why (delivers s.messages size (length s.events) (received s e named))
+            ≡ result_err named
         why_received (Ok m) = refl
         why_received (Err refusal) = refl
 

@@ -25,7 +25,7 @@ use Rattle.mq_table.proofs.Stays.{left_is}
 use Rattle.mq_table.proofs.Turned.{IsTurned, made_turned, received_turned, removed_turned, sent_turned, set_turned}
 use Rattle.mq_table.proofs.Whole.{receives_whole, sends_whole, sets_whole}
 use Rattle.mq_calls.specs.Texts.{bytes_of}
-use Rattle.mq_board.specs.Writers.{Desk, posting}
+use Rattle.mq_board.specs.Writers.{WriterState, posting}
 use Rattle.mq_system.specs.Answer.{SlotAnswer}
 use Rattle.mq_system.specs.Held.{HasChanged, HasNoted}
 use Rattle.mq_system.specs.Pledge.{IsPledged, Pledged}
@@ -85,7 +85,7 @@ none_pledged kept k d low = absurd (omega (arith, low))
 
 -- a call changed the slot by an event of this seat, which is to be published: so it is left as the
 -- call leaves the whole slot
-pub record IsChange (kept : Pledged) (slots last_seq seat : ℕ) (old now : Desk)
+pub record IsChange (kept : Pledged) (slots last_seq seat : ℕ) (old now : WriterState)
     (s t : KeptSlot PlainText) (parts amount : ℕ) (leaves : SlotState PlainText → Type 0)
     : Type 0 where
   pub due : IsDue kept slots last_seq seat now.board now.events now.pending t parts amount
@@ -93,7 +93,7 @@ pub record IsChange (kept : Pledged) (slots last_seq seat : ℕ) (old now : Desk
   pub known : now.events ≡ old.events
   pub left : leaves (whole (with_pending now.events now.pending) t)
 
-module _ (kept : Pledged) (slots last_seq parts amount : ℕ) (desk due : Desk)
+module _ (kept : Pledged) (slots last_seq parts amount : ℕ) (desk due : WriterState)
     (s t : KeptSlot PlainText)
     (h : IsShared kept slots last_seq desk.board desk.events desk.pending s parts amount)
     (short : length desk.events < 2 ^ 64 - 1) (few : made_count desk.events ≤ MAX_SEQ + 1)
@@ -113,7 +113,7 @@ module _ (kept : Pledged) (slots last_seq parts amount : ℕ) (desk due : Desk)
           ap (λ p. with_pending desk.events (p ++ posting e (kept_figures t) ∷ [])) h.published.none
 
       next_is : with_pending due.events due.pending ≡ desk.events ++ e ∷ []
-      next_is = ap (λ (w : Desk). with_pending w.events w.pending) took ∙ list_is
+      next_is = ap (λ (w : WriterState). with_pending w.events w.pending) took ∙ list_is
 
       changes : (seat : ℕ) → seat_of e ≡ seat → AllPledged kept t.messages
           → (leaves : SlotState PlainText → Type 0) → leaves (whole (desk.events ++ e ∷ []) t)
@@ -144,7 +144,7 @@ module _ (kept : Pledged) (slots last_seq parts amount : ℕ) (desk due : Desk)
               };
             });
         number = turn.number;
-        known = ap (λ (w : Desk). w.events) took;
+        known = ap (λ (w : WriterState). w.events) took;
         left = rw next_is left;
       }
 
@@ -216,7 +216,7 @@ module _ (kept : Pledged) (slots last_seq parts amount : ℕ) (desk due : Desk)
           (λ x. x ≡ removes (whole desk.events s) seat moment) (rw is refl)
 
 -- what is so once a change is published
-module _ (kept : Pledged) (slots last_seq seat parts amount : ℕ) (old new : Desk)
+module _ (kept : Pledged) (slots last_seq seat parts amount : ℕ) (old new : WriterState)
     (slot : KeptSlot PlainText)
     (due : IsDue kept slots last_seq seat old.board old.events old.pending slot parts amount)
     (published : new ≡ record old {
@@ -225,15 +225,15 @@ module _ (kept : Pledged) (slots last_seq seat parts amount : ℕ) (old new : De
     })
   where
     pub events_are : new.events ≡ with_pending old.events old.pending
-    events_are = ap (λ (w : Desk). w.events) published
+    events_are = ap (λ (w : WriterState). w.events) published
 
     pub board_is : new.board ≡ slot.number
-    board_is = ap (λ (w : Desk). w.board) published ∙ due.shared.published.numbered
+    board_is = ap (λ (w : WriterState). w.board) published ∙ due.shared.published.numbered
 
     pub shared_is : (now_parts now_amount : ℕ) → now_parts ≡ parts → now_amount ≡ amount + 1
         → IsShared kept slots last_seq new.board new.events new.pending slot now_parts now_amount
     shared_is now_parts now_amount part noted =
-        subst (λ (w : Desk).
+        subst (λ (w : WriterState).
         IsShared kept slots last_seq w.board w.events w.pending slot now_parts now_amount)
         (sym published) (rw (part, noted) due.shared)
 
@@ -248,7 +248,7 @@ module _ (kept : Pledged) (slots last_seq seat parts amount : ℕ) (old new : De
     }
 
 -- a change that is published and noted: the call has changed the slot as it answers
-module _ (kept : Pledged) (slots last_seq seat parts amount : ℕ) (old now : Desk)
+module _ (kept : Pledged) (slots last_seq seat parts amount : ℕ) (old now : WriterState)
     (s t : KeptSlot PlainText) (leaves : SlotState PlainText → Type 0)
     (its : IsChange kept slots last_seq seat old now s t parts amount leaves)
     (events : List Event) (published : events ≡ with_pending now.events now.pending)

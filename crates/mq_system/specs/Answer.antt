@@ -4,19 +4,16 @@ use Rattle.std.specs.Prelude.{Result, Ok}
 use Rattle.std.specs.Ordering.{int_eq}
 use Rattle.mq_arena.specs.Text.{PlainText}
 use Rattle.mq_message.specs.declared.message.Message.{Message}
-use Rattle.mq_queue.specs.Figures.{figures}
+use Rattle.mq_queue.specs.Memory.{or_memory}
 use Rattle.mq_queue.specs.Queue.{rest_of}
 use Rattle.mq_queue.specs.Row.{is_live, last_log, live_key}
-use Rattle.mq_queue.specs.declared.figures.Figures.{Figures}
 use Rattle.mq_message.specs.declared.selection.Selection.{Selection}
 use Rattle.mq_table.specs.Calls.{SlotTurn, sends, receives, sets, removes}
 use Rattle.mq_table.specs.Ids.{seq_of}
-use Rattle.mq_table.specs.Shown.{by_standing}
 use Rattle.mq_table.specs.Slot.{SlotState, last_id}
-use Rattle.mq_table.specs.SlotList.{standing}
+use Rattle.mq_table.specs.SlotList.{by_standing, standing}
 use Rattle.mq_table.specs.declared.refusal.IdRefusal.{IdRefusal}
 use Rattle.mq_calls.specs.Answer as call
-use Rattle.mq_calls.specs.Memory.{or_memory}
 use Rattle.mq_calls.specs.Texts.{bytes_of}
 use Rattle.mq_calls.specs.declared.errno.Errno.{Errno}
 use Rattle.mq_calls.specs.declared.errno.Errno.TheVariants.{ENOMEM}
@@ -77,10 +74,6 @@ abbrev pub remove_in_slot : SlotState PlainText → ℕ → ℕ → ℕ → ℕ 
 remove_in_slot s id seat moment places =
     let after = removes s seat moment in
     call.once (looks_in_slot s id) (Ok (removal s after places, after))
-
--- IPC_STAT (msgctl(2), IPC_STAT)
-abbrev pub stat_in_slot : SlotState PlainText → ℕ → Result Figures Refused
-stat_in_slot s id = call.once (looks_in_slot s id) (Ok (figures (last_log s.events)))
 
 -- where nothing refuses a call that failed, memory did
 abbrev pub refused_or_memory_in_slot : {T : Type 0} → SlotState PlainText → SlotAnswer T → Refused

@@ -2,7 +2,7 @@
 use Rattle.std.specs.Prelude.{◌≡◌, ℕ, ◌<◌, List, length, map, slice_index_or}
 use Rattle.std.specs.Global.{Vec}
 use Rattle.mq_queue.specs.declared.event.Event.{Event}
-use Rattle.mq_board.specs.Readers.{ReaderState, seats}
+use Rattle.mq_board.specs.Readers.{ReaderState, new_readers}
 
 -- a place, the same on each board, and for each slot the front there: the published events that
 -- are known
@@ -18,7 +18,7 @@ AreReaders place readers = (k : ℕ) (d : ReaderState) → k < length readers
 -- of each board in order the readers with the first places, so many
 abbrev pub AreRows : ℕ → List (Vec ReaderState) → Type 0
 AreRows places rows = (k : ℕ) (d : Vec ReaderState) → k < length rows
-    → (slice_index_or rows k d).items ≡ seats k places
+    → (slice_index_or rows k d).items ≡ new_readers k places
 
 abbrev pub fronts_of : List ReaderState → List (List Event)
 fronts_of readers = map (λ r. r.events) readers

@@ -1,10 +1,12 @@
 pub mod Answer
 pub mod Closed
+pub mod Drafts
 pub mod Fronts
 pub mod Get
 pub mod Held
 pub mod Making
 pub mod Outcome
+pub mod Patience
 pub mod Pledge
 pub mod Refusals
 pub mod Seat

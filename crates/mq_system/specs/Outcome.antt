@@ -8,6 +8,7 @@ use Rattle.mq_queue.specs.declared.limits.TheConstants.{MSGMNB}
 use Rattle.mq_message.specs.declared.selection.Selection.{Selection}
 use Rattle.mq_table.specs.Ids.{seq_of, slot_of}
 use Rattle.mq_table.specs.Slot.{SlotState}
+use Rattle.mq_table.specs.SlotList.{IsSlotList}
 use Rattle.mq_calls.specs.declared.errno.Errno.{Errno}
 use Rattle.mq_calls.specs.declared.results.Delivered.{Delivered}
 use Rattle.mq_calls.specs.declared.results.Refused.{Refused}
@@ -16,7 +17,6 @@ use Rattle.mq_system.specs.Pledge.{MeetsPledge, MeetsWhole, Pledged}
 use Rattle.mq_system.specs.Refusals.{MayReceive, MayRemove, MaySend, MaySet, Refuses, never_sent, out_of_slots}
 use Rattle.mq_system.specs.Seat.{IsCounted, IsLater, IsSame, SeatState, front_of}
 use Rattle.mq_system.specs.Seen.{IsDecided, IsDone, IsReceipt, Verdict, receive_verdict, remove_verdict, send_verdict, set_verdict}
-use Rattle.mq_system.specs.Shown.{IsRemoval}
 
 -- a call looked: it changed nothing, and its seat may know more now
 pub record IsLook (old new : SeatState) : Type 0 where
@@ -92,7 +92,8 @@ IsNotSet slots id qbytes old new r =
     IsTurnedAway (out_of_slots slots id) (MaySet qbytes) (slot_of id)
     (set_verdict (seq_of id) qbytes) old new r
 
--- IPC_RMID removed the queue, and hands out what is kept of its log
+-- IPC_RMID removed the queue, and hands out what is kept of its log; the front up to its event is a
+-- slot list
 pub record IsRemoved (slots last_seq id moment : ℕ) (old new : SeatState) (r : Removal)
     : Type 0 where
   pub early : out_of_slots slots id ≡ false
@@ -101,7 +102,7 @@ pub record IsRemoved (slots last_seq id moment : ℕ) (old new : SeatState) (r :
       (Removed old.number moment)
   pub log : r.log
       ≡ rest_of r.log.base.places (last_log (take (r.entry + 1) (front_of new (slot_of id))))
-  pub lawful : IsRemoval last_seq r
+  pub lawful : IsSlotList last_seq (take (r.entry + 1) (front_of new (slot_of id)))
 
 -- IPC_RMID was refused
 abbrev pub IsNotRemoved : ℕ → ℕ → SeatState → SeatState → Refused → Type 0

@@ -1,7 +1,8 @@
 -- Which refusals a call of a queue may have, whatever stands under the locks (msgop(2),
 -- msgctl(2)).
-use Rattle.std.specs.Prelude.{◌≡◌, ℕ, ℤ, ◌<◌, pos, int_lt, nat_le, ◌||◌, Bool, true, false, IsSome}
-use Rattle.mq_queue.specs.declared.limits.TheConstants.{MSGMNB}
+use Rattle.std.specs.Prelude.{◌≡◌, ℕ, ℤ, ◌<◌, ◌≤◌, pos, int_lt, nat_le, ◌||◌}
+use Rattle.std.specs.Prelude.{Bool, true, false, IsSome}
+use Rattle.mq_queue.specs.declared.limits.TheConstants.{MSGMAX, MSGMNB}
 use Rattle.mq_table.specs.Ids.{slot_of}
 use Rattle.mq_calls.specs.Look.{refused_early}
 use Rattle.mq_calls.specs.declared.errno.Errno.{Errno}
@@ -21,6 +22,13 @@ never_sent slots id mtype = int_lt mtype (pos 1) || out_of_slots slots id
 abbrev pub Refuses : Bool → (Errno → Type 0) → Refused → Type 0
 Refuses true may r = r ≡ refused_early EINVAL
 Refuses false may r = IsSome r.entry × may r.errno
+
+-- why no text was drafted of so many bytes: they are too many, or no run of pages is free for
+-- them, or no memory
+abbrev pub MayNotDraft : ℕ → Errno → Type 0
+MayNotDraft n EINVAL = MSGMAX < n
+MayNotDraft n ENOMEM = (0 < n) × (n ≤ MSGMAX)
+MayNotDraft n _ = ⊥
 
 -- msgsnd: EAGAIN only for a sender that does not wait
 abbrev pub MaySend : Bool → Errno → Type 0
@@ -53,9 +61,3 @@ MayRemove EINVAL = Unit {0}
 MayRemove EIDRM = Unit {0}
 MayRemove ENOMEM = Unit {0}
 MayRemove _ = ⊥
-
--- IPC_STAT
-abbrev pub MayLook : Errno → Type 0
-MayLook EINVAL = Unit {0}
-MayLook EIDRM = Unit {0}
-MayLook _ = ⊥

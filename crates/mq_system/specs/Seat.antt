@@ -74,11 +74,6 @@ pub record IsLater (old new : SeatState) : Type 0 where
   pub count : length new.fronts ≡ length old.fronts
   pub later : (slot : ℕ) → IsPrefix (front_of old slot) (front_of new slot)
 
--- the seats have the numbers from 1 on, in order
-abbrev pub AreNumbered : List SeatState → Type 0
-AreNumbered seats =
-    (k : ℕ) (d : SeatState) → k < length seats → (slice_index_or seats k d).number ≡ k + 1
-
 -- a seat that has made no change and knows of none
 abbrev pub fresh_seat : ℕ → ℕ → SeatState
 fresh_seat slots number =

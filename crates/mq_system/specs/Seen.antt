@@ -40,7 +40,7 @@ send_verdict seq mtype n events =
 abbrev pub receive_verdict : ℕ → ℕ → Selection → Bool → Verdict
 receive_verdict seq size selection noerror events =
     unless_refused (standing events seq)
-    (receive_refusal (receive_answer (waiting (last_log events)) size selection noerror))
+    (receive_refusal (waiting (last_log events)) size selection noerror)
 
 -- IPC_SET (msgctl(2), IPC_SET)
 abbrev pub set_verdict : ℕ → ℕ → Verdict

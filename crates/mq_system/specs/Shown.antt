@@ -1,20 +1,17 @@
--- What is shown of a slot's queue, and what a removal tells: it is of some slot list.
-use Rattle.std.specs.Prelude.{◌≡◌, ℕ, ◌+◌, ◌^◌, if◌then◌else◌, true, List, length, Result, Ok, Err}
+-- What is shown of a slot's queue, and of all slots together.
+use Rattle.std.specs.Prelude.{ℕ, ◌^◌, if◌then◌else◌, List, Result, Ok, Err}
 use Rattle.mq_queue.specs.Figures.{figures}
-use Rattle.mq_queue.specs.Log.{ends_with_removed}
-use Rattle.mq_queue.specs.Queue.{rest_of}
 use Rattle.mq_queue.specs.Row.{last_log, row}
 use Rattle.mq_queue.specs.declared.event.Event.{Event}
 use Rattle.mq_queue.specs.declared.figures.Figures.{Figures}
 use Rattle.mq_table.specs.Ids.{seq_of}
-use Rattle.mq_table.specs.SlotList.{IsSlotList, Standing, Never, Live, Removed, standing}
+use Rattle.mq_table.specs.SlotList.{Standing, Never, Live, Removed, standing}
 use Rattle.mq_table.specs.declared.refusal.IdRefusal.TheVariants as refusal
 use Rattle.mq_table.specs.declared.refusal.IdRefusal.{IdRefusal}
 use Rattle.mq_calls.specs.Look.{errno_of_id}
 use Rattle.mq_calls.specs.Usages.{no_usage, usage_to}
 use Rattle.mq_calls.specs.declared.errno.Errno.TheVariants.{EINVAL}
 use Rattle.mq_calls.specs.declared.errno.Errno.{Errno}
-use Rattle.mq_calls.specs.declared.results.Removal.{Removal}
 use Rattle.mq_calls.specs.declared.usage.Usage.{Usage}
 use Rattle.mq_system.specs.Refusals.{out_of_slots}
 use Rattle.mq_system.specs.Seat.{SeatState, front_of}
@@ -28,14 +25,6 @@ figures_by Removed figures = Err refusal.Removed
 -- the same, after these events, of the id with this seq
 abbrev pub stat_answer : List Event → ℕ → Result Figures IdRefusal
 stat_answer events seq = figures_by (standing events seq) (figures (last_log events))
-
--- the entry of a removal, and what is kept of the log that it ends
-pub record IsRemoval (last_seq : ℕ) (r : Removal) : Type 0 where
-  pub events : List Event
-  pub lawful : IsSlotList last_seq events
-  pub entry : length events ≡ r.entry + 1
-  pub log : r.log ≡ rest_of r.log.base.places (last_log events)
-  pub removed : ends_with_removed events ≡ true
 
 -- the figures, or the manual's name of the refusal
 abbrev pub figures_or_errno : Result Figures IdRefusal → Result Figures Errno

@@ -5,9 +5,8 @@ ghost use Rattle.mq_table.specs.Keys.{id_of_key, forget};
 ghost use Rattle.mq_table.specs.Slot.{last_id};
 ghost use Rattle.mq_table.specs.SlotList.{is_free, IsSlotList};
 ghost use Rattle.mq_table.specs.declared.limits.TheConstants.{MAX_SEQ};
-ghost use Rattle.mq_system.specs.Answer.{receive_in_slot as receive_answer};
-ghost use Rattle.mq_system.specs.Answer.{remove_in_slot as remove_answer};
-ghost use Rattle.mq_system.specs.Answer.{send_in_slot as send_answer, set_in_slot as set_answer};
+ghost use Rattle.mq_system.specs.Answer.{receive_in_slot, remove_in_slot};
+ghost use Rattle.mq_system.specs.Answer.{send_in_slot, set_in_slot};
 ghost use Rattle.mq_system.specs.Held.{HasChanged, HasMade, HasNoted, HasRefused, MayBegin};
 ghost use Rattle.mq_system.specs.Pledge.{MeetsItsPledge};
 ghost use Rattle.mq_system.specs.Seat.{front_of};
@@ -58,10 +57,10 @@ impl<P: Pledge, N: Names> SharedSlot<P, N> {
         requires begun { MayBegin id self.old seat.old }
         requires pledge { P.kept seat.old.number tag mtype text.bytes }
         ensures answer { MatchResult result
-            (HasChanged (send_answer self.old id
+            (HasChanged (send_in_slot self.old id
             (record { mtype = mtype; sender = seat.old.number; tag = tag; body = text }) moment)
             self.old self.new seat.old seat.new)
-            (λ r. HasRefused (send_answer self.old id
+            (λ r. HasRefused (send_in_slot self.old id
             (record { mtype = mtype; sender = seat.old.number; tag = tag; body = text }) moment)
             self.old self.new seat.old seat.new r.refused) }
         ensures handed_back { IfErr result (λ r. r.text ≡ text) }
@@ -111,9 +110,9 @@ impl<P: Pledge, N: Names> SharedSlot<P, N> {
     ) -> Result<Delivered<TextOf<N>>, Refused>
         requires begun { MayBegin id self.old seat.old }
         ensures answer { MatchResult result
-            (HasChanged (receive_answer self.old id size selection noerror seat.old.number moment)
+            (HasChanged (receive_in_slot self.old id size selection noerror seat.old.number moment)
             self.old self.new seat.old seat.new)
-            (HasRefused (receive_answer self.old id size selection noerror seat.old.number moment)
+            (HasRefused (receive_in_slot self.old id size selection noerror seat.old.number moment)
             self.old self.new seat.old seat.new) }
         ensures pledge { IfOk result (MeetsItsPledge P.kept size noerror) }
     {
@@ -144,9 +143,9 @@ impl<P: Pledge, N: Names> SharedSlot<P, N> {
     ) -> Result<u64, Refused>
         requires begun { MayBegin id self.old seat.old }
         ensures answer { MatchResult result
-            (HasChanged (set_answer self.old id qbytes seat.old.number moment)
+            (HasChanged (set_in_slot self.old id qbytes seat.old.number moment)
             self.old self.new seat.old seat.new)
-            (HasRefused (set_answer self.old id qbytes seat.old.number moment)
+            (HasRefused (set_in_slot self.old id qbytes seat.old.number moment)
             self.old self.new seat.old seat.new) }
     {
         self.look(id)?;
@@ -204,9 +203,9 @@ impl<P: Pledge, N: Names> SharedSlot<P, N> {
         requires begun { MayBegin id self.old seat.old }
         ensures answer { MatchResult result
             (λ r. HasChanged
-            (remove_answer self.old id seat.old.number moment r.0.log.base.places)
+            (remove_in_slot self.old id seat.old.number moment r.0.log.base.places)
             self.old self.new seat.old seat.new r.0)
-            (HasRefused (remove_answer self.old id seat.old.number moment 0)
+            (HasRefused (remove_in_slot self.old id seat.old.number moment 0)
             self.old self.new seat.old seat.new) }
         ensures keys { MatchResult result (λ _. keys.new ≡ forget (last_id self.old) keys.old)
             (λ _. keys.new ≡ keys.old) }

@@ -55,7 +55,7 @@ impl<P: Pledge, N: Names> System<P, N> {
         ensures height { result.arena.height ≡ N.height }
     {
         let System {
-            mut places,
+            mut monitors,
             keys: _,
             total,
             rest,
@@ -73,17 +73,17 @@ impl<P: Pledge, N: Names> System<P, N> {
         gather(seats, &mut parts, &mut fronts);
         magazines.end(rt, &arena);
         let mut arena = arena.into_state();
-        while let Some(place) = places.pop() {
+        while let Some(monitor) = monitors.pop() {
             let SlotParts {
                 slot,
                 mut writer,
                 entries,
-            } = with_number(rt, place.into_slot(), places.len() as u8).into_parts();
+            } = with_number(rt, monitor.into_slot(), monitors.len() as u8).into_parts();
             come_home(&mut writer, &mut fronts);
             parts.merge(entries);
-            closed.push_reserved(end_place(&mut arena, slot, writer));
+            closed.push_reserved(end_shared_slot(&mut arena, slot, writer));
         }
-        places.destroy_empty();
+        monitors.destroy_empty();
         settle(&total, &mut parts);
         closed.reverse();
         Closed {
@@ -167,7 +167,7 @@ pub(crate) fn end_texts<N: Names>(arena: &mut ArenaState<Pages<N>>, slot: SlotOf
 
 /// Gives up the board of a slot that nobody uses any more, ends the slot, and spends the texts that
 /// wait in it.
-fn end_place<N: Names>(
+fn end_shared_slot<N: Names>(
     arena: &mut ArenaState<Pages<N>>,
     slot: SlotOf<N>,
     writer: BoardWriter<N>,

@@ -30,16 +30,16 @@ impl<P: Pledge, N: Names> System<P, N> {
             (IsNotSet N.slots id qbytes seat.old seat.new) }
     {
         let slot = id.slot();
-        if slot as usize >= self.places.len() {
+        if slot as usize >= self.monitors.len() {
             return Err(too_early());
         }
-        let place = &self.places[slot as usize];
-        let mut held = place.enter(rt, seat, slot);
+        let monitor = &self.monitors[slot as usize];
+        let mut held = monitor.enter(rt, seat, slot);
         let answer = held.set(rt, seat, id, qbytes, moment);
         MutexGuard::unlock(held);
         match answer {
             Ok(entry) => {
-                place.room.wake();
+                monitor.room.wake();
                 Ok(entry)
             }
             Err(refused) => Err(refused),
@@ -61,18 +61,18 @@ impl<P: Pledge, N: Names> System<P, N> {
             (IsNotRemoved N.slots id seat.old seat.new) }
     {
         let slot = id.slot();
-        if slot as usize >= self.places.len() {
+        if slot as usize >= self.monitors.len() {
             return Err(too_early());
         }
-        let place = &self.places[slot as usize];
+        let monitor = &self.monitors[slot as usize];
         let mut keys = self.keys.lock(rt);
-        let mut held = place.enter(rt, seat, slot);
+        let mut held = monitor.enter(rt, seat, slot);
         let answer = held.remove(rt, &mut *keys, seat, id, moment);
         MutexGuard::unlock(held);
         MutexGuard::unlock(keys);
         match answer {
             Ok((removal, waiting)) => {
-                place.wake();
+                monitor.wake();
                 self.take_home(rt, waiting);
                 Ok(removal)
             }
@@ -95,7 +95,7 @@ impl<P: Pledge, N: Names> System<P, N> {
         ensures answer { result ≡ stat_of N.slots (front_of seat.new (slot_of id)) id }
         ensures look { IsLook seat.old seat.new }
     {
-        if id.slot() as usize >= self.places.len() {
+        if id.slot() as usize >= self.monitors.len() {
             return Err(Errno::EINVAL);
         }
         match seat.stat(id) {

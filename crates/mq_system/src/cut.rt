@@ -11,8 +11,8 @@ use std::sync::{MutexGuard, Wait};
 
 impl<P: Pledge, N: Names> System<P, N> {
     /// Cuts the slot's list off where it ends now, and hands out what was kept of it, to be stored
-    /// or dropped: of the front that the seat then has, the items from the cut's `first` to the
-    /// end, with what is known of the items before. All calls go on as before, and count on from
+    /// or dropped: of the front that the seat then has, the entries from the cut's `first` to the
+    /// end, with what is known of those before. All calls go on as before, and count on from
     /// the whole list. It is no change, adds to no count and publishes nothing. ENOMEM alone.
     pub fn cut_log<R: Wait>(&self, rt: &R, seat: &mut Seat<N>, slot: u8) -> Result<Cut, Refused>
         requires within { slot < N.slots }
@@ -21,7 +21,7 @@ impl<P: Pledge, N: Names> System<P, N> {
             (λ r. r ≡ record { errno = ENOMEM; entry = Some (length (front_of seat.new slot)) }) }
         ensures look { IsLook seat.old seat.new }
     {
-        let mut held = self.places[slot as usize].enter(rt, seat, slot);
+        let mut held = self.monitors[slot as usize].enter(rt, seat, slot);
         let answer = held.cut();
         MutexGuard::unlock(held);
         answer

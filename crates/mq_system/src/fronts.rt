@@ -1,6 +1,6 @@
 ghost use Rattle.std.specs.Prelude.{◌≡◌, ◌-◌, ◌<◌, ◌++◌, ◌∷◌, [], length, replicate};
 ghost use Rattle.std.specs.Prelude.{IfOk, IfSome, IfNone, OnOk, OnErr};
-ghost use Rattle.mq_board.specs.Readers.{seat, seats};
+ghost use Rattle.mq_board.specs.Readers.{new_reader, new_readers};
 ghost use Rattle.mq_system.specs.Fronts.{AreRows};
 
 use mq_board::{BoardReader, Naming};
@@ -64,9 +64,9 @@ impl<J: Naming> Fronts<J> {
 /// The reader with this place, which is the last.
 fn last_of<J: Naming>(readers: &mut Vec<BoardReader<J>>, board: usize, place: u16) -> BoardReader<J>
     requires some { 0 < place }
-    requires readers { readers.old.items ≡ seats board place }
-    ensures last { result ≡ seat board place }
-    ensures left { readers.new.items ≡ seats board (place - 1) }
+    requires readers { readers.old.items ≡ new_readers board place }
+    ensures last { result ≡ new_reader board place }
+    ensures left { readers.new.items ≡ new_readers board (place - 1) }
 {
     let Some(last) = readers.pop() else {
         unreachable!()

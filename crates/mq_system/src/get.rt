@@ -93,7 +93,7 @@ impl<P: Pledge, N: Names> System<P, N> {
             return None;
         };
         let number = id.slot();
-        if let Some(found) = self.places[number as usize].with_key(rt, seat, number, key) {
+        if let Some(found) = self.monitors[number as usize].with_key(rt, seat, number, key) {
             return Some(found);
         }
         keys.forget_key(key);
@@ -109,7 +109,7 @@ impl<P: Pledge, N: Names> System<P, N> {
         ensures look { IsLook seat.old seat.new }
     {
         for number in 0..self.slots() {
-            if let Some(found) = self.places[number as usize].with_key(rt, seat, number, key) {
+            if let Some(found) = self.monitors[number as usize].with_key(rt, seat, number, key) {
                 return Some(found);
             }
         }
@@ -133,8 +133,8 @@ impl<P: Pledge, N: Names> System<P, N> {
         ensures look { OnErr result (IsLook seat.old seat.new) }
     {
         for number in 0..self.slots() {
-            let place = &self.places[number as usize];
-            match place.make(rt, keys, seat, number, key, self.last_seq, moment) {
+            let monitor = &self.monitors[number as usize];
+            match monitor.make(rt, keys, seat, number, key, self.last_seq, moment) {
                 Ok(got) => return Ok(got),
                 Err(errno) => match errno {
                     Errno::ENOSPC => (),

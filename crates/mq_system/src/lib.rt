@@ -47,10 +47,10 @@ mod keys;
 mod magazines;
 mod making;
 mod messages;
+mod monitor;
 mod names;
 mod parts;
 mod patience;
-mod place;
 mod pledge;
 mod seat;
 mod slot;
@@ -62,6 +62,7 @@ pub use blanks::Blanks;
 pub use flags::{RecvFlags, SendFlags};
 pub use fronts::Fronts;
 pub use keys::Keys;
+pub(crate) use monitor::SlotMonitor;
 pub use mq_calls::{
     Closed, ClosedSlot, Config, DEFAULTS, Delivered, DraftError, Errno, GetFlags, Got, MAX_HEIGHT,
     MAX_SEATS, MAX_SEQ, MAX_SLOTS, Refused, Removal, SendRefused, SysError, Usage,
@@ -69,7 +70,6 @@ pub use mq_calls::{
 pub use mq_table::Cut;
 pub use names::{Entries, Names, Pages, SlotOf, TextOf, WaitingOf};
 pub use patience::{Forever, NoWait, Patience, Until};
-pub(crate) use place::SlotMonitor;
 pub use pledge::Pledge;
 pub use seat::Seat;
 pub use slot::{SharedSlot, SlotParts};

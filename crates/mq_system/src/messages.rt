@@ -62,18 +62,18 @@ impl<P: Pledge, N: Names> System<P, N> {
         ensures handed_back { IfErr result (λ r. r.text ≡ text) }
     {
         let slot = id.slot();
-        if mtype < 1 || slot as usize >= self.places.len() {
+        if mtype < 1 || slot as usize >= self.monitors.len() {
             let refused = too_early();
             return Err(SendRefused { refused, text });
         }
-        let place = &self.places[slot as usize];
+        let monitor = &self.monitors[slot as usize];
         let mut text = text;
         for _ in rt.forever() {
-            let mut held = place.enter(rt, seat, slot);
+            let mut held = monitor.enter(rt, seat, slot);
             match held.send(rt, seat, id, mtype, tag, text, moment) {
                 Ok(entry) => {
                     MutexGuard::unlock(held);
-                    place.arrived.wake();
+                    monitor.arrived.wake();
                     return Ok(entry);
                 }
                 Err(refusal) => {
@@ -81,14 +81,14 @@ impl<P: Pledge, N: Names> System<P, N> {
                         MutexGuard::unlock(held);
                         return Err(refusal);
                     }
-                    let seen = place.room.come();
+                    let seen = monitor.room.come();
                     MutexGuard::unlock(held);
                     let Some(longest) = patience.left() else {
                         return Err(refusal);
                     };
                     let (_, again) = refusal.into_text();
                     text = again;
-                    place.room.wait(rt, seen, longest);
+                    monitor.room.wait(rt, seen, longest);
                 }
             }
         }
@@ -137,17 +137,17 @@ impl<P: Pledge, N: Names> System<P, N> {
             (T.ends || flags.nowait) seat.old seat.new) }
     {
         let slot = id.slot();
-        if slot as usize >= self.places.len() {
+        if slot as usize >= self.monitors.len() {
             return Err(too_early());
         }
-        let place = &self.places[slot as usize];
+        let monitor = &self.monitors[slot as usize];
         let selection = Selection::read(msgtyp, flags.except);
         for _ in rt.forever() {
-            let mut held = place.enter(rt, seat, slot);
+            let mut held = monitor.enter(rt, seat, slot);
             match held.receive(rt, seat, id, size, selection, flags.noerror, moment) {
                 Ok(delivered) => {
                     MutexGuard::unlock(held);
-                    place.room.wake();
+                    monitor.room.wake();
                     return Ok(delivered);
                 }
                 Err(refused) => {
@@ -155,12 +155,12 @@ impl<P: Pledge, N: Names> System<P, N> {
                         MutexGuard::unlock(held);
                         return Err(refused);
                     }
-                    let seen = place.arrived.come();
+                    let seen = monitor.arrived.come();
                     MutexGuard::unlock(held);
                     let Some(longest) = patience.left() else {
                         return Err(refused);
                     };
-                    place.arrived.wait(rt, seen, longest);
+                    monitor.arrived.wait(rt, seen, longest);
                 }
             }
         }

@@ -75,22 +75,22 @@ pub(crate) fn give_up<P: Pledge, N: Names>(
     slots.destroy_empty();
 }
 
-/// The places of these slots.
-pub(crate) fn fill_places<P: Pledge, N: Names>(
+/// The monitors of these slots.
+pub(crate) fn fill_monitors<P: Pledge, N: Names>(
     slots: Vec<SharedSlot<P, N>>,
-    places: &mut Vec<SlotMonitor<P, N>>,
+    monitors: &mut Vec<SlotMonitor<P, N>>,
 )
     requires within { vec_len slots ≡ N.slots }
-    requires none { vec_len places.old ≡ 0 }
-    requires room { vec_len slots ≤ vec_capacity places.old }
-    ensures count { vec_len places.new ≡ N.slots }
+    requires none { vec_len monitors.old ≡ 0 }
+    requires room { vec_len slots ≤ vec_capacity monitors.old }
+    ensures count { vec_len monitors.new ≡ N.slots }
 {
     let mut slots = slots;
     while let Some(slot) = slots.pop() {
-        places.push_reserved(SlotMonitor::new(slot));
+        monitors.push_reserved(SlotMonitor::new(slot));
     }
     slots.destroy_empty();
-    places.reverse();
+    monitors.reverse();
 }
 
 /// The seats, numbered from 1, which have done nothing. An `Err` means that memory ran out.

@@ -1,4 +1,6 @@
-ghost use Rattle.std.specs.Prelude.{◌≡◌, true, false, Bool, IsNone};
+ghost use Rattle.std.specs.Prelude.{◌≡◌, true, false, Bool, IsNone, IfSome, None, Some};
+ghost use Rattle.std.specs.Option.{option_map};
+ghost use Rattle.core.specs.Duration.{as_nanos, max_nanos};
 
 use std::time::{Clock, Duration, Instant};
 
@@ -19,7 +21,9 @@ pub struct Forever;
 impl Patience for Forever {
     ghost ends = { false };
 
-    fn left(&mut self) -> Option<Duration> {
+    fn left(&mut self) -> Option<Duration>
+        ensures value { option_map as_nanos result ≡ Some max_nanos }
+    {
         Some(Duration::MAX)
     }
 }
@@ -31,7 +35,9 @@ pub struct NoWait;
 impl Patience for NoWait {
     ghost ends = { true };
 
-    fn left(&mut self) -> Option<Duration> {
+    fn left(&mut self) -> Option<Duration>
+        ensures value { result ≡ None }
+    {
         None
     }
 }
@@ -56,22 +62,31 @@ impl<'a, C: Clock> Until<'a, C> {
     /// For so long, from when a call first has to wait: until then no clock is read. Its end then
     /// holds for all calls that are given this patience. A time that the clock never reaches does
     /// not end.
-    pub fn within(clock: &'a C, span: Duration) -> Until<'a, C> {
+    pub fn within(clock: &'a C, span: Duration) -> Until<'a, C>
+        ensures { result.end ≡ End.After span }
+    {
         let end = End::After(span);
         Until { clock, end }
     }
 
     /// Until the clock reads this time.
-    pub fn at(clock: &'a C, time: Instant) -> Until<'a, C> {
+    pub fn at(clock: &'a C, time: Instant) -> Until<'a, C>
+        ensures { result.end ≡ End.At time }
+    {
         let end = End::At(time);
         Until { clock, end }
     }
 }
 
 impl<'a, C: Clock> Patience for Until<'a, C> {
+    ghost use Rattle.mq_system.specs.Patience.{IsHeld, IsLeft};
+
     ghost ends = { true };
 
-    fn left(&mut self) -> Option<Duration> {
+    fn left(&mut self) -> Option<Duration>
+        ensures some { IfSome result (IsLeft self.old.end) }
+        ensures kept { IsHeld self.old.end self.new.end }
+    {
         let Ok(now) = Instant::now(self.clock) else {
             return None;
         };

@@ -7,7 +7,7 @@ ghost use Rattle.mq_system.specs.Shown.{stat_answer};
 ghost use Rattle.mq_system.specs.declared.seat.TheConstants.{MAX_COUNT};
 
 use crate::{Entries, Fronts, Names};
-use mq_board::{BoardReader, PublishedList};
+use mq_board::{BoardReader, ToldList};
 use mq_queue::{BoardRow, Figures};
 use mq_table::{Id, IdRefusal};
 use std::alloc::{AllocError, Global};
@@ -102,7 +102,7 @@ impl<N: Names> Seat<N> {
     }
 
     /// Learns what happened in the slot, if it is at least as much as the seat knows.
-    pub fn learn(&mut self, slot: u8, told: PublishedList<N>) -> bool
+    pub fn learn(&mut self, slot: u8, told: ToldList<N>) -> bool
         requires slot { slot < N.slots }
         requires told { told.board ≡ slot }
         ensures same { IsSame self.old self.new }
@@ -121,8 +121,8 @@ impl<N: Names> Seat<N> {
         self.readers[slot as usize].known()
     }
 
-    /// What a report shows of the slot: what its board shows, or the row of the front where that
-    /// can't be entered. It waits for nobody, and takes no lock and no memory.
+    /// What a report shows of the slot: what its board shows, or the row of the front where no
+    /// look finds that. It waits for nobody, and takes no lock and no memory.
     pub fn row(&mut self, slot: u8) -> BoardRow
         requires slot { slot < N.slots }
         ensures same { IsSame self.old self.new }
@@ -131,7 +131,7 @@ impl<N: Names> Seat<N> {
             ≡ slice_set self.old.fronts slot (front_of self.new slot) }
         ensures row { result ≡ row (front_of self.new slot) }
     {
-        self.readers[slot as usize].figures()
+        self.readers[slot as usize].row()
     }
 
     /// What is shown of the id's queue (msgctl(2), IPC_STAT), or whether none was made with this id
@@ -153,7 +153,7 @@ impl<N: Names> Seat<N> {
     }
 
     /// Counts a change of its own in the slot, and learns of it. Its entry goes to the slot's part.
-    pub(crate) fn note(&mut self, entries: &mut Share<Entries<N>>, slot: u8, told: PublishedList<N>)
+    pub(crate) fn note(&mut self, entries: &mut Share<Entries<N>>, slot: u8, told: ToldList<N>)
         requires slot { slot < N.slots }
         requires told { told.board ≡ slot }
         requires next { IsNext self.old.number (front_of self.old slot) told.events }

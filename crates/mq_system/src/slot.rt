@@ -1,4 +1,5 @@
-ghost use Rattle.std.specs.Prelude.{◌≡◌, ◌<◌, ◌≤◌, ◌+◌, ◌-◌, ◌^◌, ◌==◌, [], true, length, All, IfSome, IsTrue, MatchResult, OnOk};
+ghost use Rattle.std.specs.Prelude.{◌≡◌, ◌≢◌, ◌⊎◌, ◌<◌, ◌≤◌, ◌+◌, ◌-◌, ◌^◌, ◌==◌, [], true};
+ghost use Rattle.std.specs.Prelude.{All, IfSome, IsFalse, IsTrue, MatchResult, OnOk, length};
 ghost use Rattle.mq_queue.specs.Row.{is_live, made_count};
 ghost use Rattle.mq_table.specs.Cut.{IsCutOf, cut_shown};
 ghost use Rattle.mq_table.specs.Ids.{slot_of};
@@ -109,6 +110,8 @@ impl<P: Pledge, N: Names> SharedSlot<P, N> {
         ensures look { IsLook seat.old seat.new }
         ensures known { IsTrue result → (self.old.number ≡ number)
             × (front_of seat.new number ≡ self.old.events) }
+        ensures refused { IsFalse result → (self.old.number ≢ number)
+            ⊎ (length self.old.events < length (front_of seat.old number)) }
         ensures same { self.new ≡ self.old }
     {
         self.is_number(number) && seat.learn(number, self.writer.tell())

@@ -2,12 +2,13 @@ ghost use Rattle.std.specs.Prelude.{◌≡◌, ◌↔◌, ◌⊎◌, ◌<◌, �
 ghost use Rattle.std.specs.Prelude.{None, vec_len, IfOk, IsErrOf};
 ghost use Rattle.mq_arena.specs.Text.{order_for};
 ghost use Rattle.mq_calls.specs.Limits.{keeps_limits};
+ghost use Rattle.mq_system.specs.Drafts.{IsInLeast};
 ghost use Rattle.mq_system.specs.Sizes.{AreNames};
 ghost use Rattle.mq_system.specs.Started.{AreFresh};
 
 use crate::close::Rest;
 use crate::magazines::Magazines;
-use crate::parts::{fill_places, give_up, leave, make_seats, make_slots};
+use crate::parts::{fill_monitors, give_up, leave, make_seats, make_slots};
 use crate::{
     Blanks, Config, DraftError, Entries, Keys, Names, NoWait, Pages, Patience, Pledge, Seat,
     SlotMonitor, SysError, Tally, TextOf,
@@ -25,7 +26,7 @@ use std::sync::{Mutex, Wait};
 
 /// The queues of several threads, by the calls of the manual. `close` ends it.
 pub struct System<P: Pledge, N: Names> {
-    pub(crate) places: Vec<SlotMonitor<P, N>>,
+    pub(crate) monitors: Vec<SlotMonitor<P, N>>,
     pub(crate) keys: Mutex<Keys<N>>,
     /// What the parts of all slots and seats have together.
     pub(crate) total: Total<Entries<N>>,
@@ -48,7 +49,7 @@ impl<P: Pledge, N: Names> Model for System<P, N> {
 
     ghost view = { λ s. s.last_seq };
 
-    ghost invariant = { λ s. IsSystem N.slots N.seats N.last_seq N.height (vec_len s.places)
+    ghost invariant = { λ s. IsSystem N.slots N.seats N.last_seq N.height (vec_len s.monitors)
         s.last_seq s.pages s.closed.items (vec_capacity s.closed) s.total.parts s.total.amount };
 }
 
@@ -101,7 +102,7 @@ impl<P: Pledge, N: Names> System<P, N> {
             give_up(&mut arena, slots);
             return Err(SysError::Memory);
         };
-        let Ok(mut places) = Vec::with_capacity(alloc, config.slots as usize) else {
+        let Ok(mut monitors) = Vec::with_capacity(alloc, config.slots as usize) else {
             give_up(&mut arena, slots);
             leave(seats);
             return Err(SysError::Memory);
@@ -111,13 +112,13 @@ impl<P: Pledge, N: Names> System<P, N> {
         let Ok(magazines) = Magazines::new(alloc, rt, &arena, config.seats, config.height) else {
             give_up(&mut arena.into_state(), slots);
             leave(seats);
-            places.destroy_empty();
+            monitors.destroy_empty();
             return Err(SysError::Memory);
         };
-        fill_places(slots, &mut places);
+        fill_monitors(slots, &mut monitors);
         let (total, parts) = tally.close();
         let system = System {
-            places,
+            monitors,
             keys: Mutex::new(Keys::new(alloc)),
             total,
             rest: Mutex::new(Rest { parts, fronts }),
@@ -135,13 +136,14 @@ impl<P: Pledge, N: Names> System<P, N> {
         ensures count { result ≡ N.slots }
         ensures within { result ≤ MAX_SLOTS }
     {
-        self.places.len() as u8
+        self.monitors.len() as u8
     }
 
     /// A text of so many zero bytes, to be filled in place. A text over MSGMAX is too long; one of
     /// some bytes may find no run of free pages, and one over `INLINE_LEN` no memory.
     pub fn draft<R: Wait>(&self, rt: &R, len: u64) -> Result<TextOf<N>, DraftError>
         ensures ok { IfOk result (λ text. text.bytes ≡ replicate len 0) }
+        ensures block { IfOk result (IsInLeast len) }
         ensures too_long { IsErrOf result DraftError.TooLong ↔ (nat_lt MSGMAX len ≡ true) }
         ensures no_run { IsErrOf result DraftError.NoRun → 0 < len }
         ensures memory { IsErrOf result DraftError.Memory → INLINE_LEN < len }
@@ -158,6 +160,7 @@ impl<P: Pledge, N: Names> System<P, N> {
         patience: &mut T,
     ) -> Result<TextOf<N>, DraftError>
         ensures ok { IfOk result (λ text. text.bytes ≡ replicate len 0) }
+        ensures block { IfOk result (IsInLeast len) }
         ensures too_long { IsErrOf result DraftError.TooLong ↔ (nat_lt MSGMAX len ≡ true) }
         ensures no_run { IsErrOf result DraftError.NoRun → 0 < len }
         ensures ended { IsErrOf result DraftError.NoRun →
@@ -184,6 +187,7 @@ impl<P: Pledge, N: Names> System<P, N> {
     /// A text of these bytes, which are written once, and nothing is cleared before.
     pub fn draft_of<R: Wait>(&self, rt: &R, bytes: &[u8]) -> Result<TextOf<N>, DraftError>
         ensures ok { IfOk result (λ text. text.bytes ≡ bytes.now) }
+        ensures block { IfOk result (IsInLeast (length bytes.now)) }
         ensures too_long { IsErrOf result DraftError.TooLong
             ↔ (nat_lt MSGMAX (length bytes.now) ≡ true) }
         ensures no_run { IsErrOf result DraftError.NoRun → 0 < length bytes.now }
@@ -200,6 +204,7 @@ impl<P: Pledge, N: Names> System<P, N> {
         patience: &mut T,
     ) -> Result<TextOf<N>, DraftError>
         ensures ok { IfOk result (λ text. text.bytes ≡ bytes.now) }
+        ensures block { IfOk result (IsInLeast (length bytes.now)) }
         ensures too_long { IsErrOf result DraftError.TooLong
             ↔ (nat_lt MSGMAX (length bytes.now) ≡ true) }
         ensures no_run { IsErrOf result DraftError.NoRun → 0 < length bytes.now }
@@ -227,6 +232,7 @@ impl<P: Pledge, N: Names> System<P, N> {
         bytes: &[u8],
     ) -> Result<TextOf<N>, DraftError>
         ensures ok { IfOk result (λ text. text.bytes ≡ bytes.now) }
+        ensures block { IfOk result (IsInLeast (length bytes.now)) }
         ensures too_long { IsErrOf result DraftError.TooLong
             ↔ (nat_lt MSGMAX (length bytes.now) ≡ true) }
         ensures no_run { IsErrOf result DraftError.NoRun → 0 < length bytes.now }
@@ -244,6 +250,7 @@ impl<P: Pledge, N: Names> System<P, N> {
         patience: &mut T,
     ) -> Result<TextOf<N>, DraftError>
         ensures ok { IfOk result (λ text. text.bytes ≡ bytes.now) }
+        ensures block { IfOk result (IsInLeast (length bytes.now)) }
         ensures too_long { IsErrOf result DraftError.TooLong
             ↔ (nat_lt MSGMAX (length bytes.now) ≡ true) }
         ensures no_run { IsErrOf result DraftError.NoRun → 0 < length bytes.now }
@@ -301,6 +308,7 @@ fn filled<N: Names>(
     requires order { IfOk taken (λ b. b.order ≡ order_for (length bytes.now)) }
     requires memory { IsErrOf taken TakeError.Memory → INLINE_LEN < length bytes.now }
     ensures ok { IfOk result (λ text. text.bytes ≡ bytes.now) }
+    ensures block { IfOk result (IsInLeast (length bytes.now)) }
     ensures too_long { ¬ IsErrOf result DraftError.TooLong }
     ensures no_run { IsErrOf result DraftError.NoRun → IsErrOf taken TakeError.NoRun }
     ensures memory { IsErrOf result DraftError.Memory → INLINE_LEN < length bytes.now }

@@ -1,6 +1,6 @@
 //! What a slot and its seats are made of, and what becomes of it at the end.
 ghost use Rattle.std.specs.Prelude.{◌≡◌, ◌+◌, ◌-◌, ◌<◌, ◌≤◌, length, OnOk};
-ghost use Rattle.mq_board.specs.Readers.{seats};
+ghost use Rattle.mq_board.specs.Readers.{new_readers};
 ghost use Rattle.mq_system.specs.Fronts.{AreRows};
 
 use crate::holds;
@@ -71,7 +71,7 @@ pub(crate) fn seated<N: Names>(
 ) -> (Seat<N>, Seat<N>)
     requires slots { N.slots ≡ 1 }
     requires seats { N.seats ≡ 2 }
-    requires readers { readers.items ≡ seats 0 2 }
+    requires readers { readers.items ≡ new_readers 0 2 }
     requires parts { 2 ≤ tally.old.unused.parts }
 {
     let mut rows = Vec::with_capacity(alloc, 1).expect(rt, "no memory for the readers");

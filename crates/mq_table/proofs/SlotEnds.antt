@@ -1,6 +1,7 @@
 -- A slot in which a queue is made or removed, or whose list is cut, by its fields.
 use Rattle.std.proofs.Common.{◌≡◌, ℕ, ℤ, pos, ◌+◌, ◌<◌, ◌≤◌, ◌≢◌, List, [], ◌∷◌, ◌++◌, append_assoc, length, length-append, Option, None, Some, IfSome, is_some, false, refl, ap, sym, ◌∙◌, arith, true≢false}
 use Rattle.std.proofs.lemmas.Bool.{ne_eqb}
+use Rattle.std.specs.Option.{option_or}
 use Rattle.mq_queue.specs.declared.base.Base.{Base}
 use Rattle.mq_queue.specs.declared.event.Event.{Event}
 use Rattle.mq_queue.specs.declared.event.Event.TheVariants as event
@@ -11,7 +12,7 @@ use Rattle.mq_queue.specs.Row.{last_log}
 use Rattle.mq_table.specs.Cut.{cut_queue, kept_cuts}
 use Rattle.mq_table.specs.Kept.{KeptSlot, base_now, entries_of, is_live_kept, made_of}
 use Rattle.mq_table.specs.KeptCalls.{kept_makes, kept_removes}
-use Rattle.mq_table.specs.SlotParts.{IsSlot, either, slot_with, some_base}
+use Rattle.mq_table.specs.SlotParts.{IsSlot, slot_with, some_base}
 use Rattle.mq_table.specs.declared.limits.TheConstants.{MAX_PAST, MAX_SEQ}
 use Rattle.mq_table.proofs.Grown.{log_there}
 use Rattle.mq_table.proofs.Kepts.{live_is, made_is}
@@ -51,7 +52,7 @@ module _ {B : Type 0} (bytes : B → List ℕ) (number first gone : ℕ) (key : 
 
   -- the queue that is there is removed
   pub removed_slot : (q : Queue B) → IsSlot bytes made (Some q) (slot (Some q))
-      → (seat moment : ℕ) (base' : Option Base) → base' ≡ either (some_base q.base) base
+      → (seat moment : ℕ) (base' : Option Base) → base' ≡ option_or (some_base q.base) base
       → (past' : List Event) → past' ≡ past ++ (q.tail ++ event.Removed seat moment ∷ [])
       → entries_of (slot (Some q)) < MAX_PAST
       → IsSlot bytes made None (slot_with number first gone (pos 0) base' past' None)

@@ -13,12 +13,13 @@ use Rattle.mq_queue.specs.Answer.{received_header, send_refusal}
 use Rattle.mq_queue.specs.Base.{quota_from, waiting_from}
 use Rattle.mq_queue.specs.Lawful.{CanHappen}
 use Rattle.mq_queue.specs.Log.{is_made, is_removed, key_told}
+use Rattle.mq_queue.specs.Memory.{or_memory}
 use Rattle.mq_queue.specs.Queue.{Queue}
 use Rattle.mq_queue.specs.QueueCalls.{IsHandedOut, IsQueued, IsQuotaSet, sending}
 use Rattle.mq_queue.specs.Row.{made_count}
 use Rattle.mq_queue.specs.declared.received.Received.{Received}
 use Rattle.mq_table.specs.Kept.{KeptSlot}
-use Rattle.mq_table.specs.KeptCalls.{kept_goes_on, kept_refusal_of, kept_sends, kept_unless}
+use Rattle.mq_table.specs.KeptCalls.{kept_goes_on, kept_sends, kept_unless}
 use Rattle.mq_table.specs.SlotParts.{IsSlot, slot_with}
 use Rattle.mq_table.specs.declared.limits.TheConstants.{MAX_SEQ}
 use Rattle.mq_table.proofs.Can.{received_can, sent_can, set_can}
@@ -28,7 +29,7 @@ use Rattle.mq_table.proofs.Turned.{event_turned}
 
 -- why a call is refused that answers an entry
 refused_for : {B : Type 0} (o : Option QueueError) (s after : KeptSlot B)
-    → kept_refusal_of (kept_unless o s after) ≡ unwrap_or o Memory
+    → or_memory Memory (kept_unless o s after) ≡ unwrap_or o Memory
 refused_for o s after = grind arith
 
 module _ {B : Type 0} (bytes : B → List ℕ) (number first gone : ℕ) (key : ℤ) (base : Option Base)
@@ -45,7 +46,7 @@ module _ {B : Type 0} (bytes : B → List ℕ) (number first gone : ℕ) (key : 
 
   -- why it refuses a sending
   pub refused_send : (m : Message B) (moment : ℕ)
-      → kept_refusal_of (kept_sends bytes (slot q) m moment)
+      → or_memory Memory (kept_sends bytes (slot q) m moment)
       ≡ unwrap_or (send_refusal headers quota m.mtype (length (bytes m.body))) Memory
   refused_send m moment =
       rw (← h.based)

@@ -5,16 +5,18 @@ use Rattle.mq_message.specs.declared.message.Message.{Message}
 use Rattle.mq_message.specs.declared.header.Header.{Header}
 use Rattle.mq_message.specs.declared.selection.Selection.{Selection}
 use Rattle.mq_queue.specs.declared.error.QueueError.{QueueError}
+use Rattle.mq_queue.specs.declared.error.QueueError.TheVariants.{Memory}
 use Rattle.mq_queue.specs.declared.event.Event.{Event}
 use Rattle.mq_queue.specs.declared.event.Event.TheVariants as event
 use Rattle.mq_queue.specs.Answer.{send_refusal, receive_answer, set_refusal}
+use Rattle.mq_queue.specs.Memory.{or_memory}
 use Rattle.mq_queue.specs.QueueCalls.{sending}
 use Rattle.mq_queue.specs.Room.{quota}
 use Rattle.mq_queue.specs.Row.{is_live, last_log}
 use Rattle.mq_queue.specs.Waiting.{waiting}
-use Rattle.mq_table.specs.Calls.{SlotTurn, with_event, received, receives, sends, sets, changed_unless, refusal_of}
+use Rattle.mq_table.specs.Calls.{SlotTurn, with_event, received, receives, sends, sets, changed_unless}
 use Rattle.mq_table.specs.Kept.{KeptSlot}
-use Rattle.mq_table.specs.KeptCalls.{kept_goes_on, kept_received, kept_receives, kept_refusal_of, kept_sends, kept_sets, kept_unless}
+use Rattle.mq_table.specs.KeptCalls.{kept_goes_on, kept_received, kept_receives, kept_sends, kept_sets, kept_unless}
 use Rattle.mq_table.specs.KeptPart.{IsKeptPart, whole}
 use Rattle.mq_table.specs.Slot.{SlotState}
 use Rattle.mq_table.proofs.Kepts.{entries_is}
@@ -22,7 +24,7 @@ use Rattle.mq_table.proofs.KeptTurns.{places_last, quota_last, waits_last}
 
 -- why a call is refused, where it answers an entry
 refused_same : {B : Type 0} (o : Option QueueError) (s after : KeptSlot B) (w other : SlotState B)
-    → kept_refusal_of (kept_unless o s after) ≡ refusal_of (changed_unless o w other)
+    → or_memory Memory (kept_unless o s after) ≡ or_memory Memory (changed_unless o w other)
 refused_same o s after w other = grind arith
 
 -- the whole slot answers so too, and goes on with this event
@@ -52,7 +54,7 @@ module _ {B : Type 0} (list : List Event) (s : KeptSlot B) (k : IsKeptPart list 
   received_whole e m t (Err refusal) is = cc
 
   received_refused : (e : Header → Event) (a : Result Header QueueError)
-      → kept_refusal_of (kept_received s e a) ≡ refusal_of (received (whole list s) e a)
+      → or_memory Memory (kept_received s e a) ≡ or_memory Memory (received (whole list s) e a)
   received_refused e a = grind arith
 
   -- msgsnd
@@ -71,8 +73,8 @@ module _ {B : Type 0} (list : List Event) (s : KeptSlot B) (k : IsKeptPart list 
         }
 
     -- why it is refused
-    pub send_refused : kept_refusal_of (kept_sends bytes s m moment)
-        ≡ refusal_of (sends bytes (whole list s) m moment)
+    pub send_refused : or_memory Memory (kept_sends bytes s m moment)
+        ≡ or_memory Memory (sends bytes (whole list s) m moment)
     send_refused = rw (waits_last list s k live, quota_last list s k live) (search refused_same)
 
   -- msgrcv
@@ -91,8 +93,8 @@ module _ {B : Type 0} (list : List Event) (s : KeptSlot B) (k : IsKeptPart list 
         record { answers = received_whole got m t answer (rw (waits_last list s k live) at is) }
 
     -- why it is refused
-    pub receive_refused : kept_refusal_of (kept_receives s size selection noerror seat moment)
-        ≡ refusal_of (receives (whole list s) size selection noerror seat moment)
+    pub receive_refused : or_memory Memory (kept_receives s size selection noerror seat moment)
+        ≡ or_memory Memory (receives (whole list s) size selection noerror seat moment)
     receive_refused = rw (waits_last list s k live) (received_refused got answer)
 
   -- IPC_SET
@@ -104,6 +106,6 @@ module _ {B : Type 0} (list : List Event) (s : KeptSlot B) (k : IsKeptPart list 
         record { answers = unless_whole _ s.messages entry t (set_refusal qbytes) is }
 
     -- why it is refused
-    pub set_refused : kept_refusal_of (kept_sets s qbytes seat moment)
-        ≡ refusal_of (sets (whole list s) qbytes seat moment)
+    pub set_refused : or_memory Memory (kept_sets s qbytes seat moment)
+        ≡ or_memory Memory (sets (whole list s) qbytes seat moment)
     set_refused = refused_same (set_refusal qbytes) _ _ _ _

@@ -5,7 +5,6 @@ use Rattle.mq_message.specs.declared.selection.Selection.{Selection}
 use Rattle.mq_message.specs.declared.header.Header.{Header}
 use Rattle.mq_message.specs.Waiting.{without}
 use Rattle.mq_queue.specs.declared.error.QueueError.{QueueError}
-use Rattle.mq_queue.specs.declared.error.QueueError.TheVariants.{Memory}
 use Rattle.mq_queue.specs.declared.event.Event.{Event}
 use Rattle.mq_queue.specs.declared.event.Event.TheVariants as event
 use Rattle.mq_queue.specs.Answer.{send_refusal, receive_answer, set_refusal}
@@ -17,11 +16,6 @@ use Rattle.mq_table.specs.Slot.{SlotState}
 -- what a call answers, with the slot that it leaves; or why the call is refused
 abbrev pub SlotTurn : Type 0 → Type 0 → Type 0
 SlotTurn B T = Result (T × SlotState B) QueueError
-
--- why the call is refused: where nothing else refuses it, memory does
-abbrev pub refusal_of : {B T : Type 0} → SlotTurn B T → QueueError
-refusal_of (Ok turn) = Memory
-refusal_of (Err e) = e
 
 -- the slot with one more event, and with this waiting
 abbrev pub with_event : {B : Type 0} → SlotState B → Event → List (ℕ × Message B) → SlotState B

@@ -5,7 +5,7 @@ use Rattle.mq_queue.specs.declared.base.Base.{Base}
 use Rattle.mq_queue.specs.declared.event.Event.{Event}
 use Rattle.mq_queue.specs.Base.{base_after}
 use Rattle.mq_queue.specs.Queue.{Queue}
-use Rattle.mq_queue.specs.Row.{last_log, made_count}
+use Rattle.mq_queue.specs.Row.{made_count}
 use Rattle.mq_table.specs.declared.cut.Cut.{Cut}
 use Rattle.mq_table.specs.Kept.{KeptSlot, base_now, entries_of, is_live_kept, made_of}
 use Rattle.mq_table.specs.KeptPart.{base_at}
@@ -59,10 +59,6 @@ abbrev pub cut_queue : {B : Type 0} → Option (Queue B) → Option (Queue B)
 cut_queue None = None
 cut_queue (Some queue) =
     Some (record queue { base = base_after queue.base queue.tail; tail = [] })
-
--- how many events of the last log are among so many first entries of the list
-abbrev pub cut_places : ℕ → List Event → ℕ
-cut_places first list = first - (length list - length (last_log list))
 
 -- a cut of this list: its entries are those from `first` to the end, its base and its number of
 -- Made are those of the entries before, and its last part is of the live queue

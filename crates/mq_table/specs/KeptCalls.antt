@@ -7,7 +7,6 @@ use Rattle.mq_message.specs.declared.header.Header.{Header}
 use Rattle.mq_message.specs.declared.selection.Selection.{Selection}
 use Rattle.mq_message.specs.Waiting.{without}
 use Rattle.mq_queue.specs.declared.error.QueueError.{QueueError}
-use Rattle.mq_queue.specs.declared.error.QueueError.TheVariants.{Memory}
 use Rattle.mq_queue.specs.declared.event.Event.{Event}
 use Rattle.mq_queue.specs.declared.event.Event.TheVariants as event
 use Rattle.mq_queue.specs.Queue.{CutLog}
@@ -17,11 +16,6 @@ use Rattle.mq_table.specs.Kept.{KeptSlot, base_now, entries_of, places_now, quot
 -- what a call answers, with the slot that it leaves; or why the call is refused
 abbrev pub KeptTurn : Type 0 → Type 0 → Type 0
 KeptTurn B T = Result (T × KeptSlot B) QueueError
-
--- why the call is refused: where nothing else refuses it, memory does
-abbrev pub kept_refusal_of : {B T : Type 0} → KeptTurn B T → QueueError
-kept_refusal_of (Ok turn) = Memory
-kept_refusal_of (Err e) = e
 
 -- the slot with one more event of its queue, and with this waiting
 abbrev pub kept_goes_on : {B : Type 0} → KeptSlot B → Event → List (ℕ × Message B) → KeptSlot B

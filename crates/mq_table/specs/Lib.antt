@@ -7,7 +7,6 @@ pub mod KeptPart
 pub mod KeptShown
 pub mod Keys
 pub mod Laws
-pub mod Shown
 pub mod Slot
 pub mod SlotCalls
 pub mod SlotList

@@ -1,10 +1,14 @@
 -- The slot list: all that happened in a slot, in which queues are made and removed one after
 -- another.
-use Rattle.std.specs.Prelude.{◌≡◌, ℕ, ◌+◌, ◌-◌, ◌≤◌, ◌==◌, nat_le, Bool, true, not, ◌&&◌, if◌then◌else◌, List, [], ◌∷◌, ◌++◌, length, take, All}
+use Rattle.std.specs.Prelude.{◌≡◌, ℕ, ◌+◌, ◌-◌, ◌≤◌, ◌==◌, nat_le, Bool, true, not, ◌&&◌}
+use Rattle.std.specs.Prelude.{if◌then◌else◌, List, [], ◌∷◌, ◌++◌, length, take, All, Result}
+use Rattle.std.specs.Prelude.{Ok, Err}
 use Rattle.mq_queue.specs.declared.event.Event.{Event}
 use Rattle.mq_queue.specs.Lawful.{Lawful}
 use Rattle.mq_queue.specs.Log.{ends_with_removed}
 use Rattle.mq_queue.specs.Row.{made_count, is_live, last_log}
+use Rattle.mq_table.specs.declared.refusal.IdRefusal.{IdRefusal}
+use Rattle.mq_table.specs.declared.refusal.IdRefusal.TheVariants as refusal
 
 -- the log of the queue that is in the slot now, or no event where none is
 abbrev pub live_log : List Event → List Event
@@ -25,6 +29,12 @@ abbrev pub standing : List Event → ℕ → Standing
 standing events seq =
     if nat_le (made_count events) seq then Never
     else (if is_live events && (seq + 1 == made_count events) then Live else Removed)
+
+-- whether an id names a queue that is there, or why not
+abbrev pub by_standing : Standing → Result (Unit {0}) IdRefusal
+by_standing Never = Err refusal.Never
+by_standing Live = Ok tt
+by_standing Removed = Err refusal.Removed
 
 -- whether a queue can be made in the slot: none is in it, and a seq up to last_seq is left
 abbrev pub is_free : ℕ → List Event → Bool

@@ -1,6 +1,7 @@
 -- A slot, by its fields.
 use Rattle.std.specs.Prelude.{◌≡◌, ℕ, ℤ, pos, ◌+◌, ◌<◌, ◌≤◌, ◌==◌, if◌then◌else◌}
 use Rattle.std.specs.Prelude.{Option, None, Some, IfSome, is_some, List, [], length}
+use Rattle.std.specs.Option.{option_or}
 use Rattle.mq_message.specs.declared.message.Message.{Message}
 use Rattle.mq_queue.specs.declared.base.Base.{Base}
 use Rattle.mq_queue.specs.declared.event.Event.{Event}
@@ -31,11 +32,6 @@ abbrev pub live_base : {B : Type 0} → Option (Queue B) → Option Base
 live_base None = None
 live_base (Some queue) = some_base queue.base
 
--- the first of two bases that is there
-abbrev pub either : Option Base → Option Base → Option Base
-either None other = other
-either (Some base) other = Some base
-
 -- the events that are kept of the log of the queue that is there, if one is
 abbrev pub tail_of : {B : Type 0} → Option (Queue B) → List Event
 tail_of None = []
@@ -55,7 +51,7 @@ slot_with number first made key base past live = record {
   first = first;
   made = made;
   key = key;
-  base = either (live_base live) base;
+  base = option_or (live_base live) base;
   past = past;
   last = tail_of live;
   messages = messages_of live;

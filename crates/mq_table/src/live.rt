@@ -1,8 +1,9 @@
 ghost use Rattle.std.specs.Prelude.{◌≡◌, true, Ok, MatchResult};
-ghost use Rattle.mq_queue.specs.Answer.{receive_answer, receive_refusal, send_refusal};
+ghost use Rattle.mq_queue.specs.Answer.{receive_refusal, send_refusal};
+ghost use Rattle.mq_queue.specs.Memory.{or_memory};
 ghost use Rattle.mq_queue.specs.QueueCalls.{IsHandedBack, IsRefusedBy, sending};
 ghost use Rattle.mq_table.specs.Kept.{is_live_kept, kept_figures, quota_now, waiting_now};
-ghost use Rattle.mq_table.specs.KeptCalls.{kept_receives, kept_refusal_of, kept_sends, kept_sets};
+ghost use Rattle.mq_table.specs.KeptCalls.{kept_receives, kept_sends, kept_sets};
 ghost use Rattle.mq_table.specs.SlotCalls.{IsTakenIn};
 
 use crate::Slot;
@@ -31,8 +32,7 @@ impl<B: Body, W: Waiting<B>> Slot<B, W> {
         noerror: bool,
     ) -> Option<QueueError>
         requires live { is_live_kept self.now ≡ true }
-        ensures { result ≡ receive_refusal
-            (receive_answer (waiting_now self.now) size selection noerror) }
+        ensures { result ≡ receive_refusal (waiting_now self.now) size selection noerror }
     {
         match &self.live {
             Some(queue) => queue.refuses_receive(size, selection, noerror),
@@ -52,8 +52,8 @@ impl<B: Body, W: Waiting<B>> Slot<B, W> {
         requires live { is_live_kept self.old ≡ true }
         ensures answer { MatchResult result
             (λ entry. kept_sends B.bytes self.old message moment ≡ Ok (entry, self.new))
-            (IsHandedBack (kept_refusal_of (kept_sends B.bytes self.old message moment)) message
-            self.old self.new) }
+            (IsHandedBack (or_memory QueueError.Memory (kept_sends B.bytes self.old message moment))
+            message self.old self.new) }
         ensures noticed { MatchResult result
             (λ _. N.takes notice.old (sending B.bytes message moment) (kept_figures self.new)
             notice.new)
@@ -83,7 +83,7 @@ impl<B: Body, W: Waiting<B>> Slot<B, W> {
         requires live { is_live_kept self.old ≡ true }
         ensures answer { MatchResult result
             (IsTakenIn B.bytes B.keeps size selection noerror seat moment self.old self.new)
-            (IsRefusedBy (kept_refusal_of
+            (IsRefusedBy (or_memory QueueError.Memory
             (kept_receives self.old size selection noerror seat moment)) self.old self.new) }
         ensures noticed { MatchResult result
             (λ r. N.takes notice.old
@@ -112,7 +112,7 @@ impl<B: Body, W: Waiting<B>> Slot<B, W> {
         requires live { is_live_kept self.old ≡ true }
         ensures answer { MatchResult result
             (λ entry. kept_sets self.old qbytes seat moment ≡ Ok (entry, self.new))
-            (IsRefusedBy (kept_refusal_of (kept_sets self.old qbytes seat moment))
+            (IsRefusedBy (or_memory QueueError.Memory (kept_sets self.old qbytes seat moment))
             self.old self.new) }
         ensures noticed { MatchResult result
             (λ _. N.takes notice.old (Event.Changed seat moment qbytes) (kept_figures self.new)

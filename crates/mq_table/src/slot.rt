@@ -3,7 +3,7 @@ ghost use Rattle.mq_table.specs.Ids.{slot_of, seq_of};
 ghost use Rattle.mq_table.specs.Kept.{entries_of, is_live_kept, made_of, offset_now};
 ghost use Rattle.mq_table.specs.KeptPart.{IsLawfulSlot, WaitsNow};
 ghost use Rattle.mq_table.specs.KeptShown.{event_now, is_free_now, last_id_now, row_now, standing_now};
-ghost use Rattle.mq_table.specs.Shown.{by_standing};
+ghost use Rattle.mq_table.specs.SlotList.{by_standing};
 ghost use Rattle.mq_table.specs.SlotParts.{empty_kept};
 
 use crate::{Id, IdRefusal, MAX_SEQ, MAX_SLOTS};

@@ -1,9 +1,10 @@
 ghost use Rattle.std.specs.Prelude.{◌≡◌, ◌+◌, ◌≤◌, ◌++◌, [], ℕ, None, Some, true, false, length};
 ghost use Rattle.std.specs.Prelude.{OnOk, IfOk, MatchResult, vec_len, vec_capacity};
+ghost use Rattle.std.specs.Option.{option_or};
 ghost use Rattle.mq_queue.specs.QueueCalls.{IsNewQueue};
 ghost use Rattle.mq_table.specs.Kept.{is_live_kept, kept_figures, made_of};
 ghost use Rattle.mq_table.specs.SlotCalls.{IsTakenOut};
-ghost use Rattle.mq_table.specs.SlotParts.{either, some_base};
+ghost use Rattle.mq_table.specs.SlotParts.{some_base};
 
 use crate::{MAX_PAST, MAX_SEQ, Slot};
 use mq_message::{Body, Waiting};
@@ -37,7 +38,7 @@ fn append(past: &mut Vec<Event>, log: &Log)
 
 /// The first of two bases that is there.
 pub(crate) fn either(base: Option<Base>, other: Option<Base>) -> Option<Base>
-    ensures { result ≡ either base other }
+    ensures { result ≡ option_or base other }
 {
     match base {
         Some(base) => Some(base),

@@ -34,7 +34,7 @@ const FLAGS: RecvFlags = RecvFlags {
 const TEN: u64 = 10;
 
 /// The time of a wait that something else ends: longer than a test may take.
-const MINUTE: u64 = 60_000;
+const HOUR: u64 = 3_600_000;
 
 /// How often who ends a wait looks at the queue before: the other sleeps by then.
 const LOOKS: u32 = 20_000;
@@ -49,7 +49,7 @@ enum Wrong {
     Answered,
     /// A text came back with other bytes.
     Text,
-    /// A wait of ten milliseconds took less, or two seconds.
+    /// A wait of ten milliseconds took less.
     Time,
     Clock,
 }
@@ -87,12 +87,12 @@ fn within<C: Clock>(clock: &C, milliseconds: u64) -> Until<'_, C> {
     Until::within(clock, Duration::from_millis(milliseconds))
 }
 
-/// Whether a wait took ten milliseconds, and not two seconds.
+/// Whether a wait took ten milliseconds. That it ends at all is watched where it is run.
 fn took_ten<C: Clock>(clock: &C, began: Instant) -> Done {
     let Ok(took) = began.elapsed(clock) else {
         return Err(Wrong::Clock);
     };
-    if took < Duration::from_millis(TEN) || took > Duration::from_secs(2) {
+    if took < Duration::from_millis(TEN) {
         return Err(Wrong::Time);
     }
     Ok(())
@@ -245,7 +245,7 @@ impl<'a, C: Clock> Worker<Nothing> for HasNoTime<'a, C> {
         let mut over = Until::at(self.clock, now(self.clock)?);
         finds_nothing(rt, alloc, system, seat, id, &mut over)?;
         finds_nothing(rt, alloc, system, seat, id, &mut NoWait)?;
-        let broken = &mut within(&Broken, MINUTE);
+        let broken = &mut within(&Broken, HOUR);
         finds_nothing(rt, alloc, system, seat, id, broken)?;
         send(rt, system, seat, id, 1, 4)?;
         finds_no_room(rt, alloc, system, seat, id, &mut NoWait)?;
@@ -280,8 +280,8 @@ impl<'a, C: Clock> AtTheArena<'a, C> {
                 return Err(Wrong::Answered);
             }
         }
-        let mut minute = within(self.clock, MINUTE);
-        match system.draft_within(rt, 9000, &mut minute) {
+        let mut hour = within(self.clock, HOUR);
+        match system.draft_within(rt, 9000, &mut hour) {
             Err(DraftError::NoRun) => Ok(()),
             Err(error) => Err(Wrong::Refused(error.errno())),
             Ok(text) => {
@@ -320,14 +320,14 @@ impl<'a, C: Clock> Worker<Nothing> for AtTheArena<'a, C> {
     }
 }
 
-/// Waits for a minute, at a queue of which another worker makes something.
+/// Waits for an hour, at a queue of which another worker makes something.
 #[derive(Drop)]
-struct WaitsAMinute<'a, C: Clock> {
+struct WaitsAnHour<'a, C: Clock> {
     clock: &'a C,
     comes: &'a Watch,
 }
 
-impl<'a, C: Clock> Worker<Nothing> for WaitsAMinute<'a, C> {
+impl<'a, C: Clock> Worker<Nothing> for WaitsAnHour<'a, C> {
     type Answer = Result<u64, Errno>;
 
     fn work<N: Names, R: Wait>(
@@ -339,8 +339,8 @@ impl<'a, C: Clock> Worker<Nothing> for WaitsAMinute<'a, C> {
     ) -> Result<u64, Errno> {
         let id = queue(rt, system, seat, 1);
         self.comes.ends();
-        let mut minute = within(self.clock, MINUTE);
-        receives(rt, alloc, system, seat, id?, &mut minute)
+        let mut hour = within(self.clock, HOUR);
+        receives(rt, alloc, system, seat, id?, &mut hour)
     }
 }
 
@@ -454,7 +454,7 @@ fn is_done<R: Abort>(rt: &R, done: Done) {
         Err(Wrong::Changed) => "other figures",
         Err(Wrong::Answered) => "another answer",
         Err(Wrong::Text) => "other bytes",
-        Err(Wrong::Time) => "too early or too late",
+        Err(Wrong::Time) => "too early",
         Err(Wrong::Clock) => "no clock",
     };
     panic!(rt; "{what}");
@@ -501,7 +501,7 @@ fn a_draft_that_waits_ends_and_is_not_made_greater_than_the_arena(rt: HostRuntim
     alone(&rt, rt.alloc(), "a draft ends", AtTheArena { clock: &rt });
 }
 
-/// What a wait of a minute answers that another worker ends.
+/// What a wait of an hour answers that another worker ends.
 fn ended_by<R: Abort + Clock + Threads + Wait + Sync>(
     rt: &R,
     alloc: Global,
@@ -509,7 +509,7 @@ fn ended_by<R: Abort + Clock + Threads + Wait + Sync>(
     removes: bool,
 ) -> Result<u64, Errno> {
     let comes = Watch::new();
-    let waits = WaitsAMinute {
+    let waits = WaitsAnHour {
         clock: rt,
         comes: &comes,
     };

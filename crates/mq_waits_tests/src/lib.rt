@@ -50,11 +50,11 @@ mod ends;
 #[cfg(test)]
 mod pages;
 #[cfg(test)]
-mod places;
-#[cfg(test)]
 mod replay;
 #[cfg(test)]
 mod sleeps;
+#[cfg(test)]
+mod slots;
 #[cfg(test)]
 mod waits;
 #[cfg(test)]

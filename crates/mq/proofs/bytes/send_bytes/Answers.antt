@@ -4,8 +4,9 @@ use mir.Val.{SFits}
 use Rattle.mq_arena.specs.Text.{PlainText}
 use Rattle.mq_one_thread.proofs.DraftLemmas.{spent_after}
 use Rattle.mq_calls.specs.State.{QueuesState}
+use Rattle.mq_calls.specs.Texts.{text_spent}
 use Rattle.mq_calls.specs.declared.results.Refused.{Refused}
-use Rattle.mq.proofs.SendLemmas.{refused_whole, spent}
+use Rattle.mq.proofs.SendLemmas.{refused_whole}
 use Rattle.mq.proofs.bytes.send_bytes.Goals as goal
 
 pub returns-in-Err-msgsnd : goal.returns-in-Err-msgsnd
@@ -22,8 +23,8 @@ returns-in-Err-msgsnd g c =
             c.in-Ok.ensures.answer is));
         unchanged =
             c.spend.ensures.back
-            ∙ ap (λ (t : PlainText). spent t c.msgsnd.new.self) back.handed_back
-            ∙ ap (λ (s : QueuesState). spent c.in-Ok.text s) back.unchanged
+            ∙ ap (λ (t : PlainText). text_spent t c.msgsnd.new.self) back.handed_back
+            ∙ ap (λ (s : QueuesState). text_spent c.in-Ok.text s) back.unchanged
             ∙ spent_after c.args.queues.now c.draft_of.new.self c.args.bytes.now c.in-Ok.text
             c.in-Ok.ensures.answer;
       };

@@ -1,7 +1,8 @@
 use Rattle.std.proofs.Common.{◌≡◌, sym, ap, ◌∙◌}
+use Rattle.std.specs.Option.{option_or}
 use Rattle.mq_queue.specs.declared.base.Base.{Base}
 use Rattle.mq_table.specs.Kept.{KeptSlot}
-use Rattle.mq_table.specs.SlotParts.{either, some_base}
+use Rattle.mq_table.specs.SlotParts.{some_base}
 use Rattle.mq_calls.proofs.SlotLemmas.{count_of}
 use Rattle.mq_calls.proofs.close.end_slot.Goals as goal
 
@@ -12,7 +13,7 @@ returns-in-Some-clause-slot g c =
     c.into_parts-own.ensures.base ∙ c.into_parts-log.ensures.base in
     let based =
     c.base_told-base.ensures
-    ∙ ap (λ (base : Base). either (some_base base) c.into_parts-cut.result.0.base) own in
+    ∙ ap (λ (base : Base). option_or (some_base base) c.into_parts-cut.result.0.base) own in
     let tail = c.into_parts-own.ensures.tail ∙ c.into_parts-log.ensures.tail in
     let left =
     count_of g.B.Body.bytes c.in-Some.queue c.figures-left.result c.figures-left.ensures

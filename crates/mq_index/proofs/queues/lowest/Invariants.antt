@@ -1,5 +1,5 @@
 use Rattle.std.proofs.Common.{◌≡◌, find}
-use Rattle.mq_index.specs.Index.{some_wait}
+use Rattle.mq_index.specs.ByType.{some_wait}
 use Rattle.mq_index.proofs.queues.lowest.Given as goal
 
 abbrev pub invariant-loop-mtype : goal.invariant-loop-mtype

@@ -3,7 +3,7 @@ use Rattle.std.specs.Option.{is_some, unwrap_or}
 use Rattle.std.specs.BTreeMap.{is_at}
 use Rattle.std.specs.Ordering.{int_cmp, int_eq}
 use Rattle.std.proofs.lemmas.Int.{to_z-of_z}
-use Rattle.mq_index.specs.Index.{queue_at}
+use Rattle.mq_index.specs.ByType.{queue_at}
 use Rattle.mq_index.proofs.Merging.{at_is, int_eq-same}
 use Rattle.mq_index.proofs.queues.make.Goals as goal
 

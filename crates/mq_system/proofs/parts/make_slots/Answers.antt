@@ -1,6 +1,6 @@
 use Rattle.std.proofs.Common.{◌≡◌, ◌∙◌, arith, ap, sym, length, length-append, ◌∷◌, []}
 use Rattle.std.specs.Global.{Vec}
-use Rattle.mq_board.specs.Readers.{ReaderState, seats}
+use Rattle.mq_board.specs.Readers.{ReaderState, new_readers}
 use Rattle.mq_arena.specs.Text.{PlainText}
 use Rattle.mq_table.specs.Slot.{SlotState, empty_slot}
 use Rattle.mq_system.proofs.StartLemmas.{each_push}
@@ -20,13 +20,13 @@ loop-number-preserved g c =
     c.new.ensures ∙ ap (λ s. empty_slot s.number) c.new-slot.ensures
     ∙ ap (λ n. empty_slot n) (sym had.0) in
     let readers = c.in-Ok-next_board.readers in
-    let all : readers.items ≡ seats (length rows) c.args.seats =
-    board.readers ∙ ap (λ n. seats n c.args.seats) (sym had.1) in (
+    let all : readers.items ≡ new_readers (length rows) c.args.seats =
+    board.readers ∙ ap (λ n. new_readers n c.args.seats) (sym had.1) in (
       omega (arith, ap length put.items, length-append slots (slot ∷ []), had.0),
       omega (arith, ap length added.items, length-append rows (readers ∷ []), had.1),
       rw put.items (each_push (λ k (s : SlotState PlainText). s ≡ empty_slot k) slots slot had.2 empty),
       rw added.items
-          (each_push (λ k (r : Vec ReaderState). r.items ≡ seats k c.args.seats) rows readers had.3 all),
+          (each_push (λ k (r : Vec ReaderState). r.items ≡ new_readers k c.args.seats) rows readers had.3 all),
       omega (arith, had.4, put.capacity),
       omega (arith, had.5, added.capacity),
       omega (arith, had.6, board.left),

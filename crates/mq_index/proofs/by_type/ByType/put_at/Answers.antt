@@ -4,7 +4,7 @@ use Rattle.std.proofs.lemmas.Int.{to_z-of_z}
 use Rattle.std.proofs.lemmas.List.Elements.{All-filter, All-same, recursion_from_All}
 use Rattle.std.proofs.lemmas.Option.{none-some}
 use Rattle.mq_message.specs.declared.message.Message.{Message}
-use Rattle.mq_index.specs.Index.{merged, of_type, queue_of}
+use Rattle.mq_index.specs.ByType.{merged, of_type, queue_of}
 use Rattle.mq_index.proofs.Changes.{front_below, put_last}
 use Rattle.mq_index.proofs.by_type.ByType.put_at.Goals as goal
 

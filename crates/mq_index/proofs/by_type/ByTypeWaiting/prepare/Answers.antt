@@ -4,7 +4,7 @@ use Rattle.std.specs.Map.{lookup}
 use Rattle.std.proofs.lemmas.Bool.{lt-ltb, ltb-true}
 use Rattle.std.proofs.lemmas.Int.{to_z-of_z}
 use Rattle.std.proofs.lemmas.Option.{same_Some}
-use Rattle.mq_index.specs.Index.{queue_at, queue_of}
+use Rattle.mq_index.specs.ByType.{queue_at, queue_of}
 use Rattle.mq_index.proofs.Changes.{prepared, same_index}
 use Rattle.mq_index.proofs.Merging.{int_eq-here}
 use Rattle.mq_index.proofs.by_type.ByTypeWaiting.prepare.Goals as goal

@@ -3,9 +3,9 @@ use Rattle.std.proofs.lemmas.Grind.{common_steps}
 use mir.Val.{SFits}
 use mir.Syntax.{w32}
 use Rattle.std.proofs.lemmas.Int.{to_z-of_z}
+use Rattle.mq_queue.specs.Memory.{or_memory}
 use Rattle.mq_table.specs.KeptShown.{next_id_now}
 use Rattle.mq_table.specs.Keys.{entered}
-use Rattle.mq_calls.specs.Memory.{or_memory}
 use Rattle.mq_one_thread.specs.Outcome.{Answers}
 use Rattle.mq_calls.specs.State.{QueuesState}
 use Rattle.mq_one_thread.proofs.KeptLemmas.{kept_made, kept_same}

@@ -1,9 +1,10 @@
-use Rattle.std.proofs.Common.{rules, ◌<◌}
+use Rattle.std.proofs.Common.{rules, ◌<◌, subst, sym}
 use Rattle.std.specs.Prelude.{IsSome}
 use Rattle.mq_table.specs.Ids.{slot_of}
+use Rattle.mq_table.specs.SlotList.{IsSlotList}
 use Rattle.mq_system.specs.Refusals.{MayRemove}
 use Rattle.mq_system.proofs.LaterLemmas.{look_self}
-use Rattle.mq_system.proofs.RefusalLemmas.{in_slots, is_removal, turned_away}
+use Rattle.mq_system.proofs.RefusalLemmas.{in_slots, turned_away}
 use Rattle.mq_system.proofs.SeenLemmas.{decided_remove, done_remove, enters}
 use Rattle.mq_system.proofs.system.System.rmid.Goals as goal
 
@@ -16,13 +17,14 @@ returns-in-Ok g c =
     let told = c.in-Ok.ensures in
     let done =
     done_remove c.args.seat.now now c.remove-answer.new.seat (slot_of c.args.id) s h c.args.id
-    c.args.moment _ c.remove-answer.new.self told.answer.noted told.answer.ok in record {
+    c.args.moment _ c.remove-answer.new.self told.answer.noted told.answer.ok in
+    let lawful = subst (IsSlotList g.N.Names.last_seq) (sym done.3) told.lawful in record {
       answer = record {
         early = in_slots g.N.Names.slots c.args.id within;
         step = done.0;
         done = search (rules, done.1);
         log = search (rules, done.2);
-        lawful = is_removal g.N.Names.last_seq s _ _ _ _ _ told.answer.ok told.lawful;
+        lawful = search (rules, lawful);
       };
     }
 

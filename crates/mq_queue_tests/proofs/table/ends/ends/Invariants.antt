@@ -1,8 +1,0 @@
-use Rattle.mq_queue_tests.proofs.table.ends.ends.Given as goal
-
--- the board that was just opened
-abbrev pub ghosts-ended : goal.ghosts-ended
-ghosts-ended g a = record {
-  board = λ _. a.opened.pass.table_id;
-  roll = λ _. a.opened.roll.seen.book;
-}
