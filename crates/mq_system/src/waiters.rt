@@ -6,6 +6,13 @@ use std::time::Duration;
 /// How often a call that waits looks for a change before it sleeps.
 const LOOKS: u32 = 60;
 
+/// As often where the wait ends soon. Beyond these, each look gives the processor away, on a busy
+/// machine for milliseconds.
+const FEW_LOOKS: u32 = 8;
+
+/// The milliseconds of a wait that ends soon.
+const SOON: u64 = 250;
+
 /// Those who wait for one kind of change.
 #[derive(Drop)]
 pub struct Waiters {
@@ -45,7 +52,9 @@ impl Waiters {
     /// while before it sleeps, and may end with no change.
     pub fn wait<R: Wait>(&self, rt: &R, seen: u64, longest: Duration) {
         let backoff = Backoff::new();
-        for _look in 0..LOOKS {
+        let ends_soon = longest < Duration::from_millis(SOON);
+        let looks = if ends_soon { FEW_LOOKS } else { LOOKS };
+        for _look in 0..looks {
             if self.changes.notifications() != seen {
                 return;
             }

@@ -7,7 +7,7 @@ use std::thread::{Threads, join};
 use std::time::Duration;
 
 /// The seconds after which a test that has not come to its end counts as one that never does.
-const SECONDS: u32 = 60;
+const SECONDS: u32 = 50;
 
 /// Whether a test has come to its end.
 #[derive(Drop)]
