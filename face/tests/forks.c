@@ -85,7 +85,7 @@ static int is_child(void) {
   pid_t pid = fork();
   int status;
   if (pid) CHECK(pid > 0 && waitpid(pid, &status, 0) == pid && status == 0);
-  else failed = passed = 0, watch(10);
+  else failed = passed = 0, watch(60);
   return !pid;
 }
 
@@ -139,7 +139,7 @@ static void forks_beside_a_wait(void) {
 }
 
 int main(void) {
-  watch(60);
+  watch(240);
   forks_beside_the_first_call();
   forks_beside_calls();
   forks_beside_a_wait();

@@ -199,7 +199,7 @@ static void a_cancelled_first_call_holds_up_nobody(void) {
   pid_t pid = fork();
   if (!pid) {
     pthread_t thread;
-    watch(10);
+    watch(60);
     CHECK(setenv("CIVDRAX_HEIGHT", "none", 1) == 0);
     CHECK(pthread_create(&thread, NULL, is_cancelled_in_its_call, NULL) == 0);
     CHECK(pthread_join(thread, NULL) == 0);
@@ -211,7 +211,7 @@ static void a_cancelled_first_call_holds_up_nobody(void) {
 }
 
 int main(void) {
-  watch(120);
+  watch(240);
   a_cancelled_first_call_holds_up_nobody();
   a_message_comes();
   room_comes();
