@@ -125,7 +125,7 @@ def allocations(lane, begun):
     while True:
         yield nth
         each = nth < EACH and time.monotonic() - begun < PATIENCE
-        nth += LANES if each else max(LANES, LANES * nth // 16)
+        nth += LANES if each else max(LANES, LANES * nth // 32)
 
 
 def is_untold(test, run):

@@ -107,9 +107,9 @@ fn cycle<L: Ledger>(
     Ok(length)
 }
 
-/// `cycle BYTES CYCLES WAITING ROUNDS CUTS`: in each round so many cycles, while so many texts wait,
-/// with a cut of the log behind each round unless CUTS is 0. It counts the bytes that came, and the
-/// entries that were cut off.
+/// `cycle BYTES CYCLES WAITING ROUNDS CUTS`: in each round so many cycles, while so many texts
+/// wait, with a cut of the log behind each round unless CUTS is 0. It counts the bytes that came,
+/// and the entries that were cut off.
 pub(crate) fn run(rt: &impl Print, alloc: Global, words: &Words) -> Result<()> {
     let size = words.number(1, 16)?;
     let cycles = Cycles {

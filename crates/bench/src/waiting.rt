@@ -143,8 +143,8 @@ fn picks_of(word: &str) -> Picks {
     }
 }
 
-/// `waiting FORM WAITING TYPES SELECTION PAIRS`, where FORM is `list`, `typed`, or `index`, which is
-/// a list or in layers by how many wait. The messages are of the types from 1 on in turn, and
+/// `waiting FORM WAITING TYPES SELECTION PAIRS`, where FORM is `list`, `typed`, or `index`, which
+/// is a list or in layers by how many wait. The messages are of the types from 1 on in turn, and
 /// SELECTION is `any`, `exact`, `except` or `upto`; or `last`, where those of the pairs are of a
 /// type that no other is of, and selected by it: counts the messages that came.
 pub(crate) fn run(rt: &impl Print, alloc: Global, words: &Words) -> Result<()> {

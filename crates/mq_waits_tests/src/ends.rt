@@ -49,7 +49,7 @@ enum Wrong {
     Answered,
     /// A text came back with other bytes.
     Text,
-    /// A wait of ten milliseconds took less.
+    /// A wait of ten milliseconds took less, or eight seconds.
     Time,
     Clock,
 }
@@ -87,12 +87,13 @@ fn within<C: Clock>(clock: &C, milliseconds: u64) -> Until<'_, C> {
     Until::within(clock, Duration::from_millis(milliseconds))
 }
 
-/// Whether a wait took ten milliseconds. That it ends at all is watched where it is run.
+/// Whether a wait took ten milliseconds, and not eight seconds: a busy machine may be late, but
+/// not as late as a wait of a thousand times as long.
 fn took_ten<C: Clock>(clock: &C, began: Instant) -> Done {
     let Ok(took) = began.elapsed(clock) else {
         return Err(Wrong::Clock);
     };
-    if took < Duration::from_millis(TEN) {
+    if took < Duration::from_millis(TEN) || took > Duration::from_secs(8) {
         return Err(Wrong::Time);
     }
     Ok(())
@@ -454,7 +455,7 @@ fn is_done<R: Abort>(rt: &R, done: Done) {
         Err(Wrong::Changed) => "other figures",
         Err(Wrong::Answered) => "another answer",
         Err(Wrong::Text) => "other bytes",
-        Err(Wrong::Time) => "too early",
+        Err(Wrong::Time) => "too early or too late",
         Err(Wrong::Clock) => "no clock",
     };
     panic!(rt; "{what}");
