@@ -8,7 +8,8 @@ ghost use Rattle.mq_system.specs.Started.{AreEmpty, AreFresh};
 
 use crate::close::end_texts;
 use crate::{
-    Fronts, MAX_SLOTS, Names, Pages, Pledge, Seat, SharedSlot, SlotMonitor, SlotParts, Tally,
+    Config, Fronts, MAX_SLOTS, Names, Pages, Pledge, Seat, SharedSlot, SlotMonitor, SlotParts,
+    Tally,
 };
 use mq_arena::ArenaState;
 use mq_board::{BoardReader, OpenedBoard, next_board};
@@ -16,11 +17,51 @@ use mq_table::Slot;
 use std::alloc::{AllocError, Global};
 
 /// The readers of each board.
-pub(crate) type ReadersOf<N> = Vec<Vec<BoardReader<N>>>;
+type ReadersOf<N> = Vec<Vec<BoardReader<N>>>;
+
+/// The slots of a system of this size, in which no queue was made, with their boards, and its
+/// seats, which have done nothing. An `Err` means that memory ran out, and then what was made is
+/// given up.
+pub(crate) fn make_slots_and_seats<P: Pledge, N: Names>(
+    alloc: Global,
+    arena: &mut ArenaState<Pages<N>>,
+    boards: Vec<OpenedBoard>,
+    tally: &mut Tally<N>,
+    config: Config,
+) -> Result<(Vec<SharedSlot<P, N>>, Vec<Seat<N>>), AllocError>
+    requires slots { (config.slots ≡ vec_len boards) × (config.slots ≡ N.slots) }
+    requires few { config.slots ≤ MAX_SLOTS }
+    requires parts { tally.old.unused.parts ≡ N.slots + N.seats }
+    requires named { AreNamed N.Naming.board N.Naming.roll 0 boards.items }
+    requires seats { (0 < config.seats) × (config.seats ≤ 16) × (config.seats ≡ N.seats) }
+    requires total { tally.old.book.total ≡ 0 }
+    ensures slots { IfOk result (λ made. vec_len made.0 ≡ N.slots) }
+    ensures empty { IfOk result (λ made. AreEmpty made.0.items) }
+    ensures seats { IfOk result (λ made. vec_len made.1 ≡ N.seats) }
+    ensures fresh { IfOk result (λ made. AreFresh N.slots made.1.items) }
+    ensures arena { OnOk result (arena.new ≡ arena.old) }
+    ensures total { OnOk result (tally.new.book.total ≡ all_changes N.slots N.seats) }
+{
+    let (slots, mut rows) = make_slots::<P, N>(
+        alloc,
+        arena,
+        boards,
+        tally,
+        config.slots,
+        config.seats,
+    )?;
+    match make_seats(alloc, rows.as_mut_slice(), tally, config.seats) {
+        Ok(seats) => Ok((slots, seats)),
+        Err(error) => {
+            give_up(arena, slots);
+            Err(error)
+        }
+    }
+}
 
 /// The slots, in which no queue was made, with their boards, and the readers of each board. An
 /// `Err` means that memory ran out, and then those that were made are given up.
-pub(crate) fn make_slots<P: Pledge, N: Names>(
+fn make_slots<P: Pledge, N: Names>(
     alloc: Global,
     arena: &mut ArenaState<Pages<N>>,
     boards: Vec<OpenedBoard>,
@@ -94,7 +135,7 @@ pub(crate) fn fill_monitors<P: Pledge, N: Names>(
 }
 
 /// The seats, numbered from 1, which have done nothing. An `Err` means that memory ran out.
-pub(crate) fn make_seats<N: Names>(
+fn make_seats<N: Names>(
     alloc: Global,
     rows: &mut [Vec<BoardReader<N>>],
     tally: &mut Tally<N>,

@@ -8,7 +8,7 @@ ghost use Rattle.mq_system.specs.Started.{AreFresh};
 
 use crate::close::Rest;
 use crate::magazines::Magazines;
-use crate::parts::{fill_monitors, give_up, leave, make_seats, make_slots};
+use crate::parts::{fill_monitors, give_up, leave, make_slots_and_seats};
 use crate::{
     Blanks, Config, DraftError, Entries, Keys, Names, NoWait, Pages, Patience, Pledge, Seat,
     SlotMonitor, SysError, Tally, TextOf,
@@ -81,6 +81,9 @@ impl<P: Pledge, N: Names> System<P, N> {
         let Ok(fronts) = Vec::with_capacity(alloc, config.seats as usize) else {
             return Err(SysError::Memory);
         };
+        let Ok(mut monitors) = Vec::with_capacity(alloc, config.slots as usize) else {
+            return Err(SysError::Memory);
+        };
         let Blanks {
             pages: ledger,
             entries,
@@ -88,23 +91,10 @@ impl<P: Pledge, N: Names> System<P, N> {
         } = blanks;
         let mut arena = arena.open::<Pages<N>>(ledger);
         let mut tally = Tally::new(entries);
-        let Ok((slots, mut rows)) = make_slots::<P, N>(
-            alloc,
-            &mut arena,
-            boards,
-            &mut tally,
-            config.slots,
-            config.seats,
+        let Ok((slots, seats)) = make_slots_and_seats::<P, N>(
+            alloc, &mut arena, boards, &mut tally, config,
         ) else {
-            return Err(SysError::Memory);
-        };
-        let Ok(seats) = make_seats(alloc, rows.as_mut_slice(), &mut tally, config.seats) else {
-            give_up(&mut arena, slots);
-            return Err(SysError::Memory);
-        };
-        let Ok(mut monitors) = Vec::with_capacity(alloc, config.slots as usize) else {
-            give_up(&mut arena, slots);
-            leave(seats);
+            monitors.destroy_empty();
             return Err(SysError::Memory);
         };
         let pages = arena.pages();
