@@ -31,7 +31,7 @@ forgotten type_of all queues new firsts types t h ordered at = settled _ _ _ _ _
   ordered = ordered;
   parted = λ s. grind (arith, at s, h.parted s);
   kept = λ s e. grind (arith, e, at s, h.kept s, int_eq-here t);
-  fronted = h.fronted;
+  first = h.first;
   typed = h.typed;
 })
 
@@ -42,7 +42,7 @@ prepared type_of all queues made new firsts after types after_types older t h or
   ordered = ordered;
   parted = λ s. grind (arith, same s, at s, h.parted s);
   kept = λ s e. grind (arith, empty s e, at s, h.kept s, int_eq-same t s);
-  fronted = λ s. front s ∙ h.fronted s;
+  first = λ s. front s ∙ h.first s;
   typed = λ n. type n ∙ h.typed n;
 })
 
@@ -58,7 +58,7 @@ put_last {X} type_of all queues new firsts after types after_types t place m h i
   ordered = ordered;
   parted = λ s. grind (arith, is, at s, h.parted s, filter-append (of s) all new_message, append-nil (of_type type_of all s));
   kept = λ s e. grind (arith, e, at s, h.kept s, int_eq-here t, length-append (queue_of queues s) new_message);
-  fronted = λ s. grind (arith, is, front s, h.fronted s, find-append (of s) all new_message);
+  first = λ s. grind (arith, is, front s, h.first s, find-append (of s) all new_message);
   typed = λ n. grind (arith, is, type n, h.typed n, at_last all place n m above);
 })
   where
@@ -75,7 +75,7 @@ same_index type_of all queues firsts after types after_types older h front type 
   ordered = h.ordered;
   parted = h.parted;
   kept = h.kept;
-  fronted = λ s. front s ∙ h.fronted s;
+  first = λ s. front s ∙ h.first s;
   typed = λ n. type n ∙ h.typed n;
 }
 

@@ -69,17 +69,17 @@ least_found {X} type_of all queues firsts types older passes r index least = by 
     here x h =
         let ok = found_passes p all x h in
         let first = found_too p (of (type_of x.1)) all x (within (type_of x.1) ok) h (int_eq-here (type_of x.1)) in
-        (ok, index.fronted (type_of x.1) ∙ ap (option_map (λ (m : ℕ × X). m.0)) first)
+        (ok, index.first (type_of x.1) ∙ ap (option_map (λ (m : ℕ × X). m.0)) first)
 
     by : (o : Option (ℕ × X)) → find p all ≡ o → (r : Option ℕ) → IsLeastAt passes firsts r → r ≡ option_map (λ m. m.0) o
     by None e None l = refl
     by None e (Some n) l =
         let none = none_too p (of l.0.0) all (within l.0.0 l.0.1) e in
-        let front = sym l.0.2 ∙ index.fronted l.0.0 in
+        let front = sym l.0.2 ∙ index.first l.0.0 in
         cc
     by (Some x) e None l = let k = here x e in cc (l (type_of x.1) k.0)
     by (Some x) e (Some n) l =
         let k = here x e in
         let low = l.1 (type_of x.1) x.0 k.0 k.1 in
-        let high = found_later p (of l.0.0) all x.0 n index.rising (within l.0.0 l.0.1) (ap (option_map (λ (m : ℕ × X). m.0)) e) (sym (index.fronted l.0.0) ∙ l.0.2) in
+        let high = found_later p (of l.0.0) all x.0 n index.rising (within l.0.0 l.0.1) (ap (option_map (λ (m : ℕ × X). m.0)) e) (sym (index.first l.0.0) ∙ l.0.2) in
         ap Some (omega (arith, low, high))

@@ -105,4 +105,4 @@ place_found {X} type_of all queues firsts types older bound low index is = by lo
   where
     by : (o : Option ℤ) → place_of_type firsts o ≡ option_map (λ m. m.0) (find (λ (m : ℕ × X). option_map_or (int_eq (type_of m.1)) o false) all)
     by None = ap (option_map (λ (m : ℕ × X). m.0)) (sym (find_none all))
-    by (Some t) = index.fronted t
+    by (Some t) = index.first t

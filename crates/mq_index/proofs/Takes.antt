@@ -72,23 +72,23 @@ taken_of {X} type_of all queues new firsts after types after_types place t h p o
   ordered = ordered;
   parted = parted;
   kept = λ s e. grind (arith, e, at s, h.kept s);
-  fronted = fronted;
+  first = placed;
   typed = λ n. grind (arith, type n, h.typed n, at_without place n all);
 })
   where
     parted : (s : ℤ) → queue_of new s ≡ of_type type_of (without place all) s
     parted = left_in type_of all queues new firsts types None place t h p at
 
-    fronted : (s : ℤ) → after s ≡ first_place type_of (without place all) s
-    fronted s =
+    placed : (s : ℤ) → after s ≡ first_place type_of (without place all) s
+    placed s =
         let old = front_is type_of all s in
         let new = front_is type_of (without place all) s in
-        grind (arith, int_eq-same t s, front s, parted s, old, new, h.fronted s, others type_of place all p.message t s h.rising p.at p.type)
+        grind (arith, int_eq-same t s, front s, parted s, old, new, h.first s, others type_of place all p.message t s h.rising p.at p.type)
 
--- what is first in the queue that is left is no earlier than the front
+-- what is first in the queue that is left is no earlier than what was
 pub later_of : {X : Type 0} (type_of : X → ℤ) (all : List (ℕ × X)) (queues new : List (ℤ × List (ℕ × X))) (firsts : ℤ → Option ℕ) (types : ℕ → Option ℤ) (older : Option ℤ) (place : ℕ) (t : ℤ) (first : Option ℕ) → IsByType type_of all queues firsts types older → IsPlaced type_of all queues place t → ((s : ℤ) → queue_at new s ≡ cond (int_eq t s) (unless_empty (Some (without place (queue_of queues s)))) (queue_at queues s)) → first ≡ option_map (λ (x : ℕ × X). x.0) (slice_get (queue_of new t) 0) → IfSome first (λ n. IsSomeAnd (firsts t) (λ k. k ≤ n))
 later_of {X} type_of all queues new firsts types older place t first h p at is =
-    by first (firsts t) (rw (left_in type_of all queues new firsts types older place t h p at t, ← front_is type_of (without place all) t) at is) (h.fronted t)
+    by first (firsts t) (rw (left_in type_of all queues new firsts types older place t h p at t, ← front_is type_of (without place all) t) at is) (h.first t)
   where
     by : (first front : Option ℕ) → first ≡ first_place type_of (without place all) t → front ≡ first_place type_of all t → IfSome first (λ n. IsSomeAnd front (λ k. k ≤ n))
     by None front f g = tt

@@ -71,7 +71,7 @@ pub record IsByType {X : Type 0} (type_of : X → ℤ) (all : List (ℕ × X))
   pub ordered : IsStrictlySortedBy int_cmp (keys_of queues)
   pub parted : (t : ℤ) → queue_of queues t ≡ of_type type_of all t
   pub kept : (t : ℤ) → queue_at queues t ≡ Some [] → prepared ≡ Some t
-  pub fronted : (t : ℤ) → firsts t ≡ first_place type_of all t
+  pub first : (t : ℤ) → firsts t ≡ first_place type_of all t
   pub typed : (place : ℕ) → types place ≡ option_map type_of (message_at place all)
 
 -- there is a queue of this type, and room for one more message of it
@@ -79,6 +79,6 @@ pub record HasRoomFor {X : Type 0} (queues : List (ℤ × List (ℕ × X))) (fir
     (room : Bool) (mtype : ℤ) : Type 0 where
   pub queue : IsSome (queue_at queues mtype)
   pub few : length (queue_of queues mtype) < 2 ^ 62
-  pub front : 0 < firsts
+  pub first : 0 < firsts
   pub place : 0 < types
   pub node : room ≡ true

@@ -75,6 +75,7 @@ impl Base {
             waiting: BaseEntries::of(Vec::new(alloc)),
         }
     }
+
     /// A copy of it. `Err` means out of memory.
     pub fn copied(&self, alloc: Global) -> Result<Base, AllocError>
         ensures { IfOk result (λ base. base ≡ self.now) }

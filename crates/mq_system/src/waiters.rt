@@ -6,8 +6,8 @@ use std::time::Duration;
 /// How often a call that waits looks for a change before it sleeps.
 const LOOKS: u32 = 60;
 
-/// As often where the wait ends soon. Beyond these, each look gives the processor away, on a busy
-/// machine for milliseconds.
+/// How often it looks where the wait ends soon. Each look beyond these gives the processor away, on
+/// a busy machine for milliseconds.
 const FEW_LOOKS: u32 = 8;
 
 /// The milliseconds of a wait that ends soon.

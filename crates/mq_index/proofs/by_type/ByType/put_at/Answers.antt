@@ -11,13 +11,13 @@ use Rattle.mq_index.proofs.by_type.ByType.put_at.Goals as goal
 pub enter-requires-clause-above : goal.enter-requires-clause-above
 enter-requires-clause-above g c t n h =
     let above = rw (← c.self.view_is) at c.requires.room.above in
-    let below = front_below (λ m. m.mtype) _ c.args.place t n (recursion_from_All (λ (m : ℕ × Message g.row.B.Denot). m.0 < c.args.place) _ above) (sym (c.self.invariant.0.fronted t) ∙ h) in
+    let below = front_below (λ m. m.mtype) _ c.args.place t n (recursion_from_All (λ (m : ℕ × Message g.row.B.Denot). m.0 < c.args.place) _ above) (sym (c.self.invariant.0.first t) ∙ h) in
     omega (arith, below)
 
 pub enter-requires-clause-room : goal.enter-requires-clause-room
 enter-requires-clause-room g c =
     let was = (rw (← c.self.view_is) at c.requires.room.prepared) ∙ ap Some c.requires.of_type in
-    (c.self.invariant.1 c.args.mtype was).front
+    (c.self.invariant.1 c.args.mtype was).first
 
 pub unreachable-requires : goal.unreachable-requires
 unreachable-requires g c =

@@ -29,7 +29,7 @@ pub invariant_of-self-in_err-make : goal.invariant_of-self-in_err-make
 invariant_of-self-in_err-make g c = (
   same_index _ _ _ _ _ _ _ _ c.self.invariant.0 c.reserve.ensures.unchanged (λ n. ap (lookup (nat_eq n)) c.reserve-2.ensures.entries),
   λ x e. let r = c.self.invariant.1 x e in let more = c.reserve.ensures.room in let most = c.reserve-2.ensures.room.0 in
-      record { queue = r.queue; few = r.few; front = omega (arith, r.front, more); place = omega (arith, r.place, most); node = c.in_err-make.ensures.refused.1 ∙ sym c.in_err-make.ensures.refused.0 ∙ r.node },
+      record { queue = r.queue; few = r.few; first = omega (arith, r.first, more); place = omega (arith, r.place, most); node = c.in_err-make.ensures.refused.1 ∙ sym c.in_err-make.ensures.refused.0 ∙ r.node },
 )
 
 pub invariant_of-self-2 : goal.invariant_of-self-2
@@ -48,7 +48,7 @@ invariant_of-self-2 g c =
           (record {
             queue = rw (there, is) refl;
             few = rw (c.forget_older.ensures.same c.args.mtype, is) (ltb-true _ _ (sym room ∙ has));
-            front = c.in_ok-reserve.ensures.ok;
+            first = c.in_ok-reserve.ensures.ok;
             place = c.in_ok-reserve-2.ensures.ok;
             node = c.in_ok-make.ensures.ok;
           }),
@@ -78,7 +78,7 @@ returns-in_err-reserve-clause-refused g c =
     on_err (c.args.self.now.prepared ≢ Some c.args.mtype) c.from_residual.result
     (λ e.
     let ready = c.self.invariant.1 c.args.mtype (rw (← c.self.view_is) at e) in
-    omega (arith, ready.front, c.in_err-reserve.ensures.refused))
+    omega (arith, ready.first, c.in_err-reserve.ensures.refused))
 
 pub returns-in_err-reserve-2-clause-refused : goal.returns-in_err-reserve-2-clause-refused
 returns-in_err-reserve-2-clause-refused g c =
