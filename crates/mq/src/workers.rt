@@ -17,9 +17,9 @@ use std::sync::Wait;
 use std::thread::Threads;
 
 /// Makes a system of this size, runs each worker on a thread and at a seat of its own, and closes
-/// the system once all have ended. It has as many seats as workers, since each change of a queue
-/// costs more with each seat; `config` says how many there may be. No worker begins before there is
-/// a thread for each; where the answer is `Err`, none has begun.
+/// the system once all have ended. It has as many seats as workers, since each takes memory of its
+/// own; `config` says how many there may be. No worker begins before there is a thread for each;
+/// where the answer is `Err`, none has begun.
 pub fn with_workers<P: Pledge + Send + Sync, W: Worker<P> + Send, R: Threads + Wait + Sync>(
     rt: &R,
     alloc: Global,

@@ -38,8 +38,7 @@ pub fn run_threads<T: Threads + Wait + Clock + Sync, R: Read, W: Write>(
 {
     let script = read_script(alloc, reader)?;
     let wanted = read_threads_script(alloc, &script)?;
-    // Each change of a queue costs more with each seat: there is one for each section, and the
-    // first.
+    // Each seat takes memory of its own: there is one for each section, and the first.
     let seats = wanted.sections.len() as u16 + 1;
     let Ok(blanks) = Blanks::of(alloc, Config { seats, ..config }) else {
         return Err(RunFault::Memory);
