@@ -1,6 +1,7 @@
 #!/usr/bin/env python3
 """Compares docs/PROMISES.md with the sources. Each function, clause and test that it names must be
-there, and each planted mistake must be in a function, or seen by a test, that a row names.
+there, and each planted mistake must be in a function, or seen by a test, that a row names. Each public
+function that a clause tells what to answer or to leave must have a mistake planted in it.
 
 A row has three columns: the promise, the functions with their clauses, and the tests. In the second,
 each part up to a `;` names crates, or means those of the part before; then functions, where a type, a
@@ -16,7 +17,7 @@ from pathlib import Path
 TOP = Path(__file__).parent.parent
 sys.dont_write_bytecode = True
 sys.path.insert(0, str(TOP / ".ci"))
-from edits import Edit, edits_below  # noqa: E402
+from edits import FUNCTION as BODY, Edit, changed_body, edits_below  # noqa: E402
 
 FOLDERS = ("planted", "must-not-compile")
 CRATES = {path.name: path for path in sorted(TOP.glob("crates/*"))}
@@ -29,6 +30,14 @@ ABBREVIATION = re.compile(r"(?ms)^abbrev pub (\w+) :(.*?)(?=^(?:pub|abbrev|--|us
 FIELD = re.compile(r"(?m)^  pub (\w+) :")
 TEST = re.compile(r"#\[test\]\s*(?:#\[[^\]]*\]\s*)*(?:pub )?fn (\w+)")
 TABLE = re.compile(r"(?m)^table (\w+)$")
+# A law, or what holds of each value: its body does nothing.
+NOTHING = re.compile(r"\{\s*(?:let _ = [^;]*;\s*)?\}")
+# Public functions with no wrong body that compiles, by crate and module: they begin with nothing, take
+# apart or hand on what there is one of, or only call what their proof names.
+ONE_BODY = {"mq_arena locked::into_state", "mq_arena parts::empty", "mq_arena text::into_block",
+            "mq_index queue::new", "mq_index room::new", "mq_message message::into_body",
+            "mq_queue state::base", "mq_system slot::holds", "mq_system tally::close",
+            "mq_table keys::new"}
 # Comments, strings and characters, which may hold braces.
 QUOTED = re.compile(r"//[^\n]*|b?\"(?:\\.|[^\"\\])*\"|b?'(?:\\.[^']*|[^'\\])'", re.S)
 
@@ -156,6 +165,20 @@ def is_promised(edit, functions, named, tests):
     return not named.isdisjoint(near or ours)
 
 
+def public_bodies(edits):
+    """The public functions whose clauses say what they answer or leave, by crate and module, and
+    whether a mistake is planted in each."""
+    changed = {(it.crate, it.file, (changed_body(*it.texts()) or [None])[0]) for it in edits}
+    for crate, folder in CRATES.items():
+        for path in sorted(folder.glob("src/**/*.rt")):
+            file = str(path.relative_to(folder))
+            for number, it in enumerate(BODY.finditer(path.read_text())):
+                is_told = re.search(r"\bpub (?:const )?fn\b", it["head"]) and "ensures" in it["head"]
+                if is_told and not NOTHING.fullmatch(it["body"]):
+                    label = f"{crate} {path.stem}::{it['name']}"
+                    yield label, (crate, file, number) in changed
+
+
 def main():
     files = [(name, path) for name, crate in CRATES.items() for path in crate.glob("src/**/*.rt")]
     functions = {name: [] for name in CRATES}
@@ -178,9 +201,14 @@ def main():
     edits = [Edit(path) for folder in FOLDERS for path in edits_below(TOP, folder)]
     without = [it for it in edits if not is_promised(it, functions, named, tests)]
     wrong += [f"no row names what {it.label} is planted in" for it in without]
+    bodies = [*public_bodies(edits)]
+    bare = {label for label, is_planted in bodies if not is_planted}
+    wrong += [f"no mistake is planted in {it}" for it in sorted(bare - ONE_BODY)]
+    wrong += [f"a wrong body of {it} does compile" for it in sorted(ONE_BODY - bare)]
+    passed = names + len(edits) - len(without) + len(bodies) - len(bare - ONE_BODY)
     for line in wrong:
         print(f"promises: {line}")
-    print(f"promises: {names + len(edits) - len(without)} passed, {len(wrong)} failed")
+    print(f"promises: {passed} passed, {len(wrong)} failed")
     return not wrong
 
 

@@ -273,7 +273,8 @@ impl<'a, N: Names, R: Wait> Caller<'a, N, R> {
             flags.nowait self.old.seat.now self.new.seat.now) }
         ensures moment { self.new.moment ≡ self.old.moment }
     {
-        self.receive_within(system, id, size, msgtyp, flags, &mut Forever)
+        let patience = &mut Forever;
+        self.receive_within(system, id, size, msgtyp, flags, patience)
     }
 
     /// Receives bytes as `receive_with` does, and waits for a message no longer than until the

@@ -18,8 +18,7 @@ loop-page-preserved c =
     c.split_at.ensures.front ∙ ap (λ k. take k rest) c.min.ensures ∙ take_min PAGE_LEN rest in
     let later : c.split_at.result.1.now ≡ drop PAGE_LEN rest =
     c.split_at.ensures.back ∙ ap (λ k. drop k rest) c.min.ensures ∙ drop_min PAGE_LEN rest in
-    let new : c.write.new.self ≡ over (take PAGE_LEN rest) page =
-    c.write.ensures ∙ ap (λ bs. over bs page) part in
+    let new : c.write.new.self ≡ over (take PAGE_LEN rest) page = cc (c.write.ensures, part) in
     let long : length page ≡ PAGE_LEN =
     All-get_or (λ p. length p ≡ PAGE_LEN) pages i c.page-item.result inside c.loop-page.invariant.whole in
     let short : length (take PAGE_LEN rest) ≤ length page = omega (arith, length-take PAGE_LEN rest) in
