@@ -16,7 +16,7 @@ FUNCTION = re.compile(
 class Edit:
     def __init__(self, path):
         self.folder, self.crate = path.parent.parent, path.parent.parent.name
-        self.label = f"{self.crate}/{path.stem}"
+        self.label = label_of(path)
         lines = [it.partition(":") for it in path.read_text().splitlines() if it.strip()]
         words, texts = [it[0] for it in lines], [it[2].removeprefix(" ") for it in lines]
         count = words.index("old") if "old" in words else len(words)
@@ -45,11 +45,18 @@ def edits_below(top, folder, crates=()):
     return [path for path in found if not crates or path.parent.parent.name in crates]
 
 
-def tell(part, found, well):
-    """Says by label why each edit failed, or, at None, that all is well, and last the counts."""
+def label_of(path):
+    """The crate and the name of the edit in this file."""
+    return f"{path.parent.parent.name}/{path.stem}"
+
+
+def tell(part, found, well, there):
+    """Says by label why each edit failed, or, at None, that all is well; how many of those that are
+    there were tried; and last the counts."""
     for label, wrong in sorted(found.items()):
         print(f"{label}: {f'FAILED: {wrong}' if wrong else well}")
     failed = sum(map(bool, found.values()))
+    print(f"{part}: {sum(it in there for it in found)} of {len(there)} tried")
     print(f"{part}: {len(found) - failed} passed, {failed} failed")
     return failed
 

@@ -1,9 +1,10 @@
 #!/bin/bash
 # Times what a board costs: `bench/board.sh [COUNT] [ROUNDS]`, at least 15 rounds.
 # An event that is prepared and published, with 1, 2 and 16 readers, which is what a change costs
-# more than without a board; and a reader's look, beside IPC_STAT of a queue of the kernel. Times
-# are medians of rounds in which the programs take turns; what a run of no events or looks takes is
-# left out. The times are printed beside those that are wanted, and fail nothing.
+# more than without a board; a read that finds something new, and one that does not, beside IPC_STAT
+# of a queue of the kernel. Times are medians of rounds in which the programs take turns; what a run
+# of no events or reads takes is left out, and of a read that finds something new its two events. The
+# times are printed beside those that are wanted, and fail nothing.
 # Fails where the memory of a board grows with the events: ten times as many may take 256 kB more.
 # Wants cc and GNU time.
 set -euo pipefail
@@ -23,8 +24,8 @@ COUNT, ROUNDS, FOLDER = int(sys.argv[1]), int(sys.argv[2]), sys.argv[3]
 OURS = ["crates/bench/out/bench", "board"]
 KERNELS = [f"{FOLDER}/kernel_stat"]
 # The most nanoseconds that are wanted of an event, by the number of readers.
-EVENTS = {1: 130, 2: 150, 16: 240}
-LOOK, RATIO = 40, 0.1
+EVENTS = {1: 85, 2: 85, 16: 85}
+READ, NEWS, RATIO = 6, 85, 0.1
 # The most kilobytes that ten times as many events may take more.
 GROWTH = 256
 
@@ -37,7 +38,7 @@ def run(command, count):
 
 
 def nanoseconds(commands):
-    """The median of each command for one event or look."""
+    """The median of each command for one event or read."""
     times = [[] for _ in commands]
     for turn in range(ROUNDS):
         places = range(len(commands)) if turn % 2 == 0 else reversed(range(len(commands)))
@@ -66,9 +67,11 @@ def main():
         grown += many > few + GROWTH
         print(f"{readers:8}{event:10.0f}{wanted:8}{few:8}{many:24}"
               f"{'  grows' if many > few + GROWTH else ''}")
-    look, kernels = nanoseconds([[*OURS, "looks", "2"], KERNELS])
-    print(f"look {look:.0f} ns (wanted {LOOK}), IPC_STAT of the kernel {kernels:.0f} ns, ratio "
-          f"{look / kernels:.3f} (wanted {RATIO})")
+    read, kernels, event, both = nanoseconds(
+        [[*OURS, "reads", "2"], KERNELS, [*OURS, "events", "2"], [*OURS, "news", "2"]])
+    print(f"a read with nothing new {read:.1f} ns (wanted {READ}), with news {2 * (both - event):.0f} "
+          f"ns (wanted {NEWS}), IPC_STAT of the kernel {kernels:.0f} ns, ratio {read / kernels:.3f} "
+          f"(wanted {RATIO})")
     sys.exit(f"the memory of {grown} boards grows" if grown else 0)
 
 

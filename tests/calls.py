@@ -26,7 +26,10 @@ KNOWN = ["Result", "Option", "Vec", "Answer"]
 # Parameters of nearly every call, which a signature shows without their types.
 PLAIN = {"rt: &R": "rt", "alloc: Global": "alloc", "system: &System<P, N>": "system",
          "seat: &mut Seat<N>": "seat", "seat: &Seat<N>": "seat",
-         "queues: &mut OneThread<L>": "queues"}
+         "queues: &mut OneThread<L>": "queues", "config: Config": "config", "id: Id": "id",
+         "key: i32": "key", "mtype: i64": "mtype", "msgtyp: i64": "msgtyp", "tag: u64": "tag",
+         "len: u64": "len", "size: u64": "size", "moment: u64": "moment", "bytes: &[u8]": "bytes",
+         "patience: &mut T": "patience"}
 
 
 def handed_on():
@@ -99,7 +102,9 @@ def main():
     refused = {name: refusals(it[0], it[1], sources) for name, it in calls.items()}
     by_text = {it[0]: name for name, it in calls.items()}
     page = PAGE.read_text()
-    checks, placed = [], set()
+    types = {it for text in PLAIN for it in re.findall(r"\b[A-Z]\w+", text)} - {"Global"}
+    checks = [(it in names, f"mq does not hand on {it}") for it in sorted(types)]
+    placed = set()
     for section in re.split(r"^## ", page, flags=re.M)[1:]:
         title = section.splitlines()[0]
         lines = [it for block in re.findall(r"```rust\n(.*?)```", section, re.S)

@@ -87,10 +87,10 @@ compile() {
 
 programs() {
     local test calls
-    for test in calls waits late forks threads memory damaged many; do
+    for test in calls waits late forks wakes threads memory damaged many; do
         compile "$test" "$folder/$test" face/out/libcivdrax.a
     done
-    for test in calls waits late forks threads memory; do
+    for test in calls waits late forks wakes threads memory; do
         checks "$folder/$test"
     done
     checks "$folder/damaged" "$damaged"
@@ -143,7 +143,7 @@ sanitized() {
         -o "$folder/sanitized/libcivdrax.so" face/civdrax.c crates/civdrax/out/libcivdrax.a \
         "$heap" -Wl,--wrap=read,--wrap=write -Wl,--version-script=face/civdrax.map -pthread
     count $? "the C part does not compile with the sanitizers"
-    for test in calls waits late forks threads memory damaged; do
+    for test in calls waits late forks wakes threads memory damaged; do
         cc "${warnings[@]}" "${flags[@]}" -o "$folder/sanitized/$test" "face/tests/$test.c" \
             -L"$folder/sanitized" -lcivdrax "-Wl,-rpath,$folder/sanitized" -pthread
         count $? "face/tests/$test.c does not compile with the sanitizers"

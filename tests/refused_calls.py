@@ -56,8 +56,10 @@ LONGEST = 5
 SECONDS = 300
 # The status that such a run is given.
 HANGS = 124
-# What is left out: workers of scripts, each of which waits for what another worker sends or removes.
+# What is left out: a writer that waits until a reader is inside, and workers of scripts, each of which
+# waits for what another worker sends or removes.
 WAIT_FOR_OTHERS = {
+    "mq_board reader::tests::the_next_but_one_change_waits_for_a_reader_inside",
     "mq_cli_tests threads::worked::two_pairs_of_workers_hand_on_all",
     "mq_cli_tests threads::worked::a_removal_ends_who_waits",
     "mq_cli_tests threads::worked::a_removal_ends_who_waits_within_an_end",
@@ -75,6 +77,8 @@ MAKE_NONE = {
     "mq_queue_tests slots::keys::an_id_is_told_by_slot_and_seq_up_to_the_bounds",
     "mq_system_tests shared::no_parts_are_opened_for_no_slot",
     "mq_system_tests waiters::a_patience_says_how_long_it_waits",
+    "mq_system_tests waiters::a_wait_does_not_take_twice_its_time",
+    "mq_system_tests waiters::a_wait_has_left_what_its_clock_says",
     "mq_system_tests waiters::who_is_woken_before_it_sleeps_does_not_sleep",
     "mq_system_tests waiters::who_waited_until_its_time_is_not_woken_twice",
     "mq_system_tests worked::a_size_out_of_its_limits_is_refused",

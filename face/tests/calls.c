@@ -3,6 +3,54 @@
 
 static struct message m;
 
+/* In a child: the figures of IPC_INFO and MSG_INFO at another size. */
+static void shows_its_size(void) {
+  struct msginfo all;
+  CHECK(civdrax_msgctl(0, IPC_INFO, (struct msqid_ds *)&all) == 0);
+  CHECK(all.msgmax == 65536 && all.msgmnb == 131072 && all.msgmni == 3);
+  CHECK(all.msgssz == 1024 && all.msgseg == 64 && all.msgpool == 64);
+  CHECK(all.msgmap == 131072 && all.msgtql == 131072);
+  CHECK(civdrax_msgctl(0, MSG_INFO, (struct msqid_ds *)&all) == 0);
+  CHECK(all.msgmax == 65536 && all.msgmnb == 131072 && all.msgmni == 3);
+  CHECK(all.msgssz == 1024 && all.msgseg == 64);
+  CHECK(all.msgpool == 0 && all.msgmap == 0 && all.msgtql == 0);
+}
+
+/* In a child: a queue's owner and creator are who makes it, here not root. */
+static void owns_as_another(void) {
+  struct msqid_ds ds;
+  if (geteuid() == 0) CHECK(setegid(4321) == 0 && seteuid(1234) == 0);
+  int id = civdrax_msgget(IPC_PRIVATE, IPC_CREAT | 0777);
+  CHECK(civdrax_msgctl(id, IPC_STAT, &ds) == 0 && ds.msg_perm.mode == 0777);
+  CHECK(ds.msg_perm.uid == geteuid() && ds.msg_perm.gid == getegid());
+  CHECK(ds.msg_perm.cuid == geteuid() && ds.msg_perm.cgid == getegid());
+  ds.msg_perm.uid++;
+  ds.msg_perm.gid += 2;
+  ds.msg_perm.cuid += 3;
+  ds.msg_perm.cgid += 3;
+  CHECK(civdrax_msgctl(id, IPC_SET, &ds) == 0 && civdrax_msgctl(id, IPC_STAT, &ds) == 0);
+  CHECK(ds.msg_perm.uid == geteuid() + 1 && ds.msg_perm.gid == getegid() + 2);
+  CHECK(ds.msg_perm.cuid == geteuid() && ds.msg_perm.cgid == getegid());
+}
+
+static void is_small(void) {
+  CHECK(setenv("CIVDRAX_HEIGHT", "6", 1) == 0 && setenv("CIVDRAX_SLOTS", "3", 1) == 0);
+  shows_its_size();
+}
+
+/* Has this run in a child, before the first call: it may be of another size. */
+static void in_a_child(void (*it)(void)) {
+  pid_t pid = fork();
+  int status;
+  if (!pid) {
+    failed = 0;
+    watch(60);
+    it();
+    _exit(failed != 0);
+  }
+  CHECK(pid > 0 && waitpid(pid, &status, 0) == pid && status == 0);
+}
+
 static void makes(void) {
   int id = civdrax_msgget(77, IPC_CREAT | IPC_EXCL | 0640);
   CHECK(id >= 0);
@@ -129,7 +177,8 @@ static void is_gone(int id) {
   REFUSED(civdrax_msgsnd(id, &m, 1, 0), EINVAL);
   REFUSED(civdrax_msgrcv(id, &m, 1, 0, 0), EINVAL);
   int next = new_queue();
-  CHECK(next >= 0 && next != id);
+  CHECK(next >= 64 && next != id && next % 64 == id % 64);
+  CHECK(civdrax_msgctl(next, IPC_STAT, &ds) == 0 && ds.msg_perm.__seq == next / 64);
   remove_queue(next);
 }
 
@@ -148,10 +197,17 @@ static void runs_out_of_pages(void) {
   for (int i = 0; i < 3; i++) remove_queue(ids[i]);
 }
 
+static int has_come(const struct timespec *end) {
+  struct timespec now = in_milliseconds(0);
+  return now.tv_sec > end->tv_sec || (now.tv_sec == end->tv_sec && now.tv_nsec >= end->tv_nsec);
+}
+
+/* A wait ends at its time, and not before. */
 static void times_out(void) {
   int id = new_queue();
   struct timespec end = in_milliseconds(20);
   REFUSED(civdrax_timedrcv(id, &m, 1, 0, 0, &end), ETIMEDOUT);
+  CHECK(has_come(&end));
   struct msqid_ds ds;
   CHECK(civdrax_msgctl(id, IPC_STAT, &ds) == 0);
   ds.msg_qbytes = 0;
@@ -159,6 +215,7 @@ static void times_out(void) {
   end = in_milliseconds(20);
   m.type = 1;
   REFUSED(civdrax_timedsnd(id, &m, 1, 0, &end), ETIMEDOUT);
+  CHECK(has_come(&end));
   end.tv_nsec = -1;
   REFUSED(civdrax_timedsnd(id, &m, 1, 0, &end), EINVAL);
   remove_queue(id);
@@ -166,6 +223,8 @@ static void times_out(void) {
 
 int main(void) {
   watch(60);
+  in_a_child(owns_as_another);
+  in_a_child(is_small);
   makes();
   int id = new_queue();
   CHECK(id >= 0);

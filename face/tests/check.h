@@ -71,7 +71,35 @@ static inline struct timespec in_milliseconds(long count) {
   return at;
 }
 
+/* Whether a thread is asleep, as /proc says. */
+static inline int sleeps(pid_t tid) {
+  char name[64], text[512];
+  snprintf(name, sizeof name, "/proc/self/task/%d/stat", tid);
+  FILE *file = fopen(name, "r");
+  if (!file) return 0;
+  size_t n = fread(text, 1, sizeof text - 1, file);
+  fclose(file);
+  text[n] = 0;
+  char *state = strrchr(text, ')');
+  return state && state[2] == 'S';
+}
+
+/* Returns once the thread that notes its number here has slept for a while, or has ended. */
+static inline void await_sleep(volatile pid_t *tid, volatile int *ended) {
+  for (int seen = 0; seen < 20 && !*ended;) {
+    usleep(1000);
+    seen = *tid && sleeps(*tid) ? seen + 1 : 0;
+  }
+}
+
 static inline int new_queue(void) { return civdrax_msgget(IPC_PRIVATE, IPC_CREAT | 0600); }
+
+static inline void set_quota(int id, unsigned long quota) {
+  struct msqid_ds ds;
+  CHECK(civdrax_msgctl(id, IPC_STAT, &ds) == 0);
+  ds.msg_qbytes = quota;
+  CHECK(civdrax_msgctl(id, IPC_SET, &ds) == 0);
+}
 
 static inline void remove_queue(int id) { CHECK(civdrax_msgctl(id, IPC_RMID, NULL) == 0); }
 #endif

@@ -50,6 +50,18 @@ static void *is_busy(void *id) {
   return NULL;
 }
 
+/* In a child, two waits one after the other where a thread of its parent waits: each is ended. */
+static void wakes_twice(int waited_in) {
+  for (int i = 0; i < 2; i++) {
+    pthread_t thread;
+    CHECK(pthread_create(&thread, NULL, waits, &waited_in) == 0);
+    usleep(20000);
+    m.type = WAITED_FOR;
+    CHECK(civdrax_msgsnd(waited_in, &m, 4, 0) == 0);
+    CHECK(pthread_join(thread, NULL) == 0);
+  }
+}
+
 /* In a child: the queue has what its parent's thread had sent, whole, and takes more. */
 static void is_whole(int id) {
   static struct message its;
@@ -117,6 +129,43 @@ static void forks_beside_calls(void) {
   remove_queue(id);
 }
 
+static int last_sender(int id) {
+  struct msqid_ds ds;
+  CHECK(civdrax_msgctl(id, IPC_STAT, &ds) == 0);
+  return ds.msg_lspid;
+}
+
+static int last_receiver(int id) {
+  struct msqid_ds ds;
+  CHECK(civdrax_msgctl(id, IPC_STAT, &ds) == 0);
+  return ds.msg_lrpid;
+}
+
+/* In a child: a refused call is not that of the last sender or receiver. */
+static void is_told_once_served(int id) {
+  set_quota(id, 3);
+  REFUSED(civdrax_msgsnd(id, &m, 3, IPC_NOWAIT), EAGAIN);
+  CHECK(last_sender(id) == getppid());
+  REFUSED(civdrax_msgrcv(id, &m, 1, 0, IPC_NOWAIT), E2BIG);
+  CHECK(last_receiver(id) == getppid());
+  CHECK(civdrax_msgrcv(id, &m, 3, 0, IPC_NOWAIT) == 3 && last_receiver(id) == getpid());
+  CHECK(last_sender(id) == getppid());
+  CHECK(civdrax_msgsnd(id, &m, 3, IPC_NOWAIT) == 0 && last_sender(id) == getpid());
+}
+
+static void forks_after_calls(void) {
+  int id = new_queue();
+  m.type = 1;
+  for (int i = 0; i < 2; i++) CHECK(civdrax_msgsnd(id, &m, 3, 0) == 0);
+  CHECK(civdrax_msgrcv(id, &m, 3, 0, 0) == 3);
+  if (is_child()) {
+    is_told_once_served(id);
+    end_child();
+  }
+  CHECK(last_sender(id) == getpid() && last_receiver(id) == getpid());
+  remove_queue(id);
+}
+
 static void forks_beside_a_wait(void) {
   int id = new_queue(), waited_in = new_queue();
   m.type = 1;
@@ -127,6 +176,7 @@ static void forks_beside_a_wait(void) {
   usleep(50000);
   for (int i = 0; i < 20; i++)
     if (is_child()) {
+      wakes_twice(waited_in);
       has_its_own(id, waited_in);
       end_child();
     }
@@ -142,6 +192,7 @@ int main(void) {
   watch(240);
   forks_beside_the_first_call();
   forks_beside_calls();
+  forks_after_calls();
   forks_beside_a_wait();
   return told();
 }

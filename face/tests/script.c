@@ -57,7 +57,10 @@ static void limit(int id, unsigned long quota, unsigned mode) {
 static void get(void) {
   static const int flags[] = {IPC_CREAT, IPC_CREAT | IPC_EXCL, 0, IPC_EXCL};
   int place = next(QUEUES), chosen = flags[next(4)];
-  int id = msgget(next(5) ? first_key + place : IPC_PRIVATE, chosen | 0600);
+  key_t key = next(5) ? first_key + place : IPC_PRIVATE;
+  /* Of a queue that it finds the kernel would check these permissions. */
+  int is_new = key == IPC_PRIVATE || chosen == (IPC_CREAT | IPC_EXCL);
+  int id = msgget(key, chosen | 0600 | (is_new ? next(0200) : 0));
   if (id < 0) {
     tell("get", -1);
     return;

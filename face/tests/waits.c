@@ -25,26 +25,11 @@ static void *run(void *its) {
   return NULL;
 }
 
-static int sleeps(pid_t tid) {
-  char name[64], text[512];
-  snprintf(name, sizeof name, "/proc/self/task/%d/stat", tid);
-  FILE *file = fopen(name, "r");
-  if (!file) return 0;
-  size_t n = fread(text, 1, sizeof text - 1, file);
-  fclose(file);
-  text[n] = 0;
-  char *state = strrchr(text, ')');
-  return state && state[2] == 'S';
-}
-
 /* Starts the thread, and returns once it waits. */
 static void start(struct job *job) {
   job->tid = job->ended = 0;
   CHECK(pthread_create(&job->thread, NULL, run, job) == 0);
-  for (int seen = 0; seen < 20 && !job->ended;) {
-    usleep(1000);
-    seen = job->tid && sleeps(job->tid) ? seen + 1 : 0;
-  }
+  await_sleep(&job->tid, &job->ended);
   CHECK(!job->ended);
 }
 
@@ -73,13 +58,6 @@ static void send(int id, long type, size_t size) {
   static struct message m;
   m.type = type;
   CHECK(civdrax_msgsnd(id, &m, size, IPC_NOWAIT) == 0);
-}
-
-static void set_quota(int id, unsigned long quota) {
-  struct msqid_ds ds;
-  CHECK(civdrax_msgctl(id, IPC_STAT, &ds) == 0);
-  ds.msg_qbytes = quota;
-  CHECK(civdrax_msgctl(id, IPC_SET, &ds) == 0);
 }
 
 /* While another waits in `id`, messages go through a queue of their own. */
@@ -125,6 +103,25 @@ static void room_comes(void) {
   remove_queue(id);
   free(by_receipt);
   free(by_quota);
+}
+
+/* An empty text is a message, and so ends the wait for one; its receipt makes room for another. */
+static void empty_texts_come_and_go(void) {
+  static struct message m;
+  int id = new_queue();
+  struct job *receives = receiver(id, 5);
+  send(id, 5, 0);
+  end(receives);
+  CHECK(receives->result == 0 && receives->message.type == 5);
+  set_quota(id, 1);
+  send(id, 1, 0);
+  struct job *sends = sender(id, 0);
+  CHECK(civdrax_msgrcv(id, &m, 10, 0, 0) == 0);
+  end(sends);
+  CHECK(sends->result == 0);
+  remove_queue(id);
+  free(receives);
+  free(sends);
 }
 
 /* Takes all pages by as many texts, in three queues. */
@@ -215,6 +212,7 @@ int main(void) {
   a_cancelled_first_call_holds_up_nobody();
   a_message_comes();
   room_comes();
+  empty_texts_come_and_go();
   pages_come();
   removals_end_waits();
   a_cancelled_wait_holds_up_nobody();

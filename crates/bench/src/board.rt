@@ -1,5 +1,5 @@
-//! Events that are published on a board, and a reader that looks at it. The events are those of a
-//! queue that is made and removed again, one after another.
+//! Events that are published on a board, and a reader of it. The events are those of a queue that
+//! is made and removed again, one after another.
 
 ghost use Rattle.std.specs.Prelude.{◌≡◌, ◌+◌, ◌*◌, ◌<◌, ◌≤◌, ◌^◌, ◌++◌, ◌∷◌, [], length, IfOk};
 ghost use Rattle.mq_board.specs.Writers.{HasOnePending, posting};
@@ -13,9 +13,19 @@ use std::marker::Brand;
 use std::sync::Wait;
 
 /// What is measured.
+#[derive(Clone, Copy, PartialEq, Eq)]
+enum What {
+    /// Events that are published.
+    Events,
+    /// The same, of which each second is read.
+    News,
+    /// Reads that find nothing new.
+    Reads,
+}
+
 #[derive(Clone, Copy)]
 struct Plan {
-    looks: bool,
+    what: What,
     readers: usize,
     count: u32,
 }
@@ -71,22 +81,28 @@ fn come_and_go<J: Naming, R: Wait>(rt: &R, writer: &mut BoardWriter<J>) -> Resul
     publish(rt, writer, Event::Removed { seat: 1, moment: 4 }, NONE)
 }
 
+/// How many queues the reader saw, added up: after all events, and after each pair if it reads.
 fn publish_all<J: Naming, R: Wait>(
     rt: &R,
     writer: &mut BoardWriter<J>,
-    pairs: u32,
-) -> Result<(), AllocError>
+    reader: &mut BoardReader<J>,
+    plan: Plan,
+) -> Result<u64, AllocError>
     requires empty { writer.old.events ≡ [] }
     requires idle { writer.old.pending ≡ [] }
 {
-    for _pair in 0..pairs {
+    let mut seen = 0u64;
+    for _pair in 0..plan.count / 2 {
         come_and_go(rt, writer)?;
+        if plan.what == What::News {
+            seen = seen.wrapping_add(u64::from(reader.row().made));
+        }
     }
-    Ok(())
+    Ok(seen.wrapping_add(u64::from(reader.row().made)))
 }
 
-/// How many queues the looks saw, added up.
-fn look_all<J: Naming>(reader: &mut BoardReader<J>, count: u32) -> u64 {
+/// How many queues the reader saw, added up.
+fn read_all<J: Naming>(reader: &mut BoardReader<J>, count: u32) -> u64 {
     let mut seen = 0u64;
     for _ in 0..count {
         seen = seen.wrapping_add(u64::from(reader.row().made));
@@ -104,12 +120,11 @@ fn measure<J: Naming, R: Wait>(
     requires idle { writer.old.pending ≡ [] }
     requires some { 0 < length readers.old }
 {
-    if !plan.looks {
-        publish_all(rt, writer, plan.count / 2)?;
-        return Ok(u64::from(readers[0].row().made));
+    if plan.what != What::Reads {
+        return publish_all(rt, writer, &mut readers[0], plan);
     }
     come_and_go(rt, writer)?;
-    Ok(look_all(&mut readers[0], plan.count))
+    Ok(read_all(&mut readers[0], plan.count))
 }
 
 fn measured<J: Naming, R: Wait>(
@@ -118,25 +133,30 @@ fn measured<J: Naming, R: Wait>(
     opened: OpenedBoard,
     plan: Plan,
 ) -> Result<u64, AllocError>
-    requires named { (opened.pass.table_id ≡ J.board 0) × (opened.roll.seen.book ≡ J.roll 0) }
+    requires named { (opened.history.seen.book ≡ J.board 0) × (opened.roll.seen.book ≡ J.roll 0) }
     requires readers { (0 < plan.readers) × (plan.readers ≤ 16) }
 {
-    let (mut writer, mut readers) = board::<J>(alloc, opened, 0, plan.readers)?;
+    let (mut writer, mut readers) = board::<J, R>(alloc, rt, opened, 0, plan.readers)?;
     let seen = measure(rt, &mut writer, readers.as_mut_slice(), plan);
+    writer.close(rt);
     seen
 }
 
 fn seen_on<R: Wait>(rt: &R, alloc: Global, plan: Plan) -> Result<u64, AllocError>
     requires { (0 < plan.readers) × (plan.readers ≤ 16) }
 {
-    measured::<Brand, R>(rt, alloc, OpenedBoard::new(alloc)?, plan)
+    measured::<Brand, R>(rt, alloc, OpenedBoard::new(), plan)
 }
 
-/// `board WHAT READERS COUNT`, where WHAT is `events` or `looks` and READERS is 1 to 16: counts the
-/// queues that were seen.
+/// `board WHAT READERS COUNT`, where WHAT is `events`, `news` or `reads` and READERS is 1 to 16:
+/// counts the queues that were seen.
 pub(crate) fn run(rt: &(impl Print + Wait), alloc: Global, words: &Words) -> Result<()> {
     let plan = Plan {
-        looks: words.word(1) == "looks",
+        what: match words.word(1) {
+            "news" => What::News,
+            "reads" => What::Reads,
+            _ => What::Events,
+        },
         readers: words.number(2, 2)?.clamp(1, 16) as usize,
         count: words.number(3, 10)?,
     };

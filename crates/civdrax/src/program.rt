@@ -1,7 +1,8 @@
 use mq_arena::Text;
 use mq_face::{
     ANSWER_NUMBERS, Call, CallKind, ControlShown, Done, EIGHT_BYTES, ReceivedMessage, Refusal,
-    control, cut_where_due, draft, from_bytes, get, receive, send, to_bytes, unknown,
+    control, cut_where_due, draft, from_bytes, get, receive, send, spend_received, to_bytes,
+    unknown,
 };
 use mq_one_thread::OneThread;
 use std::sync::ledger::Ledger;
@@ -45,7 +46,7 @@ fn answer<L: Ledger>(queues: &mut OneThread<L>, calls: i32, call: Call) -> bool 
 fn tell<L: Ledger>(queues: &mut OneThread<L>, calls: i32, outcome: Result<Done, Refusal>) -> bool {
     match outcome {
         Ok(done) => {
-            cut_where_due(queues, done.slot, done.entry);
+            let _ = cut_where_due(queues, done.slot, done.entry);
             write_numbers(calls, done.numbers()) && write_shown(calls, done.shown)
         }
         Err(refusal) => write_numbers(calls, refusal.numbers()),
@@ -85,17 +86,10 @@ fn hand_out<L: Ledger>(
     message: ReceivedMessage<Text<L>>,
 ) -> bool {
     let mut whole = write_numbers(calls, message.numbers());
-    let ReceivedMessage {
-        slot,
-        entry,
-        mtype: _,
-        text,
-    } = message;
-    for part in text.parts() {
+    for part in message.text.parts() {
         whole = whole && io::write_all(calls, part);
     }
-    queues.spend(text);
-    cut_where_due(queues, slot, Some(entry));
+    let _ = spend_received(queues, message);
     whole
 }
 

@@ -1,3 +1,4 @@
+pub mod Clearing
 pub mod Cuts
 pub mod Drafts
 pub mod Filling

@@ -1,11 +1,11 @@
 -- A text after its bytes were written.
-use Rattle.std.proofs.Common.{◌≡◌, ◌≤◌, ◌*◌, ◌^◌, ℕ, List, ◌++◌, length, take, Some, refl, sym, ◌∙◌, ap, subst}
+use Rattle.std.proofs.Common.{◌≡◌, ◌≤◌, ◌-◌, ◌*◌, ◌^◌, ℕ, List, ◌++◌, length, take, replicate, Some, refl, sym, ◌∙◌, ap, subst, arith}
 use Rattle.std.proofs.lemmas.List.{take_at}
 use Rattle.std.specs.List.{concat}
 use Rattle.mq_arena.specs.OwnedBlock.{OwnedBlock, IsBlock}
 use Rattle.mq_arena.specs.declared.page.TheConstants.{PAGE_LEN}
 use Rattle.mq_arena.specs.Lent.{place}
-use Rattle.mq_arena.specs.Text.{PlainText, ArePagesOf}
+use Rattle.mq_arena.specs.Text.{PlainText, ArePagesOf, AreItsAlone}
 use Rattle.mq_arena.specs.TextHeld.{text_of}
 use Rattle.mq_arena.proofs.Texts.{text_length}
 use Rattle.mq_arena.proofs.TextParts.{IsHeld, held_by}
@@ -25,6 +25,21 @@ pages_of {len = len} {b = b} h =
       whole = h.held.0.whole;
       count = h.held.0.count;
       bytes = ap (λ n. take n (concat b.pages)) (sym (text_length len (Some b) h.held));
+    })
+
+-- the pages once all is cleared that stands behind the text
+pub alone_in : {text : PlainText} {len : ℕ} {b : OwnedBlock} (new : OwnedBlock) → IsHeld text len b → IsBlock new
+    → new.order ≡ b.order → concat new.pages ≡ take len (concat b.pages) ++ replicate (PAGE_LEN * 2 ^ b.order - len) 0
+    → AreItsAlone text new.pages
+alone_in {len = len} {b = b} new h whole same_order cleared =
+    let count : length new.pages ≡ 2 ^ b.order = whole.count ∙ ap (λ k. 2 ^ k) same_order in
+    let long : length (take len (concat b.pages)) ≡ len = text_length len (Some b) h.held in
+    let zeros : PAGE_LEN * 2 ^ b.order - len ≡ PAGE_LEN * length new.pages - length (take len (concat b.pages)) =
+    omega (arith, count, long) in
+    subst (λ t. AreItsAlone t new.pages) h.same (record {
+      whole = whole.whole;
+      count = count;
+      bytes = cleared ∙ ap (λ k. take len (concat b.pages) ++ replicate k 0) zeros;
     })
 
 -- whatever is in its block at the end, it is a text of as many bytes as before

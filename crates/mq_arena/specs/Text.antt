@@ -1,5 +1,5 @@
 -- Texts as those who send and receive them see them.
-use Rattle.std.specs.Prelude.{◌≡◌, ℕ, ◌+◌, ◌-◌, ◌*◌, ◌/◌, ◌^◌, nat_lt, List, [], ◌++◌, length, take, drop, Option, None, Some, IfSome, count_by}
+use Rattle.std.specs.Prelude.{◌≡◌, ℕ, ◌+◌, ◌-◌, ◌*◌, ◌/◌, ◌^◌, nat_lt, List, [], ◌++◌, length, take, drop, replicate, Option, None, Some, IfSome, count_by}
 use Rattle.std.specs.List.{concat, range_with_len}
 use Rattle.std.specs.Option.{option_map}
 use Rattle.mq_tree.specs.Blocks.{PlainBlock}
@@ -45,6 +45,13 @@ pub record ArePagesOf (text : PlainText) (pages : List (List ℕ)) : Type 0 wher
   pub whole : AreWhole pages
   pub count : IfSome text.block (λ b. length pages ≡ 2 ^ b.order)
   pub bytes : text.bytes ≡ take (length text.bytes) (concat pages)
+
+-- the same, and all that stands behind the text's bytes is zero
+pub record AreItsAlone (text : PlainText) (pages : List (List ℕ)) : Type 0 where
+  pub whole : AreWhole pages
+  pub count : IfSome text.block (λ b. length pages ≡ 2 ^ b.order)
+  pub bytes : concat pages
+      ≡ text.bytes ++ replicate (PAGE_LEN * length pages - length text.bytes) 0
 
 -- a text of these bytes in the block that an arena lends for it, and the arena; `None` where no
 -- block fits

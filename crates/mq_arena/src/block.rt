@@ -144,6 +144,17 @@ impl<L: Ledger> Block<L> {
         writes::overwrite(self.pages.as_mut_slice(), bytes);
     }
 
+    /// Writes zeros over all bytes but the first `len`.
+    pub(crate) fn clear_from(&mut self, len: usize)
+        ensures start { self.new.start ≡ self.old.start }
+        ensures order { self.new.order ≡ self.old.order }
+        ensures block { IsBlock self.new }
+        ensures bytes { concat self.new.pages ≡ take len (concat self.old.pages)
+            ++ replicate (PAGE_LEN * 2 ^ self.old.order - len) 0 }
+    {
+        writes::clear_from(self.pages.as_mut_slice(), len);
+    }
+
     /// Fills the pages below `i` and those from `i` on, on two threads.
     #[tactic(auto, using(crate::proofs::Filling::both_filled))]
     pub fn fill_halves(&mut self, rt: &impl Threads, i: usize, front: &[u8], back: &[u8])

@@ -20,6 +20,7 @@ mod take_error;
 mod text;
 mod text_writes;
 mod unopened;
+mod unwritten;
 mod writes;
 
 pub use block::Block;
@@ -34,4 +35,5 @@ pub use state::ArenaState;
 pub use take_error::TakeError;
 pub use text::Text;
 pub use unopened::Unopened;
+pub use unwritten::Unwritten;
 pub use writes::fill;

@@ -10,6 +10,7 @@ use crate::magazine::Magazine;
 use crate::page::PAGE_LEN;
 use crate::state::ArenaState;
 use crate::take_error::TakeError;
+use crate::unwritten::Unwritten;
 use std::marker::{Brand, Model};
 use std::sync::ledger::Ledger;
 use std::sync::{Mutex, Wait};
@@ -84,18 +85,18 @@ impl<L: OfHeight> Arena<L> {
             ≡ bytes.now ++ replicate (PAGE_LEN * 2 ^ order - length bytes.now) 0) }
         ensures memory { IsErrOf result TakeError.Memory → INLINE_ORDER < order }
     {
-        let mut block = self.take_unwritten(rt, order)?;
-        block.write_over(bytes);
-        Ok(block)
+        let taken = self.take_unwritten(rt, order)?;
+        Ok(taken.overwrite(bytes))
     }
 
-    /// Takes a block as `take` does, with the bytes that its pages had.
-    pub fn take_unwritten<R: Wait>(&self, rt: &R, order: u8) -> Result<Block<L>, TakeError>
+    /// Takes a block as `take` does, which must be written over before a byte of it is read.
+    pub fn take_unwritten<R: Wait>(&self, rt: &R, order: u8) -> Result<Unwritten<L>, TakeError>
         requires { order ≤ MAX_ORDER }
         ensures order { IfOk result (λ b. b.order ≡ order) }
         ensures memory { IsErrOf result TakeError.Memory → INLINE_ORDER < order }
     {
-        self.held.lock(rt).state.take_block(order)
+        let block = self.held.lock(rt).state.take_block(order)?;
+        Ok(Unwritten::of(block))
     }
 
     /// Takes a block back, home or as a stray.

@@ -8,6 +8,7 @@ use crate::account::page_count;
 use crate::block::Block;
 use crate::limits::{INLINE_ORDER, MAX_ORDER};
 use crate::state::ArenaState;
+use crate::unwritten::Unwritten;
 use std::alloc::{AllocError, Global};
 use std::marker::Model;
 use std::sync::ledger::Ledger;
@@ -53,7 +54,7 @@ impl<L: Ledger> Magazine<L> {
     }
 
     /// Takes out a block of that order, if there is one.
-    pub fn take(&mut self, order: u8) -> Option<Block<L>>
+    pub fn take(&mut self, order: u8) -> Option<Unwritten<L>>
         requires { order ≤ MAX_ORDER }
         ensures order { IfSome result (λ b. b.order ≡ order) }
         ensures taken { IfSome result (λ b. IsPermutation (b ∷ self.new) self.old) }
@@ -63,7 +64,7 @@ impl<L: Ledger> Magazine<L> {
         let index = index_of(&self.blocks, order)?;
         let block = self.blocks.swap_remove(index);
         self.pages -= page_count(order);
-        Some(block)
+        Some(Unwritten::of(block))
     }
 
     /// Keeps a block, or hands it back where it would keep more than `MAGAZINE_PAGES` pages then.

@@ -85,4 +85,13 @@ impl Page {
         first.copy_from_slice(bytes);
         rest.fill(0);
     }
+
+    /// Writes zeros over all bytes but the first `len`.
+    pub(crate) fn clear_from(&mut self, len: usize)
+        requires { len ≤ length self.old }
+        ensures { self.new ≡ take len self.old ++ replicate (length self.old - len) 0 }
+    {
+        let (_, back) = self.bytes.as_mut_slice().split_at_mut(len);
+        back.fill(0);
+    }
 }

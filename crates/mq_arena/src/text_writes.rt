@@ -3,7 +3,7 @@ ghost use Rattle.std.specs.Prelude.{◌≡◌, ◌+◌, ◌*◌, ◌≤◌, ◌<
 ghost use Rattle.std.specs.Borrow.{sem};
 ghost use Rattle.mq_arena.specs.Halves.{AreWritten, TakesPages, KeepsPages};
 ghost use Rattle.mq_arena.specs.OwnedBlock.{IsBlock};
-ghost use Rattle.mq_arena.specs.Text.{count_of, text_part, ArePagesOf};
+ghost use Rattle.mq_arena.specs.Text.{count_of, text_part, ArePagesOf, AreItsAlone};
 
 use crate::text::{Text, part_len};
 use crate::{Block, PAGE_LEN, Page};
@@ -60,7 +60,8 @@ impl<L: Ledger> Text<L> {
     }
 
     /// Lends the block's pages below `i` to `f` and those from `i` on to `g`, on two threads. The
-    /// text's bytes are the first ones of these pages.
+    /// text's bytes are the first ones of these pages, and zeros stand behind them: of what a cut
+    /// took away nothing is lent.
     pub fn write_halves<R: Threads, F: FnMut(&mut [Page]) + Send, G: FnMut(&mut [Page])>(
         &mut self,
         rt: &R,
@@ -76,12 +77,14 @@ impl<L: Ledger> Text<L> {
         requires back_kept { IfSome self.old.block (λ b. KeepsPages (G.step g) (2 ^ b.order - i)) }
         ensures len { length self.new.bytes ≡ length self.old.bytes }
         ensures block { self.new.block ≡ self.old.block }
-        ensures halves { (old new : List (List ℕ)) × ArePagesOf self.old old
+        ensures halves { (old new : List (List ℕ)) × AreItsAlone self.old old
             × ArePagesOf self.new new × AreWritten (F.step f) (G.step g) i old new }
     {
+        let len = self.len;
         let Some(block) = &mut self.block else {
             unreachable!()
         };
+        block.clear_from(len);
         block.write_halves(rt, i, f, g);
         still_whole(block);
     }

@@ -1,5 +1,5 @@
 //! Bytes that are written over pages.
-ghost use Rattle.std.specs.Prelude.{◌≡◌, ◌≤◌, ◌*◌, ◌++◌, length, drop, replicate};
+ghost use Rattle.std.specs.Prelude.{◌≡◌, ◌≤◌, ◌-◌, ◌*◌, ◌++◌, length, take, drop, replicate};
 ghost use Rattle.std.specs.List.{concat};
 ghost use Rattle.mq_arena.specs.Bytes.{AreWhole, filled};
 
@@ -32,5 +32,20 @@ pub(crate) fn overwrite(pages: &mut [Page], bytes: &[u8])
         let (part, later) = rest.split_at(PAGE_LEN.min(rest.len()));
         page.overwrite(part);
         rest = later;
+    }
+}
+
+/// Writes zeros over all bytes of the pages but the first `len`.
+pub(crate) fn clear_from(pages: &mut [Page], len: usize)
+    requires { AreWhole pages.old }
+    ensures whole { AreWhole pages.new }
+    ensures bytes { concat pages.new
+        ≡ take len (concat pages.old) ++ replicate (PAGE_LEN * length pages.old - len) 0 }
+{
+    let mut rest = len;
+    for page in pages.iter_mut() {
+        let front = PAGE_LEN.min(rest);
+        page.clear_from(front);
+        rest -= front;
     }
 }

@@ -1,9 +1,9 @@
--- What is published on a board.
-use Rattle.std.specs.Prelude.{◌≡◌, ℕ, false, List, []}
-use Rattle.atomic_table.specs.Seated.{TableId}
+-- What is published on a board, and how it is kept: as the log of a book, of which one word, the
+-- number of the events, is in memory.
+use Rattle.std.specs.Prelude.{◌≡◌, ℕ, true, List, [], ◌∷◌, ◌++◌, length, ◌<◌}
+use Rattle.logbook.specs.Pages.{Book, Cell, Named, Step, View, cell}
 use Rattle.mq_queue.specs.declared.event.Event.{Event}
-use Rattle.mq_board.specs.declared.shown.Shown.{Shown}
-use Rattle.mq_board.specs.Shown.{IsRowOf, Pass, known}
+use Rattle.mq_queue.specs.declared.event.Event.TheVariants.{Removed}
 
 -- the first events that were published on the board with this number
 pub record History : Type 0 where
@@ -13,13 +13,23 @@ pub record History : Type 0 where
 abbrev pub history : ℕ → List Event → History
 history board events = record { board = board; events = events }
 
--- the row is that of what the pass knows of the cell with this name
-pub record IsRowKnown (name : TableId) (shown : Shown) (pass : Pass) : Type 0 where
-  pub cell : pass.table_id ≡ name
-  pub shown_is : IsRowOf shown (known pass).events
+-- the word of a history
+abbrev pub word_of : Book → Named
+word_of book = record { tracked = true; key = 0; book = book }
 
--- what was told is of a pass that was made for it
-pub record IsToldList (name : TableId) (shown : Shown) (pass : Pass) : Type 0 where
-  pub kept : IsRowKnown name shown pass
-  pub reads : (known pass).writes ≡ false
-  pub alone : pass.me.1 ≡ []
+-- what holds between two steps: the word is the number of the events
+pub record IsCounted (cells : List Cell) (log : List Event) : Type 0 where
+  pub inside : 0 < length cells
+  pub head : cell cells 0 ≡ (length log, true)
+
+-- what a step asks for that adds nothing
+abbrev pub any_event : Event
+any_event = Removed 0 0
+
+-- where all had been seen, the event was added
+abbrev pub Adds : Step Event → View Event ℕ → ℕ → View Event ℕ → Type 0
+Adds s v found w = length v.0 ≡ s.old → found ≡ s.old → w.0 ≡ v.0 ++ s.ask ∷ []
+
+-- all is seen
+abbrev pub LearnsAll : Step Event → View Event ℕ → ℕ → View Event ℕ → Type 0
+LearnsAll s v found w = found ≡ length w.0

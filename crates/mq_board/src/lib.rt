@@ -1,9 +1,11 @@
-//! Boards: the row of each slot in words that readers take without a lock, and what of the
-//! published events each reader knows.
+//! Boards: each slot's row (its figures, key and number of queues) in the two copies of a
+//! left-right structure, which one writer publishes and readers read without a lock; and the
+//! history of the published events, by which a reader knows that what it read only grows.
 
 #![tactic(auto)]
 
-mod cell;
+mod copies;
+mod history;
 mod making;
 mod naming;
 mod opened;
@@ -11,17 +13,15 @@ mod posting;
 mod reader;
 mod roll;
 mod row;
-mod shown;
+mod snapshot;
 mod told;
 mod writer;
 
-pub use cell::{Cell, Known, Pass, Showing};
 pub use making::{board, next_board, open_boards};
 pub use naming::Naming;
 pub use opened::OpenedBoard;
 pub use posting::Posting;
 pub use reader::BoardReader;
 pub use roll::OpenedRoll;
-pub use shown::{News, Shown, WORDS};
 pub use told::ToldList;
 pub use writer::BoardWriter;

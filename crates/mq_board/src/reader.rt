@@ -1,58 +1,70 @@
-ghost use Rattle.std.specs.Prelude.{◌≡◌, ◌<◌, ◌≤◌, [], length, IfSome, MatchBool};
-ghost use Rattle.std.specs.Arc.{arc_value};
-ghost use Rattle.mq_queue.specs.Row.{row};
-ghost use Rattle.mq_board.specs.Readers.{HasSeenMore, new_reader};
-ghost use Rattle.mq_board.specs.Shown.{known};
+//! A reader of a board.
 
-use crate::cell::{Cell, Pass};
+ghost use Rattle.std.specs.Prelude.{◌≡◌, ◌<◌, ◌≤◌, [], length, IfSome, MatchBool};
+ghost use Rattle.mq_queue.specs.Row.{row};
+ghost use Rattle.mq_board.specs.Readers.{HasSeenMore};
+
+use crate::history::EventCount;
 use crate::naming::Naming;
 use crate::roll::BoardPlace;
-use crate::shown::{NOTHING, Shown};
+use crate::snapshot::{BoardLaw, OfBoard, Snapshot};
 use crate::told::ToldList;
+use crossbeam_utils::Backoff;
+use left_right::reader::Factory;
 use mq_queue::BoardRow;
-use std::alloc::Global;
 use std::marker::Model;
-use std::sync::Arc;
+
+#[cfg(test)]
+mod tests;
+
+/// How often a reader that finds no place free among the copies tries again, spinning in between:
+/// less than a tenth of a millisecond in all.
+const ATTEMPTS: u32 = 30;
 
 /// A reader of a board, seen as its place and its front: the published events that it knows.
 #[derive(Drop)]
 pub struct BoardReader<J: Naming> {
-    cell: Arc<Cell, Global>,
+    copies: Factory<Snapshot, (), BoardLaw<J>>,
     place: BoardPlace<J>,
-    /// Its front's row and count.
-    kept: Shown,
-    pass: Pass,
+    /// Its front, with the row.
+    front: ToldList<J>,
+    counter: EventCount<J>,
 }
 
 impl<J: Naming> Model for BoardReader<J> {
     ghost use Rattle.std.specs.Prelude.{◌≡◌};
-    ghost use Rattle.std.specs.Arc.{arc_value};
-    ghost use Rattle.mq_board.specs.Readers.{IsReader, ReaderState};
-    ghost use Rattle.mq_board.specs.Shown.{known};
+    ghost use Rattle.mq_board.specs.Readers.{ReaderState};
 
     ghost Value = { ReaderState };
 
     ghost view = { λ r. record {
-      board = r.place.board;
+      board = r.front.board;
       place = r.place.number;
-      events = (known r.pass).events;
+      events = r.front.events;
     } };
 
-    ghost invariant = { λ r. IsReader (J.board r.place.board)
-        (arc_value r.cell).table.shared.table_id r.kept r.pass };
+    ghost invariant = { λ r. (r.place.board ≡ r.front.board) × (r.counter ≡ r.front.board) };
 }
 
 impl<J: Naming> BoardReader<J> {
-    pub(crate) fn new(cell: Arc<Cell, Global>, place: BoardPlace<J>) -> BoardReader<J>
-        requires { (arc_value cell).table.shared.table_id ≡ J.board place.board }
-        ensures { result ≡ new_reader place.board place.number }
+    pub(crate) fn new(
+        copies: Factory<Snapshot, (), BoardLaw<J>>,
+        place: BoardPlace<J>,
+        front: ToldList<J>,
+        counter: EventCount<J>,
+    ) -> BoardReader<J>
+        requires { (place.board ≡ front.board) × (counter ≡ front.board) }
+        ensures { result ≡ record {
+          board = front.board;
+          place = place.number;
+          events = front.events;
+        } }
     {
-        let pass = cell.pass();
         BoardReader {
-            cell,
+            copies,
             place,
-            kept: NOTHING,
-            pass,
+            front,
+            counter,
         }
     }
 
@@ -60,7 +72,7 @@ impl<J: Naming> BoardReader<J> {
     pub fn board(&self) -> u8
         ensures { result ≡ self.now.board }
     {
-        self.place.board()
+        self.front.board()
     }
 
     /// Its place on the board.
@@ -70,33 +82,47 @@ impl<J: Naming> BoardReader<J> {
         self.place.number()
     }
 
-    /// The row of a published list that begins with the front, and that is the front then. It waits
-    /// for nobody, takes no lock and no memory. Where each of many looks finds that the row is just
-    /// being written, the row of the front is answered.
+    /// The row of a published list that begins with the front, and that is the front then. It
+    /// takes no lock and no memory, and waits for nobody: where all places are taken at each of
+    /// `ATTEMPTS` tries, or the board was given up, it answers the row of the front.
     pub fn row(&mut self) -> BoardRow
         ensures later { HasSeenMore self.old self.new }
         ensures row { result ≡ row self.new.events }
     {
-        if self.kept.count < self.cell.version() / 2 {
-            self.look();
+        if self.front.count() < self.counter.latest(&self.front) {
+            self.refresh();
         }
         self.known()
     }
 
-    /// The row of the front, as it last learned or looked: it reads nothing that others write.
+    /// The row of the front as it is: it reads nothing that others write.
     pub fn known(&self) -> BoardRow
         ensures { result ≡ row self.now.events }
     {
-        self.kept.row
+        self.front.row()
     }
 
-    /// Learns what the board shows.
-    fn look(&mut self)
+    /// Learns what is published, if it finds a place.
+    fn refresh(&mut self)
         ensures { HasSeenMore self.old self.new }
     {
-        if let Some(shown) = self.cell.look(&mut self.pass) {
-            self.kept = shown;
+        let backoff = Backoff::new();
+        for _attempt in 0..ATTEMPTS {
+            if let Some(published) = self.read() {
+                self.adopt(published);
+                return;
+            }
+            backoff.spin();
         }
+    }
+
+    /// What is published. `None` where other readers have all places, or the board was given up.
+    fn read(&self) -> Option<ToldList<J>> {
+        let reader = self.copies.reader().ok()?;
+        let reading = reader.enter_as::<OfBoard<J>>().ok()?;
+        let published = ToldList::new(reading.get().duplicate());
+        reading.leave();
+        Some(published)
     }
 
     /// Learns what the board's writer told, if the list is at least as long as the front.
@@ -107,34 +133,33 @@ impl<J: Naming> BoardReader<J> {
             ((self.new.events ≡ told.events) × (length self.old.events ≤ length told.events))
             ((self.new ≡ self.old) × (length told.events < length self.old.events)) }
     {
-        let ToldList {
-            number: _,
-            shown,
-            pass,
-            of: _,
-        } = told;
-        if shown.count < self.kept.count {
+        if !self.front.is_prefix_of(&told) {
             return false;
         }
-        self.cell.learn(&mut self.pass, pass);
-        self.kept = shown;
+        self.front = told;
         true
     }
 
-    /// Its place, and a pass that knows its front.
-    pub(crate) fn into_parts(self) -> (BoardPlace<J>, Pass)
+    /// Learns what a copy held. Each copy of a board is of that board: in no run is it of another.
+    fn adopt(&mut self, published: ToldList<J>)
+        ensures { HasSeenMore self.old self.new }
+    {
+        if self.board() == published.board() {
+            self.learn(published);
+        }
+    }
+
+    /// Its place and its front.
+    pub(crate) fn into_parts(self) -> (BoardPlace<J>, ToldList<J>)
         ensures place { result.0 ≡ record { board = self.board; number = self.place } }
-        ensures front { (known result.1).events ≡ self.events }
-        ensures cell { result.1.table_id ≡ J.board self.board }
-        ensures alone { result.1.me.1 ≡ [] }
+        ensures front { result.1 ≡ record { board = self.board; events = self.events } }
     {
         let BoardReader {
-            cell,
+            copies: _,
             place,
-            kept: _,
-            mut pass,
+            front,
+            counter: _,
         } = self;
-        let told = cell.tell(&mut pass);
-        (place, told)
+        (place, front)
     }
 }

@@ -1,58 +1,57 @@
 //! The writer of a board.
 
-ghost use Rattle.std.specs.Prelude.{◌≡◌, ◌≢◌, ℕ, ◌++◌, ◌∷◌, [], map, true};
-ghost use Rattle.std.specs.Arc.{arc_value};
+ghost use Rattle.std.specs.Prelude.{◌≡◌, ◌≢◌, ℕ, ◌++◌, ◌∷◌, [], map};
 ghost use Rattle.std.specs.List.{All, AllPairs, Contains};
 ghost use mathlib.Core.List.{IsPrefix};
 ghost use Rattle.mq_queue.specs.Row.{row};
-ghost use Rattle.mq_board.specs.Histories.{history};
-ghost use Rattle.mq_board.specs.Shown.{first_known, known};
+ghost use Rattle.mq_board.specs.Histories.{History, history};
+ghost use Rattle.mq_board.specs.Snapshots.{snapshot_of};
 ghost use Rattle.mq_board.specs.Writers.{HasOnePending, posting};
 
-use crate::cell::{Cell, Pass};
+use crate::copies::Copies;
+use crate::history::HistoryWriter;
 use crate::naming::Naming;
-use crate::posting::Posting;
+use crate::posting::{NOTHING, Posting};
 use crate::reader::BoardReader;
 use crate::roll::Roll;
-use crate::row::{next_key, next_row};
-use crate::shown::{NOTHING, News, Shown};
+use crate::row::{EMPTY, next_key, next_row};
 use crate::told::ToldList;
 use mq_queue::{BoardRow, Event, Figures, Notice};
-use std::alloc::{AllocError, Global};
-use std::marker::{Model, PhantomData};
-use std::sync::{Arc, Wait};
+use std::alloc::AllocError;
+use std::marker::Model;
+use std::sync::Wait;
 
 /// The writer of a board, seen as its published list, what is pending and the readers that came
-/// home. There is one of each board.
-#[derive(Drop)]
+/// home. There is one of each board. It can't be dropped: `end` or `close` gives the board up.
 pub struct BoardWriter<J: Naming> {
-    cell: Arc<Cell, Global>,
-    pass: Pass,
+    copies: Copies<J>,
+    history: HistoryWriter<J>,
     roll: Roll<J>,
-    /// The published list's row and count.
-    kept: Shown,
+    /// The published list's row.
+    row: BoardRow,
     /// The key of the queue that was made last, also once it was removed.
     key: i32,
-    pending: Vec<Posting>,
+    /// A place for the event that is prepared and not published yet, and whether one is there.
+    next: Posting,
+    is_pending: bool,
 }
 
 impl<J: Naming> Model for BoardWriter<J> {
     ghost use Rattle.std.specs.Prelude.{◌≡◌};
-    ghost use Rattle.std.specs.Arc.{arc_value};
-    ghost use Rattle.mq_board.specs.Shown.{known};
-    ghost use Rattle.mq_board.specs.Writers.{WriterState, IsWriter};
+    ghost use Rattle.mq_board.specs.Writers.{WriterState, IsWriter, pending_in};
+    ghost use Rattle.mq_board.specs.Snapshots.{snapshot_of};
 
     ghost Value = { WriterState };
 
     ghost view = { λ w. record {
-      board = w.roll.board;
-      events = (known w.pass).events;
-      pending = w.pending.items;
+      board = w.history.board;
+      events = w.history.events;
+      pending = pending_in w.is_pending w.next;
       home = w.roll.home;
     } };
 
-    ghost invariant = { λ w. IsWriter (J.board w.roll.board)
-        (arc_value w.cell).table.shared.table_id w.kept w.key w.pass };
+    ghost invariant = { λ w. IsWriter w.history w.roll.board w.row w.key
+        × (w.copies ≡ snapshot_of w.history.board (J.board w.history.board) w.history.events) };
 }
 
 impl<J: Naming> Notice for BoardWriter<J> {
@@ -62,36 +61,37 @@ impl<J: Naming> Notice for BoardWriter<J> {
     ghost takes = { λ old event after new.
         new ≡ record old { pending = old.pending ++ posting event after ∷ [] } };
 
+    /// It takes no memory. There is a place for one event: `Err` where one is pending.
     fn prepare(&mut self, event: Event, after: Figures) -> Result<(), AllocError> {
-        self.pending.push(Posting { event, after })?;
+        if self.is_pending {
+            return Err(AllocError);
+        }
+        self.next = Posting { after, event };
+        self.is_pending = true;
         Ok(())
     }
 }
 
 impl<J: Naming> BoardWriter<J> {
-    pub(crate) fn new(
-        alloc: Global,
-        cell: Arc<Cell, Global>,
-        pass: Pass,
-        roll: Roll<J>,
-    ) -> BoardWriter<J>
-        requires cell { (arc_value cell).table.shared.table_id ≡ J.board roll.board }
-        requires pass { pass.table_id ≡ J.board roll.board }
-        requires first { known pass ≡ first_known }
+    pub(crate) fn new(copies: Copies<J>, history: HistoryWriter<J>, roll: Roll<J>) -> BoardWriter<J>
+        requires empty { history.events ≡ [] }
+        requires board { roll.board ≡ history.board }
+        requires shown { copies ≡ snapshot_of history.board (J.board history.board) [] }
         ensures { result ≡ record {
-          board = roll.board;
+          board = history.board;
           events = [];
           pending = [];
           home = roll.home;
         } }
     {
         BoardWriter {
-            cell,
-            pass,
+            copies,
+            history,
             roll,
-            kept: NOTHING,
+            row: EMPTY,
             key: 0,
-            pending: Vec::new(alloc),
+            next: NOTHING,
+            is_pending: false,
         }
     }
 
@@ -99,14 +99,14 @@ impl<J: Naming> BoardWriter<J> {
     pub fn board(&self) -> u8
         ensures { result ≡ self.now.board }
     {
-        self.roll.board()
+        self.history.board()
     }
 
     /// The row of the published list.
     pub fn row(&self) -> BoardRow
         ensures { result ≡ row self.now.events }
     {
-        self.kept.row
+        self.row
     }
 
     /// Names the published list.
@@ -114,16 +114,11 @@ impl<J: Naming> BoardWriter<J> {
         ensures told { result ≡ history self.old.board self.old.events }
         ensures same { self.new ≡ self.old }
     {
-        ToldList {
-            number: self.board(),
-            shown: self.kept,
-            pass: self.cell.tell(&mut self.pass),
-            of: PhantomData,
-        }
+        ToldList::new(self.history.snapshot(self.row))
     }
 
-    /// Publishes the event that is pending: from now on readers that look find it. It takes no
-    /// memory, and waits for nobody before 2^63 events.
+    /// Publishes the event that is pending: readers find it from then on. It takes no memory, and
+    /// waits for a reader that is still inside the copy that was published before the last.
     pub fn publish<R: Wait>(&mut self, rt: &R)
         requires { HasOnePending self.old.events self.old.pending }
         ensures { self.new ≡ record self.old {
@@ -131,21 +126,16 @@ impl<J: Naming> BoardWriter<J> {
           pending = [];
         } }
     {
-        let Some(Posting { event, after }) = self.pending.pop() else {
-            unreachable!()
-        };
-        let Shown { row, count } = self.kept;
-        let shown = Shown {
-            row: next_row(row, self.key, event, after),
-            count: count + 1,
-        };
-        self.cell.publish(rt, &mut self.pass, News { shown, event });
+        let event = self.next.event;
+        self.row = next_row(self.row, self.key, event, self.next.after);
         self.key = next_key(self.key, event);
-        self.kept = shown;
+        self.is_pending = false;
+        self.history.add(rt, event);
+        self.copies.publish(rt, self.history.snapshot(self.row));
     }
 
     /// A reader comes home. Its front begins the published list, and its place was not at home.
-    pub fn take_back(&mut self, reader: BoardReader<J>)
+    pub fn take_back<R: Wait>(&mut self, rt: &R, reader: BoardReader<J>)
         requires { reader.board ≡ self.old.board }
         ensures same { self.new ≡ record self.old { home = self.new.home } }
         ensures front { IsPrefix reader.events self.old.events }
@@ -154,13 +144,13 @@ impl<J: Naming> BoardWriter<J> {
         ensures kept { (place : ℕ) → Contains self.old.home place → Contains self.new.home place }
     {
         let (place, front) = reader.into_parts();
-        self.cell.cover(&mut self.pass, front);
+        self.history.confirm(rt, &front);
         self.roll.take_home(place);
     }
 
     /// Gives up the board, whose readers come home. The fronts of all begin the published list, and
     /// no two had one place.
-    pub fn end(self, readers: Vec<BoardReader<J>>)
+    pub fn end<R: Wait>(self, rt: &R, readers: Vec<BoardReader<J>>)
         requires { All (λ r. r.board ≡ self.board) readers.items }
         ensures fronts { All (λ r. IsPrefix r.events self.events) readers.items }
         ensures places { AllPairs (λ p q. p ≢ q) (map (λ r. r.place) readers.items) }
@@ -168,7 +158,23 @@ impl<J: Naming> BoardWriter<J> {
         let mut writer = self;
         let mut readers = readers;
         while let Some(reader) = readers.pop() {
-            writer.take_back(reader);
+            writer.take_back(rt, reader);
         }
+        writer.close(rt);
+    }
+
+    /// Gives up the board, and waits for the readers inside its copies. A reader that is left
+    /// answers the row of its front from then on.
+    pub fn close<R: Wait>(self, rt: &R) {
+        let BoardWriter {
+            copies,
+            history: _,
+            roll: _,
+            row: _,
+            key: _,
+            next: _,
+            is_pending: _,
+        } = self;
+        copies.close(rt);
     }
 }

@@ -24,7 +24,7 @@ pub use call::{CALL_NUMBERS, Call, CallKind};
 pub use command::ControlCommand;
 pub use control_call::control;
 pub use get_call::get;
-pub use log::{LOG_BOUND, cut_where_due};
+pub use log::{LOG_BOUND, cut_where_due, spend_received};
 pub use manual::{
     EFAULT, ENOSYS, IPC_CREAT, IPC_EXCL, IPC_INFO, IPC_NOWAIT, IPC_RMID, IPC_SET, IPC_STAT,
     MSG_COPY, MSG_EXCEPT, MSG_INFO, MSG_NOERROR, MSG_STAT, MSG_STAT_ANY, SEAT, SSIZE_MAX,

@@ -1,20 +1,51 @@
-ghost use Rattle.mq_face.specs.Logs.{IsCutWhereDue};
+ghost use Rattle.std.specs.Prelude.{Some};
+ghost use Rattle.mq_calls.specs.Texts.{text_spent};
+ghost use Rattle.mq_face.specs.Logs.{CutsWhereDue};
 
+use crate::ReceivedMessage;
+use mq_arena::Text;
 use mq_one_thread::OneThread;
+use std::alloc::AllocError;
 use std::sync::ledger::Ledger;
 
 /// After how many entries a slot's log is cut off: nobody behind C asks for it.
 pub const LOG_BOUND: u64 = 1024;
 
-/// Cuts a slot's log off where the entry is the last of as many, and answers whether it did:
-/// without memory for it the log stays, and is cut at the next.
-pub fn cut_where_due<L: Ledger>(queues: &mut OneThread<L>, slot: u8, entry: Option<u64>) -> bool
-    ensures { IsCutWhereDue queues.old slot entry queues.new result }
+/// Cuts a slot's log off where the entry is the last of as many, and answers whether it is. An
+/// `Err` means that memory ran out: the log stays, and is cut at the next.
+pub fn cut_where_due<L: Ledger>(
+    queues: &mut OneThread<L>,
+    slot: u8,
+    entry: Option<u64>,
+) -> Result<bool, AllocError>
+    ensures { CutsWhereDue queues.old slot entry queues.new result }
 {
     match entry {
         Some(entry) if entry % LOG_BOUND == LOG_BOUND - 1 && slot < queues.slots() => {
-            queues.cut_log(slot).is_ok()
+            match queues.cut_log(slot) {
+                Ok(_) => Ok(true),
+                Err(_) => Err(AllocError),
+            }
         }
-        _ => false,
+        _ => Ok(false),
     }
+}
+
+/// Spends the text of a message that was received, and cuts the slot's log off where the receipt is
+/// the last of as many entries.
+pub fn spend_received<L: Ledger>(
+    queues: &mut OneThread<L>,
+    message: ReceivedMessage<Text<L>>,
+) -> Result<bool, AllocError>
+    ensures { CutsWhereDue (text_spent message.text queues.old) message.slot (Some message.entry)
+        queues.new result }
+{
+    let ReceivedMessage {
+        slot,
+        entry,
+        mtype: _,
+        text,
+    } = message;
+    queues.spend(text);
+    cut_where_due(queues, slot, Some(entry))
 }

@@ -8,6 +8,7 @@ pub mod HomeLemmas
 pub mod KeysLemmas
 pub mod LaterLemmas
 pub mod NameLemmas
+pub mod PatienceLemmas
 pub mod PledgeLemmas
 pub mod RefusalLemmas
 pub mod ReportLemmas

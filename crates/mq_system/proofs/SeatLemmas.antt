@@ -186,6 +186,7 @@ module _ (seats slots number : ℕ) (readers : List ReaderState) (by_slot : List
     seat_learned = record {
       some = h.some;
       few = h.few;
+      few_slots = h.few_slots;
       each = h.each;
       readers_each = length-set readers slot after ∙ h.readers_each;
       placed = placed;

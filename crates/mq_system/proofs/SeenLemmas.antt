@@ -35,13 +35,15 @@ use Rattle.mq_system.specs.Making.{IsMade, make_verdict}
 use Rattle.mq_system.specs.Outcome.{IsLook, IsStep, IsUnderLock}
 use Rattle.mq_system.specs.Seat.{IsCounted, SeatState, front_of}
 use Rattle.mq_system.specs.Seen.{IsDecided, IsDone, IsReceipt, Verdict, unless_refused, receive_verdict, remove_verdict, send_verdict, set_verdict}
+use Rattle.mq_system.specs.Shared.{LockedSlot}
 use Rattle.mq_system.proofs.KeysLemmas.{seq_of_id, slot_of_next}
 use Rattle.mq_system.proofs.LaterLemmas.{front_set, later_set, look_trans, step_after}
 use Rattle.mq_system.proofs.RefusalLemmas.{if_false}
 
 -- the slot under the lock is what the guard holds, and the seat may have learned before
-pub enters : (old had now : SeatState) (slot at : ℕ) (s held : SlotState PlainText) → at ≡ slot
-    → s ≡ held → IsLook old had → IsUnderLock had now at held → IsUnderLock old now slot s
+pub enters : (old had now : SeatState) (slot at : ℕ) (s held : LockedSlot) → at ≡ slot
+    → s ≡ held → IsLook old had → IsUnderLock had now at held.whole
+    → IsUnderLock old now slot s.whole
 enters old had now slot at s held there is look entered = record {
   look = look_trans old had now look entered.look;
   low = rw (← there) entered.low;

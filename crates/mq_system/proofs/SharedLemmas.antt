@@ -30,7 +30,7 @@ use Rattle.mq_system.specs.Answer.{SlotAnswer}
 use Rattle.mq_system.specs.Held.{HasChanged, HasNoted}
 use Rattle.mq_system.specs.Pledge.{IsPledged, Pledged}
 use Rattle.mq_system.specs.Seat.{IsNext, SeatState, seat_of}
-use Rattle.mq_system.specs.Shared.{IsDue, IsShared, with_pending}
+use Rattle.mq_system.specs.Shared.{IsDue, IsShared, locked, with_pending}
 
 -- the pledge holds of all that waits
 abbrev pub AllPledged : Pledged → List (ℕ × Message PlainText) → Type 0
@@ -90,6 +90,7 @@ pub record IsChange (kept : Pledged) (slots last_seq seat : ℕ) (old now : Writ
     : Type 0 where
   pub due : IsDue kept slots last_seq seat now.board now.events now.pending t parts amount
   pub number : t.number ≡ s.number
+  pub first : t.first ≡ s.first
   pub known : now.events ≡ old.events
   pub left : leaves (whole (with_pending now.events now.pending) t)
 
@@ -144,6 +145,7 @@ module _ (kept : Pledged) (slots last_seq parts amount : ℕ) (desk due : Writer
               };
             });
         number = turn.number;
+        first = turn.first;
         known = ap (λ (w : WriterState). w.events) took;
         left = rw next_is left;
       }
@@ -256,9 +258,10 @@ module _ (kept : Pledged) (slots last_seq seat parts amount : ℕ) (old now : Wr
   where
     pub has_changed : {T : Type 0} (decided : SlotAnswer T) (value : T)
         → decided ≡ Ok (value, whole (with_pending now.events now.pending) t)
-        → HasChanged decided (whole old.events s) (whole events t) before after value
+        → HasChanged decided (locked old.events s) (locked events t) before after value
     has_changed decided value is = record {
       ok = rw published is;
       number = its.number;
+      kept = its.first;
       noted = subst (λ n. HasNoted before after n events) its.number noted;
     }

@@ -1,5 +1,5 @@
 -- The seats of a system's callers.
-use Rattle.std.specs.Prelude.{◌≡◌, ℕ, ◌+◌, ◌*◌, ◌<◌, ◌≤◌, ◌==◌, List, [], ◌∷◌, ◌++◌, All, length, replicate}
+use Rattle.std.specs.Prelude.{◌≡◌, ℕ, ◌+◌, ◌*◌, ◌^◌, ◌<◌, ◌≤◌, ◌==◌, List, [], ◌∷◌, ◌++◌, All, length, replicate}
 use Rattle.std.specs.Prelude.{count_by, slice_index, slice_index_or, slice_set}
 use Rattle.std.specs.List.{sum, sum_by}
 use mathlib.Core.List.{IsPrefix}
@@ -43,12 +43,14 @@ abbrev pub AreKnown : ℕ → ℕ → List (List Event) → List ℕ → Type 0
 AreKnown slots number fronts by_slot = (slot : ℕ) → slot < slots
     → slice_index by_slot slot ≤ events_by number (slice_index_or fronts slot [])
 
--- a number from 1 to the number of seats, a count and a reader for each slot, at the place of this
--- number, and a part of the ledger of entries that has as much as its counts can still grow
+-- a number from 1 to the number of seats, a count and a reader for each slot, of which there are
+-- less than 256, at the place of this number, and a part of the ledger of entries that has as much
+-- as its counts can still grow
 pub record IsSeat (seats slots number : ℕ) (readers : List ReaderState) (by_slot : List ℕ)
     (parts amount : ℕ) : Type 0 where
   pub some : 1 ≤ number
   pub few : number ≤ seats
+  pub few_slots : slots < 2 ^ 8
   pub each : length by_slot ≡ slots
   pub readers_each : length readers ≡ slots
   pub placed : AreReaders number readers

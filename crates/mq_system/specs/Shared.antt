@@ -4,7 +4,8 @@ use Rattle.mq_arena.specs.Text.{PlainText}
 use Rattle.mq_queue.specs.declared.event.Event.{Event}
 use Rattle.mq_table.specs.Ids.{slot_of}
 use Rattle.mq_table.specs.Kept.{KeptSlot}
-use Rattle.mq_table.specs.KeptPart.{IsKeptPart}
+use Rattle.mq_table.specs.KeptPart.{IsKeptPart, whole}
+use Rattle.mq_table.specs.Slot.{SlotState, empty_slot}
 use Rattle.mq_table.specs.SlotList.{IsSlotList}
 use Rattle.mq_board.specs.Writers.{HasOnePending}
 use Rattle.mq_board.specs.declared.posting.Posting.{Posting}
@@ -18,6 +19,23 @@ pub record IsPublished {B : Type 0} (board : ℕ) (events : List Event) (pending
   pub numbered : board ≡ slot.number
   pub kept : IsKeptPart events slot
   pub none : pending ≡ []
+
+-- a slot under its lock: the whole slot, and how many entries of its list were cut off
+pub record LockedSlot : Type 0 where
+  pub whole : SlotState PlainText
+  pub first : ℕ
+
+-- the slot under its lock, of which the list is known
+abbrev pub locked : List Event → KeptSlot PlainText → LockedSlot
+locked events slot = record { whole = whole events slot; first = slot.first }
+
+-- one in which no queue was made
+abbrev pub empty_locked : ℕ → LockedSlot
+empty_locked number = record { whole = empty_slot number; first = 0 }
+
+-- the slot once its list was cut where it ends
+abbrev pub cut_at_end : LockedSlot → LockedSlot
+cut_at_end slot = record slot { first = length slot.whole.events }
 
 -- a slot under its lock, with its board: it is one of the system's, its list has no more queues
 -- than ids allow, the pledge holds of each message that waits, and its part of the ledger of

@@ -54,13 +54,13 @@ impl<P: Pledge, N: Names> SharedSlot<P, N> {
         text: TextOf<N>,
         moment: u64,
     ) -> Result<u64, SendRefused<TextOf<N>>>
-        requires begun { MayBegin id self.old seat.old }
+        requires begun { MayBegin id self.old.whole seat.old }
         requires pledge { P.kept seat.old.number tag mtype text.bytes }
         ensures answer { MatchResult result
-            (HasChanged (send_in_slot self.old id
+            (HasChanged (send_in_slot self.old.whole id
             (record { mtype = mtype; sender = seat.old.number; tag = tag; body = text }) moment)
             self.old self.new seat.old seat.new)
-            (λ r. HasRefused (send_in_slot self.old id
+            (λ r. HasRefused (send_in_slot self.old.whole id
             (record { mtype = mtype; sender = seat.old.number; tag = tag; body = text }) moment)
             self.old self.new seat.old seat.new r.refused) }
         ensures handed_back { IfErr result (λ r. r.text ≡ text) }
@@ -108,11 +108,13 @@ impl<P: Pledge, N: Names> SharedSlot<P, N> {
         noerror: bool,
         moment: u64,
     ) -> Result<Delivered<TextOf<N>>, Refused>
-        requires begun { MayBegin id self.old seat.old }
+        requires begun { MayBegin id self.old.whole seat.old }
         ensures answer { MatchResult result
-            (HasChanged (receive_in_slot self.old id size selection noerror seat.old.number moment)
+            (HasChanged
+            (receive_in_slot self.old.whole id size selection noerror seat.old.number moment)
             self.old self.new seat.old seat.new)
-            (HasRefused (receive_in_slot self.old id size selection noerror seat.old.number moment)
+            (HasRefused
+            (receive_in_slot self.old.whole id size selection noerror seat.old.number moment)
             self.old self.new seat.old seat.new) }
         ensures pledge { IfOk result (MeetsItsPledge P.kept size noerror) }
     {
@@ -141,11 +143,11 @@ impl<P: Pledge, N: Names> SharedSlot<P, N> {
         qbytes: u64,
         moment: u64,
     ) -> Result<u64, Refused>
-        requires begun { MayBegin id self.old seat.old }
+        requires begun { MayBegin id self.old.whole seat.old }
         ensures answer { MatchResult result
-            (HasChanged (set_in_slot self.old id qbytes seat.old.number moment)
+            (HasChanged (set_in_slot self.old.whole id qbytes seat.old.number moment)
             self.old self.new seat.old seat.new)
-            (HasRefused (set_in_slot self.old id qbytes seat.old.number moment)
+            (HasRefused (set_in_slot self.old.whole id qbytes seat.old.number moment)
             self.old self.new seat.old seat.new) }
     {
         self.look(id)?;
@@ -170,8 +172,8 @@ impl<P: Pledge, N: Names> SharedSlot<P, N> {
         key: i32,
         moment: u64,
     ) -> Result<Got, AllocError>
-        requires known { front_of seat.old self.old.number ≡ self.old.events }
-        requires free { is_free N.last_seq self.old.events ≡ true }
+        requires known { front_of seat.old self.old.whole.number ≡ self.old.whole.events }
+        requires free { is_free N.last_seq self.old.whole.events ≡ true }
         requires bounded { N.last_seq ≤ MAX_SEQ }
         requires absent { key ≢ pos 0 → id_of_key keys.old key ≡ None }
         ensures answer { MatchResult result
@@ -200,17 +202,17 @@ impl<P: Pledge, N: Names> SharedSlot<P, N> {
         id: Id,
         moment: u64,
     ) -> Result<(Removal, WaitingOf<N>), Refused>
-        requires begun { MayBegin id self.old seat.old }
+        requires begun { MayBegin id self.old.whole seat.old }
         ensures answer { MatchResult result
             (λ r. HasChanged
-            (remove_in_slot self.old id seat.old.number moment r.0.log.base.places)
+            (remove_in_slot self.old.whole id seat.old.number moment r.0.log.base.places)
             self.old self.new seat.old seat.new r.0)
-            (HasRefused (remove_in_slot self.old id seat.old.number moment 0)
+            (HasRefused (remove_in_slot self.old.whole id seat.old.number moment 0)
             self.old self.new seat.old seat.new) }
-        ensures keys { MatchResult result (λ _. keys.new ≡ forget (last_id self.old) keys.old)
+        ensures keys { MatchResult result (λ _. keys.new ≡ forget (last_id self.old.whole) keys.old)
             (λ _. keys.new ≡ keys.old) }
-        ensures waited { IfOk result (λ r. r.1.messages ≡ self.old.messages) }
-        ensures lawful { IsSlotList N.last_seq self.new.events }
+        ensures waited { IfOk result (λ r. r.1.messages ≡ self.old.whole.messages) }
+        ensures lawful { IsSlotList N.last_seq self.new.whole.events }
     {
         self.look(id)?;
         self.holds();

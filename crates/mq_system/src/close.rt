@@ -21,8 +21,8 @@ use mq_calls::home::take_home;
 use mq_message::Waiting;
 use std::hint::spin_loop;
 use std::marker::Model;
-use std::sync::Wait;
 use std::sync::ledger::{Share, Total};
+use std::sync::{Mutex, Wait};
 
 /// Where a system gathers what its seats leave, with room for the fronts of all of them.
 #[derive(Drop)]
@@ -39,6 +39,25 @@ impl<N: Names> Model for Rest<N> {
     ghost view = { λ r. r.parts.parts };
 
     ghost invariant = { λ r. (length r.fronts.items ≡ 0) × (N.seats ≤ vec_capacity r.fronts) };
+}
+
+/// The rest while the system is in use: threads share the system, and none of them reaches it.
+pub(crate) struct AtClose<N: Names> {
+    /// Locked by nobody: a share of a ledger is not shared among threads otherwise.
+    rest: Mutex<Rest<N>>,
+}
+
+impl<N: Names> AtClose<N> {
+    pub(crate) fn new(rest: Rest<N>) -> AtClose<N> {
+        AtClose {
+            rest: Mutex::new(rest),
+        }
+    }
+
+    fn into_rest(self) -> Rest<N> {
+        let AtClose { rest } = self;
+        rest.into_inner()
+    }
 }
 
 impl<P: Pledge, N: Names> System<P, N> {
@@ -68,7 +87,7 @@ impl<P: Pledge, N: Names> System<P, N> {
         let Rest {
             parts: mut unused,
             mut fronts,
-        } = rest.into_inner();
+        } = rest.into_rest();
         let mut parts = unused.empty();
         gather(seats, &mut parts, &mut fronts);
         magazines.end(rt, &arena);
@@ -79,9 +98,9 @@ impl<P: Pledge, N: Names> System<P, N> {
                 mut writer,
                 entries,
             } = with_number(rt, monitor.into_slot(), monitors.len() as u8).into_parts();
-            come_home(&mut writer, &mut fronts);
+            come_home(rt, &mut writer, &mut fronts);
             parts.merge(entries);
-            closed.push_reserved(end_shared_slot(&mut arena, slot, writer));
+            closed.push_reserved(end_shared_slot(rt, &mut arena, slot, writer));
         }
         monitors.destroy_empty();
         settle(&total, &mut parts);
@@ -106,9 +125,7 @@ fn gather<N: Names>(seats: Vec<Seat<N>>, parts: &mut Share<Entries<N>>, fronts: 
     let mut seats = seats;
     while let Some(seat) = seats.pop() {
         seat.holds();
-        let (left, known) = seat.into_parts();
-        parts.merge(left);
-        fronts.push_reserved(known);
+        fronts.push_reserved(seat.end(parts));
     }
     seats.destroy_empty();
     fronts.reverse();
@@ -121,7 +138,7 @@ fn with_number<P: Pledge, N: Names, R: Wait>(
     number: u8,
 ) -> SharedSlot<P, N>
     ensures same { result ≡ slot }
-    ensures number { result.number ≡ number }
+    ensures number { result.whole.number ≡ number }
 {
     for _ in rt.forever() {
         if slot.is_number(number) {
@@ -133,7 +150,7 @@ fn with_number<P: Pledge, N: Names, R: Wait>(
 }
 
 /// The readers of this board, the last in each seat's fronts, come home.
-fn come_home<N: Names>(writer: &mut BoardWriter<N>, fronts: &mut Vec<Fronts<N>>)
+fn come_home<N: Names, R: Wait>(rt: &R, writer: &mut BoardWriter<N>, fronts: &mut Vec<Fronts<N>>)
     requires number { All (λ f. length f.fronts ≡ writer.old.board + 1) fronts.old.items }
     ensures same { writer.new ≡ record writer.old { home = writer.new.home } }
     ensures left { AreWithout writer.old.events fronts.old.items fronts.new.items }
@@ -143,7 +160,7 @@ fn come_home<N: Names>(writer: &mut BoardWriter<N>, fronts: &mut Vec<Fronts<N>>)
         let Some(reader) = fronts[seat].hand_out() else {
             unreachable!()
         };
-        writer.take_back(reader);
+        writer.take_back(rt, reader);
     }
 }
 
@@ -167,7 +184,8 @@ pub(crate) fn end_texts<N: Names>(arena: &mut ArenaState<Pages<N>>, slot: SlotOf
 
 /// Gives up the board of a slot that nobody uses any more, ends the slot, and spends the texts that
 /// wait in it.
-fn end_shared_slot<N: Names>(
+fn end_shared_slot<N: Names, R: Wait>(
+    rt: &R,
     arena: &mut ArenaState<Pages<N>>,
     slot: SlotOf<N>,
     writer: BoardWriter<N>,
@@ -176,8 +194,10 @@ fn end_shared_slot<N: Names>(
     requires lawful { IsSlotList N.last_seq writer.events }
     requires waits { Waits bytes_of (whole writer.events slot) }
     ensures ends { IsEndOf N.last_seq writer.events result }
+    ensures first { result.first ≡ slot.first }
     ensures height { arena.new.height ≡ arena.old.height }
 {
+    writer.close(rt);
     end_texts(arena, slot)
 }
 

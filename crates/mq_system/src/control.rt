@@ -39,7 +39,7 @@ impl<P: Pledge, N: Names> System<P, N> {
         MutexGuard::unlock(held);
         match answer {
             Ok(entry) => {
-                monitor.room.wake();
+                monitor.wake_senders();
                 Ok(entry)
             }
             Err(refused) => Err(refused),
@@ -88,46 +88,31 @@ impl<P: Pledge, N: Names> System<P, N> {
         waiting.end();
     }
 
-    /// What is shown of the queue (msgctl(2), IPC_STAT), as its slot's board has it. It waits for
-    /// nobody, and takes no lock and no memory. EINVAL, then EIDRM.
-    #[tactic(auto, using(crate::proofs::LaterLemmas::look_self))]
+    /// The figures of the queue (msgctl(2), IPC_STAT), by `Seat::stat`. It waits for nobody, and
+    /// takes no lock and no memory. EINVAL, then EIDRM.
     pub fn stat(&self, seat: &mut Seat<N>, id: Id) -> Result<Figures, Errno>
         ensures answer { result ≡ stat_of N.slots (front_of seat.new (slot_of id)) id }
         ensures look { IsLook seat.old seat.new }
     {
-        if id.slot() as usize >= self.monitors.len() {
-            return Err(Errno::EINVAL);
-        }
-        match seat.stat(id) {
-            Ok(figures) => Ok(figures),
-            Err(refusal) => Err(Errno::from(refusal)),
-        }
+        seat.stat(id)
     }
 
-    /// A row for each slot, each as its board has it. It waits for nobody, and takes no lock and no
+    /// A row for each slot, by `Seat::report`. It waits for nobody, and takes no lock and no
     /// memory.
     pub fn report(&self, seat: &mut Seat<N>, rows: &mut [BoardRow])
         requires { length rows.old ≡ N.slots }
         ensures rows { rows.new ≡ map row seat.new.fronts }
         ensures look { IsLook seat.old seat.new }
     {
-        seat.holds();
-        for number in 0..self.slots() {
-            rows[number as usize] = seat.row(number);
-        }
+        seat.report(rows);
     }
 
-    /// What is in use, of all slots together (msgctl(2), IPC_INFO and MSG_INFO), each as its board
-    /// has it. It waits for nobody, and takes no lock and no memory.
+    /// What is in use, of all slots together (msgctl(2), IPC_INFO and MSG_INFO), by `Seat::info`. It
+    /// waits for nobody, and takes no lock and no memory.
     pub fn info(&self, seat: &mut Seat<N>) -> Usage
         ensures answer { result ≡ known_usage N.slots N.height seat.new N.slots }
         ensures look { IsLook seat.old seat.new }
     {
-        seat.holds();
-        let mut usage = Usage::none(self.slots(), self.pages);
-        for number in 0..self.slots() {
-            usage = usage.with_slot(number, seat.row(number));
-        }
-        usage
+        seat.info(self.pages)
     }
 }

@@ -7,6 +7,7 @@ use crate::Names;
 use mq_table::{Id, KeyTable};
 use std::alloc::Global;
 use std::marker::{Model, PhantomData};
+use std::sync::{Mutex, MutexGuard, Wait};
 
 /// The keys of a system's queues, under their lock. Each id is of one of the system's slots.
 #[derive(Drop)]
@@ -59,5 +60,23 @@ impl<N: Names> Keys<N> {
         ensures absent { id_of_key self.new key ≡ None }
     {
         self.table.forget_key(key);
+    }
+}
+
+/// The keys' lock. Only a call that may wait can take it, and none can try it.
+#[derive(Drop)]
+pub(crate) struct KeyLock<N: Names> {
+    held: Mutex<Keys<N>>,
+}
+
+impl<N: Names> KeyLock<N> {
+    pub(crate) fn new(keys: Keys<N>) -> KeyLock<N> {
+        KeyLock {
+            held: Mutex::new(keys),
+        }
+    }
+
+    pub(crate) fn lock<R: Wait>(&self, rt: &R) -> MutexGuard<'_, Keys<N>> {
+        self.held.lock(rt)
     }
 }

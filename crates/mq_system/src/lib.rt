@@ -12,7 +12,9 @@
 //! - The keys' lock is held throughout a `msgget` and the change of an `rmid`, so that a key is
 //!   entered with its queue and forgotten with it. Slots are looked at one by one under it.
 //! - A slot's lock protects its slot list and what waits in its queue. A call holds it for one look
-//!   and one change. A call that waits lets it go, and looks at the id and the queue anew.
+//!   and one change. A call that waits lets it go, and looks at the id and the queue anew. A
+//!   change may wait, with the lock held, for a reader that is inside a copy of the slot's board:
+//!   so long as it takes to read a row, or as that reader's thread is stopped there.
 //! - The arena's lock protects which pages are lent; it is held while blocks leave or come home.
 //!   Texts are drafted before a slot is locked, their pages are cleared and written with no lock,
 //!   and the texts of a removed queue go home after its slot's lock is let go.
@@ -30,6 +32,9 @@
 //! wakes none, for nobody waits for an id that was never given. A text that is spent wakes those
 //! who wait for pages, by whatever way its pages come back. All that wait are woken: the first of
 //! them may want another message, or less room, than the one that the change can serve.
+//! No wake is lost between a look and a wait, by the types: a call is added to those who wait in a
+//! slot while it holds the lock, and proves that it has to wait; a draft is added before it looks
+//! for pages; and pages that come back can't be dropped before who waits for some is woken.
 //!
 //! No contract says that a thread runs, wakes or comes first.
 
@@ -40,6 +45,7 @@ mod calls;
 mod close;
 mod control;
 mod cut;
+mod figures;
 mod flags;
 mod fronts;
 mod get;
@@ -49,6 +55,7 @@ mod making;
 mod messages;
 mod monitor;
 mod names;
+mod page_waiters;
 mod parts;
 mod patience;
 mod pledge;

@@ -2,16 +2,14 @@
 ghost use Rattle.std.specs.Prelude.{◌≡◌, ◌<◌, ◌≤◌, ◌⊎◌, true, IfErr, IfOk, IfSome, IsErrOf};
 ghost use Rattle.mq_tree.specs.declared.limits.TheConstants.{MAX_HEIGHT};
 
-use crate::{Names, Pages, Patience, Waiters};
+use crate::page_waiters::{Own, PageWaiters, Returned, take_now};
+use crate::{Names, Pages, Patience};
 use crossbeam_utils::CachePadded;
-use mq_arena::{Arena, Block, INLINE_ORDER, MAX_ORDER, Magazine, TakeError};
+use mq_arena::{Arena, Block, Homecoming, INLINE_ORDER, MAX_ORDER, Magazine, TakeError, Unwritten};
 use std::alloc::{AllocError, Global};
 use std::marker::Model;
 use std::sync::atomic::{AtomicU16, Ordering};
 use std::sync::{Mutex, MutexGuard, Wait};
-
-/// A seat's magazine under its lock, which another seat takes only where the arena has no run.
-type Own<N> = CachePadded<Mutex<Magazine<Pages<N>>>>;
 
 /// The drafter of a block with which no seat has drafted.
 const NOBODY: u16 = u16::MAX;
@@ -24,9 +22,7 @@ pub(crate) struct Magazines<N: Names> {
     /// did. Who spends what another has drafted gives it back to that one, so that neither takes
     /// the arena's lock.
     drafters: Vec<AtomicU16>,
-    /// Those who wait for pages: woken where a text was spent, whether its pages went home or are
-    /// kept back.
-    waiters: CachePadded<Waiters>,
+    waiters: PageWaiters,
     /// The order of a block that has all pages.
     height: u8,
 }
@@ -60,7 +56,7 @@ impl<N: Names> Magazines<N> {
                 let made = Magazines {
                     each,
                     drafters,
-                    waiters: CachePadded::new(Waiters::new()),
+                    waiters: PageWaiters::new(),
                     height,
                 };
                 made.end(rt, arena);
@@ -71,7 +67,7 @@ impl<N: Names> Magazines<N> {
         Ok(Magazines {
             each,
             drafters,
-            waiters: CachePadded::new(Waiters::new()),
+            waiters: PageWaiters::new(),
             height,
         })
     }
@@ -92,8 +88,7 @@ impl<N: Names> Magazines<N> {
         each.destroy_empty();
     }
 
-    /// A block with the bytes that its pages had: of the magazine of the seat with this number,
-    /// else as `take_any` answers it.
+    /// A block of the magazine of the seat with this number, else as `take_any` answers it.
     pub(crate) fn take<R: Wait, T: Patience>(
         &self,
         rt: &R,
@@ -101,7 +96,7 @@ impl<N: Names> Magazines<N> {
         seat: u16,
         order: u8,
         patience: &mut T,
-    ) -> Result<Block<Pages<N>>, TakeError>
+    ) -> Result<Unwritten<Pages<N>>, TakeError>
         requires seat { 1 ≤ seat }
         requires order { order ≤ MAX_ORDER }
         ensures order { IfOk result (λ b. b.order ≡ order) }
@@ -136,7 +131,7 @@ impl<N: Names> Magazines<N> {
     }
 
     /// A block of that order that the seat at this index keeps back.
-    fn take_kept<R: Wait>(&self, rt: &R, seat: u16, order: u8) -> Option<Block<Pages<N>>>
+    fn take_kept<R: Wait>(&self, rt: &R, seat: u16, order: u8) -> Option<Unwritten<Pages<N>>>
         requires { order ≤ MAX_ORDER }
         ensures { IfSome result (λ b. b.order ≡ order) }
     {
@@ -147,22 +142,22 @@ impl<N: Names> Magazines<N> {
         found
     }
 
-    /// A block of the arena with the bytes that its pages had. Where there is none it waits for one
-    /// until the patience ends, if the arena could ever lend it. `NoRun`, then `Memory`.
+    /// A block of the arena. Where there is none it waits for one until the patience ends, if the
+    /// arena could ever lend it. `NoRun`, then `Memory`.
     pub(crate) fn take_any<R: Wait, T: Patience>(
         &self,
         rt: &R,
         arena: &Arena<Pages<N>>,
         order: u8,
         patience: &mut T,
-    ) -> Result<Block<Pages<N>>, TakeError>
+    ) -> Result<Unwritten<Pages<N>>, TakeError>
         requires { order ≤ MAX_ORDER }
         ensures order { IfOk result (λ b. b.order ≡ order) }
         ensures memory { IsErrOf result TakeError.Memory → INLINE_ORDER < order }
         ensures ended { IsErrOf result TakeError.NoRun →
             (T.ends ≡ true) ⊎ (N.height < order) }
     {
-        match self.take_now(rt, arena, order) {
+        match take_now(rt, arena, &self.each, order) {
             Err(TakeError::NoRun) => {
                 if self.height < order || patience.left().is_none() {
                     return Err(TakeError::NoRun);
@@ -180,47 +175,35 @@ impl<N: Names> Magazines<N> {
         arena: &Arena<Pages<N>>,
         order: u8,
         patience: &mut T,
-    ) -> Result<Block<Pages<N>>, TakeError>
+    ) -> Result<Unwritten<Pages<N>>, TakeError>
         requires { order ≤ MAX_ORDER }
         ensures order { IfOk result (λ b. b.order ≡ order) }
         ensures memory { IsErrOf result TakeError.Memory → INLINE_ORDER < order }
         ensures ended { IsErrOf result TakeError.NoRun → T.ends ≡ true }
     {
         for _ in rt.forever() {
-            let seen = self.waiters.come();
-            match self.take_now(rt, arena, order) {
-                Err(TakeError::NoRun) => (),
-                taken => return taken,
-            }
+            let missed = match self.waiters.add().take(rt, arena, &self.each, order) {
+                Ok(taken) => return taken,
+                Err(missed) => missed,
+            };
             let Some(longest) = patience.left() else {
                 return Err(TakeError::NoRun);
             };
-            self.waiters.wait(rt, seen, longest);
+            missed.wait(rt, longest);
         }
         unreachable!()
     }
 
-    /// A block of the arena, or `NoRun` where none fitted after all magazines were emptied, then
-    /// `Memory`.
-    fn take_now<R: Wait>(
+    /// Gives a block back to the arena, and wakes who waits for pages.
+    pub(crate) fn put_home<R: Wait>(
         &self,
         rt: &R,
         arena: &Arena<Pages<N>>,
-        order: u8,
-    ) -> Result<Block<Pages<N>>, TakeError>
-        requires { order ≤ MAX_ORDER }
-        ensures order { IfOk result (λ b. b.order ≡ order) }
-        ensures memory { IsErrOf result TakeError.Memory → INLINE_ORDER < order }
-    {
-        match arena.take_unwritten(rt, order) {
-            Err(TakeError::NoRun) => take_emptied(rt, arena, &self.each, order),
-            taken => taken,
-        }
-    }
-
-    /// Wakes all that wait for pages, once some came back.
-    pub(crate) fn wake(&self) {
-        self.waiters.wake();
+        block: Block<Pages<N>>,
+    ) -> Homecoming {
+        let (came, home) = Returned::home(rt, arena, block);
+        self.waiters.wake(home);
+        came
     }
 
     /// Keeps a block in the magazine of the seat with this number, while it has room, or of the
@@ -234,13 +217,29 @@ impl<N: Names> Magazines<N> {
     )
         requires { 1 ≤ seat }
     {
-        if let Err(block) = self.keep(rt, seat - 1, block) {
-            let drafter = self.drafter(block.start());
-            if let Err(block) = self.keep(rt, drafter, block) {
-                arena.put(rt, block);
+        let returned = match self.keep(rt, seat - 1, block) {
+            Ok(returned) => returned,
+            Err(block) => self.put_back(rt, arena, block),
+        };
+        self.waiters.wake(returned);
+    }
+
+    /// Keeps a block in the magazine of the seat that drafted with it, while it has room; else the
+    /// block goes home.
+    fn put_back<R: Wait>(
+        &self,
+        rt: &R,
+        arena: &Arena<Pages<N>>,
+        block: Block<Pages<N>>,
+    ) -> Returned {
+        let drafter = self.drafter(block.start());
+        match self.keep(rt, drafter, block) {
+            Ok(returned) => returned,
+            Err(block) => {
+                let (_came, returned) = Returned::home(rt, arena, block);
+                returned
             }
         }
-        self.wake();
     }
 
     /// Keeps a block in the magazine of the seat at this index, or hands it back where that has no
@@ -250,16 +249,13 @@ impl<N: Names> Magazines<N> {
         rt: &R,
         seat: u16,
         block: Block<Pages<N>>,
-    ) -> Result<(), Block<Pages<N>>>
+    ) -> Result<Returned, Block<Pages<N>>>
         ensures { IfErr result (λ b. b ≡ block) }
     {
-        let Some(own) = self.each.get(seat as usize) else {
-            return Err(block);
-        };
-        let mut magazine = own.lock(rt);
-        let kept = magazine.put(block);
-        MutexGuard::unlock(magazine);
-        kept
+        match self.each.get(seat as usize) {
+            Some(own) => Returned::kept::<N, R>(rt, own, block),
+            None => Err(block),
+        }
     }
 }
 
@@ -270,31 +266,4 @@ fn no_drafters(alloc: Global, pages: usize) -> Result<Vec<AtomicU16>, AllocError
         drafters.push_reserved(AtomicU16::new(NOBODY));
     }
     Ok(drafters)
-}
-
-/// A block of the arena, once what these magazines keep is home. Their locks are held until it is
-/// taken, so that `NoRun` says what is so: no seat can keep a page back meanwhile.
-fn take_emptied<N: Names, R: Wait>(
-    rt: &R,
-    arena: &Arena<Pages<N>>,
-    magazines: &[Own<N>],
-    order: u8,
-) -> Result<Block<Pages<N>>, TakeError>
-    requires { order ≤ MAX_ORDER }
-    ensures order { IfOk result (λ b. b.order ≡ order) }
-    ensures memory { IsErrOf result TakeError.Memory → INLINE_ORDER < order }
-{
-    match magazines.split_first() {
-        Some((first, rest)) => {
-            let mut magazine = first.lock(rt);
-            if let Some(block) = magazine.pop() {
-                arena.put(rt, block);
-                arena.put_all(rt, &mut magazine);
-            }
-            let taken = take_emptied(rt, arena, rest, order);
-            MutexGuard::unlock(magazine);
-            taken
-        }
-        None => arena.take_unwritten(rt, order),
-    }
 }

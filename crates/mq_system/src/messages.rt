@@ -73,7 +73,7 @@ impl<P: Pledge, N: Names> System<P, N> {
             match held.send(rt, seat, id, mtype, tag, text, moment) {
                 Ok(entry) => {
                     MutexGuard::unlock(held);
-                    monitor.arrived.wake();
+                    monitor.wake_receivers();
                     return Ok(entry);
                 }
                 Err(refusal) => {
@@ -81,14 +81,14 @@ impl<P: Pledge, N: Names> System<P, N> {
                         MutexGuard::unlock(held);
                         return Err(refusal);
                     }
-                    let seen = monitor.room.come();
+                    let sender = monitor.add_sender(&*held, id, mtype, &refusal.text);
                     MutexGuard::unlock(held);
                     let Some(longest) = patience.left() else {
                         return Err(refusal);
                     };
                     let (_, again) = refusal.into_text();
                     text = again;
-                    monitor.room.wait(rt, seen, longest);
+                    sender.wait(rt, longest);
                 }
             }
         }
@@ -147,7 +147,7 @@ impl<P: Pledge, N: Names> System<P, N> {
             match held.receive(rt, seat, id, size, selection, flags.noerror, moment) {
                 Ok(delivered) => {
                     MutexGuard::unlock(held);
-                    monitor.room.wake();
+                    monitor.wake_senders();
                     return Ok(delivered);
                 }
                 Err(refused) => {
@@ -155,12 +155,13 @@ impl<P: Pledge, N: Names> System<P, N> {
                         MutexGuard::unlock(held);
                         return Err(refused);
                     }
-                    let seen = monitor.arrived.come();
+                    let noerror = flags.noerror;
+                    let receiver = monitor.add_receiver(&*held, id, size, selection, noerror);
                     MutexGuard::unlock(held);
                     let Some(longest) = patience.left() else {
                         return Err(refused);
                     };
-                    monitor.arrived.wait(rt, seen, longest);
+                    receiver.wait(rt, longest);
                 }
             }
         }

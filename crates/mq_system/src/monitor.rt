@@ -1,11 +1,17 @@
-ghost use Rattle.std.specs.Prelude.{◌<◌};
+ghost use Rattle.std.specs.Prelude.{◌≡◌, ◌<◌, Some, length};
 ghost use Rattle.std.specs.Sync.Mutex.{mutex_guard_value};
+ghost use Rattle.mq_calls.specs.declared.errno.Errno.TheVariants.{EAGAIN, ENOMSG};
+ghost use Rattle.mq_table.specs.Ids.{seq_of};
 ghost use Rattle.mq_system.specs.Outcome.{IsUnderLock};
+ghost use Rattle.mq_system.specs.Seen.{receive_verdict, send_verdict};
 
-use crate::{Names, Pledge, Seat, SharedSlot, Waiters};
+use crate::{Names, Pledge, Seat, SharedSlot, TextOf, Waiters};
 use crossbeam_utils::{Backoff, CachePadded};
+use mq_message::Selection;
+use mq_table::Id;
 use std::hint::spin_loop;
 use std::sync::{Mutex, MutexGuard, Wait};
+use std::time::Duration;
 
 /// How often a call tries to take a slot's lock before it sleeps for it. Each try takes the lock's
 /// line away from who holds it, so there are pauses between them.
@@ -57,8 +63,23 @@ impl Pauses {
 /// lines of their own, which no change of the slot takes away from them.
 pub(crate) struct SlotMonitor<P: Pledge, N: Names> {
     held: Mutex<SharedSlot<P, N>>,
-    pub(crate) room: CachePadded<Waiters>,
-    pub(crate) arrived: CachePadded<Waiters>,
+    room: CachePadded<Waiters>,
+    arrived: CachePadded<Waiters>,
+}
+
+/// A call that is among those who wait in a slot, since it held the slot's lock and found that it
+/// has to wait: no wake after that is lost to it.
+#[derive(Drop)]
+pub(crate) struct SlotWaiter<'m> {
+    waiters: &'m Waiters,
+    seen: u64,
+}
+
+impl<'m> SlotWaiter<'m> {
+    /// Waits, for no longer than this, until all are woken.
+    pub(crate) fn wait<R: Wait>(self, rt: &R, longest: Duration) {
+        self.waiters.wait(rt, self.seen, longest);
+    }
 }
 
 impl<P: Pledge, N: Names> SlotMonitor<P, N> {
@@ -91,7 +112,7 @@ impl<P: Pledge, N: Names> SlotMonitor<P, N> {
         number: u8,
     ) -> MutexGuard<'s, SharedSlot<P, N>>
         requires within { number < N.slots }
-        ensures { IsUnderLock seat.old seat.new number (mutex_guard_value result) }
+        ensures { IsUnderLock seat.old seat.new number (mutex_guard_value result).whole }
     {
         seat.holds();
         let pauses = Pauses::of(seat, number);
@@ -114,9 +135,53 @@ impl<P: Pledge, N: Names> SlotMonitor<P, N> {
         unreachable!()
     }
 
+    /// Adds a sender to those who wait for room. The slot under its lock has none for its text.
+    pub(crate) fn add_sender(
+        &self,
+        _held: &SharedSlot<P, N>,
+        _id: Id,
+        _mtype: i64,
+        _text: &TextOf<N>,
+    ) -> SlotWaiter<'_>
+        requires full { send_verdict (seq_of _id) _mtype (length _text.now.bytes)
+            _held.now.whole.events ≡ Some EAGAIN }
+    {
+        let waiters = &*self.room;
+        let seen = waiters.come();
+        SlotWaiter { waiters, seen }
+    }
+
+    /// Adds a receiver to those who wait for what arrives. The slot under its lock has no message
+    /// that this selection names.
+    pub(crate) fn add_receiver(
+        &self,
+        _held: &SharedSlot<P, N>,
+        _id: Id,
+        _size: u64,
+        _selection: Selection,
+        _noerror: bool,
+    ) -> SlotWaiter<'_>
+        requires none { receive_verdict (seq_of _id) _size _selection _noerror
+            _held.now.whole.events ≡ Some ENOMSG }
+    {
+        let waiters = &*self.arrived;
+        let seen = waiters.come();
+        SlotWaiter { waiters, seen }
+    }
+
+    /// Wakes those who wait for room.
+    pub(crate) fn wake_senders(&self) {
+        self.room.wake();
+    }
+
+    /// Wakes those who wait for what arrives.
+    pub(crate) fn wake_receivers(&self) {
+        self.arrived.wake();
+    }
+
     /// Wakes all who wait in the slot: they look at it once more.
     pub(crate) fn wake(&self) {
-        self.arrived.wake();
-        self.room.wake();
+        self.wake_receivers();
+        self.wake_senders();
     }
 }

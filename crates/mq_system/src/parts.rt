@@ -15,6 +15,7 @@ use mq_arena::ArenaState;
 use mq_board::{BoardReader, OpenedBoard, next_board};
 use mq_table::Slot;
 use std::alloc::{AllocError, Global};
+use std::sync::Wait;
 
 /// The readers of each board.
 type ReadersOf<N> = Vec<Vec<BoardReader<N>>>;
@@ -22,8 +23,9 @@ type ReadersOf<N> = Vec<Vec<BoardReader<N>>>;
 /// The slots of a system of this size, in which no queue was made, with their boards, and its
 /// seats, which have done nothing. An `Err` means that memory ran out, and then what was made is
 /// given up.
-pub(crate) fn make_slots_and_seats<P: Pledge, N: Names>(
+pub(crate) fn make_slots_and_seats<P: Pledge, N: Names, R: Wait>(
     alloc: Global,
+    rt: &R,
     arena: &mut ArenaState<Pages<N>>,
     boards: Vec<OpenedBoard>,
     tally: &mut Tally<N>,
@@ -42,8 +44,9 @@ pub(crate) fn make_slots_and_seats<P: Pledge, N: Names>(
     ensures arena { OnOk result (arena.new ≡ arena.old) }
     ensures total { OnOk result (tally.new.book.total ≡ all_changes N.slots N.seats) }
 {
-    let (slots, mut rows) = make_slots::<P, N>(
+    let (slots, mut rows) = make_slots::<P, N, R>(
         alloc,
+        rt,
         arena,
         boards,
         tally,
@@ -53,7 +56,7 @@ pub(crate) fn make_slots_and_seats<P: Pledge, N: Names>(
     match make_seats(alloc, rows.as_mut_slice(), tally, config.seats) {
         Ok(seats) => Ok((slots, seats)),
         Err(error) => {
-            give_up(arena, slots);
+            give_up(rt, arena, slots);
             Err(error)
         }
     }
@@ -61,8 +64,9 @@ pub(crate) fn make_slots_and_seats<P: Pledge, N: Names>(
 
 /// The slots, in which no queue was made, with their boards, and the readers of each board. An
 /// `Err` means that memory ran out, and then those that were made are given up.
-fn make_slots<P: Pledge, N: Names>(
+fn make_slots<P: Pledge, N: Names, R: Wait>(
     alloc: Global,
+    rt: &R,
     arena: &mut ArenaState<Pages<N>>,
     boards: Vec<OpenedBoard>,
     tally: &mut Tally<N>,
@@ -88,8 +92,8 @@ fn make_slots<P: Pledge, N: Names>(
         return Err(AllocError);
     };
     for number in 0..count {
-        let Ok((writer, readers)) = next_board::<N>(alloc, &mut boards, number, seats) else {
-            give_up(arena, slots);
+        let Ok((writer, readers)) = next_board::<N, R>(alloc, rt, &mut boards, number, seats) else {
+            give_up(rt, arena, slots);
             return Err(AllocError);
         };
         let slot = Slot::new(alloc, number);
@@ -100,7 +104,8 @@ fn make_slots<P: Pledge, N: Names>(
 }
 
 /// Gives up slots and their boards.
-pub(crate) fn give_up<P: Pledge, N: Names>(
+pub(crate) fn give_up<P: Pledge, N: Names, R: Wait>(
+    rt: &R,
     arena: &mut ArenaState<Pages<N>>,
     slots: Vec<SharedSlot<P, N>>,
 ) {
@@ -108,9 +113,10 @@ pub(crate) fn give_up<P: Pledge, N: Names>(
     while let Some(slot) = slots.pop() {
         let SlotParts {
             slot,
-            writer: _,
+            writer,
             entries: _,
         } = slot.into_parts();
+        writer.close(rt);
         end_texts(arena, slot);
     }
     slots.destroy_empty();

@@ -50,6 +50,32 @@ enum End {
     At(Instant),
 }
 
+impl End {
+    ghost use Rattle.std.specs.Time.{FitsClock, instant_nanos};
+    ghost use Rattle.mq_system.specs.Patience.{IsHeldAt, IsLeftAt};
+
+    /// How much longer it is until this end at that time. From then on the end of a span is a time,
+    /// if the clock ever reads it.
+    fn left_at(&mut self, now: Instant) -> Option<Duration>
+        requires { FitsClock (instant_nanos now) }
+        ensures left { IsLeftAt (instant_nanos now) self.old result }
+        ensures held { IsHeldAt (instant_nanos now) self.old self.new }
+    {
+        let end = match *self {
+            End::At(end) => end,
+            End::After(span) => {
+                let Some(end) = now.checked_add(span) else {
+                    return Some(span);
+                };
+                *self = End::At(end);
+                end
+            }
+        };
+        let left = end.checked_duration_since(now)?;
+        if left.is_zero() { None } else { Some(left) }
+    }
+}
+
 /// Waits until its end, by the monotonic time of this clock. Where the clock can't be read, it
 /// doesn't wait.
 #[derive(Clone, Copy)]
@@ -83,6 +109,7 @@ impl<'a, C: Clock> Patience for Until<'a, C> {
 
     ghost ends = { true };
 
+    #[tactic(auto, using(crate::proofs::PatienceLemmas::left_of, crate::proofs::PatienceLemmas::held_of))]
     fn left(&mut self) -> Option<Duration>
         ensures some { IfSome result (IsLeft self.old.end) }
         ensures kept { IsHeld self.old.end self.new.end }
@@ -90,17 +117,6 @@ impl<'a, C: Clock> Patience for Until<'a, C> {
         let Ok(now) = Instant::now(self.clock) else {
             return None;
         };
-        let end = match self.end {
-            End::At(end) => end,
-            End::After(span) => {
-                let Some(end) = now.checked_add(span) else {
-                    return Some(span);
-                };
-                self.end = End::At(end);
-                end
-            }
-        };
-        let left = end.checked_duration_since(now)?;
-        if left.is_zero() { None } else { Some(left) }
+        self.end.left_at(now)
     }
 }

@@ -1,15 +1,12 @@
 ghost use Rattle.std.specs.Prelude.{◌≡◌, ◌+◌, ◌*◌, ◌<◌, ◌≤◌, [], IfOk, MatchBool, length, replicate, slice_index, slice_set};
 ghost use Rattle.std.specs.List.{sum};
 ghost use Rattle.mq_queue.specs.Row.{row};
-ghost use Rattle.mq_table.specs.Ids.{seq_of, slot_of};
 ghost use Rattle.mq_system.specs.Seat.{AreKnown, IsCounted, IsLater, IsNext, IsSame, fresh_seat, front_of};
-ghost use Rattle.mq_system.specs.Shown.{stat_answer};
 ghost use Rattle.mq_system.specs.declared.seat.TheConstants.{MAX_COUNT};
 
 use crate::{Entries, Fronts, Names};
 use mq_board::{BoardReader, ToldList};
-use mq_queue::{BoardRow, Figures};
-use mq_table::{Id, IdRefusal};
+use mq_queue::BoardRow;
 use std::alloc::{AllocError, Global};
 use std::marker::Model;
 use std::sync::ledger::Share;
@@ -81,6 +78,13 @@ impl<N: Names> Seat<N> {
         self.number
     }
 
+    /// The number of the system's slots.
+    pub fn slots(&self) -> u8
+        ensures count { result ≡ N.slots }
+    {
+        self.readers.len() as u8
+    }
+
     /// How many changes this seat made in the slot: its calls of `msgget` that made a queue there,
     /// and of `msgsnd`, `msgrcv`, `set` and `rmid` that were not refused.
     pub fn count(&self, slot: usize) -> u64
@@ -121,8 +125,9 @@ impl<N: Names> Seat<N> {
         self.readers[slot as usize].known()
     }
 
-    /// What a report shows of the slot: what its board shows, or the row of the front where no
-    /// look finds that. It waits for nobody, and takes no lock and no memory.
+    /// What a report shows of the slot: what is published on its board, or the row of the front
+    /// where other readers have all places there. It waits for nobody, and takes no lock, of which a
+    /// seat has none, and no memory.
     pub fn row(&mut self, slot: u8) -> BoardRow
         requires slot { slot < N.slots }
         ensures same { IsSame self.old self.new }
@@ -132,24 +137,6 @@ impl<N: Names> Seat<N> {
         ensures row { result ≡ row (front_of self.new slot) }
     {
         self.readers[slot as usize].row()
-    }
-
-    /// What is shown of the id's queue (msgctl(2), IPC_STAT), or whether none was made with this id
-    /// or it was removed. It waits for nobody, and takes no lock and no memory.
-    pub fn stat(&mut self, id: Id) -> Result<Figures, IdRefusal>
-        requires slot { slot_of id < N.slots }
-        ensures same { IsSame self.old self.new }
-        ensures later { IsLater self.old self.new }
-        ensures answer { result ≡ stat_answer (front_of self.new (slot_of id)) (seq_of id) }
-    {
-        let shown = self.row(id.slot());
-        if shown.made <= id.seq() {
-            Err(IdRefusal::Never)
-        } else if shown.live && id.seq() + 1 == shown.made {
-            Ok(shown.figures)
-        } else {
-            Err(IdRefusal::Removed)
-        }
     }
 
     /// Counts a change of its own in the slot, and learns of it. Its entry goes to the slot's part.
@@ -171,8 +158,22 @@ impl<N: Names> Seat<N> {
         }
     }
 
-    /// What is left of its part, and its fronts, at the end.
-    pub fn into_parts(self) -> (Share<Entries<N>>, Fronts<N>)
+    /// Ends the seat: adds what is left of its part to these, and hands out its fronts. A system
+    /// hands out no part, so its seats end where it is closed.
+    pub fn end(self, parts: &mut Share<Entries<N>>) -> Fronts<N>
+        ensures parts { parts.new.parts ≡ parts.old.parts + 1 }
+        ensures left { parts.new.amount + sum self.by_slot
+            ≡ parts.old.amount + N.slots * MAX_COUNT }
+        ensures place { result.place ≡ self.number }
+        ensures fronts { result.fronts ≡ self.fronts }
+    {
+        let (left, fronts) = self.into_parts();
+        parts.merge(left);
+        fronts
+    }
+
+    /// What is left of its part, and its fronts.
+    pub(crate) fn into_parts(self) -> (Share<Entries<N>>, Fronts<N>)
         ensures part { result.0.parts ≡ 1 }
         ensures left { result.0.amount + sum self.by_slot ≡ N.slots * MAX_COUNT }
         ensures place { result.1.place ≡ self.number }

@@ -1,10 +1,9 @@
 ghost use Rattle.std.specs.Prelude.{◌≡◌, ◌≢◌, ◌⊎◌, ◌<◌, ◌≤◌, ◌+◌, ◌-◌, ◌^◌, ◌==◌, [], true};
-ghost use Rattle.std.specs.Prelude.{All, IfSome, IsFalse, IsTrue, MatchResult, OnOk, length};
+ghost use Rattle.std.specs.Prelude.{All, IfOk, IfSome, IsFalse, IsTrue, MatchResult, OnOk, length};
 ghost use Rattle.mq_queue.specs.Row.{is_live, made_count};
 ghost use Rattle.mq_table.specs.Cut.{IsCutOf, cut_shown};
 ghost use Rattle.mq_table.specs.Ids.{slot_of};
-ghost use Rattle.mq_table.specs.KeptPart.{whole};
-ghost use Rattle.mq_table.specs.Slot.{empty_slot, Waits};
+ghost use Rattle.mq_table.specs.Slot.{Waits};
 ghost use Rattle.mq_table.specs.SlotList.{is_free, IsSlotList};
 ghost use Rattle.mq_table.specs.SlotParts.{empty_kept};
 ghost use Rattle.mq_table.specs.declared.limits.TheConstants.{MAX_SEQ, MAX_SLOTS};
@@ -14,7 +13,7 @@ ghost use Rattle.mq_system.specs.Answer.{id_with_key, looks_in_slot, refused_her
 ghost use Rattle.mq_system.specs.Pledge.{IsPledged};
 ghost use Rattle.mq_system.specs.Outcome.{IsLook};
 ghost use Rattle.mq_system.specs.Seat.{front_of};
-ghost use Rattle.mq_system.specs.Shared.{IsShared};
+ghost use Rattle.mq_system.specs.Shared.{IsShared, cut_at_end, empty_locked, locked};
 
 use crate::{Entries, Names, Pledge, Seat, SlotOf};
 use mq_board::BoardWriter;
@@ -25,7 +24,8 @@ use std::sync::ledger::Share;
 
 /// A slot of a system, under its lock, with the writer of its board, which has published all that
 /// happened in the slot and nothing else, also what was cut off of the slot's list since then. It
-/// is seen as the whole slot; the pledge holds of each message that waits in it.
+/// is seen as the whole slot and the number of entries that were cut off; the pledge holds of each
+/// message that waits in it.
 pub struct SharedSlot<P: Pledge, N: Names> {
     pub(crate) slot: SlotOf<N>,
     pub(crate) writer: BoardWriter<N>,
@@ -42,14 +42,11 @@ pub struct SlotParts<N: Names> {
 }
 
 impl<P: Pledge, N: Names> Model for SharedSlot<P, N> {
-    ghost use Rattle.mq_arena.specs.Text.{PlainText};
-    ghost use Rattle.mq_table.specs.KeptPart.{whole};
-    ghost use Rattle.mq_table.specs.Slot.{SlotState};
-    ghost use Rattle.mq_system.specs.Shared.{IsShared};
+    ghost use Rattle.mq_system.specs.Shared.{IsShared, LockedSlot, locked};
 
-    ghost Value = { SlotState PlainText };
+    ghost Value = { LockedSlot };
 
-    ghost view = { λ s. whole s.writer.events s.slot };
+    ghost view = { λ s. locked s.writer.events s.slot };
 
     ghost invariant = { λ s. IsShared P.kept N.slots N.last_seq s.writer.board s.writer.events
         s.writer.pending s.slot s.entries.parts s.entries.amount };
@@ -69,7 +66,7 @@ impl<P: Pledge, N: Names> SharedSlot<P, N> {
         requires unused { (writer.events ≡ []) × (writer.pending ≡ []) }
         requires part { entries.parts ≡ 1 }
         requires none { entries.amount ≡ 0 }
-        ensures { result ≡ empty_slot slot.number }
+        ensures { result ≡ empty_locked slot.number }
     {
         SharedSlot {
             slot,
@@ -81,13 +78,13 @@ impl<P: Pledge, N: Names> SharedSlot<P, N> {
 
     /// What holds of each slot under its lock.
     pub fn holds(&self)
-        ensures within { self.now.number < N.slots }
-        ensures lawful { IsSlotList N.last_seq self.now.events }
-        ensures waits { Waits bytes_of self.now }
-        ensures pledged { All (λ m. IsPledged P.kept m.1) self.now.messages }
-        ensures numbered { self.now.number < MAX_SLOTS }
-        ensures few { length self.now.events < 2 ^ 64 - 1 }
-        ensures made { made_count self.now.events ≤ MAX_SEQ + 1 }
+        ensures within { self.now.whole.number < N.slots }
+        ensures lawful { IsSlotList N.last_seq self.now.whole.events }
+        ensures waits { Waits bytes_of self.now.whole }
+        ensures pledged { All (λ m. IsPledged P.kept m.1) self.now.whole.messages }
+        ensures numbered { self.now.whole.number < MAX_SLOTS }
+        ensures few { length self.now.whole.events < 2 ^ 64 - 1 }
+        ensures made { made_count self.now.whole.events ≤ MAX_SEQ + 1 }
     {
         let slot = &self.slot;
         slot.holds();
@@ -97,7 +94,7 @@ impl<P: Pledge, N: Names> SharedSlot<P, N> {
 
     /// Whether this is its number.
     pub fn is_number(&self, number: u8) -> bool
-        ensures { result ≡ (self.now.number == number) }
+        ensures { result ≡ (self.now.whole.number == number) }
     {
         self.slot.number() == number
     }
@@ -108,10 +105,10 @@ impl<P: Pledge, N: Names> SharedSlot<P, N> {
     pub fn enter(&mut self, seat: &mut Seat<N>, number: u8) -> bool
         requires within { number < N.slots }
         ensures look { IsLook seat.old seat.new }
-        ensures known { IsTrue result → (self.old.number ≡ number)
-            × (front_of seat.new number ≡ self.old.events) }
-        ensures refused { IsFalse result → (self.old.number ≢ number)
-            ⊎ (length self.old.events < length (front_of seat.old number)) }
+        ensures known { IsTrue result → (self.old.whole.number ≡ number)
+            × (front_of seat.new number ≡ self.old.whole.events) }
+        ensures refused { IsFalse result → (self.old.whole.number ≢ number)
+            ⊎ (length self.old.whole.events < length (front_of seat.old number)) }
         ensures same { self.new ≡ self.old }
     {
         self.is_number(number) && seat.learn(number, self.writer.tell())
@@ -119,9 +116,9 @@ impl<P: Pledge, N: Names> SharedSlot<P, N> {
 
     /// Whether this id's queue is in the slot, or why not.
     pub fn look(&self, id: Id) -> Result<(), Refused>
-        requires id { slot_of id ≡ self.now.number }
-        ensures value { result ≡ looks_in_slot self.now id }
-        ensures live { OnOk result (is_live self.now.events ≡ true) }
+        requires id { slot_of id ≡ self.now.whole.number }
+        ensures value { result ≡ looks_in_slot self.now.whole id }
+        ensures live { OnOk result (is_live self.now.whole.events ≡ true) }
     {
         match self.slot.look(id) {
             Ok(()) => Ok(()),
@@ -131,7 +128,7 @@ impl<P: Pledge, N: Names> SharedSlot<P, N> {
 
     /// The refusal after all that has happened in the slot.
     pub(crate) fn refused(&self, errno: Errno) -> Refused
-        ensures { result ≡ refused_here self.now errno }
+        ensures { result ≡ refused_here self.now.whole errno }
     {
         Refused {
             errno,
@@ -141,8 +138,8 @@ impl<P: Pledge, N: Names> SharedSlot<P, N> {
 
     /// The id of the queue in the slot, where it is there and has this key.
     pub fn with_key(&self, key: i32) -> Option<Id>
-        ensures value { result ≡ id_with_key self.now key }
-        ensures within { IfSome result (λ id. slot_of id ≡ self.now.number) }
+        ensures value { result ≡ id_with_key self.now.whole key }
+        ensures within { IfSome result (λ id. slot_of id ≡ self.now.whole.number) }
     {
         let slot = &self.slot;
         slot.holds();
@@ -155,17 +152,19 @@ impl<P: Pledge, N: Names> SharedSlot<P, N> {
 
     /// Whether a queue can be made in the slot, where its ids end with this seq.
     pub fn is_free(&self, last_seq: u32) -> bool
-        ensures { result ≡ is_free last_seq self.now.events }
+        ensures { result ≡ is_free last_seq self.now.whole.events }
     {
         self.slot.is_free(last_seq)
     }
 
-    /// Cuts the slot's list off where it ends now, and hands out what was kept of it. This is no
-    /// event: the whole list, the board and the counts stay. ENOMEM alone.
+    /// Cuts the slot's list off where it ends now, and hands out what was kept of it, from the last
+    /// cut on. This is no event: the whole list, the board and the counts stay. ENOMEM alone.
     pub fn cut(&mut self) -> Result<Cut, Refused>
-        ensures answer { MatchResult result (λ cut. IsCutOf self.old.events (cut_shown cut))
-            (λ r. r ≡ refused_here self.old ENOMEM) }
-        ensures same { self.new ≡ self.old }
+        ensures answer { MatchResult result (λ cut. IsCutOf self.old.whole.events (cut_shown cut))
+            (λ r. r ≡ refused_here self.old.whole ENOMEM) }
+        ensures first { IfOk result (λ cut. cut.first ≡ self.old.first) }
+        ensures after { MatchResult result (λ _. self.new ≡ cut_at_end self.old)
+            (λ _. self.new ≡ self.old) }
     {
         match self.slot.cut() {
             Ok(cut) => Ok(cut),
@@ -175,11 +174,11 @@ impl<P: Pledge, N: Names> SharedSlot<P, N> {
 
     /// What it is made of, at the end.
     pub fn into_parts(self) -> SlotParts<N>
-        ensures slot { whole result.writer.events result.slot ≡ self }
+        ensures slot { locked result.writer.events result.slot ≡ self }
         ensures shared { IsShared P.kept N.slots N.last_seq result.writer.board
             result.writer.events result.writer.pending result.slot result.entries.parts
             result.entries.amount }
-        ensures waits { Waits bytes_of self }
+        ensures waits { Waits bytes_of self.whole }
     {
         self.holds();
         let SharedSlot {

@@ -1,12 +1,15 @@
-ghost use Rattle.std.specs.Prelude.{◌≡◌, ◌↔◌, ◌⊎◌, ◌<◌, ◌≤◌, ℕ, true, false, length, nat_lt, replicate};
-ghost use Rattle.std.specs.Prelude.{None, vec_len, IfOk, IsErrOf};
+ghost use Rattle.std.specs.Prelude.{◌≡◌, ◌↔◌, ◌⊎◌, ◌<◌, ◌≤◌, ◌-◌, ◌*◌, ◌^◌, ℕ, true, false};
+ghost use Rattle.std.specs.Prelude.{◌++◌, None, length, nat_lt, replicate, vec_len, IfOk, IsErrOf};
+ghost use Rattle.std.specs.List.{concat};
+ghost use Rattle.mq_arena.specs.Bytes.{pages_with};
 ghost use Rattle.mq_arena.specs.Text.{order_for};
 ghost use Rattle.mq_calls.specs.Limits.{keeps_limits};
 ghost use Rattle.mq_system.specs.Drafts.{IsInLeast};
 ghost use Rattle.mq_system.specs.Sizes.{AreNames};
 ghost use Rattle.mq_system.specs.Started.{AreFresh};
 
-use crate::close::Rest;
+use crate::close::{AtClose, Rest};
+use crate::keys::KeyLock;
 use crate::magazines::Magazines;
 use crate::parts::{fill_monitors, give_up, leave, make_slots_and_seats};
 use crate::{
@@ -14,24 +17,25 @@ use crate::{
     SlotMonitor, SysError, Tally, TextOf,
 };
 use mq_arena::{
-    Arena, Block, Homecoming, INLINE_LEN, LEDGER_PARTS, TakeError, Text, Unopened, order_for,
+    Arena, Block, Homecoming, INLINE_LEN, LEDGER_PARTS, PAGE_LEN, TakeError, Text, Unopened,
+    Unwritten, order_for,
 };
 use mq_calls::ClosedSlot;
 use mq_queue::MSGMAX;
 use mq_table::MAX_SLOTS;
 use std::alloc::Global;
 use std::marker::Model;
+use std::sync::Wait;
 use std::sync::ledger::Total;
-use std::sync::{Mutex, Wait};
 
 /// The queues of several threads, by the calls of the manual. `close` ends it.
 pub struct System<P: Pledge, N: Names> {
     pub(crate) monitors: Vec<SlotMonitor<P, N>>,
-    pub(crate) keys: Mutex<Keys<N>>,
+    pub(crate) keys: KeyLock<N>,
     /// What the parts of all slots and seats have together.
     pub(crate) total: Total<Entries<N>>,
-    /// Where `close` gathers them. Nobody locks it: no share is shared among threads.
-    pub(crate) rest: Mutex<Rest<N>>,
+    /// Where `close` gathers them.
+    pub(crate) rest: AtClose<N>,
     pub(crate) arena: Arena<Pages<N>>,
     pub(crate) magazines: Magazines<N>,
     pub(crate) last_seq: u32,
@@ -91,8 +95,8 @@ impl<P: Pledge, N: Names> System<P, N> {
         } = blanks;
         let mut arena = arena.open::<Pages<N>>(ledger);
         let mut tally = Tally::new(entries);
-        let Ok((slots, seats)) = make_slots_and_seats::<P, N>(
-            alloc, &mut arena, boards, &mut tally, config,
+        let Ok((slots, seats)) = make_slots_and_seats::<P, N, R>(
+            alloc, rt, &mut arena, boards, &mut tally, config,
         ) else {
             monitors.destroy_empty();
             return Err(SysError::Memory);
@@ -100,7 +104,7 @@ impl<P: Pledge, N: Names> System<P, N> {
         let pages = arena.pages();
         let arena = Arena::new(arena);
         let Ok(magazines) = Magazines::new(alloc, rt, &arena, config.seats, config.height) else {
-            give_up(&mut arena.into_state(), slots);
+            give_up(rt, &mut arena.into_state(), slots);
             leave(seats);
             monitors.destroy_empty();
             return Err(SysError::Memory);
@@ -109,9 +113,9 @@ impl<P: Pledge, N: Names> System<P, N> {
         let (total, parts) = tally.close();
         let system = System {
             monitors,
-            keys: Mutex::new(Keys::new(alloc)),
+            keys: KeyLock::new(Keys::new(alloc)),
             total,
-            rest: Mutex::new(Rest { parts, fronts }),
+            rest: AtClose::new(Rest { parts, fronts }),
             arena,
             magazines,
             last_seq: config.last_seq,
@@ -166,8 +170,8 @@ impl<P: Pledge, N: Names> System<P, N> {
         }
         let order = order_for(len);
         match self.magazines.take_any(rt, &self.arena, order, patience) {
-            Ok(mut block) => {
-                block.overwrite(&[]);
+            Ok(taken) => {
+                let block = taken.overwrite(&[]);
                 Ok(Text::of(block, len))
             }
             Err(refusal) => Err(DraftError::from(refusal)),
@@ -268,11 +272,7 @@ impl<P: Pledge, N: Names> System<P, N> {
         ensures none { text.block ≡ None → result ≡ Homecoming.Home }
     {
         match text.into_block() {
-            Some(block) => {
-                let came = self.arena.put(rt, block);
-                self.magazines.wake();
-                came
-            }
+            Some(block) => self.magazines.put_home(rt, &self.arena, block),
             None => Homecoming::Home,
         }
     }
@@ -288,9 +288,31 @@ impl<P: Pledge, N: Names> System<P, N> {
     }
 }
 
+/// The block that was taken, with these bytes in its first ones and zeros behind them.
+fn written<N: Names>(
+    taken: Result<Unwritten<Pages<N>>, TakeError>,
+    bytes: &[u8],
+) -> Result<Block<Pages<N>>, DraftError>
+    requires most { length bytes.now ≤ MSGMAX }
+    requires order { IfOk taken (λ b. b.order ≡ order_for (length bytes.now)) }
+    requires memory { IsErrOf taken TakeError.Memory → INLINE_LEN < length bytes.now }
+    ensures order { IfOk result (λ b. b.order ≡ order_for (length bytes.now)) }
+    ensures pages { IfOk result (λ b. b.pages ≡ pages_with (2 ^ b.order) bytes.now) }
+    ensures bytes { IfOk result (λ b. concat b.pages
+        ≡ bytes.now ++ replicate (PAGE_LEN * 2 ^ b.order - length bytes.now) 0) }
+    ensures too_long { ¬ IsErrOf result DraftError.TooLong }
+    ensures no_run { IsErrOf result DraftError.NoRun → IsErrOf taken TakeError.NoRun }
+    ensures memory { IsErrOf result DraftError.Memory → INLINE_LEN < length bytes.now }
+{
+    match taken {
+        Ok(block) => Ok(block.overwrite(bytes)),
+        Err(refusal) => Err(DraftError::from(refusal)),
+    }
+}
+
 /// The text of these bytes in the block that was taken for it.
 fn filled<N: Names>(
-    taken: Result<Block<Pages<N>>, TakeError>,
+    taken: Result<Unwritten<Pages<N>>, TakeError>,
     bytes: &[u8],
 ) -> Result<TextOf<N>, DraftError>
     requires some { 0 < length bytes.now }
@@ -303,11 +325,6 @@ fn filled<N: Names>(
     ensures no_run { IsErrOf result DraftError.NoRun → IsErrOf taken TakeError.NoRun }
     ensures memory { IsErrOf result DraftError.Memory → INLINE_LEN < length bytes.now }
 {
-    match taken {
-        Ok(mut block) => {
-            block.overwrite(bytes);
-            Ok(Text::of(block, bytes.len()))
-        }
-        Err(refusal) => Err(DraftError::from(refusal)),
-    }
+    let block = written(taken, bytes)?;
+    Ok(Text::of(block, bytes.len()))
 }

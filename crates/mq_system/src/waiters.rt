@@ -43,7 +43,12 @@ impl Waiters {
     /// Comes, and answers what `wait` is told. What is changed from now on wakes the caller: it
     /// comes with the lock held under which it has looked, or looks once more.
     pub fn come(&self) -> u64 {
-        let seen = self.changes.notifications();
+        self.announce(self.changes.notifications())
+    }
+
+    /// Says that one came who has read this count. Were it read later, a wake between would take
+    /// back what was said, and its caller would sleep past the next.
+    fn announce(&self, seen: u64) -> u64 {
         self.came.store(true, Ordering::SeqCst);
         seen
     }

@@ -5,7 +5,7 @@ use crate::calls::seat;
 use crate::day::{Day, config, left_by};
 use crate::system::Calls;
 use crate::{granted, holds};
-use mq_system::DraftError;
+use mq_system::{Config, DraftError};
 use std::process::Abort;
 use std::sync::Wait;
 use std::test::Fail;
@@ -186,6 +186,42 @@ impl Day for GoesBack {
 #[test]
 fn what_another_seat_spends_goes_back_where_it_has_no_room(rt: HostRuntime) -> Result<(), Fail> {
     let left = left_by(&rt, rt.alloc(), config(4, 1, 9), &GoesBack);
+    holds(&rt, left.free_pages == 16, "all pages are home");
+    Ok(())
+}
+
+/// The last of nine seats gets a block of the arena's upper half back that another has spent, and
+/// not the page before it, which is home.
+struct GoesBackToTheLast;
+
+impl Day for GoesBackToTheLast {
+    fn spend<S: Calls, R: Abort + Threads + Wait>(
+        &self,
+        rt: &R,
+        system: &S,
+        seats: &mut [S::Seat],
+    ) {
+        let whole = drafted(rt, system, seats, 2, front(8192));
+        let page = granted::drafted(rt, system, b"page");
+        let other = drafted(rt, system, seats, 9, b"other");
+        let start = system.shape(&other).start;
+        holds(rt, start == Some(9), "a page of the upper half");
+        spent(rt, system, seats, 2, whole);
+        system.spend(rt, page);
+        spent(rt, system, seats, 2, other);
+        let other = drafted(rt, system, seats, 9, b"other");
+        stands_at(rt, system, &other, start);
+        spent(rt, system, seats, 9, other);
+    }
+}
+
+#[test]
+fn the_last_seat_gets_back_what_it_has_drafted(rt: HostRuntime) -> Result<(), Fail> {
+    let nine = Config {
+        seats: 9,
+        ..config(4, 1, 9)
+    };
+    let left = left_by(&rt, rt.alloc(), nine, &GoesBackToTheLast);
     holds(&rt, left.free_pages == 16, "all pages are home");
     Ok(())
 }

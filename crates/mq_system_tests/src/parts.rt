@@ -8,10 +8,11 @@ use mq_arena::{ArenaState, Homecoming, Text};
 use mq_board::{BoardReader, BoardWriter};
 use mq_message::Waiting;
 use mq_queue::Figures;
-use mq_system::{Fronts, Names, Pages, Seat, Tally, TextOf, WaitingOf};
-use mq_table::{Id, IdRefusal};
+use mq_system::{Errno, Fronts, Names, Pages, Seat, Tally, TextOf, WaitingOf};
+use mq_table::Id;
 use std::alloc::{AllocError, Global};
 use std::process::Abort;
+use std::sync::Wait;
 
 /// A text of an arena.
 pub(crate) fn drafted<N: Names>(rt: &impl Abort, arena: &mut ArenaState<Pages<N>>) -> TextOf<N> {
@@ -82,7 +83,7 @@ pub(crate) fn seated<N: Names>(
 }
 
 /// A seat shows nothing of the first queue in slot 0, for this reason.
-pub(crate) fn not_shown<N: Names>(rt: &impl Abort, seat: &mut Seat<N>, wanted: IdRefusal)
+pub(crate) fn not_shown<N: Names>(rt: &impl Abort, seat: &mut Seat<N>, wanted: Errno)
     requires slots { 0 < N.slots }
 {
     match seat.stat(Id::of(0, 0)) {
@@ -108,11 +109,15 @@ pub(crate) fn told<N: Names>(rt: &impl Abort, writer: &mut BoardWriter<N>, seat:
     let told = writer.tell();
     holds(rt, told.board() == 0, "the board of slot 0");
     holds(rt, seat.learn(0, told), "all is known");
-    not_shown(rt, seat, IdRefusal::Removed);
+    not_shown(rt, seat, Errno::EIDRM);
 }
 
 /// The seat's only reader comes home.
-pub(crate) fn come_home<N: Names>(rt: &impl Abort, writer: &mut BoardWriter<N>, fronts: Fronts<N>) {
+pub(crate) fn come_home<N: Names, R: Abort + Wait>(
+    rt: &R,
+    writer: &mut BoardWriter<N>,
+    fronts: Fronts<N>,
+) {
     let mut fronts = fronts;
     let Some(reader) = fronts.hand_out() else {
         panic!(rt; "a seat has no reader")
@@ -120,6 +125,6 @@ pub(crate) fn come_home<N: Names>(rt: &impl Abort, writer: &mut BoardWriter<N>, 
     if reader.board() != writer.board() {
         panic!(rt; "a reader of another board");
     }
-    writer.take_back(reader);
+    writer.take_back(rt, reader);
     holds(rt, fronts.hand_out().is_none(), "one reader for one slot");
 }

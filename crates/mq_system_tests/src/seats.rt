@@ -8,9 +8,9 @@ use crate::parts::{drafted, figures_of, not_shown, spent};
 use crate::shared::{Day, apart_once};
 use crate::slot_calls::{cut, entered, made, received, removed, sent};
 use mq_arena::ArenaState;
-use mq_calls::Config;
+use mq_calls::{Config, Errno};
 use mq_system::{Keys, Names, Pages, Seat, SharedSlot};
-use mq_table::{Id, IdRefusal, MAX_SEQ};
+use mq_table::{Id, MAX_SEQ};
 use std::process::Abort;
 use std::sync::Wait;
 
@@ -29,8 +29,8 @@ fn narrowed<N: Names, R: Abort + Wait>(
     slot: &mut SharedSlot<Anything, N>,
     seat: &mut Seat<N>,
 )
-    requires number { slot.old.number ≡ 0 }
-    ensures number { slot.new.number ≡ 0 }
+    requires number { slot.old.whole.number ≡ 0 }
+    ensures number { slot.new.whole.number ≡ 0 }
 {
     entered(rt, slot, seat);
     match slot.set(rt, seat, Id::of(0, 0), 100, 7) {
@@ -53,10 +53,10 @@ pub(crate) fn followed<N: Names, R: Abort + Wait>(
     requires slots { N.slots ≡ 1 }
     requires last_seq { last_seq ≡ N.last_seq }
     requires bounded { N.last_seq ≤ MAX_SEQ }
-    requires number { slot.number ≡ 0 }
+    requires number { slot.whole.number ≡ 0 }
 {
     let mut slot = slot;
-    not_shown(rt, first, IdRefusal::Never);
+    not_shown(rt, first, Errno::EINVAL);
     made(rt, &mut slot, keys, first, last_seq);
     shows(rt, first, 0, 131_072);
     let text = drafted(rt, arena);
@@ -70,7 +70,7 @@ pub(crate) fn followed<N: Names, R: Abort + Wait>(
     narrowed(rt, &mut slot, first);
     shows(rt, first, 0, 100);
     removed(rt, &mut slot, keys, first);
-    not_shown(rt, first, IdRefusal::Removed);
+    not_shown(rt, first, Errno::EIDRM);
     slot
 }
 

@@ -56,12 +56,11 @@ fn taken_apart<N: Names, R: Abort + Wait>(
     } = slot.into_parts();
     let mut second = second;
     told(rt, &mut writer, &mut second);
-    let (left, fronts) = first.into_parts();
-    parts.merge(left);
+    let fronts = first.end(&mut parts);
     come_home(rt, &mut writer, fronts);
-    let (left, fronts) = second.into_parts();
-    parts.merge(left);
+    let fronts = second.end(&mut parts);
     come_home(rt, &mut writer, fronts);
+    writer.close(rt);
     total.audit(&mut parts);
     is_over(rt, slot);
 }
@@ -95,7 +94,7 @@ fn slot_day<N: Names, R: Abort + Wait>(
 ) -> SharedSlot<Anything, N>
     requires last_seq { last_seq ≡ N.last_seq }
     requires bounded { N.last_seq ≤ MAX_SEQ }
-    requires number { slot.number ≡ 0 }
+    requires number { slot.whole.number ≡ 0 }
 {
     let mut slot = slot;
     nothing_shown(rt, &slot, second);
@@ -124,7 +123,7 @@ fn spent_day<N: Names, R: Abort + Wait>(
     requires slots { N.slots ≡ 1 }
     requires last_seq { last_seq ≡ N.last_seq }
     requires bounded { N.last_seq ≤ MAX_SEQ }
-    requires number { slot.number ≡ 0 }
+    requires number { slot.whole.number ≡ 0 }
 {
     match day {
         Day::Slot => slot_day(rt, slot, keys, arena, first, second, last_seq),
@@ -154,7 +153,7 @@ fn apart<N: Names, R: Abort + Wait>(rt: &R, alloc: Global, config: Config, blank
         mut boards,
     } = blanks;
     let unopened = Unopened::new(alloc, config.height).expect(rt, "no memory for the pages");
-    let (writer, readers) = next_board::<N>(alloc, &mut boards, 0, 2).expect(
+    let (writer, readers) = next_board::<N, R>(alloc, rt, &mut boards, 0, 2).expect(
         rt,
         "no memory for the board",
     );

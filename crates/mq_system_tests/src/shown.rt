@@ -65,14 +65,14 @@ fn four_rows<S: Calls, R: Abort + Wait>(rt: &R, system: &S, seat: &mut S::Seat) 
     rows
 }
 
-/// A seat is shown two queues in four slots.
+/// A seat that has read nothing yet is shown two queues in four slots.
 fn two_are_shown<S: Calls, R: Abort + Wait>(rt: &R, system: &S, seat: &mut S::Seat) {
+    holds(rt, system.info(seat) == USAGE, "two queues are there");
     let rows = four_rows(rt, system, seat);
     holds(rt, rows[0] == row_of_new(2, 7, 6), "the second in slot 0");
     holds(rt, rows[1] == row_of_new(1, -8, 2), "the queue of slot 1");
     holds(rt, rows[2] == LEFT, "none in slot 2");
     holds(rt, rows[3] == NO_QUEUE, "none was in slot 3");
-    holds(rt, system.info(seat) == USAGE, "two queues are there");
 }
 
 #[derive(Drop)]

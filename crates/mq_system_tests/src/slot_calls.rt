@@ -11,13 +11,13 @@ use mq_calls::{Errno, Removal};
 use mq_message::Selection;
 use mq_queue::{BoardRow, Figures};
 use mq_system::{Keys, Names, Seat, SharedSlot, TextOf};
-use mq_table::{Cut, Id, IdRefusal, MAX_SEQ};
+use mq_table::{Cut, Id, MAX_SEQ};
 use std::process::Abort;
 use std::sync::Wait;
 
 /// A cut, made once more where it is refused.
 fn cut_once<N: Names>(rt: &impl Abort, slot: &mut SharedSlot<Anything, N>) -> Cut
-    ensures number { slot.new.number ≡ slot.old.number }
+    ensures number { slot.new.whole.number ≡ slot.old.whole.number }
 {
     match slot.cut() {
         Ok(cut) => cut,
@@ -30,7 +30,7 @@ fn cut_once<N: Names>(rt: &impl Abort, slot: &mut SharedSlot<Anything, N>) -> Cu
 
 /// There is a slot of number 0.
 fn has_slot<N: Names>(slot: &SharedSlot<Anything, N>)
-    requires number { slot.now.number ≡ 0 }
+    requires number { slot.now.whole.number ≡ 0 }
     ensures slots { 0 < N.slots }
 {
     slot.holds();
@@ -42,8 +42,8 @@ pub(crate) fn entered<N: Names>(
     slot: &mut SharedSlot<Anything, N>,
     seat: &mut Seat<N>,
 )
-    requires number { slot.old.number ≡ 0 }
-    ensures known { front_of seat.new slot.old.number ≡ slot.old.events }
+    requires number { slot.old.whole.number ≡ 0 }
+    ensures known { front_of seat.new slot.old.whole.number ≡ slot.old.whole.events }
     ensures same { slot.new ≡ slot.old }
 {
     has_slot(slot);
@@ -58,10 +58,10 @@ pub(crate) fn nothing_shown<N: Names>(
     slot: &SharedSlot<Anything, N>,
     seat: &mut Seat<N>,
 )
-    requires number { slot.now.number ≡ 0 }
+    requires number { slot.now.whole.number ≡ 0 }
 {
     has_slot(slot);
-    not_shown(rt, seat, IdRefusal::Never);
+    not_shown(rt, seat, Errno::EINVAL);
     holds(rt, seat.row(0).made == 0, "its row");
 }
 
@@ -75,8 +75,8 @@ pub(crate) fn made<N: Names, R: Abort + Wait>(
 )
     requires last_seq { last_seq ≡ N.last_seq }
     requires bounded { N.last_seq ≤ MAX_SEQ }
-    requires number { slot.old.number ≡ 0 }
-    ensures number { slot.new.number ≡ 0 }
+    requires number { slot.old.whole.number ≡ 0 }
+    ensures number { slot.new.whole.number ≡ 0 }
 {
     entered(rt, slot, seat);
     keys.holds();
@@ -113,8 +113,8 @@ pub(crate) fn sent<N: Names, R: Abort + Wait>(
     seat: &mut Seat<N>,
     text: TextOf<N>,
 )
-    requires number { slot.old.number ≡ 0 }
-    ensures number { slot.new.number ≡ 0 }
+    requires number { slot.old.whole.number ≡ 0 }
+    ensures number { slot.new.whole.number ≡ 0 }
 {
     entered(rt, slot, seat);
     match slot.send(rt, seat, Id::of(0, 0), 1, 7, text, 5) {
@@ -128,8 +128,8 @@ pub(crate) fn sent<N: Names, R: Abort + Wait>(
 
 /// A cut while the text waits hands out the making and the sending, and a second one nothing more.
 pub(crate) fn cut<N: Names>(rt: &impl Abort, slot: &mut SharedSlot<Anything, N>)
-    requires number { slot.old.number ≡ 0 }
-    ensures number { slot.new.number ≡ 0 }
+    requires number { slot.old.whole.number ≡ 0 }
+    ensures number { slot.new.whole.number ≡ 0 }
 {
     let cut = cut_once(rt, slot);
     is_first(rt, &cut);
@@ -144,7 +144,7 @@ pub(crate) fn shown<N: Names>(
     slot: &mut SharedSlot<Anything, N>,
     seat: &mut Seat<N>,
 )
-    requires number { slot.old.number ≡ 0 }
+    requires number { slot.old.whole.number ≡ 0 }
     ensures same { slot.new ≡ slot.old }
 {
     has_slot(slot);
@@ -176,8 +176,8 @@ pub(crate) fn received<N: Names, R: Abort + Wait>(
     slot: &mut SharedSlot<Anything, N>,
     seat: &mut Seat<N>,
 ) -> TextOf<N>
-    requires number { slot.old.number ≡ 0 }
-    ensures number { slot.new.number ≡ 0 }
+    requires number { slot.old.whole.number ≡ 0 }
+    ensures number { slot.new.whole.number ≡ 0 }
 {
     entered(rt, slot, seat);
     match slot.receive(rt, seat, Id::of(0, 0), 2, Selection::Any, false, 6) {
@@ -202,8 +202,8 @@ pub(crate) fn changed<N: Names, R: Abort + Wait>(
     slot: &mut SharedSlot<Anything, N>,
     seat: &mut Seat<N>,
 )
-    requires number { slot.old.number ≡ 0 }
-    ensures number { slot.new.number ≡ 0 }
+    requires number { slot.old.whole.number ≡ 0 }
+    ensures number { slot.new.whole.number ≡ 0 }
 {
     entered(rt, slot, seat);
     match slot.set(rt, seat, Id::of(0, 0), 131_073, 7) {
@@ -224,8 +224,8 @@ pub(crate) fn removed<N: Names, R: Abort + Wait>(
     keys: &mut Keys<N>,
     seat: &mut Seat<N>,
 )
-    requires number { slot.old.number ≡ 0 }
-    ensures number { slot.new.number ≡ 0 }
+    requires number { slot.old.whole.number ≡ 0 }
+    ensures number { slot.new.whole.number ≡ 0 }
 {
     entered(rt, slot, seat);
     match slot.remove(rt, keys, seat, Id::of(0, 0), 8) {
@@ -241,7 +241,7 @@ pub(crate) fn removed<N: Names, R: Abort + Wait>(
 
 /// A removed queue is in no slot, and its key is forgotten.
 fn is_gone<N: Names>(rt: &impl Abort, slot: &SharedSlot<Anything, N>, keys: &Keys<N>)
-    requires number { slot.now.number ≡ 0 }
+    requires number { slot.now.whole.number ≡ 0 }
 {
     holds(rt, keys.look(5).is_none(), "its key is forgotten");
     match slot.look(Id::of(0, 0)) {

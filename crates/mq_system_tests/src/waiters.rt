@@ -2,9 +2,37 @@
 
 use crate::holds;
 use mq_system::{Forever, NoWait, Patience, Until, Waiters};
+use std::io;
 use std::process::Abort;
+use std::sync::atomic::{AtomicU64, Ordering};
 use std::test::Fail;
-use std::time::{Duration, Instant};
+use std::time::{Clock, Duration, Instant};
+
+/// A clock that reads a millisecond more each time.
+#[derive(Drop)]
+struct Ticks {
+    reads: AtomicU64,
+}
+
+impl Ticks {
+    /// It reads so many milliseconds first.
+    fn from(first: u64) -> Ticks {
+        Ticks {
+            reads: AtomicU64::new(first),
+        }
+    }
+}
+
+impl Clock for Ticks {
+    fn monotonic(&self) -> io::Result<Duration> {
+        let read = self.reads.fetch_add(1, Ordering::SeqCst);
+        Ok(Duration::from_millis(read))
+    }
+
+    fn since_1970(&self) -> io::Result<Duration> {
+        Err(io::Error::from(io::ErrorKind::Other))
+    }
+}
 
 #[test]
 fn who_waited_until_its_time_is_not_woken_twice(rt: HostRuntime) {
@@ -50,6 +78,39 @@ fn a_patience_says_how_long_it_waits(rt: HostRuntime) {
     is_left(&rt, none, None, "no time");
     let far = Until::within(&rt, Duration::MAX).left();
     is_left(&rt, far, Some(Duration::MAX), "a time that does not come");
+}
+
+#[test]
+fn a_wait_has_left_what_its_clock_says(rt: HostRuntime) {
+    let (clock, later) = (Ticks::from(7), Ticks::from(13));
+    let mut within = Until::within(&clock, Duration::from_millis(3));
+    for left in [3u64, 2, 1] {
+        let wanted = Some(Duration::from_millis(left));
+        is_left(&rt, within.left(), wanted, "all until its end");
+    }
+    is_left(&rt, within.left(), None, "its end has come");
+    let Ok(end) = Instant::now(&later) else {
+        panic!(rt; "no clock");
+    };
+    let mut at = Until::at(&clock, end);
+    is_left(&rt, at.left(), Some(Duration::from_millis(2)), "until then");
+    is_left(&rt, at.left(), Some(Duration::from_millis(1)), "until then");
+    is_left(&rt, at.left(), None, "that time has come");
+}
+
+/// A wait of three seconds: what is late on a busy machine is less than as much again.
+#[test]
+fn a_wait_does_not_take_twice_its_time(rt: HostRuntime) {
+    let waiters = Waiters::new();
+    let Ok(began) = Instant::now(&rt) else {
+        panic!(rt; "no clock");
+    };
+    let seen = waiters.come();
+    waiters.wait(&rt, seen, Duration::from_secs(3));
+    let Ok(took) = began.elapsed(&rt) else {
+        panic!(rt; "no clock");
+    };
+    holds(&rt, took < Duration::from_millis(5500), "twice its time");
 }
 
 /// A patience has so much time left, or none.

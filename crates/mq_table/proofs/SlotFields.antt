@@ -34,7 +34,7 @@ refused_for o s after = grind arith
 
 module _ {B : Type 0} (bytes : B → List ℕ) (number first gone : ℕ) (key : ℤ) (base : Option Base)
     (past : List Event) (made : ℕ) (q : Queue B)
-    (h : IsSlot bytes made (Some q) (slot_with number first gone key base past (Some q))) where
+    (h : IsSlot bytes made (Some q) base (slot_with number first gone key base past (Some q))) where
   abbrev slot : Queue B → KeptSlot B
   slot queue = slot_with number first gone key base past (Some queue)
 
@@ -58,7 +58,7 @@ module _ {B : Type 0} (bytes : B → List ℕ) (number first gone : ℕ) (key : 
       -- with one event more
       gone_on : (e : Event) → q'.base ≡ q.base → q'.tail ≡ q.tail ++ e ∷ [] → is_made e ≡ false
           → is_removed e ≡ false → key_told e ≡ None → CanHappen headers quota e
-          → IsSlot bytes made (Some q') (slot q')
+          → IsSlot bytes made (Some q') base (slot q')
       gone_on e based tail unmade stays untold allowed =
           let live = rw (live_is h.lawful.list (slot q) h.lawful.part) at (sym h.there) in
           let none : made_count (e ∷ []) ≡ 0 = rw unmade refl in
@@ -67,17 +67,17 @@ module _ {B : Type 0} (bytes : B → List ℕ) (number first gone : ℕ) (key : 
           (event_turned MAX_SEQ h.lawful.list (slot q) h.lawful.part h.lawful.lawful live e
           q'.messages unmade stays untold (rw h.based at allowed))
           made (omega (arith, none)) h.few h.short (sym (ap not stays)) (based ∙ h.based)
-          (rw (← h.based, ← based, ← tail) waits)
+          (rw (← h.based, ← based, ← tail) waits) (rw based h.own)
 
       pub sent_slot : (m : Message B) (moment answer : ℕ) → IsQueued bytes m moment q q' answer
-          → IsSlot bytes made (Some q') (slot q')
+          → IsSlot bytes made (Some q') base (slot q')
       sent_slot m moment answer sent =
           gone_on (sending bytes m moment) sent.base sent.tail refl refl refl
           (sent_can headers quota m.sender moment m.tag m.mtype (length (bytes m.body)) sent.accepted)
 
       pub got_slot : (size : ℕ) (selection : Selection) (noerror : Bool) (seat moment : ℕ)
           (r : Received B) → IsHandedOut size selection noerror seat moment q q' r
-          → IsSlot bytes made (Some q') (slot q')
+          → IsSlot bytes made (Some q') base (slot q')
       got_slot size selection noerror seat moment r got =
           gone_on (event.Received seat moment r.place selection size noerror) got.base got.tail refl
           refl refl
@@ -86,7 +86,7 @@ module _ {B : Type 0} (bytes : B → List ℕ) (number first gone : ℕ) (key : 
 
       pub changed_slot : (qbytes seat moment answer : ℕ)
           → IsQuotaSet qbytes seat moment q q' answer
-          → IsSlot bytes made (Some q') (slot q')
+          → IsSlot bytes made (Some q') base (slot q')
       changed_slot qbytes seat moment answer changed =
           gone_on (event.Changed seat moment qbytes) changed.base changed.tail refl refl refl
           (set_can headers quota seat moment qbytes changed.accepted)

@@ -32,6 +32,10 @@ abbrev pub live_base : {B : Type 0} → Option (Queue B) → Option Base
 live_base None = None
 live_base (Some queue) = some_base queue.base
 
+-- the base that a slot has itself: none where the queue that is there has it
+abbrev pub own_base : {B : Type 0} → Option (Queue B) → Option Base → Option Base
+own_base live base = if is_some (live_base live) then None else base
+
 -- the events that are kept of the log of the queue that is there, if one is
 abbrev pub tail_of : {B : Type 0} → Option (Queue B) → List Event
 tail_of None = []
@@ -58,10 +62,10 @@ slot_with number first made key base past live = record {
 }
 
 -- the slot has a number; the makings are counted, and not too many for ids; not too many entries
--- are before the log of the queue in it; the slot keeps its part of some slot list; and that queue
--- is the list's
+-- are before the log of the queue in it; the slot keeps its part of some slot list; that queue is
+-- the list's; and no base is there twice
 pub record IsSlot {B : Type 0} (bytes : B → List ℕ) (made : ℕ) (live : Option (Queue B))
-    (s : KeptSlot B) : Type 0 where
+    (base : Option Base) (s : KeptSlot B) : Type 0 where
   pub numbered : s.number < MAX_SLOTS
   pub counted : made ≡ made_of s
   pub few : made ≤ MAX_SEQ + 1
@@ -72,3 +76,4 @@ pub record IsSlot {B : Type 0} (bytes : B → List ℕ) (made : ℕ) (live : Opt
   pub last : s.last ≡ tail_of live
   pub messages : s.messages ≡ messages_of live
   pub waits : WaitsNow bytes s
+  pub own : base ≡ own_base live s.base

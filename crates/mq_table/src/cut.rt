@@ -1,7 +1,7 @@
 ghost use Rattle.std.specs.Prelude.{◌≡◌, [], is_some, IfOk, IfSome, MatchResult};
 ghost use Rattle.mq_table.specs.Cut.{cut_of, cut_queue, kept_cuts, cut_shown};
 ghost use Rattle.mq_table.specs.Kept.{base_now, is_live_kept};
-ghost use Rattle.mq_table.specs.SlotParts.{live_base, slot_with, tail_of};
+ghost use Rattle.mq_table.specs.SlotParts.{live_base, own_base, slot_with, tail_of};
 
 use crate::turnover::either;
 use crate::{MAX_PAST, Slot};
@@ -87,6 +87,7 @@ impl<B: Body, W: Waiting<B>> Slot<B, W> {
     pub fn into_parts(self) -> (Cut, Option<QueueState<B, W>>)
         ensures parts { self ≡ slot_with self.number result.0.first result.0.made self.key
             result.0.base result.0.past.items result.1 }
+        ensures base { result.0.base ≡ own_base result.1 self.base }
         ensures none { result.0.last.items ≡ [] }
         ensures live { is_some result.1 ≡ is_live_kept self }
         ensures based { IfSome result.1 (λ queue. queue.base ≡ base_now self) }

@@ -39,7 +39,7 @@ impl<B: Body, W: Waiting<B>> Model for Slot<B, W> {
 
     ghost view = { λ s. slot_with s.number s.first s.gone s.key s.base s.past.items s.live };
 
-    ghost invariant = { λ s. IsSlot B.bytes s.made s.live
+    ghost invariant = { λ s. IsSlot B.bytes s.made s.live s.base
         (slot_with s.number s.first s.gone s.key s.base s.past.items s.live) };
 }
 

@@ -28,6 +28,9 @@ const PAST: u32 = 63;
 /// How many bytes are sent, and for how many room is made.
 const LENGTHS: [usize; 5] = [0, 1, 4_001, 8_193, 65_536];
 
+/// Room for more bytes than any message has.
+const AMPLE: usize = 1_000_000;
+
 /// Sends that are refused whatever is sent.
 const SENDS: [(u32, i64, Errno); 5] = [
     (HERE, 0, Errno::EINVAL),
@@ -178,10 +181,15 @@ impl<C: SeatCalls + Drop> Asker<C> {
         for len in LENGTHS {
             self.is_refused(len);
         }
+        for (id, errno) in RECEIPTS {
+            self.receives(id, AMPLE, Err(errno));
+        }
         self.sends(HERE, 1, 65_537, Err(Errno::EINVAL));
         for len in LENGTHS {
             self.passes(len);
         }
+        self.sends(HERE, 1, 65_536, Ok(65_536));
+        self.receives(HERE, AMPLE, Ok(65_536));
         self.fills();
     }
 }

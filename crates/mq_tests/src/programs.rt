@@ -269,14 +269,18 @@ fn bytes_come_whole_or_cut_and_a_refusal_leaves_no_page_out(rt: HostRuntime) {
     exchanges(&rt, rt.alloc(), SMALL, &sendings, &receipts);
 }
 
-/// A text of the greatest length is sent to no queue and to one, and then received.
+/// A text of the greatest length is sent to no queue and to one, and then received; behind it there
+/// is nothing to be received, whatever there is room for.
 #[test]
 fn the_greatest_text_takes_64_pages_and_comes_whole(rt: HostRuntime) {
     let sendings: [Sending; 2] = [
         (1, 1, 65_536, Err(Errno::EINVAL), 64),
         (0, 1, 65_536, Ok(1), 0),
     ];
-    let receipts: [Receipt; 1] = [(65_536, false, Ok((1, 65_536, 65_536)), 64)];
+    let receipts: [Receipt; 2] = [
+        (65_536, false, Ok((1, 65_536, 65_536)), 64),
+        (1_000_000, false, Err(Errno::ENOMSG), 64),
+    ];
     let config = Config { height: 6, ..SMALL };
     exchanges(&rt, rt.alloc(), config, &sendings, &receipts);
 }

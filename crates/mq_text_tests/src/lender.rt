@@ -124,8 +124,9 @@ pub(crate) trait Lender {
         back: &[u8],
     );
 
-    /// Writes each of the two pages of a text's block while the other one is written too.
-    fn write_both<R: Abort + Threads>(&self, rt: &R, text: &mut Self::Text);
+    /// Writes the first page of each half of a text's block, which are cut at page `i`, while the
+    /// other half is written too.
+    fn write_both<R: Abort + Threads>(&self, rt: &R, text: &mut Self::Text, i: usize);
 
     /// Cuts a text, and looks at its length.
     fn cut_to<R: Abort>(&self, rt: &R, text: &mut Self::Text, n: u64);
@@ -287,8 +288,8 @@ impl<L: Ledger> Lender for ArenaState<L> {
         in_text::write_halves(rt, text, i, front, back);
     }
 
-    fn write_both<R: Abort + Threads>(&self, rt: &R, text: &mut Text<L>) {
-        write_both(rt, text);
+    fn write_both<R: Abort + Threads>(&self, rt: &R, text: &mut Text<L>, i: usize) {
+        write_both(rt, text, i);
     }
 
     fn cut_to<R: Abort>(&self, rt: &R, text: &mut Text<L>, n: u64) {

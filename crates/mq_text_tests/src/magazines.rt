@@ -13,7 +13,7 @@ use std::test::Fail;
 /// A block of two pages.
 fn pair<L: OfHeight, R: Abort + Wait>(rt: &R, arena: &Arena<L>) -> Block<L> {
     match arena.take_unwritten(rt, 1) {
-        Ok(block) => block,
+        Ok(taken) => taken.overwrite(&[]),
         Err(_) => panic!(rt; "no block"),
     }
 }
@@ -59,8 +59,8 @@ fn emptied<L: OfHeight, R: Abort + Wait>(
     let mut count = 0u32;
     for _ in 0..=MAGAZINE_PAGES {
         match magazine.take(order) {
-            Some(block) => {
-                arena.put(rt, block);
+            Some(taken) => {
+                arena.put(rt, taken.overwrite(&[]));
                 count = count.saturating_add(1);
             }
             None => return count,

@@ -47,16 +47,21 @@ fn written(own: &AtomicBool, other: &AtomicBool, alone: &AtomicBool, pages: &mut
     fill(pages, &[letter; PAGE_LEN]);
 }
 
-/// Writes each of two pages of a text's block while the other one is written too.
-pub(crate) fn write_both<L: Ledger, R: Abort + Threads>(rt: &R, text: &mut Text<L>) {
-    holds!(rt; text.order() == Some(1));
-    holds!(rt; 1 <= text.count());
+/// Writes the first page of each half of a text's block, which are cut at page `i`, while the other
+/// half is written too.
+pub(crate) fn write_both<L: Ledger, R: Abort + Threads>(rt: &R, text: &mut Text<L>, i: usize) {
+    let Some(order) = text.order() else {
+        panic!(rt; "no block");
+    };
+    holds!(rt; 1 <= i);
+    holds!(rt; i <= text.count());
+    holds!(rt; i < 1usize << order);
     let front = AtomicBool::new(false);
     let back = AtomicBool::new(false);
     let alone = AtomicBool::new(false);
     text.write_halves(
         rt,
-        1,
+        i,
         |pages: &mut [Page]| written(&front, &back, &alone, pages, b'A'),
         |pages: &mut [Page]| written(&back, &front, &alone, pages, b'B'),
     );
@@ -71,17 +76,19 @@ struct HalvesMeet;
 
 impl Day for HalvesMeet {
     fn spend<A: Lender, R: Abort + Threads>(&self, rt: &R, arena: &mut A) {
-        let mut text = drafted(rt, arena, 2 * PAGE_LEN);
-        arena.write_both(rt, &mut text);
-        arena.repeats(rt, &text, 0, PAGE_LEN, b'A');
-        arena.repeats(rt, &text, 1, PAGE_LEN, b'B');
-        home(rt, arena, text);
+        for (len, i) in [(2 * PAGE_LEN, 1), (4 * PAGE_LEN, 2)] {
+            let mut text = drafted(rt, arena, len);
+            arena.write_both(rt, &mut text, i);
+            arena.repeats(rt, &text, 0, PAGE_LEN, b'A');
+            arena.repeats(rt, &text, i, PAGE_LEN, b'B');
+            home(rt, arena, text);
+        }
     }
 }
 
 #[test]
 fn each_half_is_written_while_the_other_is(rt: HostRuntime) -> Result<(), Fail> {
-    lives(&rt, rt.alloc(), 1, &HalvesMeet)
+    lives(&rt, rt.alloc(), 2, &HalvesMeet)
 }
 
 // How many threads a process has by this status.

@@ -1,10 +1,11 @@
-//! Drafts that wait until pages come home.
+//! Drafts that wait until pages come home, and a send that does not.
 
-use crate::calls::{Nothing, ended_of};
+use crate::calls::{Nothing, ended_of, queue, remove, send};
+use crate::is_same;
 use crate::watch::{Watch, in_time};
 use mq::{
-    Config, DraftError, Ended, Errno, Forever, Id, Names, Seat, System, TextOf, Worker,
-    WorkersError, with_two, with_workers,
+    Caller, Config, DraftError, Ended, Errno, Forever, Id, Names, Seat, SendFlags, SysError,
+    System, SystemProgram, TextOf, Worker, WorkersError, with_system, with_two, with_workers,
 };
 use std::alloc::Global;
 use std::process::Abort;
@@ -79,6 +80,8 @@ impl<'a> Worker<Nothing> for TakesTurns<'a> {
 enum Part<'a> {
     /// Drafts both as two texts, says so, and spends one after the other.
     Spends(&'a Watch),
+    /// Sends both as two texts, says so, and removes their queue.
+    Removes(&'a Watch),
     /// Once that is said, waits for a text of so many bytes.
     WaitsFor(&'a Watch, u64),
 }
@@ -105,6 +108,12 @@ impl<'a> Worker<Nothing> for Part<'a> {
                 one?;
                 other
             }
+            Part::Removes(lent) => {
+                let filled = filled(rt, system, seat);
+                lent.ends();
+                looks(system, seat);
+                remove(rt, system, seat, filled?)
+            }
             Part::WaitsFor(lent, len) => {
                 lent.is_over(rt);
                 let drafted = system.draft_within(rt, len, &mut Forever);
@@ -112,6 +121,19 @@ impl<'a> Worker<Nothing> for Part<'a> {
             }
         }
     }
+}
+
+/// A queue whose texts have both pages.
+fn filled<N: Names, R: Wait>(
+    rt: &R,
+    system: &System<Nothing, N>,
+    seat: &mut Seat<N>,
+) -> Result<Id, Errno> {
+    let id = queue(rt, system, seat, 1)?;
+    for _page in 0..2u8 {
+        send(rt, system, seat, id, 1, 1024)?;
+    }
+    Ok(id)
 }
 
 fn looks<N: Names>(system: &System<Nothing, N>, seat: &mut Seat<N>) {
@@ -169,15 +191,16 @@ fn two_threads_take_a_page_that_each_keeps_back(rt: HostRuntime) {
     in_turn(&rt, rt.alloc(), Way::Kept);
 }
 
-/// The first worker spends two pages one by one, and each other waits for a text of so many bytes.
+/// The first worker has both pages, and each other waits for a text of so many bytes.
 fn run_drafts<R: Threads + Wait + Sync>(
     rt: &R,
     alloc: Global,
+    first: Part<'_>,
     lens: &[u64],
     lent: &Watch,
 ) -> Result<Ended<Vec<Result<(), Errno>>>, WorkersError> {
     let mut workers = Vec::new(alloc);
-    let Ok(()) = workers.push(Part::Spends(lent)) else {
+    let Ok(()) = workers.push(first) else {
         return Err(WorkersError::Memory);
     };
     for len in lens {
@@ -190,9 +213,17 @@ fn run_drafts<R: Threads + Wait + Sync>(
     ended
 }
 
-fn all_draft<R: Abort + Threads + Wait + Sync>(rt: &R, alloc: Global, lens: &[u64]) {
-    let lent = Watch::new();
-    let ended = in_time(rt, "all drafts", || run_drafts(rt, alloc, lens, &lent));
+/// Once the first worker has both pages, each other waits for a text of so many bytes.
+fn all_draft<R: Abort + Threads + Wait + Sync>(
+    rt: &R,
+    alloc: Global,
+    first: Part<'_>,
+    lens: &[u64],
+    lent: &Watch,
+) {
+    let ended = in_time(rt, "all drafts", || {
+        run_drafts(rt, alloc, first, lens, lent)
+    });
     for done in ended_of(rt, ended, 2).answer.iter() {
         holds!(rt; *done == Ok(()), "a draft is refused");
     }
@@ -200,10 +231,67 @@ fn all_draft<R: Abort + Threads + Wait + Sync>(rt: &R, alloc: Global, lens: &[u6
 
 #[test]
 fn a_draft_waits_until_both_halves_are_home(rt: HostRuntime) {
-    all_draft(&rt, rt.alloc(), &[2048]);
+    let lent = Watch::new();
+    all_draft(&rt, rt.alloc(), Part::Spends(&lent), &[2048], &lent);
 }
 
 #[test]
 fn drafts_of_one_page_and_of_two_are_all_made(rt: HostRuntime) {
-    all_draft(&rt, rt.alloc(), &[2048, 1024, 2000, 1000]);
+    let lent = Watch::new();
+    let lens = [2048, 1024, 2000, 1000];
+    all_draft(&rt, rt.alloc(), Part::Spends(&lent), &lens, &lent);
+}
+
+#[test]
+fn a_removal_wakes_who_waits_for_the_pages_of_its_texts(rt: HostRuntime) {
+    let lent = Watch::new();
+    all_draft(&rt, rt.alloc(), Part::Removes(&lent), &[2048], &lent);
+}
+
+/// Drafts a text in the one page, and sends bytes with IPC_NOWAIT and without, before it spends it.
+#[derive(Drop)]
+struct SendsWithoutPages;
+
+impl SystemProgram<Nothing> for SendsWithoutPages {
+    /// What the two sends answered.
+    type Answer = Result<(Result<u64, Errno>, Result<u64, Errno>), Errno>;
+
+    fn run<N: Names, R: Wait>(
+        self,
+        rt: &R,
+        alloc: Global,
+        _config: Config,
+        system: &System<Nothing, N>,
+        seats: &mut [Seat<N>],
+    ) -> Result<(Result<u64, Errno>, Result<u64, Errno>), Errno> {
+        let Some(seat) = seats.first_mut() else {
+            return Err(Errno::EINVAL);
+        };
+        let id = queue(rt, system, seat, 1)?;
+        let drafted = system.draft_by(rt, seat, b"one");
+        let mut caller = Caller::new(rt, alloc, seat);
+        let at_once = SendFlags { nowait: true };
+        let one = caller.send_with(system, id, 1, 0, b"two", at_once);
+        let other = caller.send(system, id, 1, 0, b"two");
+        spent(rt, system, seat, drafted)?;
+        Ok((one, other))
+    }
+}
+
+#[test]
+fn a_send_answers_enomem_at_once_where_no_page_is_free(rt: HostRuntime) {
+    let alloc = rt.alloc();
+    let ended = in_time(&rt, "a send that finds no page", || {
+        with_system(&rt, alloc, ONE, SendsWithoutPages)
+    });
+    match ended {
+        Ok(ended) => {
+            is_same(&rt, u64::from(ended.free_pages), 1, "free pages");
+            let none: Result<u64, Errno> = Err(Errno::ENOMEM);
+            holds!(rt; ended.answer.is_ok(), "out of memory");
+            holds!(rt; ended.answer == Ok((none, none)), "another answer");
+        }
+        Err(SysError::Memory) => panic!(rt; "out of memory"),
+        Err(error) => panic!(rt; "{error}"),
+    }
 }

@@ -6,7 +6,9 @@
 use crate::calls::{Nothing, queue, receive, remove, send, set};
 use crate::is_same;
 use crate::watch::in_time;
-use mq::{Config, Ended, Errno, Id, Names, Seat, System, Worker, WorkersError, with_workers};
+use mq::{
+    Config, Ended, Errno, Id, MSGMNB, Names, Seat, System, Worker, WorkersError, with_workers,
+};
 use std::alloc::Global;
 use std::process::Abort;
 use std::sync::Wait;
@@ -290,27 +292,56 @@ fn a_receipt_wakes_all_for_whom_it_makes_room(rt: HostRuntime) {
 }
 
 #[test]
-fn a_higher_quota_wakes_all_for_whom_it_makes_room(rt: HostRuntime) {
+fn a_receipt_of_an_empty_message_wakes_a_sender_of_one(rt: HostRuntime) {
+    let sender = [Hears(1, 1), Says(2, 1), Sends(1, 0), Says(3, 1)];
+    // Of empty messages a quota of one byte has room for one.
+    let receiver = [
+        Sets(1),
+        Sends(7, 0),
+        Says(1, 1),
+        Hears(2, 1),
+        Looks,
+        Receives(7, 9),
+        Hears(3, 1),
+    ];
+    let parts = [Part { steps: &sender }, Part { steps: &receiver }];
+    let answers = [Ok(0), Ok(0)];
+    wakes(
+        &rt,
+        rt.alloc(),
+        "a receipt of an empty message wakes a sender",
+        &parts,
+        &answers,
+        1,
+    );
+}
+
+/// Three senders wait for room, until the quota is set to this.
+fn a_quota_wakes<R: Abort + Threads + Wait + Sync>(rt: &R, alloc: Global, qbytes: u64) {
     let sender = [Hears(1, 1), Says(2, 1), Sends(1, 3), Says(3, 1)];
     let setter = [
         Sets(2),
         Says(1, 3),
         Hears(2, 3),
         Looks,
-        Sets(9),
+        Sets(qbytes),
         Hears(3, 3),
     ];
     let part = Part { steps: &sender };
     let parts = [part, part, part, Part { steps: &setter }];
     let answers = [Ok(0), Ok(0), Ok(0), Ok(0)];
-    wakes(
-        &rt,
-        rt.alloc(),
-        "a higher quota wakes all three senders",
-        &parts,
-        &answers,
-        3,
-    );
+    let wake = "a higher quota wakes all three senders";
+    wakes(rt, alloc, wake, &parts, &answers, 3);
+}
+
+#[test]
+fn a_higher_quota_wakes_all_for_whom_it_makes_room(rt: HostRuntime) {
+    a_quota_wakes(&rt, rt.alloc(), 9);
+}
+
+#[test]
+fn a_quota_of_msgmnb_wakes_all_for_whom_it_makes_room(rt: HostRuntime) {
+    a_quota_wakes(&rt, rt.alloc(), MSGMNB);
 }
 
 #[test]

@@ -1,36 +1,40 @@
 //! Logs that are cut off after each so many entries.
 
-use crate::face::calls::{
-    call, get_again, is_whole, receive_again, receiving, send_again, sending,
-};
+use crate::face::calls::{call, control_again, get_again, receiving, send_again, sending};
 use crate::face::system::{FaceCalls, FaceDay, lives};
 use crate::holds;
-use mq_face::{CallKind, IPC_CREAT, LOG_BOUND};
+use mq_calls::Errno;
+use mq_face::{Call, CallKind, IPC_CREAT, IPC_SET, LOG_BOUND};
 use std::process::Abort;
 
-/// Cuts the log off where it is due, and answers how many entries are cut off then; before there
-/// were so many.
-fn cut_off_by<S: FaceCalls>(queues: &mut S, entry: u64, before: u64) -> u64 {
-    if queues.cut_where_due(0, Some(entry)) {
+/// How many entries are cut off where the entry's log was cut; before there were so many.
+fn cut_off_by(is_cut: bool, entry: u64, before: u64) -> u64 {
+    if is_cut {
         entry.saturating_add(1)
     } else {
         before
     }
 }
 
-fn sends<S: FaceCalls>(rt: &impl Abort, queues: &mut S, before: u64) -> u64 {
-    match send_again(queues, sending(0, 0, 1, 1), b"x") {
-        Ok(done) => cut_off_by(queues, done.entry.unwrap_or(0), before),
+fn sends<S: FaceCalls>(rt: &impl Abort, queues: &mut S, slot: u8, before: u64) -> u64 {
+    match send_again(queues, sending(i32::from(slot), 0, 1, 1), b"x") {
+        Ok(done) => {
+            let entry = done.entry.unwrap_or(0);
+            let is_cut = queues.cut_where_due(done.slot, Some(entry));
+            cut_off_by(is_cut, entry, before)
+        }
         Err(refusal) => panic!(rt; "not sent: {}", refusal.errno),
     }
 }
 
-fn receives<S: FaceCalls>(rt: &impl Abort, queues: &mut S, before: u64) -> u64 {
-    match receive_again(queues, receiving(0, 0, 1), b"x") {
-        Ok(received) => {
-            is_whole(rt, received);
-            cut_off_by(queues, received.entry, before)
-        }
+fn receives<S: FaceCalls>(rt: &impl Abort, queues: &mut S, slot: u8, before: u64) -> u64 {
+    let receipt = receiving(i32::from(slot), 0, 1);
+    let received = match queues.receive_and_cut(receipt) {
+        Err(refusal) if refusal.errno == Errno::ENOMEM.number() => queues.receive_and_cut(receipt),
+        answer => answer,
+    };
+    match received {
+        Ok((entry, is_cut)) => cut_off_by(is_cut, entry, before),
         Err(refusal) => panic!(rt; "not received: {}", refusal.errno),
     }
 }
@@ -46,27 +50,42 @@ fn are_due(rt: &impl Abort, off: u64, found: u64) {
     holds(rt, found == off, "as much was not cut off");
 }
 
+/// Makes twice as many entries in a slot as a log keeps.
+fn reach_two_bounds<S: FaceCalls, R: Abort>(rt: &R, queues: &mut S, slot: u8) {
+    let mut off = 0;
+    for _ in 0..LOG_BOUND {
+        let sent = sends(rt, queues, slot, off);
+        off = receives(rt, queues, slot, sent);
+    }
+    are_due(rt, off, queues.cut_off(rt, slot));
+}
+
 #[derive(Drop)]
 struct Rounds;
 
 impl FaceDay for Rounds {
     fn spend<S: FaceCalls, R: Abort>(&self, rt: &R, queues: &mut S) {
-        let made = get_again(queues, call(CallKind::Get, 0, IPC_CREAT)).is_ok();
-        holds(rt, made, "no queue");
-        let mut off = 0;
-        for _ in 0..LOG_BOUND {
-            let sent = sends(rt, queues, off);
-            off = receives(rt, queues, sent);
+        for _slot in 0..2u8 {
+            let made = get_again(queues, call(CallKind::Get, 0, IPC_CREAT)).is_ok();
+            holds(rt, made, "no queue");
+        }
+        // In slot 0 the last of as many entries is a send, and in slot 1 a receipt.
+        let quota = Call {
+            size: 10,
+            ..call(CallKind::Control, 1, IPC_SET)
+        };
+        holds(rt, control_again(queues, quota).is_ok(), "no quota");
+        for slot in 0..2u8 {
+            reach_two_bounds(rt, queues, slot);
         }
         let early = queues.cut_where_due(0, None);
         holds(rt, !early, "cut off after no entry");
         let other = queues.cut_where_due(7, Some(LOG_BOUND - 1));
         holds(rt, !other, "a slot that is not there is cut");
-        are_due(rt, off, queues.cut_off(rt, 0));
     }
 }
 
 #[test]
 fn a_log_is_cut_off_after_as_many_entries(rt: HostRuntime) {
-    lives(&rt, rt.alloc(), 0, 1, &Rounds);
+    lives(&rt, rt.alloc(), 0, 2, &Rounds);
 }

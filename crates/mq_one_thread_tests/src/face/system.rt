@@ -6,6 +6,7 @@ use mq_arena::Homecoming;
 use mq_calls::{Closed, Config};
 use mq_face::{
     ANSWER_NUMBERS, Call, Done, Refusal, control, cut_where_due, draft, get, receive, send,
+    spend_received,
 };
 use mq_message::Body;
 use mq_one_thread::OneThread;
@@ -17,7 +18,6 @@ use std::sync::ledger::{Blank, Ledger};
 /// A message that was received and spent.
 #[derive(Clone, Copy)]
 pub(crate) struct Received {
-    pub(crate) entry: u64,
     pub(crate) numbers: [u64; ANSWER_NUMBERS],
     /// Its first part had the bytes that were wanted.
     pub(crate) same: bool,
@@ -35,6 +35,10 @@ pub(crate) trait FaceCalls {
 
     /// Receives and spends a message, whose bytes are looked at.
     fn receive(&mut self, call: Call, wanted: &[u8]) -> Result<Received, Refusal>;
+
+    /// The same of a message that is looked at no more; answers the receipt's entry, and whether
+    /// the log was cut off then.
+    fn receive_and_cut(&mut self, call: Call) -> Result<(u64, bool), Refusal>;
 
     fn cut_where_due(&mut self, slot: u8, entry: Option<u64>) -> bool;
 
@@ -61,20 +65,25 @@ impl<L: Ledger> FaceCalls for OneThread<L> {
 
     fn receive(&mut self, call: Call, wanted: &[u8]) -> Result<Received, Refusal> {
         let message = receive(self, call)?;
-        let (entry, numbers) = (message.entry, message.numbers());
+        let numbers = message.numbers();
         let text = message.text;
         let same = text.parts().next() == Some(wanted);
         let home = self.spend(text) == Homecoming::Home;
         Ok(Received {
-            entry,
             numbers,
             same,
             home,
         })
     }
 
+    fn receive_and_cut(&mut self, call: Call) -> Result<(u64, bool), Refusal> {
+        let message = receive(self, call)?;
+        let entry = message.entry;
+        Ok((entry, spend_received(self, message).unwrap_or(false)))
+    }
+
     fn cut_where_due(&mut self, slot: u8, entry: Option<u64>) -> bool {
-        cut_where_due(self, slot, entry)
+        cut_where_due(self, slot, entry).unwrap_or(false)
     }
 
     fn cut_off<R: Abort>(&mut self, rt: &R, slot: u8) -> u64 {

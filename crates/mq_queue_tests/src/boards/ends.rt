@@ -45,14 +45,14 @@ fn ended<J: Naming, R: Abort + Wait>(
     opened: OpenedBoard,
     count: usize,
 ) -> Result<(), AllocError>
-    requires named { (opened.pass.table_id ≡ J.board 0) × (opened.roll.seen.book ≡ J.roll 0) }
+    requires named { (opened.history.seen.book ≡ J.board 0) × (opened.roll.seen.book ≡ J.roll 0) }
     requires readers { (0 < count) × (count ≤ 16) }
 {
-    let (mut writer, mut readers) = board::<J>(alloc, opened, 0, count)?;
+    let (mut writer, mut readers) = board::<J, R>(alloc, rt, opened, 0, count)?;
     let looked = look_all(rt, alloc, &mut writer, &mut readers);
     holds!(rt; readers.len() == count, "other readers");
     if are_of(readers.as_slice(), writer.board()) {
-        writer.end(readers);
+        writer.end(rt, readers);
     } else {
         panic!(rt; "a reader is of another board");
     }
@@ -62,7 +62,7 @@ fn ended<J: Naming, R: Abort + Wait>(
 fn ends<R: Abort + Wait>(rt: &R, alloc: Global, count: usize) -> Result<(), AllocError>
     requires { (0 < count) × (count ≤ 16) }
 {
-    ended::<Brand, R>(rt, alloc, OpenedBoard::new(alloc)?, count)
+    ended::<Brand, R>(rt, alloc, OpenedBoard::new(), count)
 }
 
 #[test]

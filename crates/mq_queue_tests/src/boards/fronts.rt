@@ -88,19 +88,20 @@ fn followed<J: Naming, R: Wait>(
     alloc: Global,
     opened: OpenedBoard,
 ) -> Result<(Seen, Left), AllocError>
-    requires { (opened.pass.table_id ≡ J.board 0) × (opened.roll.seen.book ≡ J.roll 0) }
+    requires { (opened.history.seen.book ≡ J.board 0) × (opened.roll.seen.book ≡ J.roll 0) }
 {
-    let (mut writer, mut readers) = board::<J>(alloc, opened, 0, 3)?;
+    let (mut writer, mut readers) = board::<J, R>(alloc, rt, opened, 0, 3)?;
     let seen = follow(rt, alloc, &mut writer, readers.as_mut_slice());
     let left = Left {
         saw_all: readers[0].row(),
         never_looked: readers[2].row(),
     };
+    writer.close(rt);
     Ok((seen?, left))
 }
 
 fn run<R: Wait>(rt: &R, alloc: Global) -> Result<(Seen, Left), AllocError> {
-    followed::<Brand, R>(rt, alloc, OpenedBoard::new(alloc)?)
+    followed::<Brand, R>(rt, alloc, OpenedBoard::new())
 }
 
 #[test]

@@ -49,16 +49,17 @@ fn followed<J: Naming, R: Abort + Wait>(
     alloc: Global,
     opened: OpenedBoard,
 ) -> Result<(), AllocError>
-    requires { (opened.pass.table_id ≡ J.board 0) × (opened.roll.seen.book ≡ J.roll 0) }
+    requires { (opened.history.seen.book ≡ J.board 0) × (opened.roll.seen.book ≡ J.roll 0) }
 {
-    let (mut writer, mut readers) = board::<J>(alloc, opened, 0, 2)?;
+    let (mut writer, mut readers) = board::<J, R>(alloc, rt, opened, 0, 2)?;
     let outcome = follow(rt, alloc, &mut writer, &mut readers[0]);
     shows_all(rt, &mut readers[1], &writer, "not all is shown at last");
+    writer.close(rt);
     outcome
 }
 
 fn run<R: Abort + Wait>(rt: &R, alloc: Global) -> Result<(), AllocError> {
-    followed::<Brand, R>(rt, alloc, OpenedBoard::new(alloc)?)
+    followed::<Brand, R>(rt, alloc, OpenedBoard::new())
 }
 
 #[test]

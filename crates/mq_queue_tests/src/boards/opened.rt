@@ -20,10 +20,12 @@ fn play<J: Naming, R: Wait>(
     requires named { AreNamed J.board J.roll 0 opened.items }
 {
     let mut opened = opened;
-    let (writer, readers) = next_board::<J>(alloc, &mut opened, 0, 2)?;
+    let (writer, readers) = next_board::<J, R>(alloc, rt, &mut opened, 0, 2)?;
     let first = writer.board() == 0 && readers.len() == 2;
-    let (writer, readers) = next_board::<J>(alloc, &mut opened, 1, 2)?;
+    writer.close(rt);
+    let (writer, readers) = next_board::<J, R>(alloc, rt, &mut opened, 1, 2)?;
     let second = writer.board() == 1 && readers.len() == 2;
+    writer.close(rt);
     Ok(first && second && opened.is_empty())
 }
 

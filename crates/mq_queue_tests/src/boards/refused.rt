@@ -126,14 +126,14 @@ fn listed<J: Naming, R: Abort + Wait>(
     alloc: Global,
     opened: OpenedBoard,
 ) -> Result<(), AllocError>
-    requires named { (opened.pass.table_id ≡ J.board 0) × (opened.roll.seen.book ≡ J.roll 0) }
+    requires named { (opened.history.seen.book ≡ J.board 0) × (opened.roll.seen.book ≡ J.roll 0) }
 {
-    let (mut writer, mut readers) = board::<J>(alloc, opened, 0, 2)?;
+    let (mut writer, mut readers) = board::<J, R>(alloc, rt, opened, 0, 2)?;
     follow(rt, alloc, &mut writer, &mut readers[0]);
     shows(rt, &mut readers[1], REMOVED);
     let told = writer.row();
     if are_of(readers.as_slice(), writer.board()) {
-        writer.end(readers);
+        writer.end(rt, readers);
     } else {
         panic!(rt; "readers of another board");
     }
@@ -142,7 +142,7 @@ fn listed<J: Naming, R: Abort + Wait>(
 }
 
 fn run<R: Abort + Wait>(rt: &R, alloc: Global) -> Result<(), AllocError> {
-    listed::<Brand, R>(rt, alloc, OpenedBoard::new(alloc)?)
+    listed::<Brand, R>(rt, alloc, OpenedBoard::new())
 }
 
 #[test]

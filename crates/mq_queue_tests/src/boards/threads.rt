@@ -74,10 +74,10 @@ fn watched<J: Naming + Send + Sync, R: Threads + Wait + Sync>(
     opened: OpenedBoard,
     readers: usize,
 ) -> Result<bool, AllocError>
-    requires named { (opened.pass.table_id ≡ J.board 0) × (opened.roll.seen.book ≡ J.roll 0) }
+    requires named { (opened.history.seen.book ≡ J.board 0) × (opened.roll.seen.book ≡ J.roll 0) }
     requires readers { (0 < readers) × (readers ≤ 16) }
 {
-    let (mut writer, readers) = board::<J>(alloc, opened, 0, readers)?;
+    let (mut writer, readers) = board::<J, R>(alloc, rt, opened, 0, readers)?;
     let (published, looked) = join(
         rt,
         || publish_often(rt, alloc, &mut writer),
@@ -87,6 +87,7 @@ fn watched<J: Naming + Send + Sync, R: Threads + Wait + Sync>(
         Ok(looked) => Ok(all_saw(&mut writer, looked)),
         Err(refused) => Err(refused),
     };
+    writer.close(rt);
     published?;
     right
 }
@@ -98,7 +99,7 @@ fn watched_by<R: Threads + Wait + Sync>(
 ) -> Result<bool, AllocError>
     requires { (0 < readers) × (readers ≤ 16) }
 {
-    watched::<Brand, R>(rt, alloc, OpenedBoard::new(alloc)?, readers)
+    watched::<Brand, R>(rt, alloc, OpenedBoard::new(), readers)
 }
 
 #[test]

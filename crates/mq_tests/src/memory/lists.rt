@@ -20,6 +20,9 @@ pub(crate) enum List {
     Full,
     /// Thousands of calls in one queue, and a removal where 16,384 messages wait.
     Many,
+    /// As many messages as can wait, all but the first of the greatest type; then a cut of their log
+    /// and a removal.
+    Most,
     /// All queues that a slot can have.
     Used,
 }
@@ -224,6 +227,19 @@ impl<C: Calls + Drop> Player<C> {
         self.cuts(0, 0);
     }
 
+    fn most(&mut self) {
+        let id = self.queue(0, 7);
+        self.sends(0, id, 1, b"");
+        for _ in 1..MSGMNB {
+            self.sends(0, id, i64::MAX, b"");
+        }
+        self.waits(0, id, MSGMNB);
+        self.cuts(0, 0);
+        self.takes(0, id, 0, i64::MAX, 0);
+        self.removes(0, id);
+        self.cuts(0, 0);
+    }
+
     fn used(&mut self, last_seq: u32) {
         for seq in 0..last_seq {
             let id = self.queue(0, 7);
@@ -253,6 +269,7 @@ pub(crate) fn plays<C: Calls + Drop>(
         List::Slots => player.slots(),
         List::Full => player.full(bytes),
         List::Many => player.many(),
+        List::Most => player.most(),
         List::Used => player.used(config.last_seq),
     }
     player.wrong

@@ -125,6 +125,15 @@ fn calls_find_memory_after_thousands_and_beside_thousands_that_wait(rt: HostRunt
 }
 
 #[test]
+fn calls_find_memory_beside_as_many_messages_as_can_wait(rt: HostRuntime) {
+    let most = OnOne {
+        list: List::Most,
+        bytes: b"",
+    };
+    ends(&rt, "one thread", ONE, with_queues(rt.alloc(), ONE, most));
+}
+
+#[test]
 fn each_queue_of_a_slot_finds_memory(rt: HostRuntime) {
     let config = Config {
         last_seq: 999,

@@ -13,13 +13,12 @@ loop-seat-preserved g c =
     let left = c.pop.new.self.items in
     let seat = c.in-Some.seat in
     let items = c.in-Some.ensures.items in
-    let ended = c.into_parts-left.ensures in
-    let merged = c.merge.ensures in
+    let ended = c.end.ensures in
     let pushed = c.push_reserved.ensures in (
-      omega (arith, ap length items, length-append left (seat ∷ []), merged.parts, ended.part, kept.0),
-      omega (arith, ap counted_by items, counted_more left seat, one_seat_more slots left seat items, merged.amount, ended.left, kept.1),
+      omega (arith, ap length items, length-append left (seat ∷ []), ended.parts, kept.0),
+      omega (arith, ap counted_by items, counted_more left seat, one_seat_more slots left seat items, ended.left, kept.1),
       one_apart slots c.args.seats.items c.loop-seat.seats.items left seat c.loop-seat.fronts.items c.push_reserved.new.self.items kept.2 items
-          (pushed.items ∙ ap (λ f. c.loop-seat.fronts.items ++ f ∷ []) (is_known c.into_parts-left.result.1 seat ended.place ended.fronts))
+          (pushed.items ∙ ap (λ f. c.loop-seat.fronts.items ++ f ∷ []) (is_known c.end.result seat ended.place ended.fronts))
           (record { each = c.holds.ensures.each; fronts = c.holds.ensures.fronts; known = c.holds.ensures.known }),
       omega (arith, ap length items, length-append left (seat ∷ []), ap length pushed.items, length-append c.loop-seat.fronts.items (known_by seat ∷ []), kept.3),
       omega (arith, pushed.capacity, kept.4),

@@ -1,8 +1,7 @@
 use Rattle.std.proofs.Common.{◌≡◌, ◌∙◌, arith, ap, sym, length, length-append, ◌∷◌, []}
 use Rattle.std.specs.Global.{Vec}
 use Rattle.mq_board.specs.Readers.{ReaderState, new_readers}
-use Rattle.mq_arena.specs.Text.{PlainText}
-use Rattle.mq_table.specs.Slot.{SlotState, empty_slot}
+use Rattle.mq_system.specs.Shared.{LockedSlot, empty_locked}
 use Rattle.mq_system.proofs.StartLemmas.{each_push}
 use Rattle.mq_system.proofs.parts.make_slots.Goals as goal
 
@@ -16,15 +15,15 @@ loop-number-preserved g c =
     let added = c.push_reserved-in-loop-number.ensures in
     let slot = c.new.result in
     let part = c.slot_part.ensures in
-    let empty : slot ≡ empty_slot (length slots) =
-    c.new.ensures ∙ ap (λ s. empty_slot s.number) c.new-slot.ensures
-    ∙ ap (λ n. empty_slot n) (sym had.0) in
+    let empty : slot ≡ empty_locked (length slots) =
+    c.new.ensures ∙ ap (λ s. empty_locked s.number) c.new-slot.ensures
+    ∙ ap (λ n. empty_locked n) (sym had.0) in
     let readers = c.in-Ok-next_board.readers in
     let all : readers.items ≡ new_readers (length rows) c.args.seats =
     board.readers ∙ ap (λ n. new_readers n c.args.seats) (sym had.1) in (
       omega (arith, ap length put.items, length-append slots (slot ∷ []), had.0),
       omega (arith, ap length added.items, length-append rows (readers ∷ []), had.1),
-      rw put.items (each_push (λ k (s : SlotState PlainText). s ≡ empty_slot k) slots slot had.2 empty),
+      rw put.items (each_push (λ k (s : LockedSlot). s ≡ empty_locked k) slots slot had.2 empty),
       rw added.items
           (each_push (λ k (r : Vec ReaderState). r.items ≡ new_readers k c.args.seats) rows readers had.3 all),
       omega (arith, had.4, put.capacity),

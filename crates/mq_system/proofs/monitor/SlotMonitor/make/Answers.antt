@@ -12,21 +12,21 @@ use Rattle.mq_system.proofs.monitor.SlotMonitor.make.Goals as goal
 pub returns-in-Ok-clause-answer : goal.returns-in-Ok-clause-answer
 returns-in-Ok-clause-answer g c =
     let now = c.enter-held.new.seat in
-    let s = c.deref_mut.result.now in
-    let h = enters c.args.seat.now c.args.seat.now now c.args.number c.args.number s _ refl c.deref_mut.ensures.value (look_self c.args.seat.now) c.enter-held.ensures in
+    let s = c.deref_mut.result.now.whole in
+    let h = enters c.args.seat.now c.args.seat.now now c.args.number c.args.number c.deref_mut.result.now _ refl c.deref_mut.ensures.value (look_self c.args.seat.now) c.enter-held.ensures in
     let free : is_free g.N.Names.last_seq s.events ≡ true = search rules in
     let few : s.number < MAX_SLOTS = search rules in
     let fits : SFits w32 c.args.key = search rules in
     let told = c.in-Ok.ensures in
     done_make c.args.seat.now now c.make-answer.new.seat c.args.number s h g.N.Names.last_seq
-    c.args.key c.args.moment _ c.make-answer.new.self few free told.answer.is (simp to_z-of_z at told.answer.made)
+    c.args.key c.args.moment _ c.make-answer.new.self.whole few free told.answer.is (simp to_z-of_z at told.answer.made)
     told.answer.noted
 
 pub returns-in-Err-clause-answer : goal.returns-in-Err-clause-answer
 returns-in-Err-clause-answer g c =
     let now = c.enter-held.new.seat in
-    let s = c.deref_mut.result.now in
-    let h = enters c.args.seat.now c.args.seat.now now c.args.number c.args.number s _ refl c.deref_mut.ensures.value (look_self c.args.seat.now) c.enter-held.ensures in
+    let s = c.deref_mut.result.now.whole in
+    let h = enters c.args.seat.now c.args.seat.now now c.args.number c.args.number c.deref_mut.result.now _ refl c.deref_mut.ensures.value (look_self c.args.seat.now) c.enter-held.ensures in
     let free : is_free g.N.Names.last_seq s.events ≡ true = search rules in
     let told : is_free g.N.Names.last_seq (front_of c.make-answer.new.seat c.args.number) ≡ true =
     rw (c.in-Err.ensures.answer.2, h.known) free in

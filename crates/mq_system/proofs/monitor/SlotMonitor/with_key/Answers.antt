@@ -12,7 +12,7 @@ returns-clause-answer g c =
     let entered = c.enter-held.ensures in
     let fits : SFits w32 c.args.key = search rules in
     let is = simp to_z-of_z at c.with_key-found.ensures.value in
-    with_key_at (mutex_guard_value c.enter-held.result) c.args.key g.N.Names.last_seq c.args.number
+    with_key_at (mutex_guard_value c.enter-held.result).whole c.args.key g.N.Names.last_seq c.args.number
     (front_of c.enter-held.new.seat c.args.number) (rw c.deref.ensures at c.holds.ensures.lawful)
     (rw c.deref.ensures at c.holds.ensures.numbered) entered.number entered.known c.requires.some
     _ (rw c.deref-2.ensures at is)

@@ -17,6 +17,7 @@ invariant_of-result g c =
     record {
       some = rw (← c.fronts.view_is) at c.requires.number.0;
       few = rw (← c.fronts.view_is) at c.requires.number.1;
+      few_slots = search rules;
       each = search rules;
       readers_each =
           sym (length-map readers (λ (r : ReaderState). r.events)) ∙ ap length none

@@ -46,6 +46,7 @@ invariant_of-self g c =
     let told = rw c.if-not-learn.false at c.learn.ensures.told in record {
       some = learned.some;
       few = learned.few;
+      few_slots = learned.few_slots;
       each = search rules;
       readers_each = learned.readers_each;
       placed = learned.placed;

@@ -1,5 +1,7 @@
-use Rattle.std.proofs.Common.{rules}
+use Rattle.std.proofs.Common.{ap, refl, rules}
+use Rattle.mq_table.specs.Cut.{CutState}
 use Rattle.mq_table.proofs.Cuts.{cut_is, cut_kept}
+use Rattle.mq_table.proofs.Kepts.{entries_is}
 use Rattle.mq_system.proofs.slot.SharedSlot.cut.Goals as goal
 
 pub invariant_of-self : goal.invariant_of-self
@@ -22,3 +24,12 @@ pub returns-in-Ok-clause-answer : goal.returns-in-Ok-clause-answer
 returns-in-Ok-clause-answer g c =
     let cut = cut_is _ _ c.self.invariant.published.kept in
     rw (← c.self.view_is, c.in-Ok.ensures.handed) (search (rules, cut))
+
+pub returns-in-Ok-clause-first : goal.returns-in-Ok-clause-first
+returns-in-Ok-clause-first g c =
+    rw (← c.self.view_is) (ap (λ (cut : CutState). cut.first) c.in-Ok.ensures.handed)
+
+pub returns-in-Ok-clause-after : goal.returns-in-Ok-clause-after
+returns-in-Ok-clause-after g c =
+    let entries = entries_is _ _ c.self.invariant.published.kept in
+    rw (← c.self.view_is, c.in-Ok.ensures.after, ← entries) refl

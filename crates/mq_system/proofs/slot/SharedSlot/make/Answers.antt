@@ -13,12 +13,12 @@ use Rattle.mq_system.proofs.slot.SharedSlot.make.Goals as goal
 
 pub make_under-requires-clause-empty : goal.make_under-requires-clause-empty
 make_under-requires-clause-empty g c =
-    let off : is_live c.args.self.now.events ≡ false = search rules in
+    let off : is_live c.args.self.now.whole.events ≡ false = search rules in
     live_is _ _ c.self.invariant.published.kept ∙ (rw (← c.self.view_is) at off)
 
 pub make_under-requires-clause-unused : goal.make_under-requires-clause-unused
 make_under-requires-clause-unused g c =
-    let unused : made_count c.args.self.now.events ≤ MAX_SEQ = search rules in
+    let unused : made_count c.args.self.now.whole.events ≤ MAX_SEQ = search rules in
     rw (made_is _ _ c.self.invariant.published.kept) (rw (← c.self.view_is) at unused)
 
 pub publish-requires-clause-due : goal.publish-requires-clause-due
@@ -26,8 +26,8 @@ publish-requires-clause-due g c =
     let fits : SFits w32 c.args.key = search rules in
     let made = simp to_z-of_z at c.in_ok-id.ensures.answer.made in
     let noticed = simp to_z-of_z at c.in_ok-id.ensures.noticed in
-    let off : is_live c.args.self.now.events ≡ false = search rules in
-    let unused : made_count c.args.self.now.events ≤ g.N.Names.last_seq = search rules in
+    let off : is_live c.args.self.now.whole.events ≡ false = search rules in
+    let unused : made_count c.args.self.now.whole.events ≤ g.N.Names.last_seq = search rules in
     let short = rw (← c.self.view_is) at c.holds.ensures.few in
     let few = rw (← c.self.view_is) at c.holds.ensures.made in
     rw (← c.number-number.ensures) (make_changes _ _ _ _ _ c.self.inside.writer _ _ _ c.self.invariant short few c.args.key
@@ -39,8 +39,8 @@ publish-requires-clause-known g c =
     let fits : SFits w32 c.args.key = search rules in
     let made = simp to_z-of_z at c.in_ok-id.ensures.answer.made in
     let noticed = simp to_z-of_z at c.in_ok-id.ensures.noticed in
-    let off : is_live c.args.self.now.events ≡ false = search rules in
-    let unused : made_count c.args.self.now.events ≤ g.N.Names.last_seq = search rules in
+    let off : is_live c.args.self.now.whole.events ≡ false = search rules in
+    let unused : made_count c.args.self.now.whole.events ≤ g.N.Names.last_seq = search rules in
     let short = rw (← c.self.view_is) at c.holds.ensures.few in
     let few = rw (← c.self.view_is) at c.holds.ensures.made in
     let its = make_changes _ _ _ _ _ c.self.inside.writer _ _ _ c.self.invariant short few c.args.key
@@ -64,8 +64,8 @@ returns g c =
     let fits : SFits w32 c.args.key = search rules in
     let made = simp to_z-of_z at c.in_ok-id.ensures.answer.made in
     let noticed = simp to_z-of_z at c.in_ok-id.ensures.noticed in
-    let off : is_live c.args.self.now.events ≡ false = search rules in
-    let unused : made_count c.args.self.now.events ≤ g.N.Names.last_seq = search rules in
+    let off : is_live c.args.self.now.whole.events ≡ false = search rules in
+    let unused : made_count c.args.self.now.whole.events ≤ g.N.Names.last_seq = search rules in
     let short = rw (← c.self.view_is) at c.holds.ensures.few in
     let few = rw (← c.self.view_is) at c.holds.ensures.made in
     let entered = simp to_z-of_z at c.in_ok-id.ensures.answer.entered in
@@ -88,6 +88,7 @@ returns g c =
               ← c.in_ok-id.ensures.answer.id,
             ) entered;
         number = rw (← c.self.view_is) its.number;
+        kept = rw (← c.self.view_is) its.first;
         noted = rw (← c.self.view_is, ← its.number) c.publish.ensures.noted;
       };
     }

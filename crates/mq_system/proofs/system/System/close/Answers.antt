@@ -10,6 +10,7 @@ use Rattle.mq_calls.specs.Texts.{bytes_of}
 use Rattle.mq_system.specs.Seat.{counted_by, front_of}
 use Rattle.mq_system.specs.Sizes.{all_changes}
 use Rattle.mq_system.specs.Closed.{IsEnd, entries_in}
+use Rattle.mq_system.specs.Shared.{LockedSlot}
 use Rattle.mq_system.proofs.ClosedLemmas.{IsSeen, in_order, none_ended, one_ended, sums_agree, whole_length}
 use Rattle.mq_system.proofs.HomeLemmas.{AreLeft, IsFewer, all_counted, all_distinct, all_left, all_seen, left_length, one_fewer}
 use Rattle.mq_system.proofs.TallyLemmas.{entries_more, entries_reverse}
@@ -40,7 +41,7 @@ come_home-requires g c =
     omega (arith, ap length c.in-Some.ensures.items, length-append c.pop.new.self.items (c.in-Some.monitor ∷ [])) in
     let parts = c.into_parts-slot.ensures in
     let board : c.into_parts-slot.result.writer.board ≡ vec_len c.pop.new.self =
-    cc (parts.shared.published.numbered, ap (λ s. s.number) parts.slot, c.with_number.ensures.number, c.len.ensures) in
+    cc (parts.shared.published.numbered, ap (λ s. s.whole.number) parts.slot, c.with_number.ensures.number, c.len.ensures) in
     let number : c.into_parts-slot.result.writer.board ≡ m = omega (arith, board) in
     record {
       number = λ k d low.
@@ -65,7 +66,8 @@ pub end_shared_slot-requires-clause-waits : goal.end_shared_slot-requires-clause
 end_shared_slot-requires-clause-waits g c =
     let slot = c.into_parts-slot.result.slot in
     let had : Waits bytes_of (whole c.into_parts-slot.result.writer.events slot) =
-    subst (Waits bytes_of) (sym c.into_parts-slot.ensures.slot) c.into_parts-slot.ensures.waits in
+    subst (λ (s : LockedSlot). Waits bytes_of s.whole) (sym c.into_parts-slot.ensures.slot)
+    c.into_parts-slot.ensures.waits in
     subst (λ es. Waits bytes_of (whole es slot)) (sym (ap (λ w. w.events) c.come_home.ensures.same))
     had
 

@@ -17,14 +17,14 @@ pub returns-in-Ok : goal.returns-in-Ok
 returns-in-Ok g c =
     let within : slot_of c.args.id < g.N.Names.slots = search rules in
     let now = c.enter-held.new.seat in
-    let s = c.deref_mut.result.now in
-    let h = enters c.args.seat.now c.loop.seat now (slot_of c.args.id) c.slot-slot.result s _ c.slot-slot.ensures.value c.deref_mut.ensures.value c.loop.invariant c.enter-held.ensures in
+    let s = c.deref_mut.result.now.whole in
+    let h = enters c.args.seat.now c.loop.seat now (slot_of c.args.id) c.slot-slot.result c.deref_mut.result.now _ c.slot-slot.ensures.value c.deref_mut.ensures.value c.loop.invariant c.enter-held.ensures in
     let told = c.in-Ok.ensures in
     let fits : SFits w64 c.args.msgtyp = search rules in
     let selected = simp to_z-of_z at c.read-selection.ensures in
     let done =
     done_receive c.args.seat.now now c.receive.new.seat (slot_of c.args.id) s h c.args.id
-    c.args.size c.read-selection.result c.args.flags.noerror c.args.moment c.in-Ok.delivered c.receive.new.self
+    c.args.size c.read-selection.result c.args.flags.noerror c.args.moment c.in-Ok.delivered c.receive.new.self.whole
     told.answer.noted (cc (told.answer.ok)) in record {
       answer = record {
         early = in_slots g.N.Names.slots c.args.id within;
@@ -39,8 +39,8 @@ pub returns-then-ne : goal.returns-then-ne
 returns-then-ne g c =
     let within : slot_of c.args.id < g.N.Names.slots = search rules in
     let now = c.enter-held.new.seat in
-    let s = c.deref_mut.result.now in
-    let h = enters c.args.seat.now c.loop.seat now (slot_of c.args.id) c.slot-slot.result s _ c.slot-slot.ensures.value c.deref_mut.ensures.value c.loop.invariant c.enter-held.ensures in
+    let s = c.deref_mut.result.now.whole in
+    let h = enters c.args.seat.now c.loop.seat now (slot_of c.args.id) c.slot-slot.result c.deref_mut.result.now _ c.slot-slot.ensures.value c.deref_mut.ensures.value c.loop.invariant c.enter-held.ensures in
     let told = c.in-Err.ensures in
     let fits : SFits w64 c.args.msgtyp = search rules in
     let selected = simp to_z-of_z at c.read-selection.ensures in
@@ -61,8 +61,8 @@ pub returns-in_default : goal.returns-in_default
 returns-in_default g c =
     let within : slot_of c.args.id < g.N.Names.slots = search rules in
     let now = c.enter-held.new.seat in
-    let s = c.deref_mut.result.now in
-    let h = enters c.args.seat.now c.loop.seat now (slot_of c.args.id) c.slot-slot.result s _ c.slot-slot.ensures.value c.deref_mut.ensures.value c.loop.invariant c.enter-held.ensures in
+    let s = c.deref_mut.result.now.whole in
+    let h = enters c.args.seat.now c.loop.seat now (slot_of c.args.id) c.slot-slot.result c.deref_mut.result.now _ c.slot-slot.ensures.value c.deref_mut.ensures.value c.loop.invariant c.enter-held.ensures in
     let told = c.in-Err.ensures in
     let fits : SFits w64 c.args.msgtyp = search rules in
     let selected = simp to_z-of_z at c.read-selection.ensures in

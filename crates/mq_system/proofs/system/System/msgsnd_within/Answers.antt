@@ -20,14 +20,14 @@ returns-in-Ok-clause-answer g c =
     let within : slot_of c.args.id < g.N.Names.slots = search rules in
     let positive : int_lt c.args.mtype (pos 1) ≡ false = search rules in
     let now = c.enter-held.new.seat in
-    let s = c.deref_mut.result.now in
+    let s = c.deref_mut.result.now.whole in
     let had = c.loop.invariant in
-    let h = enters c.args.seat.now c.loop.seat now (slot_of c.args.id) c.slot-slot.result s _ c.slot-slot.ensures.value c.deref_mut.ensures.value had.1 c.enter-held.ensures in
+    let h = enters c.args.seat.now c.loop.seat now (slot_of c.args.id) c.slot-slot.result c.deref_mut.result.now _ c.slot-slot.ensures.value c.deref_mut.ensures.value had.1 c.enter-held.ensures in
     let fits : SFits w64 c.args.mtype = search rules in
     let told = c.in-Ok.ensures in
     let done =
     done_send c.args.seat.now now c.send.new.seat (slot_of c.args.id) s h c.args.id _
-    c.args.mtype c.args.tag c.args.moment c.loop.text c.send.new.self positive
+    c.args.mtype c.args.tag c.args.moment c.loop.text c.send.new.self.whole positive
     told.answer.noted (simp to_z-of_z at told.answer.ok) in record {
       early = may_be_sent g.N.Names.slots c.args.id c.args.mtype positive within;
       step = done.0;
@@ -39,9 +39,9 @@ returns-then-ne-clause-answer g c =
     let within : slot_of c.args.id < g.N.Names.slots = search rules in
     let positive : int_lt c.args.mtype (pos 1) ≡ false = search rules in
     let now = c.enter-held.new.seat in
-    let s = c.deref_mut.result.now in
+    let s = c.deref_mut.result.now.whole in
     let had = c.loop.invariant in
-    let h = enters c.args.seat.now c.loop.seat now (slot_of c.args.id) c.slot-slot.result s _ c.slot-slot.ensures.value c.deref_mut.ensures.value had.1 c.enter-held.ensures in
+    let h = enters c.args.seat.now c.loop.seat now (slot_of c.args.id) c.slot-slot.result c.deref_mut.result.now _ c.slot-slot.ensures.value c.deref_mut.ensures.value had.1 c.enter-held.ensures in
     let fits : SFits w64 c.args.mtype = search rules in
     let message : Message PlainText = record {
       mtype = c.args.mtype;
@@ -67,9 +67,9 @@ returns-in_default-clause-answer g c =
     let within : slot_of c.args.id < g.N.Names.slots = search rules in
     let positive : int_lt c.args.mtype (pos 1) ≡ false = search rules in
     let now = c.enter-held.new.seat in
-    let s = c.deref_mut.result.now in
+    let s = c.deref_mut.result.now.whole in
     let had = c.loop.invariant in
-    let h = enters c.args.seat.now c.loop.seat now (slot_of c.args.id) c.slot-slot.result s _ c.slot-slot.ensures.value c.deref_mut.ensures.value had.1 c.enter-held.ensures in
+    let h = enters c.args.seat.now c.loop.seat now (slot_of c.args.id) c.slot-slot.result c.deref_mut.result.now _ c.slot-slot.ensures.value c.deref_mut.ensures.value had.1 c.enter-held.ensures in
     let fits : SFits w64 c.args.mtype = search rules in
     let message : Message PlainText = record {
       mtype = c.args.mtype;

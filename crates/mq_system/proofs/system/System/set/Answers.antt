@@ -12,13 +12,13 @@ pub returns-in-Ok : goal.returns-in-Ok
 returns-in-Ok g c =
     let within : slot_of c.args.id < g.N.Names.slots = search rules in
     let now = c.enter-held.new.seat in
-    let s = c.deref_mut.result.now in
-    let h = enters c.args.seat.now c.args.seat.now now (slot_of c.args.id) c.slot-slot.result s _ c.slot-slot.ensures.value c.deref_mut.ensures.value (look_self c.args.seat.now) c.enter-held.ensures in
+    let s = c.deref_mut.result.now.whole in
+    let h = enters c.args.seat.now c.args.seat.now now (slot_of c.args.id) c.slot-slot.result c.deref_mut.result.now _ c.slot-slot.ensures.value c.deref_mut.ensures.value (look_self c.args.seat.now) c.enter-held.ensures in
     let told = c.in-Ok.ensures in
     let limit : c.args.qbytes ≤ MSGMNB = search rules in
     let done =
     done_set c.args.seat.now now c.set-answer.new.seat (slot_of c.args.id) s h c.args.id _
-    c.args.qbytes c.args.moment c.set-answer.new.self told.answer.noted told.answer.ok in record {
+    c.args.qbytes c.args.moment c.set-answer.new.self.whole told.answer.noted told.answer.ok in record {
       answer = record {
         early = in_slots g.N.Names.slots c.args.id within;
         limit = limit;
@@ -31,8 +31,8 @@ pub returns-in-Err : goal.returns-in-Err
 returns-in-Err g c =
     let within : slot_of c.args.id < g.N.Names.slots = search rules in
     let now = c.enter-held.new.seat in
-    let s = c.deref_mut.result.now in
-    let h = enters c.args.seat.now c.args.seat.now now (slot_of c.args.id) c.slot-slot.result s _ c.slot-slot.ensures.value c.deref_mut.ensures.value (look_self c.args.seat.now) c.enter-held.ensures in
+    let s = c.deref_mut.result.now.whole in
+    let h = enters c.args.seat.now c.args.seat.now now (slot_of c.args.id) c.slot-slot.result c.deref_mut.result.now _ c.slot-slot.ensures.value c.deref_mut.ensures.value (look_self c.args.seat.now) c.enter-held.ensures in
     let told = c.in-Err.ensures in
     let may : IsSome c.in-Err.refused.entry × MaySet c.args.qbytes c.in-Err.refused.errno =
     search rules in

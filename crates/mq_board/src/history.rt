@@ -1,0 +1,326 @@
+//! The history of a board: its published events, an append-only log of which one word is in memory,
+//! the number of the events. Proofs alone know which events they are.
+
+ghost use Rattle.std.specs.Prelude.{◌≡◌, ◌+◌, ◌-◌, ◌^◌, ◌<◌, ◌++◌, ◌∷◌, [], length, IfOk, IfSome, IsFalse, IsTrue};
+ghost use mathlib.Core.List.{IsPrefix};
+ghost use Rattle.mq_queue.specs.Row.{row};
+ghost use Rattle.mq_board.specs.Histories.{word_of, history};
+ghost use Rattle.mq_board.specs.Snapshots.{snapshot_of};
+
+use crate::naming::Naming;
+use crate::snapshot::Snapshot;
+use crate::told::ToldList;
+use crossbeam_utils::CachePadded;
+use logbook::{Gain, Offer, Plain, Play, Rule, Seen, Start, Word};
+use mq_queue::{BoardRow, Event};
+use std::alloc::{AllocError, Global};
+use std::marker::{Model, PhantomData};
+use std::sync::{Arc, Wait};
+
+/// The rule of a history.
+pub struct HistoryLaw;
+
+/// The word of a history.
+type Counted = Word<Event, u64, HistoryLaw>;
+
+/// A prefix of a history, which was reached. It has no bytes.
+pub(crate) type Reached = Seen<Event, u64, HistoryLaw>;
+
+impl Rule<Event, u64> for HistoryLaw {
+    ghost use Rattle.std.specs.Prelude.{[]};
+    ghost use base.Fml.{ftrue};
+    ghost use Rattle.mq_board.specs.Histories.{IsCounted};
+
+    ghost holds = { λ cells log. IsCounted cells log };
+
+    ghost first = { [] };
+
+    ghost hinted = { λ n log. Unit {0} };
+
+    ghost shows = { λ log. [] };
+
+    ghost keeps = { λ names log. ftrue };
+
+    ghost moves = { λ ask before after answer. Unit {0} };
+}
+
+/// Nothing is traded at a step.
+struct Nothing;
+
+impl<E, A> Gain<E, A> for Nothing {
+    ghost use base.Fml.{ftrue};
+
+    ghost after = { λ names about answer. ftrue };
+}
+
+/// The step that adds an event, where the history has as many as it says.
+struct Add;
+
+impl Play<Event, u64> for Add {
+    ghost use Rattle.mq_board.specs.Histories.{Adds};
+
+    ghost then = { Adds };
+}
+
+/// What is to be added.
+impl Plain<Event, Event, u64> for Add {
+    ghost use Rattle.std.specs.Prelude.{None};
+
+    ghost ask = { λ event. event };
+
+    ghost state = { λ event. None };
+}
+
+/// The step that learns all of the history.
+struct Learn;
+
+impl Play<Event, u64> for Learn {
+    ghost use Rattle.mq_board.specs.Histories.{LearnsAll};
+
+    ghost then = { LearnsAll };
+}
+
+/// It adds nothing.
+impl Plain<u64, Event, u64> for Learn {
+    ghost use Rattle.std.specs.Prelude.{None};
+    ghost use Rattle.mq_board.specs.Histories.{any_event};
+
+    ghost ask = { λ count. any_event };
+
+    ghost state = { λ count. None };
+}
+
+/// An empty history, which has no number yet.
+#[derive(Drop)]
+pub struct OpenedHistory {
+    word: Counted,
+    pub seen: Reached,
+    ghost empty: { seen.log ≡ [] },
+    ghost word_is: { word ≡ word_of seen.book },
+}
+
+impl OpenedHistory {
+    pub(crate) fn new() -> OpenedHistory {
+        let (seen, mut first, _second) = Seen::open(Start::alone(), 0, 0);
+        OpenedHistory {
+            word: Word::tracked(0, &mut first),
+            seen,
+        }
+    }
+
+    /// The writer of this history, as that of the board with this number.
+    pub(crate) fn writer<J: Naming>(
+        self,
+        alloc: Global,
+        number: u8,
+    ) -> Result<HistoryWriter<J>, AllocError>
+        requires { self.seen.book ≡ J.board number }
+        ensures { IfOk result (λ b. b ≡ history number []) }
+    {
+        let OpenedHistory { word, seen } = self;
+        Ok(HistoryWriter {
+            counter: EventCount::new(alloc, number, word)?,
+            count: 0,
+            seen,
+        })
+    }
+}
+
+/// A handle to the word that counts a board's events, shared by the board's writer and readers;
+/// seen as the board's number. A reader that knows as many events as the word says need not enter
+/// the copies.
+#[derive(Drop)]
+pub(crate) struct EventCount<J: Naming> {
+    number: u8,
+    word: Arc<CachePadded<Counted>, Global>,
+    of: PhantomData<J>,
+}
+
+impl<J: Naming> Model for EventCount<J> {
+    ghost use Rattle.std.specs.Prelude.{◌≡◌, ℕ};
+    ghost use Rattle.std.specs.Arc.{arc_value};
+    ghost use Rattle.crossbeam_utils.specs.Padded.{padded_value};
+    ghost use Rattle.mq_board.specs.Histories.{word_of};
+
+    ghost Value = { ℕ };
+
+    ghost view = { λ h. h.number };
+
+    ghost invariant = { λ h. padded_value (arc_value h.word) ≡ word_of (J.board h.number) };
+}
+
+impl<J: Naming> EventCount<J> {
+    fn new(alloc: Global, number: u8, word: Counted) -> Result<EventCount<J>, AllocError>
+        requires { word ≡ word_of (J.board number) }
+        ensures { IfOk result (λ h. h ≡ number) }
+    {
+        Ok(EventCount {
+            number,
+            word: Arc::new(alloc, CachePadded::new(word))?,
+            of: PhantomData,
+        })
+    }
+
+    pub(crate) fn board(&self) -> u8
+        ensures { result ≡ self.now }
+    {
+        self.number
+    }
+
+    /// Another handle to the same word. `Err` means that the count of handles is full.
+    pub(crate) fn try_clone(&self) -> Result<EventCount<J>, AllocError>
+        ensures { IfOk result (λ h. h ≡ self.now) }
+    {
+        Ok(EventCount {
+            number: self.number,
+            word: Arc::try_clone(&self.word)?,
+            of: PhantomData,
+        })
+    }
+
+    /// The number of events in the history, all of which `seen` then has.
+    fn load(&self, seen: &mut Reached) -> u64
+        requires { seen.old.book ≡ J.board self.now }
+        ensures book { seen.new.book ≡ seen.old.book }
+        ensures more { IsPrefix seen.old.log seen.new.log }
+        ensures all { result ≡ length seen.new.log }
+    {
+        let mut offer: Offer<Event, u64, HistoryLaw, Nothing> = seen.plain::<Nothing, u64, Learn>(
+            &0,
+        );
+        let word: &Counted = &self.word;
+        word.load::<Learn, Nothing>(seen, &mut offer)
+    }
+
+    /// Adds an event to those that `seen` has, `count` of them, if these are all: in every run they
+    /// are, since only the board's writer adds.
+    fn try_add(&self, seen: &Reached, count: u64, event: Event) -> Option<Reached>
+        requires book { seen.now.book ≡ J.board self.now }
+        requires count { count ≡ length seen.now.log }
+        requires room { count < 2 ^ 64 - 1 }
+        ensures { IfSome result (λ more. (more.book ≡ seen.now.book)
+            × (more.log ≡ seen.now.log ++ event ∷ [])) }
+    {
+        let mut more = seen.again();
+        let mut offer: Offer<Event, u64, HistoryLaw, Nothing> = more.plain::<Nothing, Event, Add>(
+            &event,
+        );
+        let mut pen = more.no_pen();
+        let word: &Counted = &self.word;
+        let found = word.compare_exchange::<Add, Nothing>(
+            count,
+            count + 1,
+            &mut more,
+            &mut offer,
+            &mut pen,
+        );
+        if found == count { Some(more) } else { None }
+    }
+
+    /// The number of events in the history: one atomic load.
+    pub(crate) fn latest(&self, front: &ToldList<J>) -> u64
+        requires { front.now.board ≡ self.now }
+    {
+        let mut seen = front.snapshot.seen.again();
+        self.load(&mut seen)
+    }
+}
+
+/// The writer's end of a board's history, seen as all of it.
+#[derive(Drop)]
+pub(crate) struct HistoryWriter<J: Naming> {
+    counter: EventCount<J>,
+    /// The number of events.
+    count: u64,
+    seen: Reached,
+}
+
+impl<J: Naming> Model for HistoryWriter<J> {
+    ghost use Rattle.std.specs.Prelude.{◌≡◌, length};
+    ghost use Rattle.mq_board.specs.Histories.{History, history};
+
+    ghost Value = { History };
+
+    ghost view = { λ b. history b.counter b.seen.log };
+
+    ghost invariant = { λ b. (b.count ≡ length b.seen.log) × (b.seen.book ≡ J.board b.counter) };
+}
+
+impl<J: Naming> HistoryWriter<J> {
+    pub(crate) fn board(&self) -> u8
+        ensures { result ≡ self.now.board }
+    {
+        self.counter.board()
+    }
+
+    /// A handle to the word that counts the events.
+    pub(crate) fn counter(&self) -> Result<EventCount<J>, AllocError>
+        ensures { IfOk result (λ h. h ≡ self.now.board) }
+    {
+        self.counter.try_clone()
+    }
+
+    /// All of the history, whose row this is, as a snapshot.
+    pub(crate) fn snapshot(&self, whole: BoardRow) -> Snapshot
+        requires { whole ≡ row self.now.events }
+        ensures { result ≡ snapshot_of self.now.board (J.board self.now.board) self.now.events }
+    {
+        Snapshot {
+            number: self.counter.board(),
+            board_row: whole,
+            count: self.count,
+            seen: self.seen.again(),
+        }
+    }
+
+    /// Adds an event, if nobody else has added one, as nobody does.
+    fn try_add(&mut self, event: Event) -> bool
+        requires { length self.old.events < 2 ^ 64 - 1 }
+        ensures added { IsTrue result
+            → self.new ≡ history self.old.board (self.old.events ++ event ∷ []) }
+        ensures same { IsFalse result → self.new ≡ self.old }
+    {
+        let Some(more) = self.counter.try_add(&self.seen, self.count, event) else {
+            return false;
+        };
+        self.seen = more;
+        self.count += 1;
+        true
+    }
+
+    /// Adds an event, by one compare-exchange. It takes no memory.
+    pub(crate) fn add<R: Wait>(&mut self, rt: &R, event: Event)
+        requires { length self.old.events < 2 ^ 64 - 1 }
+        ensures { self.new ≡ history self.old.board (self.old.events ++ event ∷ []) }
+    {
+        for _ in rt.forever() {
+            if self.try_add(event) {
+                return;
+            }
+        }
+        unreachable!()
+    }
+
+    /// Whether a front of this board is a prefix of the history, as each is.
+    fn contains(&self, front: &ToldList<J>) -> bool
+        requires { front.now.board ≡ self.now.board }
+        ensures { IsTrue result → IsPrefix front.now.events self.now.events }
+    {
+        let mut both = self.seen.again();
+        both.learn(&front.snapshot.seen);
+        self.counter.load(&mut both) == self.count
+    }
+
+    /// Confirms that a front of this board is a prefix of the history.
+    pub(crate) fn confirm<R: Wait>(&self, rt: &R, front: &ToldList<J>)
+        requires { front.now.board ≡ self.now.board }
+        ensures { IsPrefix front.now.events self.now.events }
+    {
+        for _ in rt.forever() {
+            if self.contains(front) {
+                return;
+            }
+        }
+        unreachable!()
+    }
+}
