@@ -144,8 +144,7 @@ pub(crate) fn listed<B: Body>(
         return Err(index);
     };
     let (mut messages, mut index) = (messages, index);
-    // The length is what says that the places rise.
-    let _longer = index.is_longer_than(most);
+    index.places_rise();
     go_back(&mut index, &mut messages);
     index.end();
     Ok(ListWaiting::from_parts(messages, Some(mtype)))

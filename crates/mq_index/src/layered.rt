@@ -1,4 +1,4 @@
-ghost use Rattle.std.specs.Prelude.{◌≡◌, ◌<◌, ◌++◌, [], All, AllPairs, OnErr, OnOk, Some};
+ghost use Rattle.std.specs.Prelude.{◌≡◌, ◌<◌, ◌++◌, [], All, OnErr, OnOk, Some};
 ghost use Rattle.std.specs.Prelude.{false, length, map, nat_lt};
 ghost use Rattle.std.specs.Option.{option_map};
 ghost use Rattle.mq_message.specs.Selection.{pick};
@@ -80,8 +80,7 @@ fn is_behind<B: Body>(rest: &ByType<B>, place: u64) -> bool
     ensures reached { result ≡ reaches place rest.now.messages }
     ensures before { result ≡ false → All (λ m. place < m.0) rest.now.messages }
 {
-    // The length is what says that the places rise.
-    let _len = rest.len();
+    rest.places_rise();
     match rest.find(Selection::Any) {
         Some(least) => least <= place,
         None => false,
@@ -113,8 +112,7 @@ impl<B> Layered<B> {
     /// Whether more than so many messages wait.
     #[inline(never)]
     pub(crate) fn is_longer_than(&self, few: usize) -> bool
-        ensures longer { result ≡ nat_lt few (length self.now.messages) }
-        ensures rising { AllPairs (λ a b. a.0 < b.0) self.now.messages }
+        ensures { result ≡ nat_lt few (length self.now.messages) }
     {
         let first = self.first.len();
         few < first || few - first < self.rest.len()
@@ -170,6 +168,10 @@ impl<B: Body> Waiting<B> for Layered<B> {
 
     fn fresh(alloc: Global) -> Self {
         Layered::new(alloc, 1)
+    }
+
+    fn places_rise(&self) {
+        let _ = &self.prepared;
     }
 
     #[inline(never)]

@@ -177,6 +177,10 @@ impl<B: Body> Waiting<B> for ListWaiting<B> {
         }
     }
 
+    fn places_rise(&self) {
+        let _ = &self.prepared;
+    }
+
     fn find(&self, selection: Selection) -> Option<u64> {
         match selection {
             Selection::Any => self.messages.front().map(|m| m.0),

@@ -1,5 +1,5 @@
 ghost use Rattle.std.specs.Prelude.{◌≡◌, ◌++◌, ◌∷◌, [], ◌<◌, ℕ, ℤ, Option, List, length};
-ghost use Rattle.std.specs.Prelude.{All, IfNone, IfOk, IfSome, IsSome, OnErr, OnOk};
+ghost use Rattle.std.specs.Prelude.{All, AllPairs, IfNone, IfOk, IfSome, IsSome, OnErr, OnOk};
 ghost use Rattle.std.specs.List.Sorted.{IsPermutation};
 ghost use Rattle.std.specs.Option.{option_map};
 ghost use Rattle.mq_message.specs.declared.message.Message.{Message};
@@ -20,6 +20,10 @@ pub trait Waiting<B: Body> {
     fn fresh(alloc: Global) -> Self
         ensures empty { messages result ≡ [] }
         ensures unprepared { prepared result ≡ None };
+
+    /// A law of the list: places rise in the order of sending. A call costs nothing.
+    fn places_rise(&self)
+        ensures { AllPairs (λ a b. a.0 < b.0) (messages self.now) };
 
     /// The place of the message that the selection picks (msgop(2), msgrcv), or `None` where no
     /// message is eligible.
