@@ -1,5 +1,5 @@
 """Edits of a crate's files. One is a text file of lines `WORD: TEXT`: an `error`, a `function` or a
-`test`, which must see it; a `goal` or none; the `file` below the crate's folder; and pairs of `old`
+`test`, which must see it; a `goal`, or how many `threads` the test may have; the `file` below the crate's folder; and pairs of `old`
 and `new`. Each old text stands once in the file as the pairs before left it. Else: a ValueError."""
 import itertools
 import re
@@ -23,7 +23,8 @@ class Edit:
         self.head, self.file = dict(zip(words[:count], texts)), texts[count - 1]
         self.pairs = list(zip(texts[count::2], texts[count + 1 :: 2]))
         first, *more = words[:count] or [""]
-        is_head = first in ("error", "function", "test") and more in (["file"], ["goal", "file"])
+        heads = (["file"], ["goal", "file"], ["threads", "file"])
+        is_head = first in ("error", "function", "test") and more in heads
         if not is_head or words[count:] != ["old", "new"] * max(1, len(self.pairs)):
             raise ValueError("it is not written as an edit is")
 
