@@ -24,3 +24,4 @@ pub mod ThreadsRuns
 pub mod Transfers
 pub mod WantedLemmas
 pub mod WorkLemmas
+pub mod WorkersLemmas

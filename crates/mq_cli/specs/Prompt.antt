@@ -1,14 +1,17 @@
 -- What is answered to lines that are typed one after another.
-use Rattle.std.specs.Prelude.{◌≡◌, ℕ, ◌+◌, Bool, true, false, List, [], ◌∷◌, ◌++◌, slice_index_or}
-use Rattle.std.specs.Prelude.{codes, Option, Some, IfSome, OnOk, Result, Ok, Err}
+use Rattle.std.specs.Prelude.{◌≡◌, ◌<◌, ◌≤◌, ℕ, ◌+◌, Bool, true, false, List, [], ◌∷◌, ◌++◌, length}
+use Rattle.std.specs.Prelude.{slice_index_or, codes, Option, Some, IfSome, OnOk, Result, Ok, Err}
 use Rattle.std.specs.Fmt.{decimal}
 use Rattle.std.specs.Io.BufRead.{drop_through}
 use Rattle.std.specs.Io.KnownBytes.{Appends}
+use Rattle.std.specs.declared.io.ErrorKind.{ErrorKind}
+use Rattle.std.specs.declared.io.ErrorKind.TheVariants.{OutOfMemory}
 use Rattle.mq_calls.specs.declared.config.Config.{Config}
 use Rattle.mq_cli.specs.declared.fault.Cause.{Cause}
 use Rattle.mq_cli.specs.declared.fault.Cause.TheVariants.{Long, Byte, Words, Number}
 use Rattle.mq_cli.specs.declared.fault.RunFault.{RunFault}
-use Rattle.mq_cli.specs.declared.fault.RunFault.TheVariants.{Script, Thread}
+use Rattle.mq_cli.specs.declared.fault.RunFault.TheVariants.{Size, Read, Write, Memory}
+use Rattle.mq_cli.specs.declared.limits.TheConstants.{TYPED_LIMIT}
 use Rattle.mq_cli.specs.Commands.{reading}
 use Rattle.mq_cli.specs.Lines.{lines_of}
 use Rattle.mq_cli.specs.Serial.{AppendsPrefix, Writes}
@@ -55,21 +58,33 @@ WritesAnswer old new turn s outcome = OnOk outcome (s ≡ turn.1) × Writes old 
 abbrev pub first_line_of : List ℕ → List ℕ
 first_line_of text = slice_index_or (lines_of text) 0 []
 
--- the faults of a run whose lines are typed
-abbrev pub IsPromptFault : RunFault → Type 0
-IsPromptFault (Script line cause) = ⊥
-IsPromptFault Thread = ⊥
-IsPromptFault _ = Unit {0}
+-- what a read that failed is told as
+abbrev pub read_fault_of : ErrorKind → RunFault
+read_fault_of OutOfMemory = Memory
+read_fault_of _ = Read
+
+-- the faults of one line that is typed
+abbrev pub IsLineFault : RunFault → Type 0
+IsLineFault Read = Unit {0}
+IsLineFault Write = Unit {0}
+IsLineFault Memory = Unit {0}
+IsLineFault _ = ⊥
+
+-- the faults of a run whose lines are typed: theirs, or that they cannot be counted
+abbrev pub IsPromptFault : Option (List ℕ) → RunFault → Type 0
+IsPromptFault typed Size = IfSome typed (λ text. TYPED_LIMIT ≤ length (lines_of text) + 1)
+IsPromptFault typed fault = IsLineFault fault
 
 -- the first line of what was to be read is read and answered as line n, or nothing was left
 abbrev pub AnswersNext : Option (List ℕ) → Option (List ℕ) → Option (List ℕ) → Option (List ℕ)
     → ℕ → SessionState → SessionState → Result Bool RunFault → Type 0
 AnswersNext read left old new n s t (Ok true) = IfSome read (λ text.
-    (left ≡ Some (drop_through 10 text)) × (t ≡ (answer_of n s (first_line_of text)).1)
+    (0 < length text) × (left ≡ Some (drop_through 10 text))
+    × (t ≡ (answer_of n s (first_line_of text)).1)
     × Appends old new (answer_of n s (first_line_of text)).0)
 AnswersNext read left old new n s t (Ok false) = IfSome read (λ text.
     (text ≡ []) × (left ≡ Some []) × Appends old new [])
-AnswersNext read left old new n s t (Err fault) = IsPromptFault fault × IfSome read (λ text.
+AnswersNext read left old new n s t (Err fault) = IsLineFault fault × IfSome read (λ text.
     AppendsPrefix old new (answer_of n s (first_line_of text)).0)
 
 -- all that was typed is read and answered so, or a front of the answers was written
@@ -77,5 +92,5 @@ abbrev pub AnswersAll : (List ℕ → List ℕ) → Option (List ℕ) → Option
     → Option (List ℕ) → Result (Unit {0}) RunFault → Type 0
 AnswersAll answers typed left old new (Ok _) = IfSome typed (λ text.
     (left ≡ Some []) × Appends old new (answers text))
-AnswersAll answers typed left old new (Err fault) = IsPromptFault fault × IfSome typed (λ text.
-    AppendsPrefix old new (answers text))
+AnswersAll answers typed left old new (Err fault) = IsPromptFault typed fault
+    × IfSome typed (λ text. AppendsPrefix old new (answers text))

@@ -1,6 +1,7 @@
 -- What a worker did by its plan: which calls its port made, and how they ended.
 use Rattle.std.specs.Prelude.{◌≡◌, ◌⊎◌, ℕ, ℤ, Bool, List, [], ◌∷◌, ◌++◌, length, reverse, count_by}
 use Rattle.std.specs.Prelude.{Option, None, Some, Result, Ok, Err}
+use Rattle.std.specs.Global.{Vec}
 use Rattle.mq_calls.specs.declared.errno.Errno.{Errno}
 use Rattle.mq_calls.specs.declared.errno.Errno.TheVariants.{ENOMEM}
 use Rattle.mq_cli.specs.declared.outcome.Outcome.{Outcome}
@@ -78,3 +79,19 @@ pub record HasWorked {Q : Type 0} (puts : Puts Q) (takes : Takes Q) (removes : R
       outcome.end new
   pub count : outcome.received ≡ length received
   pub ordered : outcome.ordered ≡ tags_rise (reverse received)
+
+-- the same of a port that is given up behind the calls
+abbrev pub WorksFrom : {Q : Type 0} → Puts Q → Takes Q → Removals Q → List Step → Outcome → Q
+    → Type 0
+WorksFrom {Q} puts takes removes plan outcome old =
+    (new : Q) × HasWorked puts takes removes plan outcome old new
+
+-- each worker made the calls of its plan by the port of its place
+abbrev pub AllWorkFrom : {Q : Type 0} → Puts Q → Takes Q → Removals Q → List (Vec Step) → List Q
+    → List Outcome
+    → Type 0
+AllWorkFrom puts takes removes [] [] [] = Unit {0}
+AllWorkFrom puts takes removes (plan ∷ plans) (port ∷ ports) (outcome ∷ outcomes) =
+    WorksFrom puts takes removes plan.items outcome port
+    × AllWorkFrom puts takes removes plans ports outcomes
+AllWorkFrom puts takes removes _ _ _ = ⊥

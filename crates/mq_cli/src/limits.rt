@@ -19,6 +19,9 @@ pub const LINE_LIMIT: usize = 4096;
 /// least, so a reader that keeps its contract is never asked so often.
 pub(crate) const READ_CALLS: u32 = 2_097_152;
 
+/// The number of a typed line at which a run ends as a fault: the count of lines is a `u64`.
+pub(crate) const TYPED_LIMIT: u64 = u64::MAX;
+
 /// How many sections a threads script has at most: the main part has seat 1, and each section one
 /// of the others.
 pub(crate) const MAX_WORKERS: usize = 15;
@@ -35,6 +38,7 @@ pub fn the_limits()
     ensures script { SCRIPT_LIMIT ≡ 1048576 }
     ensures line { LINE_LIMIT ≡ 4096 }
     ensures reads { READ_CALLS ≡ 2097152 }
+    ensures typed { TYPED_LIMIT ≡ 18446744073709551615 }
     ensures workers { MAX_WORKERS ≡ 15 }
     ensures count { MAX_MESSAGES ≡ 100000 }
     ensures within { MAX_WITHIN ≡ 1000000 }

@@ -2,11 +2,13 @@ ghost use Rattle.std.specs.Prelude.{◌≡◌, ◌++◌, OnOk};
 ghost use Rattle.mq_cli.specs.Input.{IsRunSize};
 ghost use Rattle.mq_cli.specs.Lines.{lines_of};
 ghost use Rattle.mq_cli.specs.Prompt.{WritesAnswer, AnswersAll, AnswersNext, answer_of};
-ghost use Rattle.mq_cli.specs.Prompt.{answers_from, answers_to, cause_name, fault_line};
+ghost use Rattle.mq_cli.specs.Prompt.{IsLineFault, answers_from, answers_to, cause_name};
+ghost use Rattle.mq_cli.specs.Prompt.{fault_line, read_fault_of};
 ghost use Rattle.mq_cli.specs.Serial.{Writes};
 ghost use Rattle.mq_cli.specs.Session.{CanOpen};
 
 use crate::command::read_line;
+use crate::limits::TYPED_LIMIT;
 use crate::lines::trimmed;
 use crate::output::{WriteFailed, write_bytes};
 use crate::parts::first_long_part;
@@ -83,7 +85,7 @@ fn answer_lines<L: Ledger, R: BufRead, W: Write, P: Write>(
 {
     let mut line = Vec::new(alloc);
     let mut out = Vec::new(alloc);
-    for number in 1..u64::MAX {
+    for number in 1..TYPED_LIMIT {
         let _ = prompts.write_all(PROMPT);
         match answer_next(session, number, reader, &mut line, &mut out, writer) {
             Ok(true) => (),
@@ -110,8 +112,7 @@ fn answer_next<L: Ledger, R: BufRead, W: Write>(
     match reader.read_until(b'\n', line) {
         Ok(0) => return Ok(false),
         Ok(_) => (),
-        Err(fault) if fault.kind() == ErrorKind::OutOfMemory => return Err(RunFault::Memory),
-        Err(_) => return Err(RunFault::Read),
+        Err(error) => return Err(read_fault(error.kind())),
     }
     let (typed, _) = first_long_part(b'\n', line);
     if let Err(fault) = answer_line(session, number, trimmed(typed), out, writer) {
@@ -120,6 +121,17 @@ fn answer_next<L: Ledger, R: BufRead, W: Write>(
     match writer.flush() {
         Ok(()) => Ok(true),
         Err(_) => Err(RunFault::Write),
+    }
+}
+
+/// The fault of a read that failed.
+fn read_fault(kind: ErrorKind) -> RunFault
+    ensures value { result ≡ read_fault_of kind }
+    ensures line { IsLineFault result }
+{
+    match kind {
+        ErrorKind::OutOfMemory => RunFault::Memory,
+        _ => RunFault::Read,
     }
 }
 

@@ -56,11 +56,12 @@ pub(crate) fn ports_of<'a, N: Names>(
     letters: &'a [u8],
 ) -> Result<Vec<SystemPort<'a, N>>, AllocError>
     requires { letters.now ≡ map letter (range_with_len 0 LETTERS) }
-    ensures { IfOk result (λ ports. length ports.items ≡ length seats.old) }
+    ensures count { IfOk result (λ ports. length ports.items ≡ length seats.old) }
+    ensures seats { IfOk result (λ ports. map (λ port. port.seat.now) ports.items ≡ seats.old) }
 {
     let mut ports = Vec::with_capacity(alloc, seats.len())?;
     for seat in seats.iter_mut() {
-        ports.push_reserved(SystemPort::new(seat, letters));
+        ports.push_reserved(SystemPort { seat, letters });
     }
     Ok(ports)
 }

@@ -1,6 +1,7 @@
 ghost use Rattle.std.specs.Prelude.{◌≡◌, length, map, IfOk};
 ghost use Rattle.mq_cli.specs.Plans.{AreCountable, IsCountable, IsCarriedOut};
 ghost use Rattle.mq_cli.specs.Threads.{RanWorkers};
+ghost use Rattle.mq_cli.specs.Works.{AllWorkFrom, WorksFrom};
 
 use crate::{Outcome, Port, RunFault, Step, work};
 use mq_jobs::{Job, JobsError, run_jobs};
@@ -24,6 +25,8 @@ where
     requires ports { length plans.now ≡ length ports.old }
     requires plans { AreCountable plans.now }
     ensures ran { RanWorkers plans.now result }
+    ensures worked { IfOk result (λ outcomes. AllWorkFrom Q.puts Q.takes Q.removes
+        plans.now ports.old outcomes.items) }
 {
     let Ok(jobs) = at_ports(rt, alloc, plans, ports) else {
         return Err(RunFault::Memory);
@@ -51,7 +54,8 @@ impl<'a, Q: Port, C: Clock> Job for AtPort<'a, Q, C> {
 
     ghost before = { λ job. IsCountable job.plan.now };
 
-    ghost after = { λ job outcome. IsCarriedOut job.plan.now outcome };
+    ghost after = { λ job outcome. IsCarriedOut job.plan.now outcome
+        × WorksFrom Q.puts Q.takes Q.removes job.plan.now outcome job.port.now };
 
     fn run<R: Wait>(self, rt: &R, shared: &Q::Shared) -> Outcome {
         let AtPort {
@@ -72,8 +76,9 @@ fn at_ports<'a, Q: Port, C: Clock>(
     ports: &'a mut [Q],
 ) -> Result<Vec<AtPort<'a, Q, C>>, AllocError>
     requires { length plans.now ≡ length ports.old }
-    ensures { IfOk result (λ jobs.
+    ensures plans { IfOk result (λ jobs.
         map (λ job. job.plan.now) jobs.items ≡ map (λ plan. plan.items) plans.now) }
+    ensures ports { IfOk result (λ jobs. map (λ job. job.port.now) jobs.items ≡ ports.old) }
 {
     let mut jobs = Vec::with_capacity(alloc, plans.len())?;
     for (place, port) in ports.iter_mut().enumerate() {

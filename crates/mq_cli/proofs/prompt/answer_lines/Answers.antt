@@ -1,3 +1,4 @@
+use Rattle.std.proofs.Common.{arith}
 use Rattle.mq_cli.proofs.PromptLemmas.{none_more, none_yet, one_failed, one_more, some_left}
 use Rattle.mq_cli.proofs.prompt.answer_lines.Goals as goal
 
@@ -16,4 +17,4 @@ returns-in-Err g c =
     c.args.session.now _ _ c.answer_next.new.session c.in-Err.fault c.loop-number.invariant c.in-Err.ensures
 
 pub returns : goal.returns
-returns g c = some_left _ _ _ _ _ _ _ c.loop-number.invariant
+returns g c = some_left _ _ _ _ _ _ _ (omega arith) c.loop-number.invariant

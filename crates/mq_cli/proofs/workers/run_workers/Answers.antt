@@ -1,14 +1,19 @@
 use Rattle.std.proofs.Common.{rules}
-use Rattle.mq_jobs.proofs.JobLemmas.{made_before, made_after}
-use Rattle.mq_cli.specs.Plans.{IsCountable, IsCarriedOut}
+use Rattle.mq_jobs.proofs.JobLemmas.{made_before}
+use Rattle.mq_cli.specs.Plans.{IsCountable}
+use Rattle.mq_cli.proofs.WorkersLemmas.{all_done}
 use Rattle.mq_cli.proofs.workers.run_workers.Goals as goal
 
 pub run_jobs-requires-clause-before : goal.run_jobs-requires-clause-before
 run_jobs-requires-clause-before g c κs within =
     made_before (λ job. job.plan.now) (λ plan. plan.items) IsCountable c.in-Ok.jobs.items c.args.plans.now (search rules) c.requires.plans
 
-pub returns-in-Ok-run_jobs : goal.returns-in-Ok-run_jobs
-returns-in-Ok-run_jobs g c =
-    let done = made_after (λ job. job.plan.now) (λ plan. plan.items) IsCarriedOut c.in-Ok.jobs.items c.args.plans.now
-    c.in-Ok-run_jobs.outcomes.items (search rules) (search rules) in
-    search rules
+pub returns-in-Ok-run_jobs-clause-ran : goal.returns-in-Ok-run_jobs-clause-ran
+returns-in-Ok-run_jobs-clause-ran g c =
+    (all_done g.Q.Port.puts g.Q.Port.takes g.Q.Port.removes (λ job. job.plan.now) (λ job. job.port.now) c.in-Ok.jobs.items c.args.plans.now c.args.ports.now
+    c.in-Ok-run_jobs.outcomes.items (search rules) (search rules) (search rules)).0
+
+pub returns-in-Ok-run_jobs-clause-worked : goal.returns-in-Ok-run_jobs-clause-worked
+returns-in-Ok-run_jobs-clause-worked g c =
+    (all_done g.Q.Port.puts g.Q.Port.takes g.Q.Port.removes (λ job. job.plan.now) (λ job. job.port.now) c.in-Ok.jobs.items c.args.plans.now c.args.ports.now
+    c.in-Ok-run_jobs.outcomes.items (search rules) (search rules) (search rules)).1
