@@ -270,6 +270,13 @@ worker 100000 0 done 'put 0 1 100000 0'
 worker 0 100000 done 'take 0 0 100000'
 slot 0 200001 100000 100000 0
 pages 1
+# A section of 2,000 lines.
+case_of threads
+queues 1
+mapfile -t lines < <(turns 1000 'put 0 1 1 0' 'take 0 1 1')
+worker 1000 1000 done "${lines[@]}"
+slot 0 2001 1000 1000 0
+pages 64
 # 1,048,576 bytes, lines of 4,096, and keys, types and quotas at both their ends.
 case_of 'threads --slots 2 --height 10'
 main 'get -2147483648 cx' 'id 0' 'get 2147483647 cx' 'id 1' 'get 2147483647' 'id 1' \
@@ -312,6 +319,12 @@ worker 1 0 EIDRM 'put 2 1 1 1' 'rm 2' 'rm 2' 'put 0 1 1 1'
 for k in 0 1 2; do
     slot "$k" 3 1 0 0
 done
+pages 64
+# A put without `within` waits for no page, however many its text takes.
+case_of threads
+queues 1 131072
+worker 1 0 ENOMEM 'put 0 1 1 65536' 'put 0 1 1 8192' 'rm 0'
+slot 0 3 1 0 1
 pages 64
 # A text is made before the id and the type are looked at.
 case_of 'threads --height 0'

@@ -50,6 +50,32 @@ fn lines_without_a_fault_are_answered_as_a_script_is(
     Ok(())
 }
 
+/// One line of 200,000 bytes, 100,001 that are empty, and one that is answered.
+#[test]
+fn typed_lines_have_no_limit(rt: HostRuntime) -> std::result::Result<(), Fail> {
+    let mut typed = Vec::with_capacity(rt.alloc(), 400_000)?;
+    typed.resize(200_000, b'x')?;
+    typed.resize(300_002, b'\n')?;
+    typed.extend_from_slice(b"arena\n")?;
+    let mut answers = Vec::with_capacity(rt.alloc(), 1000)?;
+    let prompts = AtomicU64::new(0);
+    let ended = run_prompt(
+        rt.alloc(),
+        &mut typed.as_slice(),
+        &mut answers,
+        &mut Counted(&prompts),
+        ONE_PAGE,
+    );
+    holds!(rt; ended != Err(RunFault::Memory), "out of memory");
+    holds!(rt; ended == Ok(()), "another end");
+    holds!(rt;
+        answers.as_slice() == b"line 1: long\npages 1 free 1 largest 0\n".as_slice(),
+        "other answers"
+    );
+    holds!(rt; prompts.load(Ordering::SeqCst) == 100_004, "other prompts");
+    Ok(())
+}
+
 #[test]
 fn answers_that_are_not_taken_end_the_run(rt: HostRuntime) -> std::result::Result<(), Fail> {
     for room in 0..=ANSWERS.len() {

@@ -16,17 +16,19 @@ fn is_told<R: AllocGlobal + Abort + Threads + Wait + Clock + Sync>(
 ) -> Result<(), Fail> {
     let (script, told, end) = case;
     let mut written = Vec::with_capacity(rt.alloc(), 1000)?;
-    let ended = run_threads(
-        rt,
-        rt.alloc(),
-        &mut script.as_bytes(),
-        &mut written,
-        SCRIPT_DEFAULTS,
-    );
+    let ended = run(rt, script.as_bytes(), &mut written);
     holds!(rt; !lacks_memory(ended, &written), "out of memory");
     assert!(rt; ended == end, "{script}");
     assert!(rt; written.as_slice() == told.as_bytes(), "{script}");
     Ok(())
+}
+
+fn run<R: AllocGlobal + Threads + Wait + Clock + Sync>(
+    rt: &R,
+    mut script: &[u8],
+    written: &mut Vec<u8>,
+) -> Result<(), RunFault> {
+    run_threads(rt, rt.alloc(), &mut script, written, SCRIPT_DEFAULTS)
 }
 
 #[test]
@@ -156,6 +158,57 @@ rm 0
 #[test]
 fn a_removal_ends_who_waits_within_an_end(rt: HostRuntime) -> Result<(), Fail> {
     is_told(&rt, (REMOVED_WITHIN, REMOVED_TOLD, Ok(())))?;
+    Ok(())
+}
+
+const FULL: &str = "\
+get 0 c
+set 0 131072
+worker
+put 0 1 1 65536
+put 0 1 1 8192
+rm 0
+";
+
+const FULL_TOLD: &str = "\
+id 0
+at 1
+worker 2 sent 1 received 0 order yes end ENOMEM
+slot 0 events 3 sent 1 received 0 left 1
+pages 64 free 64
+";
+
+/// The first text takes all pages, and nobody receives it.
+#[test]
+fn a_put_without_an_end_does_not_wait_for_pages(rt: HostRuntime) -> Result<(), Fail> {
+    let mut written = Vec::with_capacity(rt.alloc(), 1000)?;
+    let ended = run(&rt, FULL.as_bytes(), &mut written);
+    let is_told = written.as_slice() == FULL_TOLD.as_bytes();
+    holds!(rt; is_told || !lacks_memory(ended, &written), "out of memory");
+    holds!(rt; ended == Ok(()), "another end");
+    holds!(rt; is_told, "something else is told");
+    Ok(())
+}
+
+const LONG_SECTION_TOLD: &str = "\
+id 0
+worker 2 sent 1000 received 1000 order yes end done
+slot 0 events 2001 sent 1000 received 1000 left 0
+pages 64 free 64
+";
+
+#[test]
+fn a_section_of_two_thousand_lines_is_run(rt: HostRuntime) -> Result<(), Fail> {
+    let mut script = Vec::with_capacity(rt.alloc(), 30_000)?;
+    script.extend_from_slice(b"get 0 c\nworker\n")?;
+    for _ in 0..1000 {
+        script.extend_from_slice(b"put 0 1 1 0\ntake 0 1 1\n")?;
+    }
+    let mut written = Vec::with_capacity(rt.alloc(), 1000)?;
+    let ended = run(&rt, &script, &mut written);
+    holds!(rt; !lacks_memory(ended, &written), "out of memory");
+    holds!(rt; ended == Ok(()), "another end");
+    holds!(rt; written.as_slice() == LONG_SECTION_TOLD.as_bytes(), "something else is told");
     Ok(())
 }
 
