@@ -28,8 +28,10 @@
 #define MAX_SLOTS 64
 /* Beside the slots: the place of who waits for pages. */
 #define PAGES MAX_SLOTS
-#define STACK (1 << 20)
-#define GUARD 4096
+/* The stack of the proved part, on which a signal handler that comes meanwhile runs too: it is as
+   long as a thread's is by default. Below it lies what cannot be touched. */
+#define STACK (8 << 20)
+#define GUARD (1 << 20)
 
 /* The numbers of the proved part. */
 enum { GET = 1, SEND, RECEIVE, CONTROL };
@@ -194,14 +196,15 @@ __attribute__((constructor)) static void expect_forks(void) {
   end_error = ENOMEM;
 }
 
-/* Makes the stack of the proved part, below which a page lies that cannot be touched, and what is
-   called first on it. */
+/* Makes the stack of the proved part above its guard, and what is called first on it. These are
+   addresses: of memory there is what was touched. */
 static int make_stack(void) {
-  static char *stack = MAP_FAILED;
-  if (stack == MAP_FAILED)
-    stack = mmap(NULL, STACK, PROT_READ | PROT_WRITE, MAP_PRIVATE | MAP_ANONYMOUS, -1, 0);
-  if (stack == MAP_FAILED || mprotect(stack, GUARD, PROT_NONE)) return ENOMEM;
-  void **top = (void **)(stack + STACK);
+  static char *guard = MAP_FAILED;
+  int flags = MAP_PRIVATE | MAP_ANONYMOUS | MAP_NORESERVE | MAP_STACK;
+  if (guard == MAP_FAILED)
+    guard = mmap(NULL, GUARD + STACK, PROT_READ | PROT_WRITE, flags, -1, 0);
+  if (guard == MAP_FAILED || mprotect(guard, GUARD, PROT_NONE)) return ENOMEM;
+  void **top = (void **)(guard + GUARD + STACK);
   top[-2] = (void *)serve;
   inside = top - 8;
   return 0;

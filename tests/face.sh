@@ -21,7 +21,9 @@ scripts=300
 damaged=1000000
 messages=10000000
 # The most lines that the C part may have.
-most_lines=600
+most_lines=850
+# The tests that are run as they are, also with the sanitizers.
+tests=(calls stack waits late forks wakes threads memory)
 warnings=(-std=gnu11 -Wall -Wextra -Werror -Wno-nonnull)
 preload=$PWD/face/out/libcivdrax_preload.so
 
@@ -87,10 +89,10 @@ compile() {
 
 programs() {
     local test calls
-    for test in calls waits late forks wakes threads memory damaged many; do
+    for test in "${tests[@]}" damaged many; do
         compile "$test" "$folder/$test" face/out/libcivdrax.a
     done
-    for test in calls waits late forks wakes threads memory; do
+    for test in "${tests[@]}"; do
         checks "$folder/$test"
     done
     checks "$folder/damaged" "$damaged"
@@ -143,7 +145,7 @@ sanitized() {
         -o "$folder/sanitized/libcivdrax.so" face/civdrax.c crates/civdrax/out/libcivdrax.a \
         "$heap" -Wl,--wrap=read,--wrap=write -Wl,--version-script=face/civdrax.map -pthread
     count $? "the C part does not compile with the sanitizers"
-    for test in calls waits late forks wakes threads memory damaged; do
+    for test in "${tests[@]}" damaged; do
         cc "${warnings[@]}" "${flags[@]}" -o "$folder/sanitized/$test" "face/tests/$test.c" \
             -L"$folder/sanitized" -lcivdrax "-Wl,-rpath,$folder/sanitized" -pthread
         count $? "face/tests/$test.c does not compile with the sanitizers"
