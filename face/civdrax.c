@@ -3,21 +3,26 @@
    goes over to that stack, where `read` takes them and the bytes of a text, and `write` fills
    `answer`, `shown` and the caller's buffer; where the next call is read it comes back.
 
-   All that waits does so here, outside of the proved part: a call that is told to wait does so on
-   the condition of its slot, or on that of the pages, and is then made again. A call that changed a
-   slot wakes who waits there. Between the answer and the wait the lock is held, so no wake is lost.
+   All that waits does so here, outside of the proved part: a call that is told to wait enters its
+   thread's record into the list of its slot, or into that of the pages, lets the lock go, sleeps on
+   the futex of the record, and is then made again. A call that changed a slot rouses who waits
+   there. Between the answer and the entry the lock is held, so no wake is lost. A handler that runs
+   in the sleep ends it.
 
    What is decided of a call is decided in the proved part. Kept here are the figures that it has no
    place for: the owner, the mode and the two process ids of each slot's queue. */
 #define _GNU_SOURCE
 #include "civdrax.h"
 #include <errno.h>
+#include <linux/futex.h>
 #include <pthread.h>
 #include <stdint.h>
 #include <stdio.h>
 #include <stdlib.h>
 #include <string.h>
 #include <sys/mman.h>
+#include <sys/queue.h>
+#include <sys/syscall.h>
 #include <unistd.h>
 
 #ifndef __x86_64__
@@ -63,9 +68,25 @@ extern int32_t civdrax_serve(int32_t calls, uint8_t height, uint8_t slots);
 
 static pthread_mutex_t lock = PTHREAD_MUTEX_INITIALIZER;
 
+/* A thread's own record, in the list in which it waits: a handler may leave the wait by siglongjmp,
+   and then it is there still. It is changed under the lock alone. */
+enum { WAITS, ROUSED };
+struct waiter {
+  TAILQ_ENTRY(waiter) link;
+  struct waiters *in; /* or null */
+  uint32_t word; /* WAITS or ROUSED: the futex */
+  volatile int sleeps; /* and may be cancelled at once, where else only as it says here */
+  int cancel_type;
+};
+TAILQ_HEAD(waiters, waiter);
+
+/* Always in reach, since a handler may be the first of its thread to ask for it. */
+static __thread struct waiter mine __attribute__((tls_model("initial-exec")));
+/* By it a thread that ends leaves its list. */
+static pthread_key_t ends;
+
 /* Who waits for a change in a slot, and for pages. */
-static pthread_cond_t changed[MAX_SLOTS + 1];
-static unsigned waiting[MAX_SLOTS + 1];
+static struct waiters waiting[MAX_SLOTS + 1];
 
 static struct ipc_perm owner[MAX_SLOTS];
 static pid_t sent_by[MAX_SLOTS], received_by[MAX_SLOTS];
@@ -169,12 +190,21 @@ static int configured(const char *name, int low, int high, int otherwise) {
   return -1;
 }
 
-static void make_conditions(void) {
-  pthread_condattr_t by;
-  pthread_condattr_init(&by);
-  pthread_condattr_setclock(&by, CLOCK_MONOTONIC);
-  for (int place = 0; place <= PAGES; place++) pthread_cond_init(&changed[place], &by);
-  pthread_condattr_destroy(&by);
+static void make_lists(void) {
+  for (int place = 0; place <= PAGES; place++) TAILQ_INIT(&waiting[place]);
+}
+
+static void enlist(struct waiters *list) {
+  mine.in = list;
+  __atomic_store_n(&mine.word, WAITS, __ATOMIC_RELAXED);
+  TAILQ_INSERT_TAIL(list, &mine, link);
+}
+
+/* Whose wait is over, whether or not it sleeps, is in no list and looks again. */
+static void unlist(struct waiter *its) {
+  if (its->in) TAILQ_REMOVE(its->in, its, link);
+  its->in = NULL;
+  __atomic_store_n(&its->word, ROUSED, __ATOMIC_RELEASE);
 }
 
 /* A child has a copy of the queues of its own, in which nobody waits. */
@@ -184,8 +214,17 @@ static void in_parent(void) { pthread_mutex_unlock(&lock); }
 
 static void in_child(void) {
   self = getpid();
-  memset(waiting, 0, sizeof waiting);
-  make_conditions();
+  make_lists();
+  mine.in = NULL;
+  unlist(&mine);
+  pthread_mutex_unlock(&lock);
+}
+
+/* A thread that is cancelled while it waits, or ends after it left its wait by siglongjmp, holds
+   nobody up. */
+static void leave(void *its) {
+  pthread_mutex_lock(&lock);
+  unlist(its);
   pthread_mutex_unlock(&lock);
 }
 
@@ -212,11 +251,14 @@ static int make_stack(void) {
 
 /* Reads the size. */
 static void prepare(void) {
+  make_lists();
   height = configured("CIVDRAX_HEIGHT", 0, MAX_HEIGHT, MAX_HEIGHT);
   slots = configured("CIVDRAX_SLOTS", 1, MAX_SLOTS, MAX_SLOTS);
   self = getpid();
-  make_conditions();
   state = height < 0 || slots < 0 ? NONE : READY;
+  if (state == NONE || !pthread_key_create(&ends, leave)) return;
+  state = NONE;
+  end_error = ENOMEM;
 }
 
 /* Under the lock: begins the loop, which comes out where it reads its first call; `call` has that
@@ -255,42 +297,76 @@ static int refuse(int error) {
 }
 
 static void wake(int place) {
-  if (waiting[place]) pthread_cond_broadcast(&changed[place]);
+  struct waiter *its;
+  while ((its = TAILQ_FIRST(&waiting[place]))) {
+    unlist(its);
+    syscall(SYS_futex, &its->word, FUTEX_WAKE_PRIVATE, 1);
+  }
 }
 
-/* A thread that is cancelled while it waits holds nobody up. */
-static void leave(void *place) {
-  waiting[*(int *)place]--;
-  pthread_mutex_unlock(&lock);
+/* Begins a call, with the lock. In a handler that ran in a sleep, or after a jump out of one, the
+   thread may not be cancelled at once any more; the sleep, if it is still to come, ends. */
+static void begin_call(void) {
+  if (mine.sleeps) {
+    int type;
+    mine.sleeps = 0;
+    pthread_setcanceltype(mine.cancel_type, &type);
+    __atomic_store_n(&mine.word, ROUSED, __ATOMIC_RELEASE);
+  }
+  pthread_mutex_lock(&lock);
 }
 
-/* Under the lock, which others take meanwhile: waits for a change, or until the end. */
-static int wait_for(int place, const struct timespec *end) {
-  int error;
+/* Sleeps until it is roused, until the end, or until a handler has run: 0, or why. With an end, if
+   one that never comes, the kernel does not take a sleep up again after a handler, whatever
+   SA_RESTART says. */
+static int sleep_until(const struct timespec *end) {
+  static const struct timespec never = {.tv_sec = 1L << 32};
+  struct timespec at = end ? *end : never;
+  /* The kernel takes no time before its clock began. */
+  if (at.tv_sec < 0) at.tv_sec = 0;
+  while (__atomic_load_n(&mine.word, __ATOMIC_ACQUIRE) == WAITS)
+    if (syscall(SYS_futex, &mine.word, FUTEX_WAIT_BITSET_PRIVATE, WAITS, &at, NULL,
+                FUTEX_BITSET_MATCH_ANY) && errno != EAGAIN)
+      return errno;
+  return 0;
+}
+
+/* Under the lock, which others take meanwhile: waits in a list. A thread is cancelled in its sleep
+   alone, where it has nothing to give back but its place in the list. */
+static int wait_in(struct waiters *list, const struct timespec *end) {
   struct call kept = call;
-  waiting[place]++;
-  pthread_cleanup_push(leave, &place);
-  if (end) error = pthread_cond_timedwait(&changed[place], &lock, end);
-  else error = pthread_cond_wait(&changed[place], &lock);
+  int error, type;
+  if (pthread_setspecific(ends, &mine)) return ENOMEM;
+  unlist(&mine);
+  enlist(list);
+  pthread_mutex_unlock(&lock);
+  pthread_cleanup_push(leave, &mine);
+  mine.sleeps = 1;
+  pthread_setcanceltype(PTHREAD_CANCEL_ASYNCHRONOUS, &mine.cancel_type);
+  error = sleep_until(end);
+  pthread_setcanceltype(mine.cancel_type, &type);
+  mine.sleeps = 0;
   pthread_cleanup_pop(0);
-  waiting[place]--;
+  pthread_mutex_lock(&lock);
+  unlist(&mine);
   call = kept;
   return error;
 }
 
-/* Under the lock: makes a call, again after each wait, also after one whose time came: others may
-   have changed what it waits for before it had the lock. 0, or why it is refused. */
+/* Under the lock: makes a call, again after each wait, also after one whose time came or in which a
+   handler ran: others may have changed what it waits for before it had the lock. 0, or why it is
+   refused. */
 static int make(const void *in, void *out, const struct timespec *end) {
   for (int ended = 0;; call.waited = 1) {
     int error = ask(in, out);
     if (!error || !answer.wait) return error;
     if (ended) return ended;
-    ended = wait_for(answer.wait == WAIT_PAGES ? PAGES : (int)answer.slot, end);
+    ended = wait_in(&waiting[answer.wait == WAIT_PAGES ? PAGES : answer.slot], end);
   }
 }
 
 int civdrax_msgget(key_t key, int flags) {
-  pthread_mutex_lock(&lock);
+  begin_call();
   call = (struct call){.kind = GET, .number = (uint32_t)key, .flags = (uint32_t)flags};
   int error = ask(NULL, NULL);
   if (error) return refuse(error);
@@ -310,7 +386,7 @@ int civdrax_timedsnd(int id, const void *message, size_t size, int flags,
                      const struct timespec *end) {
   long type = 0;
   if (message) memcpy(&type, message, sizeof type);
-  pthread_mutex_lock(&lock);
+  begin_call();
   call = (struct call){.kind = SEND, .number = (uint32_t)id, .flags = (uint32_t)flags,
                        .type = (uint64_t)type, .size = size, .buffer = !!message};
   int error = make(message ? (const char *)message + sizeof type : NULL, NULL, end);
@@ -327,7 +403,7 @@ int civdrax_msgsnd(int id, const void *message, size_t size, int flags) {
 
 ssize_t civdrax_timedrcv(int id, void *message, size_t size, long type, int flags,
                          const struct timespec *end) {
-  pthread_mutex_lock(&lock);
+  begin_call();
   call = (struct call){.kind = RECEIVE, .number = (uint32_t)id, .flags = (uint32_t)flags,
                        .type = (uint64_t)type, .size = size, .buffer = !!message};
   int error = make(NULL, message ? (char *)message + sizeof type : NULL, end);
@@ -383,7 +459,7 @@ static void own(struct ipc_perm *its, const struct ipc_perm *wanted) {
 int civdrax_msgctl(int id, int cmd, struct msqid_ds *buf) {
   struct msqid_ds wanted = {0};
   if (cmd == IPC_SET && buf) wanted = *buf;
-  pthread_mutex_lock(&lock);
+  begin_call();
   call = (struct call){.kind = CONTROL, .number = (uint32_t)id, .flags = (uint32_t)cmd,
                        .size = wanted.msg_qbytes, .buffer = !!buf};
   int error = ask(NULL, NULL);

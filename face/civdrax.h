@@ -17,9 +17,9 @@ extern "C" {
    2 ^ height pages of 1,024 bytes (10), and CIVDRAX_SLOTS, 1 to 64, for as many queues (64). With
    another value each call answers ENOSYS, and a line on standard error says so.
 
-   A call that waits is not ended by a signal: EINTR is never answered. None of these may be called
-   from a signal handler, nor left by a longjmp; and a handler that forks while its thread is in one
-   may never return. A thread may be cancelled while it waits. */
+   A call fails with EINTR where a signal handler ran while it waited, whatever SA_RESTART says. Such
+   a handler may make calls, fork, and leave the wait by siglongjmp. One that runs within a call that
+   does not wait may do none of these. A thread may be cancelled while it waits. */
 int civdrax_msgget(key_t key, int msgflg);
 int civdrax_msgsnd(int msqid, const void *msgp, size_t msgsz, int msgflg);
 ssize_t civdrax_msgrcv(int msqid, void *msgp, size_t msgsz, long msgtyp, int msgflg);

@@ -1,19 +1,23 @@
 /* A call whose time came is asked once more, and what changed before it had the lock is answered.
    Here a timed wait ends at once, and lets such a change happen. */
 #include "check.h"
+#include <linux/futex.h>
+#include <stdarg.h>
 
 static struct message m;
 static int id, waits;
 static void (*change)(void);
 
-int pthread_cond_timedwait(pthread_cond_t *place, pthread_mutex_t *lock,
-                           const struct timespec *end) {
-  (void)place, (void)end;
+long syscall(long number, ...) {
+  va_list words;
+  va_start(words, number);
+  int is_wait = (va_arg(words, uint32_t *), va_arg(words, int)) == FUTEX_WAIT_BITSET_PRIVATE;
+  va_end(words);
+  if (!is_wait) return 0;
   waits++;
-  pthread_mutex_unlock(lock);
   change();
-  pthread_mutex_lock(lock);
-  return ETIMEDOUT;
+  errno = ETIMEDOUT;
+  return -1;
 }
 
 static void nothing(void) {}

@@ -1,0 +1,34 @@
+/* Stands in for the C library's `syscall`, and counts the sleeps of calls that wait and the wakes. */
+#ifndef FUTEX_H
+#define FUTEX_H
+#include <errno.h>
+#include <linux/futex.h>
+#include <stdarg.h>
+
+static int sleep_count, wake_count;
+
+static inline void count(int operation) {
+  if (operation == FUTEX_WAIT_BITSET_PRIVATE) __atomic_add_fetch(&sleep_count, 1, __ATOMIC_SEQ_CST);
+  if (operation == FUTEX_WAKE_PRIVATE) __atomic_add_fetch(&wake_count, 1, __ATOMIC_SEQ_CST);
+}
+
+long syscall(long number, ...) {
+  long words[6], result;
+  va_list its;
+  va_start(its, number);
+  for (int i = 0; i < 6; i++) words[i] = va_arg(its, long);
+  va_end(its);
+  count((int)words[1]);
+  register long fourth __asm__("r10") = words[3];
+  register long fifth __asm__("r8") = words[4];
+  register long sixth __asm__("r9") = words[5];
+  __asm__ volatile("syscall"
+                   : "=a"(result)
+                   : "a"(number), "D"(words[0]), "S"(words[1]), "d"(words[2]), "r"(fourth),
+                     "r"(fifth), "r"(sixth)
+                   : "rcx", "r11", "memory");
+  if (result >= 0 || result < -4095) return result;
+  errno = (int)-result;
+  return -1;
+}
+#endif
