@@ -4,10 +4,15 @@
    `answer`, `shown` and the caller's buffer; where the next call is read it comes back.
 
    All that waits does so here, outside of the proved part: a call that is told to wait enters its
-   thread's record into the list of its slot, or into that of the pages, lets the lock go, sleeps on
-   the futex of the record, and is then made again. A call that changed a slot rouses who waits
-   there. Between the answer and the entry the lock is held, so no wake is lost. A handler that runs
-   in the sleep ends it.
+   thread's record into a list, lets the lock go, sleeps on the futex of the record, and is then made
+   again. There is a list of those that wait for a message, and one of those that wait for room, for
+   each slot, and one of those that wait for pages. A message that is sent rouses those whose
+   selection has its type; a receipt those that wait for room there, and for pages; a new quota those
+   that wait for room; a removal all of the slot, and those that wait for pages.
+
+   All of them, not the first alone: none then has to hand on what it does not take, where its text
+   is too long, it is cancelled, or a handler has it jump out of the call. Between the answer and the
+   entry the lock is held, so no wake is lost. A handler that runs in the sleep ends it.
 
    What is decided of a call is decided in the proved part. Kept here are the figures that it has no
    place for: the owner, the mode and the two process ids of each slot's queue. */
@@ -31,8 +36,8 @@
 
 #define MAX_HEIGHT 10
 #define MAX_SLOTS 64
-/* Beside the slots: the place of who waits for pages. */
-#define PAGES MAX_SLOTS
+/* So many are woken once the lock is free; the others before. */
+#define WOKEN_LATER 16
 /* The stack of the proved part, on which a signal handler that comes meanwhile runs too: it is as
    long as a thread's is by default. Below it lies what cannot be touched. */
 #define STACK (8 << 20)
@@ -75,8 +80,12 @@ struct waiter {
   TAILQ_ENTRY(waiter) link;
   struct waiters *in; /* or null */
   uint32_t word; /* WAITS or ROUSED: the futex */
+  int64_t type; /* what a receipt selects */
+  uint64_t flags;
   volatile int sleeps; /* and may be cancelled at once, where else only as it says here */
   int cancel_type;
+  uint32_t *roused[WOKEN_LATER]; /* by this thread, and not woken yet */
+  int roused_count;
 };
 TAILQ_HEAD(waiters, waiter);
 
@@ -85,8 +94,8 @@ static __thread struct waiter mine __attribute__((tls_model("initial-exec")));
 /* By it a thread that ends leaves its list. */
 static pthread_key_t ends;
 
-/* Who waits for a change in a slot, and for pages. */
-static struct waiters waiting[MAX_SLOTS + 1];
+/* Who waits in a slot for a message and for room, and who for pages. */
+static struct waiters receivers[MAX_SLOTS], senders[MAX_SLOTS], pagers;
 
 static struct ipc_perm owner[MAX_SLOTS];
 static pid_t sent_by[MAX_SLOTS], received_by[MAX_SLOTS];
@@ -191,11 +200,17 @@ static int configured(const char *name, int low, int high, int otherwise) {
 }
 
 static void make_lists(void) {
-  for (int place = 0; place <= PAGES; place++) TAILQ_INIT(&waiting[place]);
+  for (int slot = 0; slot < MAX_SLOTS; slot++) {
+    TAILQ_INIT(&receivers[slot]);
+    TAILQ_INIT(&senders[slot]);
+  }
+  TAILQ_INIT(&pagers);
 }
 
 static void enlist(struct waiters *list) {
   mine.in = list;
+  mine.type = (int64_t)call.type;
+  mine.flags = call.flags;
   __atomic_store_n(&mine.word, WAITS, __ATOMIC_RELAXED);
   TAILQ_INSERT_TAIL(list, &mine, link);
 }
@@ -205,6 +220,43 @@ static void unlist(struct waiter *its) {
   if (its->in) TAILQ_REMOVE(its->in, its, link);
   its->in = NULL;
   __atomic_store_n(&its->word, ROUSED, __ATOMIC_RELEASE);
+}
+
+static void wake(uint32_t *word) { syscall(SYS_futex, word, FUTEX_WAKE_PRIVATE, 1); }
+
+static void rouse(struct waiter *its) {
+  unlist(its);
+  if (mine.roused_count < WOKEN_LATER) mine.roused[mine.roused_count++] = &its->word;
+  else wake(&its->word);
+}
+
+static void rouse_all(struct waiters *list) {
+  struct waiter *its;
+  while ((its = TAILQ_FIRST(list))) rouse(its);
+}
+
+/* Whether a receipt takes messages of this type, of which the proved part then has the last word. */
+static int selects(const struct waiter *its, int64_t type) {
+  if (its->type == 0) return 1;
+  if (its->type < 0) return -type >= its->type;
+  return its->flags & MSG_EXCEPT ? type != its->type : type == its->type;
+}
+
+/* A message of this type has come. */
+static void rouse_receivers(int slot, int64_t type) {
+  struct waiter *its, *next;
+  for (its = TAILQ_FIRST(&receivers[slot]); its; its = next) {
+    next = TAILQ_NEXT(its, link);
+    if (selects(its, type)) rouse(its);
+  }
+}
+
+/* Lets the lock go, and then wakes those that were roused: else they would sleep for the lock. One
+   that has ended meanwhile is not there to wake, and its word not looked at. */
+static void unlock(void) {
+  pthread_mutex_unlock(&lock);
+  for (int i = 0; i < mine.roused_count; i++) wake(mine.roused[i]);
+  mine.roused_count = 0;
 }
 
 /* A child has a copy of the queues of its own, in which nobody waits. */
@@ -225,7 +277,7 @@ static void in_child(void) {
 static void leave(void *its) {
   pthread_mutex_lock(&lock);
   unlist(its);
-  pthread_mutex_unlock(&lock);
+  unlock();
 }
 
 /* Before any call: a fork that began before it knew of these would copy the lock as it is. */
@@ -291,17 +343,9 @@ static int ask(const void *in, void *out) {
 }
 
 static int refuse(int error) {
-  pthread_mutex_unlock(&lock);
+  unlock();
   errno = error;
   return -1;
-}
-
-static void wake(int place) {
-  struct waiter *its;
-  while ((its = TAILQ_FIRST(&waiting[place]))) {
-    unlist(its);
-    syscall(SYS_futex, &its->word, FUTEX_WAKE_PRIVATE, 1);
-  }
 }
 
 /* Begins a call, with the lock. In a handler that ran in a sleep, or after a jump out of one, the
@@ -339,7 +383,7 @@ static int wait_in(struct waiters *list, const struct timespec *end) {
   if (pthread_setspecific(ends, &mine)) return ENOMEM;
   unlist(&mine);
   enlist(list);
-  pthread_mutex_unlock(&lock);
+  unlock();
   pthread_cleanup_push(leave, &mine);
   mine.sleeps = 1;
   pthread_setcanceltype(PTHREAD_CANCEL_ASYNCHRONOUS, &mine.cancel_type);
@@ -353,6 +397,12 @@ static int wait_in(struct waiters *list, const struct timespec *end) {
   return error;
 }
 
+/* Where a call that is told to wait does so. */
+static struct waiters *list_of_answer(void) {
+  if (answer.wait == WAIT_PAGES) return &pagers;
+  return call.kind == SEND ? &senders[answer.slot] : &receivers[answer.slot];
+}
+
 /* Under the lock: makes a call, again after each wait, also after one whose time came or in which a
    handler ran: others may have changed what it waits for before it had the lock. 0, or why it is
    refused. */
@@ -361,7 +411,7 @@ static int make(const void *in, void *out, const struct timespec *end) {
     int error = ask(in, out);
     if (!error || !answer.wait) return error;
     if (ended) return ended;
-    ended = wait_in(&waiting[answer.wait == WAIT_PAGES ? PAGES : answer.slot], end);
+    ended = wait_in(list_of_answer(), end);
   }
 }
 
@@ -378,7 +428,7 @@ int civdrax_msgget(key_t key, int flags) {
                                     .cuid = geteuid(), .cgid = getegid(), .mode = flags & 0777,
                                     .__seq = (unsigned)id / MAX_SLOTS};
   }
-  pthread_mutex_unlock(&lock);
+  unlock();
   return id;
 }
 
@@ -392,8 +442,8 @@ int civdrax_timedsnd(int id, const void *message, size_t size, int flags,
   int error = make(message ? (const char *)message + sizeof type : NULL, NULL, end);
   if (error) return refuse(error);
   sent_by[answer.slot] = self;
-  wake(answer.slot);
-  pthread_mutex_unlock(&lock);
+  rouse_receivers(answer.slot, type);
+  unlock();
   return 0;
 }
 
@@ -412,9 +462,9 @@ ssize_t civdrax_timedrcv(int id, void *message, size_t size, long type, int flag
   type = (long)answer.type;
   memcpy(message, &type, sizeof type);
   received_by[answer.slot] = self;
-  wake(answer.slot);
-  wake(PAGES);
-  pthread_mutex_unlock(&lock);
+  rouse_all(&senders[answer.slot]);
+  rouse_all(&pagers);
+  unlock();
   return length;
 }
 
@@ -468,8 +518,11 @@ int civdrax_msgctl(int id, int cmd, struct msqid_ds *buf) {
   if (answer.shown == SHOWN_QUEUE) fill(buf, slot);
   if (answer.shown == SHOWN_USAGE) inform((struct msginfo *)buf, cmd == MSG_INFO);
   if (cmd == IPC_SET) own(&owner[slot], &wanted.msg_perm);
-  if (answer.changed) wake(slot);
-  if (answer.changed) wake(PAGES);
-  pthread_mutex_unlock(&lock);
+  if (answer.changed) rouse_all(&senders[slot]);
+  if (cmd == IPC_RMID) {
+    rouse_all(&receivers[slot]);
+    rouse_all(&pagers);
+  }
+  unlock();
   return value;
 }
