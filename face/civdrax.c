@@ -21,6 +21,7 @@
 #include <errno.h>
 #include <linux/futex.h>
 #include <pthread.h>
+#include <signal.h>
 #include <stdint.h>
 #include <stdio.h>
 #include <stdlib.h>
@@ -38,6 +39,8 @@
 #define MAX_SLOTS 64
 /* So many are woken once the lock is free; the others before. */
 #define WOKEN_LATER 16
+/* No handler's frame is nearer to the one below which it runs. */
+#define SIGNAL_FRAME 512
 /* The stack of the proved part, on which a signal handler that comes meanwhile runs too: it is as
    long as a thread's is by default. Below it lies what cannot be touched. */
 #define STACK (8 << 20)
@@ -82,6 +85,9 @@ struct waiter {
   uint32_t word; /* WAITS or ROUSED: the futex */
   int64_t type; /* what a receipt selects */
   uint64_t flags;
+  char *volatile began; /* where on its stack the thread is in a call; null in none, and in a sleep */
+  volatile int holds; /* the lock */
+  int forks; /* and took the lock for it */
   volatile int sleeps; /* and may be cancelled at once, where else only as it says here */
   int cancel_type;
   uint32_t *roused[WOKEN_LATER]; /* by this thread, and not woken yet */
@@ -94,13 +100,16 @@ static __thread struct waiter mine __attribute__((tls_model("initial-exec")));
 /* By it a thread that ends leaves its list. */
 static pthread_key_t ends;
 
-/* Who waits in a slot for a message and for room, and who for pages. */
-static struct waiters receivers[MAX_SLOTS], senders[MAX_SLOTS], pagers;
+/* Who waits in a slot for a message and for room, each of these from here on, and who for pages. */
+enum { RECEIVERS, SENDERS = MAX_SLOTS, PAGERS = 2 * MAX_SLOTS, LISTS };
+static struct waiters lists[LISTS];
 
 static struct ipc_perm owner[MAX_SLOTS];
 static pid_t sent_by[MAX_SLOTS], received_by[MAX_SLOTS];
-/* This process, which a system call would tell each time. */
+/* This process, which a system call would tell each time; and whether it is a child whose lists are
+   still its parent's. */
 static pid_t self;
+static int is_copy;
 
 static enum { NEW, NONE, READY, RUNS } state;
 /* Why no call is answered, where none is. */
@@ -126,8 +135,13 @@ __asm__(".text\n.globl civdrax_switch\n.hidden civdrax_switch\n"
         ".size civdrax_switch,.-civdrax_switch\n");
 
 static void *outside, *inside;
+static volatile int is_inside;
 
-static void go_in(void) { civdrax_switch(&outside, inside); }
+static void go_in(void) {
+  is_inside = 1;
+  civdrax_switch(&outside, inside);
+  is_inside = 0;
+}
 
 static void come_out(void) { civdrax_switch(&inside, outside); }
 
@@ -200,14 +214,11 @@ static int configured(const char *name, int low, int high, int otherwise) {
 }
 
 static void make_lists(void) {
-  for (int slot = 0; slot < MAX_SLOTS; slot++) {
-    TAILQ_INIT(&receivers[slot]);
-    TAILQ_INIT(&senders[slot]);
-  }
-  TAILQ_INIT(&pagers);
+  for (int list = 0; list < LISTS; list++) TAILQ_INIT(&lists[list]);
 }
 
-static void enlist(struct waiters *list) {
+static void enlist(int number) {
+  struct waiters *list = &lists[number];
   mine.in = list;
   mine.type = (int64_t)call.type;
   mine.flags = call.flags;
@@ -217,22 +228,27 @@ static void enlist(struct waiters *list) {
 
 /* Whose wait is over, whether or not it sleeps, is in no list and looks again. */
 static void unlist(struct waiter *its) {
-  if (its->in) TAILQ_REMOVE(its->in, its, link);
+  struct waiters *list = its->in;
   its->in = NULL;
   __atomic_store_n(&its->word, ROUSED, __ATOMIC_RELEASE);
+  if (list) TAILQ_REMOVE(list, its, link);
 }
 
 static void wake(uint32_t *word) { syscall(SYS_futex, word, FUTEX_WAKE_PRIVATE, 1); }
 
 static void rouse(struct waiter *its) {
+  int is_later = mine.roused_count < WOKEN_LATER;
+  if (is_later) mine.roused[mine.roused_count++] = &its->word;
   unlist(its);
-  if (mine.roused_count < WOKEN_LATER) mine.roused[mine.roused_count++] = &its->word;
-  else wake(&its->word);
+  if (!is_later) wake(&its->word);
 }
 
-static void rouse_all(struct waiters *list) {
-  struct waiter *its;
-  while ((its = TAILQ_FIRST(list))) rouse(its);
+static void rouse_all(int list) {
+  struct waiter *its, *next;
+  for (its = TAILQ_FIRST(&lists[list]); its; its = next) {
+    next = TAILQ_NEXT(its, link);
+    rouse(its);
+  }
 }
 
 /* Whether a receipt takes messages of this type, of which the proved part then has the last word. */
@@ -245,39 +261,63 @@ static int selects(const struct waiter *its, int64_t type) {
 /* A message of this type has come. */
 static void rouse_receivers(int slot, int64_t type) {
   struct waiter *its, *next;
-  for (its = TAILQ_FIRST(&receivers[slot]); its; its = next) {
+  for (its = TAILQ_FIRST(&lists[RECEIVERS + slot]); its; its = next) {
     next = TAILQ_NEXT(its, link);
     if (selects(its, type)) rouse(its);
   }
 }
 
-/* Lets the lock go, and then wakes those that were roused: else they would sleep for the lock. One
-   that has ended meanwhile is not there to wake, and its word not looked at. */
-static void unlock(void) {
-  pthread_mutex_unlock(&lock);
+static void acquire(void) {
+  pthread_mutex_lock(&lock);
+  mine.holds = 1;
+}
+
+/* Wakes those that this thread has roused. One that has ended meanwhile is not there to wake, and
+   its word not looked at. */
+static void wake_roused(void) {
   for (int i = 0; i < mine.roused_count; i++) wake(mine.roused[i]);
   mine.roused_count = 0;
 }
 
-/* A child has a copy of the queues of its own, in which nobody waits. */
-static void before_fork(void) { pthread_mutex_lock(&lock); }
-
-static void in_parent(void) { pthread_mutex_unlock(&lock); }
-
-static void in_child(void) {
-  self = getpid();
+/* Empties the lists, in which nobody waits any more. */
+static void forget_waiters(void) {
+  is_copy = 0;
   make_lists();
   mine.in = NULL;
   unlist(&mine);
+}
+
+/* Lets the lock go, and only then wakes: else they would sleep once more, for the lock. */
+static void release(void) {
+  if (is_copy) forget_waiters();
+  mine.holds = 0;
   pthread_mutex_unlock(&lock);
+  wake_roused();
+}
+
+/* A child has a copy of the queues of its own, in which nobody waits. A handler may fork within a
+   call that has the lock: the child has it then, and goes on with the call. */
+static void before_fork(void) {
+  mine.forks = !mine.holds;
+  if (mine.forks) acquire();
+}
+
+static void in_parent(void) {
+  if (mine.forks) release();
+}
+
+static void in_child(void) {
+  self = getpid();
+  is_copy = 1;
+  if (mine.forks) release();
 }
 
 /* A thread that is cancelled while it waits, or ends after it left its wait by siglongjmp, holds
    nobody up. */
 static void leave(void *its) {
-  pthread_mutex_lock(&lock);
+  acquire();
   unlist(its);
-  unlock();
+  release();
 }
 
 /* Before any call: a fork that began before it knew of these would copy the lock as it is. */
@@ -287,10 +327,11 @@ __attribute__((constructor)) static void expect_forks(void) {
   end_error = ENOMEM;
 }
 
+static char *guard = MAP_FAILED;
+
 /* Makes the stack of the proved part above its guard, and what is called first on it. These are
    addresses: of memory there is what was touched. */
 static int make_stack(void) {
-  static char *guard = MAP_FAILED;
   int flags = MAP_PRIVATE | MAP_ANONYMOUS | MAP_NORESERVE | MAP_STACK;
   if (guard == MAP_FAILED)
     guard = mmap(NULL, GUARD + STACK, PROT_READ | PROT_WRITE, flags, -1, 0);
@@ -330,34 +371,68 @@ static int begin(void) {
 
 /* Under the lock: has `call` answered. 0, or why it is refused. */
 static int ask(const void *in, void *out) {
+  answer = (struct answer){0};
   int error = begin();
   if (error) return error;
   call.moment = time(NULL);
   text_in = in;
   text_out = out;
   given = taken = text_at = 0;
-  answer.shown = answer.length = 0;
   go_in();
   if (taken < sizeof answer) return ENOMEM;
   return answer.error;
 }
 
-static int refuse(int error) {
-  unlock();
-  errno = error;
-  return -1;
+/* Whether a handler makes this call, within another that the thread is in: then it is on the stack
+   of the proved part, on one of its own, or further down. */
+static int is_nested(const char *here) {
+  stack_t own;
+  if (here >= guard && here < guard + GUARD + STACK) return 1;
+  if (!sigaltstack(NULL, &own) && own.ss_flags & SS_ONSTACK) return 1;
+  return here < mine.began - SIGNAL_FRAME;
 }
 
-/* Begins a call, with the lock. In a handler that ran in a sleep, or after a jump out of one, the
-   thread may not be cancelled at once any more; the sleep, if it is still to come, ends. */
-static void begin_call(void) {
+/* The thread has left a call by siglongjmp, with the lock. Whoever waits looks again, since it may
+   have stopped before it roused some; its lists are whole when read forward, and then made anew.
+   Where it left the proved part in the midst of a step, which nobody can end, no call is answered
+   any more. */
+static void recover(void) {
+  if (is_inside) {
+    state = NONE;
+    end_error = ENOTRECOVERABLE;
+  }
+  for (int list = 0; list < LISTS; list++) rouse_all(list);
+  forget_waiters();
+  release();
+}
+
+/* Begins a call, with the lock; or answers 0, and errno says why not. In a handler that ran in a
+   sleep, or after a jump out of one, the thread may not be cancelled at once any more, and the
+   sleep, if it is still to come, ends. */
+static int begin_call(void) {
+  char *here = __builtin_frame_address(0);
+  if (mine.began && is_nested(here)) return errno = EDEADLK, 0;
+  if (mine.holds) recover();
   if (mine.sleeps) {
     int type;
     mine.sleeps = 0;
     pthread_setcanceltype(mine.cancel_type, &type);
     __atomic_store_n(&mine.word, ROUSED, __ATOMIC_RELEASE);
   }
-  pthread_mutex_lock(&lock);
+  mine.began = here;
+  acquire();
+  return 1;
+}
+
+static void end_call(void) {
+  release();
+  mine.began = NULL;
+}
+
+static int refuse(int error) {
+  end_call();
+  errno = error;
+  return -1;
 }
 
 /* Sleeps until it is roused, until the end, or until a handler has run: 0, or why. With an end, if
@@ -377,13 +452,14 @@ static int sleep_until(const struct timespec *end) {
 
 /* Under the lock, which others take meanwhile: waits in a list. A thread is cancelled in its sleep
    alone, where it has nothing to give back but its place in the list. */
-static int wait_in(struct waiters *list, const struct timespec *end) {
+static int wait_in(int list, const struct timespec *end) {
   struct call kept = call;
+  char *began = mine.began;
   int error, type;
   if (pthread_setspecific(ends, &mine)) return ENOMEM;
   unlist(&mine);
   enlist(list);
-  unlock();
+  end_call();
   pthread_cleanup_push(leave, &mine);
   mine.sleeps = 1;
   pthread_setcanceltype(PTHREAD_CANCEL_ASYNCHRONOUS, &mine.cancel_type);
@@ -391,16 +467,17 @@ static int wait_in(struct waiters *list, const struct timespec *end) {
   pthread_setcanceltype(mine.cancel_type, &type);
   mine.sleeps = 0;
   pthread_cleanup_pop(0);
-  pthread_mutex_lock(&lock);
+  mine.began = began;
+  acquire();
   unlist(&mine);
   call = kept;
   return error;
 }
 
 /* Where a call that is told to wait does so. */
-static struct waiters *list_of_answer(void) {
-  if (answer.wait == WAIT_PAGES) return &pagers;
-  return call.kind == SEND ? &senders[answer.slot] : &receivers[answer.slot];
+static int list_of_answer(void) {
+  if (answer.wait == WAIT_PAGES) return PAGERS;
+  return (call.kind == SEND ? SENDERS : RECEIVERS) + (int)answer.slot;
 }
 
 /* Under the lock: makes a call, again after each wait, also after one whose time came or in which a
@@ -416,7 +493,7 @@ static int make(const void *in, void *out, const struct timespec *end) {
 }
 
 int civdrax_msgget(key_t key, int flags) {
-  begin_call();
+  if (!begin_call()) return -1;
   call = (struct call){.kind = GET, .number = (uint32_t)key, .flags = (uint32_t)flags};
   int error = ask(NULL, NULL);
   if (error) return refuse(error);
@@ -428,7 +505,7 @@ int civdrax_msgget(key_t key, int flags) {
                                     .cuid = geteuid(), .cgid = getegid(), .mode = flags & 0777,
                                     .__seq = (unsigned)id / MAX_SLOTS};
   }
-  unlock();
+  end_call();
   return id;
 }
 
@@ -436,14 +513,14 @@ int civdrax_timedsnd(int id, const void *message, size_t size, int flags,
                      const struct timespec *end) {
   long type = 0;
   if (message) memcpy(&type, message, sizeof type);
-  begin_call();
+  if (!begin_call()) return -1;
   call = (struct call){.kind = SEND, .number = (uint32_t)id, .flags = (uint32_t)flags,
                        .type = (uint64_t)type, .size = size, .buffer = !!message};
   int error = make(message ? (const char *)message + sizeof type : NULL, NULL, end);
   if (error) return refuse(error);
   sent_by[answer.slot] = self;
   rouse_receivers(answer.slot, type);
-  unlock();
+  end_call();
   return 0;
 }
 
@@ -453,7 +530,7 @@ int civdrax_msgsnd(int id, const void *message, size_t size, int flags) {
 
 ssize_t civdrax_timedrcv(int id, void *message, size_t size, long type, int flags,
                          const struct timespec *end) {
-  begin_call();
+  if (!begin_call()) return -1;
   call = (struct call){.kind = RECEIVE, .number = (uint32_t)id, .flags = (uint32_t)flags,
                        .type = (uint64_t)type, .size = size, .buffer = !!message};
   int error = make(NULL, message ? (char *)message + sizeof type : NULL, end);
@@ -462,9 +539,9 @@ ssize_t civdrax_timedrcv(int id, void *message, size_t size, long type, int flag
   type = (long)answer.type;
   memcpy(message, &type, sizeof type);
   received_by[answer.slot] = self;
-  rouse_all(&senders[answer.slot]);
-  rouse_all(&pagers);
-  unlock();
+  rouse_all(SENDERS + answer.slot);
+  rouse_all(PAGERS);
+  end_call();
   return length;
 }
 
@@ -509,7 +586,7 @@ static void own(struct ipc_perm *its, const struct ipc_perm *wanted) {
 int civdrax_msgctl(int id, int cmd, struct msqid_ds *buf) {
   struct msqid_ds wanted = {0};
   if (cmd == IPC_SET && buf) wanted = *buf;
-  begin_call();
+  if (!begin_call()) return -1;
   call = (struct call){.kind = CONTROL, .number = (uint32_t)id, .flags = (uint32_t)cmd,
                        .size = wanted.msg_qbytes, .buffer = !!buf};
   int error = ask(NULL, NULL);
@@ -518,11 +595,11 @@ int civdrax_msgctl(int id, int cmd, struct msqid_ds *buf) {
   if (answer.shown == SHOWN_QUEUE) fill(buf, slot);
   if (answer.shown == SHOWN_USAGE) inform((struct msginfo *)buf, cmd == MSG_INFO);
   if (cmd == IPC_SET) own(&owner[slot], &wanted.msg_perm);
-  if (answer.changed) rouse_all(&senders[slot]);
+  if (answer.changed) rouse_all(SENDERS + slot);
   if (cmd == IPC_RMID) {
-    rouse_all(&receivers[slot]);
-    rouse_all(&pagers);
+    rouse_all(RECEIVERS + slot);
+    rouse_all(PAGERS);
   }
-  unlock();
+  end_call();
   return value;
 }
