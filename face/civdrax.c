@@ -1,21 +1,20 @@
-/* The C side of the queues. `civdrax_serve`, which is proved, runs on a stack of its own for as long
-   as the process does. One lock is held over each call: it writes the call's numbers into `call`,
-   goes over to that stack, where `read` takes them and the bytes of a text, and `write` fills
-   `answer`, `shown` and the caller's buffer; where the next call is read it comes back.
+/* The C side of the queues. `civdrax_serve`, which is proved, runs on a stack of its own for as
+   long as the process does. One lock is held over each call: it writes the call's numbers into
+   `call`, goes over to that stack, where `read` takes them and the bytes of a text, and `write`
+   fills `answer`, `shown` and the caller's buffer; where the next call is read it comes back.
 
    All that waits does so here, outside of the proved part: a call that is told to wait enters its
-   thread's record into a list, lets the lock go, sleeps on the futex of the record, and is then made
-   again. There is a list of those that wait for a message, and one of those that wait for room, for
-   each slot, and one of those that wait for pages. A message that is sent rouses those whose
-   selection has its type; a receipt those that wait for room there, and for pages; a new quota those
-   that wait for room; a removal all of the slot, and those that wait for pages.
+   thread's record into a list, lets the lock go, sleeps on the record's futex, and is then made
+   again. Each slot has a list of those that wait for a message and one of those that wait for room;
+   one more is of those that wait for pages. A message that is sent rouses those whose selection has
+   its type, a receipt those that wait for room there and those that wait for pages, a new quota
+   those that wait for room, a removal all of the slot and those that wait for pages. Of each all,
+   not the first alone: so none has to hand on what it does not take, as where its text is too long,
+   it is cancelled, or a handler jumps out of its wait. Between the answer and the entry the lock is
+   held, so no wake is lost. A handler that runs in the sleep ends it.
 
-   All of them, not the first alone: none then has to hand on what it does not take, where its text
-   is too long, it is cancelled, or a handler has it jump out of the call. Between the answer and the
-   entry the lock is held, so no wake is lost. A handler that runs in the sleep ends it.
-
-   What is decided of a call is decided in the proved part. Kept here are the figures that it has no
-   place for: the owner, the mode and the two process ids of each slot's queue. */
+   What is decided of a call is decided in the proved part. Kept here are the figures that it has
+   no place for: the owner, the mode and the two process ids of each slot's queue. */
 #define _GNU_SOURCE
 #include "civdrax.h"
 #include <errno.h>
@@ -76,27 +75,34 @@ extern int32_t civdrax_serve(int32_t calls, uint8_t height, uint8_t slots);
 
 static pthread_mutex_t lock = PTHREAD_MUTEX_INITIALIZER;
 
-/* A thread's own record, in the list in which it waits: a handler may leave the wait by siglongjmp,
-   and then it is there still. It is changed under the lock alone. */
 enum { WAITS, ROUSED };
+
+/* Who waits: a thread's own, since a handler may leave the wait by siglongjmp, and it stays in its
+   list then. It is changed under the lock alone. */
 struct waiter {
   TAILQ_ENTRY(waiter) link;
   struct waiters *in; /* or null */
-  uint32_t word; /* WAITS or ROUSED: the futex */
-  int64_t type; /* what a receipt selects */
+  uint32_t word;      /* WAITS or ROUSED: the futex */
+  int64_t type;       /* what a receipt selects */
   uint64_t flags;
-  char *volatile began; /* where on its stack the thread is in a call; null in none, and in a sleep */
-  volatile int holds; /* the lock */
-  int forks; /* and took the lock for it */
-  volatile int sleeps; /* and may be cancelled at once, where else only as it says here */
-  int cancel_type;
-  uint32_t *roused[WOKEN_LATER]; /* by this thread, and not woken yet */
-  int roused_count;
 };
 TAILQ_HEAD(waiters, waiter);
 
-/* Always in reach, since a handler may be the first of its thread to ask for it. */
-static __thread struct waiter mine __attribute__((tls_model("initial-exec")));
+/* What a thread has to know where a signal handler calls, forks or jumps. */
+struct thread {
+  char *volatile began; /* where on the stack it is in a call; null in none, and in a sleep */
+  volatile int holds;   /* the lock */
+  int forks;            /* with the lock taken for it */
+  volatile int sleeps;  /* where it may be cancelled at once, and else by `cancel_type` */
+  int cancel_type;
+  int roused_count; /* whom it has roused, and not woken yet */
+  uint32_t *roused[WOKEN_LATER];
+};
+
+/* Always in reach: what is made at its first use wants memory, which a handler may not ask for. */
+#define OF_THREAD static __thread __attribute__((tls_model("initial-exec")))
+OF_THREAD struct waiter mine;
+OF_THREAD struct thread thread;
 /* By it a thread that ends leaves its list. */
 static pthread_key_t ends;
 
@@ -237,8 +243,8 @@ static void unlist(struct waiter *its) {
 static void wake(uint32_t *word) { syscall(SYS_futex, word, FUTEX_WAKE_PRIVATE, 1); }
 
 static void rouse(struct waiter *its) {
-  int is_later = mine.roused_count < WOKEN_LATER;
-  if (is_later) mine.roused[mine.roused_count++] = &its->word;
+  int is_later = thread.roused_count < WOKEN_LATER;
+  if (is_later) thread.roused[thread.roused_count++] = &its->word;
   unlist(its);
   if (!is_later) wake(&its->word);
 }
@@ -251,7 +257,7 @@ static void rouse_all(int list) {
   }
 }
 
-/* Whether a receipt takes messages of this type, of which the proved part then has the last word. */
+/* Whether a receipt selects messages of this type: the proved part has the last word. */
 static int selects(const struct waiter *its, int64_t type) {
   if (its->type == 0) return 1;
   if (its->type < 0) return -type >= its->type;
@@ -269,14 +275,14 @@ static void rouse_receivers(int slot, int64_t type) {
 
 static void acquire(void) {
   pthread_mutex_lock(&lock);
-  mine.holds = 1;
+  thread.holds = 1;
 }
 
 /* Wakes those that this thread has roused. One that has ended meanwhile is not there to wake, and
    its word not looked at. */
 static void wake_roused(void) {
-  for (int i = 0; i < mine.roused_count; i++) wake(mine.roused[i]);
-  mine.roused_count = 0;
+  for (int i = 0; i < thread.roused_count; i++) wake(thread.roused[i]);
+  thread.roused_count = 0;
 }
 
 /* Empties the lists, in which nobody waits any more. */
@@ -290,7 +296,7 @@ static void forget_waiters(void) {
 /* Lets the lock go, and only then wakes: else they would sleep once more, for the lock. */
 static void release(void) {
   if (is_copy) forget_waiters();
-  mine.holds = 0;
+  thread.holds = 0;
   pthread_mutex_unlock(&lock);
   wake_roused();
 }
@@ -298,18 +304,18 @@ static void release(void) {
 /* A child has a copy of the queues of its own, in which nobody waits. A handler may fork within a
    call that has the lock: the child has it then, and goes on with the call. */
 static void before_fork(void) {
-  mine.forks = !mine.holds;
-  if (mine.forks) acquire();
+  thread.forks = !thread.holds;
+  if (thread.forks) acquire();
 }
 
 static void in_parent(void) {
-  if (mine.forks) release();
+  if (thread.forks) release();
 }
 
 static void in_child(void) {
   self = getpid();
   is_copy = 1;
-  if (mine.forks) release();
+  if (thread.forks) release();
 }
 
 /* A thread that is cancelled while it waits, or ends after it left its wait by siglongjmp, holds
@@ -355,7 +361,8 @@ static void prepare(void) {
 }
 
 /* Under the lock: begins the loop, which comes out where it reads its first call; `call` has that
-   call already. 0, or why no call is answered: where there was no memory the next call tries again. */
+   call already. 0, or why no call is answered: where there was no memory the next call tries
+   again. */
 static int begin(void) {
   if (state == RUNS) return 0;
   if (state == NEW) prepare();
@@ -389,7 +396,7 @@ static int is_nested(const char *here) {
   stack_t own;
   if (here >= guard && here < guard + GUARD + STACK) return 1;
   if (!sigaltstack(NULL, &own) && own.ss_flags & SS_ONSTACK) return 1;
-  return here < mine.began - SIGNAL_FRAME;
+  return here < thread.began - SIGNAL_FRAME;
 }
 
 /* The thread has left a call by siglongjmp, with the lock. Whoever waits looks again, since it may
@@ -411,22 +418,22 @@ static void recover(void) {
    sleep, if it is still to come, ends. */
 static int begin_call(void) {
   char *here = __builtin_frame_address(0);
-  if (mine.began && is_nested(here)) return errno = EDEADLK, 0;
-  if (mine.holds) recover();
-  if (mine.sleeps) {
+  if (thread.began && is_nested(here)) return errno = EDEADLK, 0;
+  if (thread.holds) recover();
+  if (thread.sleeps) {
     int type;
-    mine.sleeps = 0;
-    pthread_setcanceltype(mine.cancel_type, &type);
+    thread.sleeps = 0;
+    pthread_setcanceltype(thread.cancel_type, &type);
     __atomic_store_n(&mine.word, ROUSED, __ATOMIC_RELEASE);
   }
-  mine.began = here;
+  thread.began = here;
   acquire();
   return 1;
 }
 
 static void end_call(void) {
   release();
-  mine.began = NULL;
+  thread.began = NULL;
 }
 
 static int refuse(int error) {
@@ -454,20 +461,20 @@ static int sleep_until(const struct timespec *end) {
    alone, where it has nothing to give back but its place in the list. */
 static int wait_in(int list, const struct timespec *end) {
   struct call kept = call;
-  char *began = mine.began;
+  char *began = thread.began;
   int error, type;
   if (pthread_setspecific(ends, &mine)) return ENOMEM;
   unlist(&mine);
   enlist(list);
   end_call();
   pthread_cleanup_push(leave, &mine);
-  mine.sleeps = 1;
-  pthread_setcanceltype(PTHREAD_CANCEL_ASYNCHRONOUS, &mine.cancel_type);
+  thread.sleeps = 1;
+  pthread_setcanceltype(PTHREAD_CANCEL_ASYNCHRONOUS, &thread.cancel_type);
   error = sleep_until(end);
-  pthread_setcanceltype(mine.cancel_type, &type);
-  mine.sleeps = 0;
+  pthread_setcanceltype(thread.cancel_type, &type);
+  thread.sleeps = 0;
   pthread_cleanup_pop(0);
-  mine.began = began;
+  thread.began = began;
   acquire();
   unlist(&mine);
   call = kept;

@@ -17,11 +17,11 @@ extern "C" {
    2 ^ height pages of 1,024 bytes (10), and CIVDRAX_SLOTS, 1 to 64, for as many queues (64). With
    another value each call answers ENOSYS, and a line on standard error says so.
 
-   A call fails with EINTR where a signal handler ran while it waited, whatever SA_RESTART says. Such
-   a handler may make calls, fork, and leave the wait by siglongjmp. One that runs while its thread
-   is in a call that does not wait has EDEADLK of each call. It should not leave by siglongjmp: the
-   next call may then answer ENOTRECOVERABLE, and with it each later one of the process. A thread may
-   be cancelled while it waits. */
+   A call fails with EINTR where a signal handler ran while it waited, whatever SA_RESTART says.
+   Such a handler may make calls, fork, and leave the wait by siglongjmp. One that runs while its
+   thread is in a call that does not wait has EDEADLK of each call. It should not leave by
+   siglongjmp: the next call may then answer ENOTRECOVERABLE, and with it each later one of the
+   process. A thread may be cancelled while it waits. */
 int civdrax_msgget(key_t key, int msgflg);
 int civdrax_msgsnd(int msqid, const void *msgp, size_t msgsz, int msgflg);
 ssize_t civdrax_msgrcv(int msqid, void *msgp, size_t msgsz, long msgtyp, int msgflg);

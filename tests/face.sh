@@ -3,9 +3,10 @@
 # static and the shared library, also with the sanitizers of the compiler; then random scripts of
 # calls of each client, in C, Perl, PHP and Python, over the kernel and over these queues by the
 # preloaded library: the answers must be the same, each client must fail where the preloaded calls
-# answer ENOSYS, and each must have made its calls here. A client whose package is not there is left
-# out, and said to be, in a line of its own and in the last but one; tests/face_clients.sh installs
-# them. Wants the crates to be proved by `rt ci`, and `cc`. Prints the runs that fail; the last line
+# answer ENOSYS, and each must have made its calls here; and of each a program whose waits signals
+# end, which must wait for ever where none comes. A client whose package is not there is left out,
+# and said to be, in a line of its own and in the last but one; tests/face_clients.sh installs them.
+# Wants the crates to be proved by `rt ci`, and `cc`. Prints the runs that fail; the last line
 # counts.
 set -uo pipefail
 cd "$(dirname "$0")/.."
@@ -20,6 +21,9 @@ seconds=300
 scripts=300
 damaged=1000000
 messages=10000000
+# The texts that are sent and received under signals, and the threads that are cancelled a second.
+texts=200000
+cancels=100
 # The most lines that the C part may have.
 most_lines=850
 # The tests that are run as they are, also with the sanitizers.
@@ -89,7 +93,7 @@ compile() {
 
 programs() {
     local test calls
-    for test in "${tests[@]}" damaged many; do
+    for test in "${tests[@]}" damaged many stress; do
         compile "$test" "$folder/$test" face/out/libcivdrax.a
     done
     for test in "${tests[@]}"; do
@@ -97,6 +101,8 @@ programs() {
     done
     checks "$folder/damaged" "$damaged"
     checks "$folder/many" "$messages"
+    checks "$folder/stress" "$texts"
+    checks "$folder/stress" "$texts" "$cancels"
     # A program finds the library in any folder, though its path was told from here.
     compile calls "$folder/shared" face/out/libcivdrax.so "-Wl,-rpath,$PWD/face/out"
     checks env -C / "$folder/shared"
@@ -242,6 +248,44 @@ clients() {
     client_of Python '/usr/bin/python3 face/tests/script.py' /usr/bin/python3 -c 'import sysv_ipc'
 }
 
+# The client $1 by the words from $2 on, whose waits signals end, beside others: over the kernel,
+# over these queues, and where no signal comes, which the watchdog has to end.
+start_to_end() {
+    local it=$folder/ends/$1
+    { timeout 30 "${@:2}"; echo "status $?"; } > "$it.kernel" 2>&1 &
+    { timeout 30 env CIVDRAX_COUNT="$it.count" LD_PRELOAD="$preload" "${@:2}"
+        echo "status $?"; } > "$it.here" 2>&1 &
+    { timeout 3 env LD_PRELOAD="$preload" "${@:2}" control
+        echo "status $?"; } > "$it.control" 2>&1 &
+}
+
+has_ended() {
+    local it=$folder/ends/$1
+    [ "$(tail -n 1 "$it.here")" = 'status 0' ] && cmp "$it.kernel" "$it.here" > "$folder/out"
+    count $? "$1 does not end as over the kernel: $(tr '\n' ',' < "$it.here")"
+    [ "$(cat "$it.control")" = 'status 124' ]
+    count $? "$1 ends where no signal comes: $(tr '\n' ',' < "$it.control")"
+    [ "$(awk '{ all += $1 } END { print all + 0 }' "$it.count")" -ge 5 ]
+    count $? "$1 has made too few calls here"
+}
+
+# Programs that signals end. A client whose package is not there was told of by then.
+ends() {
+    local names=(C) name
+    mkdir "$folder/ends"
+    compile ends "$folder/ends/c"
+    start_to_end C "$folder/ends/c"
+    perl -MIPC::SysV -e 1 2> "$folder/err" && names+=(Perl) \
+        && start_to_end Perl perl face/tests/ends.pl
+    php -r 'exit(function_exists("msg_get_queue") && function_exists("pcntl_alarm") ? 0 : 1);' \
+        > "$folder/out" 2>&1 && names+=(PHP) && start_to_end PHP php face/tests/ends.php
+    /usr/bin/python3 -c 'import sysv_ipc' 2> "$folder/err" && names+=(Python) \
+        && start_to_end Python /usr/bin/python3 face/tests/ends.py
+    wait
+    for name in "${names[@]}"; do has_ended "$name"; done
+    echo "face: ended by signals: ${names[*]}"
+}
+
 build
 library_names
 programs
@@ -251,6 +295,7 @@ sanitized
 allocations
 sizes
 clients
+ends
 echo "face: $left_out clients left out"
 echo "face: $passed passed, $failed failed"
 [ "$failed" -eq 0 ]

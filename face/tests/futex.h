@@ -1,4 +1,4 @@
-/* Stands in for the C library's `syscall`, and counts the sleeps of calls that wait and the wakes. */
+/* Stands in for the C library's `syscall`, and counts the sleeps of calls and the wakes. */
 #ifndef FUTEX_H
 #define FUTEX_H
 #include <errno.h>

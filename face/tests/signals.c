@@ -111,7 +111,7 @@ static void is_stopped(void) {
   CHECK(pid > 0 && waitpid(pid, &status, 0) == pid && status == 0);
 }
 
-/* A signal that is ignored, that another thread handles, or that stops the process, ends no wait. */
+/* A signal that is ignored, that another thread handles, or that stops the process, ends none. */
 static void nothing_else_ends_it(void) {
   struct job job = {.id = id, .size = SIZE};
   sigset_t set;
