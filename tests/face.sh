@@ -60,7 +60,8 @@ checks() {
 
 build() {
     rm -rf face/out
-    make -C face prove='../.ci/repository.py library civdrax' > "$folder/made" 2>&1
+    make -C face CFLAGS='-O2 -g -Wall -Wextra -Werror' \
+        prove='../.ci/repository.py library civdrax' > "$folder/made" 2>&1
     local status=$?
     count $status "make -C face: $(tail -n 3 "$folder/made")"
     [ $status -eq 0 ] || { echo "$passed passed, $failed failed"; exit 1; }
@@ -73,7 +74,8 @@ build() {
 # Wants that just these names are seen of the library $1.
 names() {
     local seen
-    seen=$(nm "${@:2}" --defined-only "$1" | grep ' T ' | cut -d ' ' -f 3 | sort | tr '\n' ' ')
+    seen=$(nm "${@:2}" --defined-only "$1" | grep ' T ' | cut -d ' ' -f 3 | sed 's/@.*//' | sort \
+        | tr '\n' ' ')
     [ "$seen" = "$wanted" ]
     count $? "$1 shows $seen"
 }
@@ -126,6 +128,16 @@ preloaded() {
     calls=$(tr '\n' ' ' < "$folder/count")
     [ "$calls" = '1 4 ' ]
     count $? "face/tests/preloaded.c has made calls here: $calls"
+}
+
+# What `make install` writes.
+installed() {
+    tests/face_install.sh > "$folder/installed" 2>&1
+    sed '$d' "$folder/installed"
+    [[ $(tail -n 1 "$folder/installed") =~ ([0-9]+)\ passed,\ ([0-9]+)\ failed$ ]]
+    count $? "tests/face_install.sh: $(tail -n 1 "$folder/installed")"
+    passed=$((passed + ${BASH_REMATCH[1]:-0}))
+    failed=$((failed + ${BASH_REMATCH[2]:-0}))
 }
 
 # The header is C++ too.
@@ -290,6 +302,7 @@ build
 library_names
 programs
 preloaded
+installed
 plus_plus
 sanitized
 allocations

@@ -1,0 +1,192 @@
+#!/usr/bin/env bash
+# The C part as a library that is installed: what `make install` writes and where, and that
+# `make uninstall` leaves none of it; programs that are built by the words of pkg-config alone; the
+# names, their versions, and that the library stays once it is opened; a packager's flags, with which
+# the library is as it has to be; the manual page under each call's name. All of it in a folder that
+# goes afterwards.
+# Wants face/out to be built, as tests/face.sh has it. What a missing program leaves out is said in a
+# line of its own. Prints the cases that fail; the last line counts.
+source "$(dirname "$0")/cases.sh"
+tree=$seen/tree
+version=$(sed -n 's/^version := //p' face/Makefile)
+soname=libcivdrax.so.${version%%.*}
+calls=$(sed -n 's/.*\(civdrax_[a-z]*\)(.*/\1/p' face/civdrax.h | sort)
+warnings=(-Wall -Wextra -Werror -pedantic)
+
+# Whether the program $1 is here; else what is left out by that is said.
+is_here() {
+    command -v "$1" > /dev/null && return
+    echo "face_install: LEFT OUT: $2: $1 is not here"
+    return 1
+}
+
+# Makes what the words say in face/, without a proof.
+made() {
+    make -C face prove=true "$@" > "$seen/made" 2>&1
+    count $? "make $*: $(tail -n 3 "$seen/made")"
+}
+
+# The files below a folder, but folders: path, and mode or where a link leads.
+listed() {
+    (cd "$1" && find . -type f -printf '%P %m\n' -o -type l -printf '%P %l\n' | sort)
+}
+
+# All files, with those of the folders $1, $2 and $3: libraries, headers and pages.
+expected() {
+    local it
+    {
+        printf '%s\n' "$1/libcivdrax.a 644" "$1/libcivdrax.so $soname" "$1/$soname 755" \
+            "$1/libcivdrax_preload.so 755" "$1/pkgconfig/civdrax.pc 644" "$2/civdrax.h 644"
+        for it in civdrax $calls; do echo "$3/man3/$it.3 644"; done
+    } | sort
+}
+
+# Wants that these files are below the folder $1, and no others.
+files() {
+    [ "$(listed "$1")" = "$(expected "${@:2}")" ]
+    count $? "other files are installed: $(diff <(listed "$1") <(expected "${@:2}"))"
+}
+
+# The installed library's words for a compiler, of the tree $2 and its folder $3.
+words() {
+    PKG_CONFIG_SYSROOT_DIR=$2 PKG_CONFIG_LIBDIR=$2$3/pkgconfig pkg-config $1 civdrax
+}
+
+install_and_link() {
+    # Who installs has no `rt`, and nothing is built once more.
+    mkdir "$seen/without"
+    printf '#!/bin/sh\necho "%s is run"\nexit 1\n' rt > "$seen/without/rt"
+    chmod +x "$seen/without/rt"
+    PATH=$seen/without:$PATH made install DESTDIR="$tree" PREFIX=/opt/civdrax prove=false CC=false
+    ! grep -q 'rt is run' "$seen/made"
+    count $? 'to install, rt is run'
+    files "$tree" opt/civdrax/{lib,include,share/man}
+    ! grep -rq "$seen" "$tree"
+    count $? "a file that is installed has DESTDIR in it"
+    local lib=$tree/opt/civdrax/lib
+    cc "${warnings[@]}" -o "$seen/static" face/tests/installed.c -I"$tree/opt/civdrax/include" \
+        "$lib/libcivdrax.a" -pthread && "$seen/static"
+    count $? 'a program with the installed archive fails'
+    is_here pkg-config 'programs that are built by its words' || return
+    cc "${warnings[@]}" -o "$seen/shared" face/tests/installed.c \
+        $(words '--cflags --libs' "$tree" /opt/civdrax/lib) \
+        && LD_LIBRARY_PATH=$lib "$seen/shared"
+    count $? 'a program that pkg-config has linked fails'
+    readelf -d "$seen/shared" | grep -q "(NEEDED).*\[$soname\]"
+    count $? "a program does not want $soname"
+    nm -D "$seen/shared" | grep -q "U civdrax_msgget@CIVDRAX_${version%%.*}$"
+    count $? 'a program wants no version of a call'
+    [ "$(words --modversion "$tree" /opt/civdrax/lib)" = "$version" ]
+    count $? "civdrax.pc has not the version $version"
+    words '--libs --static' "$tree" /opt/civdrax/lib | grep -q -- '-lcivdrax .*-pthread'
+    count $? 'civdrax.pc does not say what the archive wants'
+}
+
+# Other folders, as packagers name them, and a prefix alone, of the environment.
+folders() {
+    made install DESTDIR="$seen/named" prefix=/usr libdir=/usr/lib/here includedir=/usr/include/civ \
+        mandir=/man
+    files "$seen/named" usr/lib/here usr/include/civ man
+    PREFIX=$seen/home made install
+    files "$seen/home" lib include share/man
+    touch "$seen/home/lib/another"
+    is_here pkg-config 'what civdrax.pc says of other folders' || return
+    words '--cflags --libs' "$seen/named" /usr/lib/here > "$seen/words"
+    grep -q -- "-I$seen/named/usr/include/civ " "$seen/words" \
+        && grep -q -- "-L$seen/named/usr/lib/here " "$seen/words"
+    count $? "civdrax.pc names other folders: $(cat "$seen/words")"
+    cc "${warnings[@]}" -o "$seen/own" face/tests/installed.c "-Wl,-rpath,$seen/home/lib" \
+        $(words '--cflags --libs' '' "$seen/home/lib") && "$seen/own"
+    count $? 'a program with the library of a prefix of its own fails'
+}
+
+uninstall() {
+    made uninstall DESTDIR="$tree" PREFIX=/opt/civdrax
+    made uninstall PREFIX="$seen/home"
+    [ -z "$(listed "$tree")" ] && [ "$(listed "$seen/home" | cut -d ' ' -f 1)" = lib/another ]
+    count $? "uninstall leaves $(listed "$tree") $(listed "$seen/home")"
+}
+
+# The linked library's calls have a version; the preloaded library has none, as long as the programs
+# that it is for want those of the C library.
+versions() {
+    local it
+    for it in $calls; do
+        nm -D face/out/libcivdrax.so | grep -q " T $it@@CIVDRAX_${version%%.*}$"
+        count $? "$it has no version"
+    done
+    readelf -V face/out/libcivdrax.so | grep -q '^Version definition section'
+    count $? 'no version is seen in libcivdrax.so'
+    ! readelf -V face/out/libcivdrax_preload.so | grep -q '^Version definition section'
+    count $? 'libcivdrax_preload.so has versions: no call of a program comes to it'
+}
+
+# The library stays once it is opened; another, which does not say so, is seen to go.
+unload() {
+    cc -std=gnu11 -Wall -Wextra -Werror -O1 -o "$seen/unload" face/tests/unload.c -pthread -ldl \
+        && cc -shared -o "$seen/unloaded.so" -Wl,--whole-archive face/out/libcivdrax.a \
+            -Wl,--no-whole-archive -pthread
+    count $? 'face/tests/unload.c does not compile'
+    timeout 60 "$seen/unload" "$PWD/face/out/libcivdrax.so" > "$seen/out" 2> "$seen/err"
+    count $? "the library does not stay once it is opened: $(head -n 3 "$seen/err")"
+    ! timeout 60 "$seen/unload" "$seen/unloaded.so" > "$seen/out" 2>&1 \
+        && grep -q ' passed, [1-9]' "$seen/out"
+    count $? 'a library that does not stay is not seen to go'
+}
+
+# A packager's flags are kept, and nothing that the sources need is lost by them.
+flags() {
+    local flags='-O1 -flto -fno-pic -fcf-protection=full -ffunction-sections' it
+    made out="$seen/packaged" CFLAGS="$flags" CPPFLAGS=-D_FORTIFY_SOURCE=2 \
+        LDFLAGS='-flto -Wl,-z,relro,-z,now'
+    readelf -SW "$seen/packaged/civdrax.o" | grep -q ' \.text\.civdrax_msgget '
+    count $? 'CFLAGS are not kept'
+    for it in "$soname" libcivdrax_preload.so; do
+        readelf -d "$seen/packaged/$it" | grep -q 'Flags:.* NOW'
+        count $? "$it: LDFLAGS are not kept"
+        ! readelf -d "$seen/packaged/$it" | grep -q TEXTREL
+        count $? "$it is not position-independent"
+    done
+    cc -o "$seen/packaged/static" face/tests/installed.c -Iface "$seen/packaged/libcivdrax.a" \
+        -pthread && "$seen/packaged/static"
+    count $? "a program with a packager's archive fails"
+    cc -o "$seen/packaged/shared" face/tests/installed.c -Iface "$seen/packaged/libcivdrax.so" \
+        "-Wl,-rpath,$seen/packaged" && "$seen/packaged/shared"
+    count $? "a program with a packager's library fails"
+    # Of the environment too; then nothing else is asked for.
+    CFLAGS=-Os make -C face -n prove=true out="$seen/none" > "$seen/made" \
+        && grep -q ' -Os .*-fPIC ' "$seen/made" && ! grep -q Wall "$seen/made"
+    count $? 'CFLAGS of the environment are not kept'
+}
+
+# Each call has its page, by its name, of which the first line names it.
+pages() {
+    local it man=$seen/named/man
+    [ "$(sed -n 's/^\.Nm \(civdrax_[a-z]*\).*/\1/p' face/civdrax.3 | sort)" = "$calls" ]
+    count $? 'the page does not name the calls of the header'
+    for it in $calls; do
+        [ -s "$man/$(sed -n 's/^\.so //p' "$man/man3/$it.3")" ]
+        count $? "the page $it leads nowhere"
+    done
+    if is_here groff 'what it says of the page'; then
+        groff -mdoc -Tutf8 -ww face/civdrax.3 > "$seen/page" 2> "$seen/err"
+        [ $? -eq 0 ] && [ ! -s "$seen/err" ]
+        count $? "face/civdrax.3: $(head -n 3 "$seen/err")"
+    fi
+    is_here man 'pages by the name of their call' || return
+    for it in $calls; do
+        MANPAGER=cat man -M "$man" 3 "$it" 2>&1 | sed -n '/^NAME/,/^SYN/p' | grep -q "$it"
+        count $? "man $it does not show it"
+    done
+}
+
+install_and_link
+folders
+pages
+uninstall
+versions
+unload
+flags
+at_least 40
+echo "face_install: $passed passed, $failed failed"
+[ "$failed" -eq 0 ]
