@@ -9,6 +9,9 @@
 #include <sys/types.h>
 #include <time.h>
 
+/* Without it strict C89 and C99, which hide it, would know it in a list of parameters alone. */
+struct timespec;
+
 #ifdef __cplusplus
 extern "C" {
 #endif

@@ -2,8 +2,8 @@
 # The C part as a library that is installed: what `make install` writes and where, and that
 # `make uninstall` leaves none of it; programs that are built by the words of pkg-config alone; the
 # names, their versions, and that the library stays once it is opened; a packager's flags, with which
-# the library is as it has to be; the manual page under each call's name. All of it in a folder that
-# goes afterwards.
+# the library is as it has to be; the manual page under each call's name; the header in each edition
+# of C and C++ that the compilers here know. All of it in a folder that goes afterwards.
 # Wants face/out to be built, as tests/face.sh has it. What a missing program leaves out is said in a
 # line of its own. Prints the cases that fail; the last line counts.
 source "$(dirname "$0")/cases.sh"
@@ -180,6 +180,32 @@ pages() {
     done
 }
 
+# The header, without a warning, in each edition that the compiler $1 of the language $2 knows: as
+# the only one, and where a program asks for all that there is.
+editions() {
+    local edition tried=0
+    is_here "$1" "the header by $1" || return
+    for edition in "${@:3}"; do
+        "$1" "-std=$edition" -x "$2" -fsyntax-only /dev/null 2> "$seen/err" || continue
+        tried=$((tried + 1))
+        "$1" "-std=$edition" "${warnings[@]}" -Iface -x "$2" -fsyntax-only face/tests/installed.c \
+            2> "$seen/err" && "$1" "-std=$edition" "${warnings[@]}" -D_GNU_SOURCE -Iface -x "$2" \
+            -fsyntax-only face/tests/installed.c 2> "$seen/err"
+        count $? "civdrax.h by $1 as $edition: $(head -n 3 "$seen/err")"
+    done
+    [ "$tried" -ge 5 ]
+    count $? "$1 knows only $tried editions"
+}
+
+headers() {
+    local c='c89 c99 c11 c17 c2x gnu89 gnu99 gnu11 gnu17 gnu2x'
+    local plus_plus='c++98 c++11 c++14 c++17 c++20 c++23 gnu++98 gnu++17 gnu++23'
+    editions cc c $c
+    editions clang c $c
+    editions g++ c++ $plus_plus
+    editions clang++ c++ $plus_plus
+}
+
 install_and_link
 folders
 pages
@@ -187,6 +213,7 @@ uninstall
 versions
 unload
 flags
-at_least 40
+headers
+at_least 50
 echo "face_install: $passed passed, $failed failed"
 [ "$failed" -eq 0 ]

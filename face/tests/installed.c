@@ -1,4 +1,4 @@
-/* A program of the installed library, by its header alone. */
+/* A program of the installed library, by its header alone: in any edition of C or C++. */
 #include <civdrax.h>
 
 int main(void) {
