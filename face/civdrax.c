@@ -31,7 +31,7 @@
 #include <unistd.h>
 
 #ifndef __x86_64__
-#error "the proved part is built for x86-64"
+#error "the proved part is built for x86-64-v2"
 #endif
 
 #define MAX_HEIGHT 10

@@ -1,11 +1,11 @@
 #!/usr/bin/env bash
 # The C part as a library that is installed: what `make install` writes and where, and that
 # `make uninstall` leaves none of it; programs that are built by the words of pkg-config alone; the
-# names, their versions, and that the library stays once it is opened; a packager's flags, with which
-# the library is as it has to be; the manual page under each call's name; the header in each edition
-# of C and C++ that the compilers here know. All of it in a folder that goes afterwards.
-# Wants face/out to be built, as tests/face.sh has it. What a missing program leaves out is said in a
-# line of its own. Prints the cases that fail; the last line counts.
+# names, their versions, and that the library stays once it is opened; a packager's flags, with
+# which the library is as it has to be; its processor; the manual page under each call's name; the
+# header in each edition of C and C++ that the compilers here know. All of it in a folder that goes
+# afterwards. Wants face/out to be built, as tests/face.sh has it. What a missing program leaves out
+# is said in a line of its own. Prints the cases that fail; the last line counts.
 source "$(dirname "$0")/cases.sh"
 tree=$seen/tree
 version=$(sed -n 's/^version := //p' face/Makefile)
@@ -19,6 +19,9 @@ is_here() {
     echo "face_install: LEFT OUT: $2: $1 is not here"
     return 1
 }
+
+# Whether what comes in has a line like $1. It is read to its end: who writes it would fail.
+has() { grep "$@" > "$seen/found"; }
 
 # Makes what the words say in face/, without a proof.
 made() {
@@ -61,7 +64,7 @@ install_and_link() {
     ! grep -q 'rt is run' "$seen/made"
     count $? 'to install, rt is run'
     files "$tree" opt/civdrax/{lib,include,share/man}
-    ! grep -rq "$seen" "$tree"
+    ! grep -r "$seen" "$tree" > "$seen/found"
     count $? "a file that is installed has DESTDIR in it"
     local lib=$tree/opt/civdrax/lib
     cc "${warnings[@]}" -o "$seen/static" face/tests/installed.c -I"$tree/opt/civdrax/include" \
@@ -72,20 +75,20 @@ install_and_link() {
         $(words '--cflags --libs' "$tree" /opt/civdrax/lib) \
         && LD_LIBRARY_PATH=$lib "$seen/shared"
     count $? 'a program that pkg-config has linked fails'
-    readelf -d "$seen/shared" | grep -q "(NEEDED).*\[$soname\]"
+    readelf -d "$seen/shared" | has "(NEEDED).*\[$soname\]"
     count $? "a program does not want $soname"
-    nm -D "$seen/shared" | grep -q "U civdrax_msgget@CIVDRAX_${version%%.*}$"
+    nm -D "$seen/shared" | has "U civdrax_msgget@CIVDRAX_${version%%.*}$"
     count $? 'a program wants no version of a call'
     [ "$(words --modversion "$tree" /opt/civdrax/lib)" = "$version" ]
     count $? "civdrax.pc has not the version $version"
-    words '--libs --static' "$tree" /opt/civdrax/lib | grep -q -- '-lcivdrax .*-pthread'
+    words '--libs --static' "$tree" /opt/civdrax/lib | has -- '-lcivdrax .*-pthread'
     count $? 'civdrax.pc does not say what the archive wants'
 }
 
 # Other folders, as packagers name them, and a prefix alone, of the environment.
 folders() {
-    made install DESTDIR="$seen/named" prefix=/usr libdir=/usr/lib/here includedir=/usr/include/civ \
-        mandir=/man
+    made install DESTDIR="$seen/named" prefix=/usr libdir=/usr/lib/here mandir=/man \
+        includedir=/usr/include/civ
     files "$seen/named" usr/lib/here usr/include/civ man
     PREFIX=$seen/home made install
     files "$seen/home" lib include share/man
@@ -112,12 +115,12 @@ uninstall() {
 versions() {
     local it
     for it in $calls; do
-        nm -D face/out/libcivdrax.so | grep -q " T $it@@CIVDRAX_${version%%.*}$"
+        nm -D face/out/libcivdrax.so | has " T $it@@CIVDRAX_${version%%.*}$"
         count $? "$it has no version"
     done
-    readelf -V face/out/libcivdrax.so | grep -q '^Version definition section'
+    readelf -V face/out/libcivdrax.so | has '^Version definition section'
     count $? 'no version is seen in libcivdrax.so'
-    ! readelf -V face/out/libcivdrax_preload.so | grep -q '^Version definition section'
+    ! readelf -V face/out/libcivdrax_preload.so | has '^Version definition section'
     count $? 'libcivdrax_preload.so has versions: no call of a program comes to it'
 }
 
@@ -139,12 +142,12 @@ flags() {
     local flags='-O1 -flto -fno-pic -fcf-protection=full -ffunction-sections' it
     made out="$seen/packaged" CFLAGS="$flags" CPPFLAGS=-D_FORTIFY_SOURCE=2 \
         LDFLAGS='-flto -Wl,-z,relro,-z,now'
-    readelf -SW "$seen/packaged/civdrax.o" | grep -q ' \.text\.civdrax_msgget '
+    readelf -SW "$seen/packaged/civdrax.o" | has ' \.text\.civdrax_msgget '
     count $? 'CFLAGS are not kept'
     for it in "$soname" libcivdrax_preload.so; do
-        readelf -d "$seen/packaged/$it" | grep -q 'Flags:.* NOW'
+        readelf -d "$seen/packaged/$it" | has 'Flags:.* NOW'
         count $? "$it: LDFLAGS are not kept"
-        ! readelf -d "$seen/packaged/$it" | grep -q TEXTREL
+        ! readelf -d "$seen/packaged/$it" | has TEXTREL
         count $? "$it is not position-independent"
     done
     cc -o "$seen/packaged/static" face/tests/installed.c -Iface "$seen/packaged/libcivdrax.a" \
@@ -157,6 +160,19 @@ flags() {
     CFLAGS=-Os make -C face -n prove=true out="$seen/none" > "$seen/made" \
         && grep -q ' -Os .*-fPIC ' "$seen/made" && ! grep -q Wall "$seen/made"
     count $? 'CFLAGS of the environment are not kept'
+}
+
+# Each library says which processor it wants, and has no instruction that this one may not have.
+processor() {
+    local it later='v[a-z0-9]+|andn|bextr|bls[ir]|blsmsk|bzhi|lzcnt|movbe|mulx|pdep|pext|rorx'
+    for it in libcivdrax.a libcivdrax.so libcivdrax_preload.so; do
+        readelf -nW "face/out/$it" 2> "$seen/err" | has 'x86 ISA needed:.* x86-64-v2$'
+        count $? "$it does not say which processor it wants"
+        objdump -d --no-show-raw-insn "face/out/$it" > "$seen/code"
+        grep -q 'call' "$seen/code" \
+            && ! grep -E "^ +[0-9a-f]+:.($later|s[ahl][lr]x) " "$seen/code" > "$seen/later"
+        count $? "$it has code for a later processor: $(head -n 3 "$seen/later")"
+    done
 }
 
 # Each call has its page, by its name, of which the first line names it.
@@ -175,7 +191,7 @@ pages() {
     fi
     is_here man 'pages by the name of their call' || return
     for it in $calls; do
-        MANPAGER=cat man -M "$man" 3 "$it" 2>&1 | sed -n '/^NAME/,/^SYN/p' | grep -q "$it"
+        MANPAGER=cat man -M "$man" 3 "$it" 2>&1 | sed -n '/^NAME/,/^SYN/p' | has "$it"
         count $? "man $it does not show it"
     done
 }
@@ -213,6 +229,7 @@ uninstall
 versions
 unload
 flags
+processor
 headers
 at_least 50
 echo "face_install: $passed passed, $failed failed"
