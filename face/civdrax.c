@@ -27,6 +27,7 @@
 #include <string.h>
 #include <sys/mman.h>
 #include <sys/queue.h>
+#include <sys/stat.h>
 #include <sys/syscall.h>
 #include <unistd.h>
 
@@ -203,6 +204,8 @@ static void serve(void) {
   for (;;) come_out();
 }
 
+static int has_standard_error(void);
+
 /* A number of the environment within its limits, or -1 and a line that says so. A thread that is
    cancelled as it writes that line would keep the lock. */
 static int configured(const char *name, int low, int high, int otherwise) {
@@ -214,7 +217,8 @@ static int configured(const char *name, int low, int high, int otherwise) {
   long n = strtol(text, &end, 10);
   if (text[0] >= '0' && text[0] <= '9' && !*end && !errno && n >= low && n <= high) return n;
   pthread_setcancelstate(PTHREAD_CANCEL_DISABLE, &kept);
-  dprintf(2, "civdrax: %s is '%.40s': a number from %d to %d is wanted\n", name, text, low, high);
+  if (has_standard_error())
+    dprintf(2, "civdrax: %s is '%.40s': a number from %d to %d is wanted\n", name, text, low, high);
   pthread_setcancelstate(kept, &kept);
   return -1;
 }
@@ -609,4 +613,21 @@ int civdrax_msgctl(int id, int cmd, struct msqid_ds *buf) {
   }
   end_call();
   return value;
+}
+
+/* What descriptor 2 was when the library was loaded. */
+static struct stat first_error;
+static int had_error;
+
+__attribute__((constructor)) static void note_standard_error(void) {
+  had_error = !fstat(2, &first_error);
+}
+
+/* Whether descriptor 2 is a terminal or what it was then, and no file that the program has since
+   opened by this number. */
+static int has_standard_error(void) {
+  struct stat now;
+  if (isatty(2)) return 1;
+  return had_error && !fstat(2, &now) && now.st_dev == first_error.st_dev &&
+         now.st_ino == first_error.st_ino;
 }

@@ -203,6 +203,12 @@ sizes() {
     for value in 0 65 -1 '' y; do
         refuses_size CIVDRAX_SLOTS "$value"
     done
+    # That line is in no file of the program's own.
+    compile standard_error "$folder/standard_error" face/out/libcivdrax.a
+    checks "$folder/standard_error"
+    compile standard_error "$folder/shared_error" face/out/libcivdrax.so \
+        "-Wl,-rpath,$PWD/face/out"
+    checks "$folder/shared_error"
     CIVDRAX_SLOTS=4 CIVDRAX_HEIGHT=6 checks "$folder/threads"
     CIVDRAX_SLOTS=1 CIVDRAX_HEIGHT=2 checks "$folder/threads"
 }
