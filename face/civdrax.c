@@ -1,13 +1,16 @@
-/* The C side of the queues. `civdrax_serve`, which is proved, runs on a stack of its own for as
-   long as the process does. One lock is held over each call: it writes the call's numbers into
-   `call`, goes over to that stack, where `read` takes them and the bytes of a text, and `write`
-   fills `answer`, `shown` and the caller's buffer; where the next call is read it comes back.
+/* The C side of the queues. Each part of them has slots and pages of its own, and a stack on which
+   `civdrax_serve`, which is proved, runs for as long as the process does. The part's lock is held
+   over each call: it writes the call's numbers into `call`, goes over to that stack, where `read`
+   takes them and the bytes of a text, and `write` fills `answer`, `shown` and the caller's buffer;
+   where the next call is read it comes back. The number of a part is the descriptor that it reads,
+   and is in each id of its queues: so queues of two parts meet in nothing. What concerns all parts
+   is done with all locks, taken in their order.
 
    All that waits does so here, outside of the proved part: a call that is told to wait enters its
    thread's record into a list, lets the lock go, sleeps on the record's futex, and is then made
    again. Each slot has a list of those that wait for a message and one of those that wait for room;
-   one more is of those that wait for pages. A message that is sent rouses those whose selection has
-   its type, a receipt those that wait for room there and those that wait for pages, a new quota
+   each part one of those that wait for pages. A message that is sent rouses those whose selection
+   has its type, a receipt those that wait for room there and those that wait for pages, a new quota
    those that wait for room, a removal all of the slot and those that wait for pages. Of each all,
    not the first alone: so none has to hand on what it does not take, as where its text is too long,
    it is cancelled, or a handler jumps out of its wait. Between the answer and the entry the lock is
@@ -37,10 +40,12 @@
 
 #define MAX_HEIGHT 10
 #define MAX_SLOTS 64
+#define PARTS 8
+#define PART_SLOTS (MAX_SLOTS / PARTS)
 /* So many are woken once the lock is free; the others before. */
 #define WOKEN_LATER 16
-/* No handler's frame is nearer to the one below which it runs. */
-#define SIGNAL_FRAME 512
+/* No handler's frame is nearer to the one below which it runs: there are the registers. */
+#define SIGNAL_FRAME 1024
 /* The stack of the proved part, on which a signal handler that comes meanwhile runs too: it is as
    long as a thread's is by default. Below it lies what cannot be touched. */
 #define STACK (8 << 20)
@@ -49,7 +54,6 @@
 /* The numbers of the proved part. */
 enum { GET = 1, SEND, RECEIVE, CONTROL };
 enum { WAIT_CHANGE = 1, WAIT_PAGES };
-enum { SHOWN_QUEUE = 1, SHOWN_USAGE };
 
 struct call {
   uint64_t kind, number, flags, type, size, moment, waited, buffer;
@@ -66,22 +70,23 @@ union shown {
   struct {
     uint64_t queues, messages, bytes, slots, pages, msgmax, msgmnb, page;
   } usage;
+  uint64_t numbers[8];
 };
+/* So many of the usage's are summed over the parts; the others are the same in each. */
+enum { SUMMED = 5 };
 
-_Static_assert(sizeof(struct call) == 64, "a call");
-_Static_assert(sizeof(struct answer) == 64, "an answer");
+_Static_assert(sizeof(struct call) == 64 && sizeof(struct answer) == 64, "calls and answers");
 _Static_assert(sizeof(union shown) == 64, "what is shown");
 
 extern int32_t civdrax_serve(int32_t calls, uint8_t height, uint8_t slots);
 
-static pthread_mutex_t lock = PTHREAD_MUTEX_INITIALIZER;
-
 enum { WAITS, ROUSED };
 
 /* Who waits: a thread's own, since a handler may leave the wait by siglongjmp, and it stays in its
-   list then. It is changed under the lock alone. */
+   list then. It is changed under its part's lock alone; `part` by its thread. */
 struct waiter {
   TAILQ_ENTRY(waiter) link;
+  struct part *part;  /* whose list it has still to leave, or null */
   struct waiters *in; /* or null */
   uint32_t word;      /* WAITS or ROUSED: the futex */
   int64_t type;       /* what a receipt selects */
@@ -89,15 +94,52 @@ struct waiter {
 };
 TAILQ_HEAD(waiters, waiter);
 
+/* Who waits in a slot for a message and for room, each of these from here on, and who for pages. */
+enum { RECEIVERS, SENDERS = PART_SLOTS, PAGERS = 2 * PART_SLOTS, LISTS };
+
+/* No two have a line of the processor's memory in common, nor one that it fetches with another. */
+struct part {
+  pthread_mutex_t lock;
+  enum { NEW, RUNS, LOST } state; /* LOST where a step was left in its midst: nobody can end it */
+  int slots, queues;              /* how many */
+  int has_old_lists;              /* none, or in a child its parent's */
+  /* The two stacks, and where that of the proved part lies, above its guard. */
+  void *outside, *inside;
+  char *guard;
+  volatile int is_inside;
+  /* The call that is made, how many of its bytes were given and of its answer taken, and how many
+     of the text in either way. */
+  struct call call;
+  struct answer answer;
+  union shown shown; /* is written behind the answer */
+  const char *text_in;
+  char *text_out;
+  size_t given, taken, text_at;
+  struct ipc_perm owner[PART_SLOTS];
+  pid_t sent_by[PART_SLOTS], received_by[PART_SLOTS];
+  struct waiters lists[LISTS];
+} __attribute__((aligned(128)));
+
+static struct part parts[PARTS] = {
+    [0 ... PARTS - 1] = {.lock = PTHREAD_MUTEX_INITIALIZER, .has_old_lists = 1}};
+
+/* A set of parts has their bits. */
+enum { ALL = (1 << PARTS) - 1 };
+#define FOR_PARTS(part, set) \
+  for (struct part *part = parts; part < parts + PARTS; part++) if ((set) & bit_of(part))
+
+static int bit_of(const struct part *part) { return 1 << (part - parts); }
+
 /* What a thread has to know where a signal handler calls, forks or jumps. */
 struct thread {
   char *volatile began; /* where on the stack it is in a call; null in none, and in a sleep */
-  volatile int holds;   /* the lock */
-  int forks;            /* with the lock taken for it */
+  volatile int holds;   /* the parts whose locks it has */
+  volatile int forks;   /* those of them whose it has taken to fork */
   volatile int sleeps;  /* where it may be cancelled at once, and else by `cancel_type` */
   int cancel_type;
   int roused_count; /* whom it has roused, and not woken yet */
   uint32_t *roused[WOKEN_LATER];
+  struct part *begins; /* the part whose loop is to begin */
 };
 
 /* Always in reach: what is made at its first use wants memory, which a handler may not ask for. */
@@ -106,31 +148,11 @@ OF_THREAD struct waiter mine;
 OF_THREAD struct thread thread;
 /* By it a thread that ends leaves its list. */
 static pthread_key_t ends;
-
-/* Who waits in a slot for a message and for room, each of these from here on, and who for pages. */
-enum { RECEIVERS, SENDERS = MAX_SLOTS, PAGERS = 2 * MAX_SLOTS, LISTS };
-static struct waiters lists[LISTS];
-
-static struct ipc_perm owner[MAX_SLOTS];
-static pid_t sent_by[MAX_SLOTS], received_by[MAX_SLOTS];
-/* This process, which a system call would tell each time; and whether it is a child whose lists are
-   still its parent's. */
+/* This process, which a system call would tell each time. */
 static pid_t self;
-static int is_copy;
 
-static enum { NEW, NONE, READY, RUNS } state;
-/* Why no call is answered, where none is. */
-static int end_error = ENOSYS;
-static int height, slots;
-
-/* The call that is made, how many of its bytes were given and of its answer taken, and how many of
-   the text in either way. */
-static struct call call;
-static struct answer answer;
-static union shown shown;
-static const char *text_in;
-static char *text_out;
-static size_t given, taken, text_at;
+/* The size, once it is read: which parts have slots. And why no call is answered, where none is. */
+static int is_read, height, sized, no_call;
 
 /* Saves what a call has to keep on the stack that is left, and goes on where the other stopped. */
 void civdrax_switch(void **from, void *to) __attribute__((visibility("hidden")));
@@ -141,70 +163,82 @@ __asm__(".text\n.globl civdrax_switch\n.hidden civdrax_switch\n"
         "popq %r15\npopq %r14\npopq %r13\npopq %r12\npopq %rbx\npopq %rbp\nret\n"
         ".size civdrax_switch,.-civdrax_switch\n");
 
-static void *outside, *inside;
-static volatile int is_inside;
-
-static void go_in(void) {
-  is_inside = 1;
-  civdrax_switch(&outside, inside);
-  is_inside = 0;
+static void go_in(struct part *part) {
+  part->is_inside = 1;
+  civdrax_switch(&part->outside, part->inside);
+  part->is_inside = 0;
 }
 
-static void come_out(void) { civdrax_switch(&inside, outside); }
+static void come_out(struct part *part) { civdrax_switch(&part->inside, part->outside); }
 
 static size_t least(size_t a, size_t b) { return a < b ? a : b; }
 
 /* Gives the bytes of the text that is sent, once the call is given and before it is answered; else
    those of the next call, for which it comes out. */
 ssize_t __wrap_read(int fd, void *to, size_t n) {
-  (void)fd;
-  if (given == sizeof call && call.kind == SEND && taken == 0 && text_at < call.size) {
-    n = least(n, call.size - text_at);
-    memcpy(to, text_in + text_at, n);
-    text_at += n;
+  struct part *part = &parts[fd];
+  const size_t all = sizeof part->call;
+  if (part->given == all && part->call.kind == SEND && part->taken == 0
+      && part->text_at < part->call.size) {
+    n = least(n, part->call.size - part->text_at);
+    memcpy(to, part->text_in + part->text_at, n);
+    part->text_at += n;
     return n;
   }
-  if (given == sizeof call) come_out();
-  if (given == 0 && n == sizeof call) {
-    memcpy(to, &call, sizeof call);
-    return given = sizeof call;
+  if (part->given == all) come_out(part);
+  if (part->given == 0 && n == all) {
+    memcpy(to, &part->call, all);
+    return part->given = all;
   }
-  n = least(n, sizeof call - given);
-  memcpy(to, (char *)&call + given, n);
-  given += n;
+  n = least(n, all - part->given);
+  memcpy(to, (char *)&part->call + part->given, n);
+  part->given += n;
   return n;
 }
 
 /* Takes the bytes of the answer, of what is shown, if something is, and of the text. */
 ssize_t __wrap_write(int fd, const void *from, size_t n) {
-  (void)fd;
-  size_t head = sizeof answer, end = head + (answer.shown ? sizeof shown : 0);
-  if (taken == 0 && n == sizeof answer) {
-    memcpy(&answer, from, sizeof answer);
-    taken = n;
-  } else if (taken < head) {
-    n = least(n, head - taken);
-    memcpy((char *)&answer + taken, from, n);
-    taken += n;
-  } else if (taken < end) {
-    n = least(n, end - taken);
-    memcpy((char *)&shown + (taken - head), from, n);
-    taken += n;
-  } else {
-    n = least(n, least(answer.length, call.size) - text_at);
-    memcpy(text_out + text_at, from, n);
-    text_at += n;
+  struct part *part = &parts[fd];
+  const size_t head = sizeof part->answer, end = part->answer.shown ? 2 * head : head;
+  if (part->taken == 0 && n == head) {
+    memcpy(&part->answer, from, head);
+    return part->taken = n;
   }
+  if (part->taken == end) {
+    n = least(n, least(part->answer.length, part->call.size) - part->text_at);
+    memcpy(part->text_out + part->text_at, from, n);
+    part->text_at += n;
+    return n;
+  }
+  n = least(n, end - part->taken);
+  memcpy((char *)part + offsetof(struct part, answer) + part->taken, from, n);
+  part->taken += n;
   return n;
 }
 
 static void serve(void) {
-  end_error = civdrax_serve(0, height, slots);
-  state = READY;
-  for (;;) come_out();
+  struct part *part = thread.begins;
+  part->answer.error = civdrax_serve((int)(part - parts), height, part->slots);
+  part->state = NEW;
+  for (;;) come_out(part);
 }
 
-static int has_standard_error(void);
+/* What descriptor 2 was when the library was loaded. */
+static struct stat first_error;
+static int had_error;
+
+__attribute__((constructor)) static void note_standard_error(void) {
+  had_error = !fstat(2, &first_error);
+}
+
+/* Whether descriptor 2 is a terminal or what it was then, and no file that the program has since
+   opened by this number. */
+static int has_standard_error(void) {
+  struct stat now;
+  if (isatty(2)) return 1;
+  return had_error && !fstat(2, &now) && now.st_dev == first_error.st_dev &&
+         now.st_ino == first_error.st_ino;
+}
 
 /* A number of the environment within its limits, or -1 and a line that says so. A thread that is
    cancelled as it writes that line would keep the lock. */
@@ -223,19 +257,6 @@ static int configured(const char *name, int low, int high, int otherwise) {
   return -1;
 }
 
-static void make_lists(void) {
-  for (int list = 0; list < LISTS; list++) TAILQ_INIT(&lists[list]);
-}
-
-static void enlist(int number) {
-  struct waiters *list = &lists[number];
-  mine.in = list;
-  mine.type = (int64_t)call.type;
-  mine.flags = call.flags;
-  __atomic_store_n(&mine.word, WAITS, __ATOMIC_RELAXED);
-  TAILQ_INSERT_TAIL(list, &mine, link);
-}
-
 /* Whose wait is over, whether or not it sleeps, is in no list and looks again. */
 static void unlist(struct waiter *its) {
   struct waiters *list = its->in;
@@ -246,40 +267,43 @@ static void unlist(struct waiter *its) {
 
 static void wake(uint32_t *word) { syscall(SYS_futex, word, FUTEX_WAKE_PRIVATE, 1); }
 
-static void rouse(struct waiter *its) {
+static void rouse_one(struct waiter *its) {
   int is_later = thread.roused_count < WOKEN_LATER;
   if (is_later) thread.roused[thread.roused_count++] = &its->word;
   unlist(its);
   if (!is_later) wake(&its->word);
 }
 
-static void rouse_all(int list) {
-  struct waiter *its, *next;
-  for (its = TAILQ_FIRST(&lists[list]); its; its = next) {
-    next = TAILQ_NEXT(its, link);
-    rouse(its);
-  }
-}
-
-/* Whether a receipt selects messages of this type: the proved part has the last word. */
+/* Whether a receipt selects messages of this type, or 0: the proved part has the last word. */
 static int selects(const struct waiter *its, int64_t type) {
-  if (its->type == 0) return 1;
+  if (its->type == 0 || type == 0) return 1;
   if (its->type < 0) return -type >= its->type;
   return its->flags & MSG_EXCEPT ? type != its->type : type == its->type;
 }
 
-/* A message of this type has come. */
-static void rouse_receivers(int slot, int64_t type) {
+/* Those in a list whom a message of this type may serve; with 0 all. */
+static void rouse(struct part *part, int list, int64_t type) {
   struct waiter *its, *next;
-  for (its = TAILQ_FIRST(&lists[RECEIVERS + slot]); its; its = next) {
+  for (its = TAILQ_FIRST(&part->lists[list]); its; its = next) {
     next = TAILQ_NEXT(its, link);
-    if (selects(its, type)) rouse(its);
+    if (selects(its, type)) rouse_one(its);
   }
 }
 
-static void acquire(void) {
-  pthread_mutex_lock(&lock);
-  thread.holds = 1;
+static void acquire(struct part *part) {
+  pthread_mutex_lock(&part->lock);
+  thread.holds |= bit_of(part);
+}
+
+static int acquire_within(struct part *part, int milliseconds) {
+  struct timespec end;
+  clock_gettime(CLOCK_MONOTONIC, &end);
+  end.tv_nsec += milliseconds * 1000000L;
+  end.tv_sec += end.tv_nsec / 1000000000;
+  end.tv_nsec %= 1000000000;
+  if (pthread_mutex_clocklock(&part->lock, CLOCK_MONOTONIC, &end)) return 0;
+  thread.holds |= bit_of(part);
+  return 1;
 }
 
 /* Wakes those that this thread has roused. One that has ended meanwhile is not there to wake, and
@@ -289,161 +313,196 @@ static void wake_roused(void) {
   thread.roused_count = 0;
 }
 
-/* Empties the lists, in which nobody waits any more. */
-static void forget_waiters(void) {
-  is_copy = 0;
-  make_lists();
+/* Makes the lists, in which nobody waits any more. */
+static void forget_waiters(struct part *part) {
+  part->has_old_lists = 0;
+  for (int list = 0; list < LISTS; list++) TAILQ_INIT(&part->lists[list]);
+  if (mine.part != part) return;
   mine.in = NULL;
   unlist(&mine);
 }
 
 /* Lets the lock go, and only then wakes: else they would sleep once more, for the lock. */
-static void release(void) {
-  if (is_copy) forget_waiters();
-  thread.holds = 0;
-  pthread_mutex_unlock(&lock);
+static void release(struct part *part) {
+  if (part->has_old_lists) forget_waiters(part);
+  thread.holds &= ~bit_of(part);
+  pthread_mutex_unlock(&part->lock);
   wake_roused();
 }
 
+static void release_these(int set) {
+  FOR_PARTS(part, set) release(part);
+}
+
+/* Whoever has one that is long in coming may be a fork within a call, and wait for the others. */
+static void acquire_all(void) {
+  for (int i = 0; i < PARTS; i++) {
+    if (acquire_within(&parts[i], 20)) continue;
+    release_these(thread.holds);
+    acquire(&parts[i]);
+    release(&parts[i]);
+    i = -1;
+  }
+}
+
 /* A child has a copy of the queues of its own, in which nobody waits. A handler may fork within a
-   call that has the lock: the child has it then, and goes on with the call. */
+   call: the child has its locks then, and goes on with it. Of two that do so in two parts each may
+   not get the other's, which its child is without. */
 static void before_fork(void) {
-  thread.forks = !thread.holds;
-  if (thread.forks) acquire();
+  int had = thread.holds;
+  if (!had) acquire_all();
+  FOR_PARTS(part, ALL & ~thread.holds) acquire_within(part, 1000);
+  thread.forks = thread.holds & ~had;
 }
 
 static void in_parent(void) {
-  if (thread.forks) release();
+  release_these(thread.forks);
+  thread.forks = 0;
 }
 
 static void in_child(void) {
   self = getpid();
-  is_copy = 1;
-  if (thread.forks) release();
+  FOR_PARTS(part, ALL & ~thread.holds) {
+    pthread_mutex_init(&part->lock, NULL);
+    part->state = LOST;
+  }
+  FOR_PARTS(part, ALL) part->has_old_lists = 1;
+  in_parent();
 }
 
-/* A thread that is cancelled while it waits, or ends after it left its wait by siglongjmp, holds
-   nobody up. */
+/* Who is cancelled while it waits, or has left its wait by siglongjmp, holds nobody up. */
 static void leave(void *its) {
-  acquire();
-  unlist(its);
-  release();
+  struct waiter *waiter = its;
+  struct part *part = waiter->part;
+  if (!part) return;
+  acquire(part);
+  unlist(waiter);
+  release(part);
+  waiter->part = NULL;
 }
 
-/* Before any call: a fork that began before it knew of these would copy the lock as it is. */
+/* Before any call: a fork that began before it knew of these would copy the locks as they are. */
 __attribute__((constructor)) static void expect_forks(void) {
-  if (!pthread_atfork(before_fork, in_parent, in_child)) return;
-  state = NONE;
-  end_error = ENOMEM;
+  if (pthread_atfork(before_fork, in_parent, in_child)) no_call = ENOMEM;
 }
-
-static char *guard = MAP_FAILED;
 
 /* Makes the stack of the proved part above its guard, and what is called first on it. These are
    addresses: of memory there is what was touched. */
-static int make_stack(void) {
+static int make_stack(struct part *part) {
   int flags = MAP_PRIVATE | MAP_ANONYMOUS | MAP_NORESERVE | MAP_STACK;
-  if (guard == MAP_FAILED)
-    guard = mmap(NULL, GUARD + STACK, PROT_READ | PROT_WRITE, flags, -1, 0);
-  if (guard == MAP_FAILED || mprotect(guard, GUARD, PROT_NONE)) return ENOMEM;
-  void **top = (void **)(guard + GUARD + STACK);
+  if (!part->guard) {
+    void *at = mmap(NULL, GUARD + STACK, PROT_READ | PROT_WRITE, flags, -1, 0);
+    if (at == MAP_FAILED) return ENOMEM;
+    part->guard = at;
+  }
+  if (mprotect(part->guard, GUARD, PROT_NONE)) return ENOMEM;
+  void **top = (void **)(part->guard + GUARD + STACK);
   top[-2] = (void *)serve;
-  inside = top - 8;
+  part->inside = top - 8;
   return 0;
 }
 
-/* Reads the size. */
-static void prepare(void) {
-  make_lists();
-  height = configured("CIVDRAX_HEIGHT", 0, MAX_HEIGHT, MAX_HEIGHT);
-  slots = configured("CIVDRAX_SLOTS", 1, MAX_SLOTS, MAX_SLOTS);
-  self = getpid();
-  state = height < 0 || slots < 0 ? NONE : READY;
-  if (state == NONE || !pthread_key_create(&ends, leave)) return;
-  state = NONE;
-  end_error = ENOMEM;
+static void read_size(void) {
+  acquire_all();
+  if (!is_read) {
+    height = configured("CIVDRAX_HEIGHT", 0, MAX_HEIGHT, MAX_HEIGHT);
+    int slots = configured("CIVDRAX_SLOTS", 1, MAX_SLOTS, MAX_SLOTS);
+    for (int i = 0; i < slots; i++) parts[i % PARTS].slots++, sized |= 1 << i % PARTS;
+    self = getpid();
+    if (height < 0 || slots < 0) no_call = ENOSYS;
+    else if (pthread_key_create(&ends, leave)) no_call = ENOMEM;
+    __atomic_store_n(&is_read, 1, __ATOMIC_RELEASE);
+  }
+  release_these(ALL);
 }
 
 /* Under the lock: begins the loop, which comes out where it reads its first call; `call` has that
    call already. 0, or why no call is answered: where there was no memory the next call tries
    again. */
-static int begin(void) {
-  if (state == RUNS) return 0;
-  if (state == NEW) prepare();
-  if (state == NONE) return end_error;
-  int error = make_stack();
+static int begin(struct part *part) {
+  if (part->state == RUNS) return 0;
+  if (part->state == LOST) return ENOTRECOVERABLE;
+  int error = make_stack(part);
   if (error) return error;
-  state = RUNS;
-  given = sizeof call;
-  taken = sizeof answer;
-  go_in();
-  return state == RUNS ? 0 : end_error;
+  part->state = RUNS;
+  part->given = sizeof part->call;
+  part->taken = sizeof part->answer;
+  thread.begins = part;
+  go_in(part);
+  return part->state == RUNS ? 0 : part->answer.error;
 }
 
 /* Under the lock: has `call` answered. 0, or why it is refused. */
-static int ask(const void *in, void *out) {
-  answer = (struct answer){0};
-  int error = begin();
+static int ask(struct part *part, const void *in, void *out) {
+  part->answer = (struct answer){0};
+  int error = begin(part);
   if (error) return error;
-  call.moment = time(NULL);
-  text_in = in;
-  text_out = out;
-  given = taken = text_at = 0;
-  go_in();
-  if (taken < sizeof answer) return ENOMEM;
-  return answer.error;
+  part->call.moment = time(NULL);
+  part->text_in = in;
+  part->text_out = out;
+  part->given = part->taken = part->text_at = 0;
+  go_in(part);
+  if (part->taken < sizeof part->answer) return ENOMEM;
+  return part->answer.error;
 }
 
 /* Whether a handler makes this call, within another that the thread is in: then it is on the stack
-   of the proved part, on one of its own, or further down. */
+   of a proved part, on one of its own, or further down. */
 static int is_nested(const char *here) {
   stack_t own;
-  if (here >= guard && here < guard + GUARD + STACK) return 1;
+  FOR_PARTS(part, thread.holds)
+    if (here >= part->guard && here < part->guard + GUARD + STACK) return 1;
   if (!sigaltstack(NULL, &own) && own.ss_flags & SS_ONSTACK) return 1;
   return here < thread.began - SIGNAL_FRAME;
 }
 
-/* The thread has left a call by siglongjmp, with the lock. Whoever waits looks again, since it may
-   have stopped before it roused some; its lists are whole when read forward, and then made anew.
-   Where it left the proved part in the midst of a step, which nobody can end, no call is answered
-   any more. */
+/* The thread has left a call by siglongjmp, with its locks. Whoever waits looks again, since it may
+   have stopped before it roused some; the lists are whole when read forward, and then made anew. */
 static void recover(void) {
-  if (is_inside) {
-    state = NONE;
-    end_error = ENOTRECOVERABLE;
+  FOR_PARTS(part, thread.holds) {
+    if (part->is_inside) part->state = LOST;
+    for (int list = 0; list < LISTS; list++) rouse(part, list, 0);
+    part->has_old_lists = 1;
+    release(part);
   }
-  for (int list = 0; list < LISTS; list++) rouse_all(list);
-  forget_waiters();
-  release();
 }
 
-/* Begins a call, with the lock; or answers 0, and errno says why not. In a handler that ran in a
-   sleep, or after a jump out of one, the thread may not be cancelled at once any more, and the
-   sleep, if it is still to come, ends. */
+static ssize_t end_call(int error, ssize_t value) {
+  thread.began = NULL;
+  if (error) errno = error;
+  return error ? -1 : value;
+}
+
+/* Begins a call; or answers 0, and errno says why not. In a handler that ran in a sleep, or after a
+   jump out of one, the thread may not be cancelled at once any more, and is no longer in its list:
+   so the sleep, if it is still to come, ends. */
 static int begin_call(void) {
   char *here = __builtin_frame_address(0);
-  if (thread.began && is_nested(here)) return errno = EDEADLK, 0;
+  if (thread.forks || (thread.began && is_nested(here))) return errno = EDEADLK, 0;
   if (thread.holds) recover();
   if (thread.sleeps) {
     int type;
     thread.sleeps = 0;
     pthread_setcanceltype(thread.cancel_type, &type);
-    __atomic_store_n(&mine.word, ROUSED, __ATOMIC_RELEASE);
   }
   thread.began = here;
-  acquire();
-  return 1;
+  if (mine.part) leave(&mine);
+  if (!__atomic_load_n(&is_read, __ATOMIC_ACQUIRE)) read_size();
+  if (no_call) end_call(no_call, 0);
+  return !no_call;
 }
 
-static void end_call(void) {
-  release();
-  thread.began = NULL;
-}
+/* An id is that in its part times the number of parts, plus the part's; an index likewise. */
+static int id_of(const struct part *part, int within) { return within * PARTS + (part - parts); }
 
-static int refuse(int error) {
-  end_call();
-  errno = error;
-  return -1;
+/* Begins a call on an id, which becomes that in its part, with the part's lock; or answers null. A
+   part without slots refuses all. */
+static struct part *enter(int *id) {
+  if (!begin_call()) return NULL;
+  struct part *part = &parts[*id < 0 ? 0 : *id % PARTS];
+  if (*id >= 0) *id /= PARTS;
+  acquire(part);
+  return part;
 }
 
 /* Sleeps until it is roused, until the end, or until a handler has run: 0, or why. With an end, if
@@ -461,16 +520,27 @@ static int sleep_until(const struct timespec *end) {
   return 0;
 }
 
+/* Enters a list as the call says that was told to wait. */
+static void enlist(struct part *part) {
+  int of_slot = part->call.kind == SEND ? SENDERS : RECEIVERS;
+  mine.part = part;
+  mine.in = &part->lists[part->answer.wait == WAIT_PAGES ? PAGERS : of_slot + part->answer.slot];
+  mine.type = (int64_t)part->call.type;
+  mine.flags = part->call.flags;
+  __atomic_store_n(&mine.word, WAITS, __ATOMIC_RELAXED);
+  TAILQ_INSERT_TAIL(mine.in, &mine, link);
+}
+
 /* Under the lock, which others take meanwhile: waits in a list. A thread is cancelled in its sleep
    alone, where it has nothing to give back but its place in the list. */
-static int wait_in(int list, const struct timespec *end) {
-  struct call kept = call;
+static int wait_in(struct part *part, const struct timespec *end) {
+  struct call kept = part->call;
   char *began = thread.began;
   int error, type;
   if (pthread_setspecific(ends, &mine)) return ENOMEM;
-  unlist(&mine);
-  enlist(list);
-  end_call();
+  enlist(part);
+  release(part);
+  thread.began = NULL;
   pthread_cleanup_push(leave, &mine);
   thread.sleeps = 1;
   pthread_setcanceltype(PTHREAD_CANCEL_ASYNCHRONOUS, &thread.cancel_type);
@@ -479,60 +549,84 @@ static int wait_in(int list, const struct timespec *end) {
   thread.sleeps = 0;
   pthread_cleanup_pop(0);
   thread.began = began;
-  acquire();
+  acquire(part);
   unlist(&mine);
-  call = kept;
+  mine.part = NULL;
+  part->call = kept;
   return error;
-}
-
-/* Where a call that is told to wait does so. */
-static int list_of_answer(void) {
-  if (answer.wait == WAIT_PAGES) return PAGERS;
-  return (call.kind == SEND ? SENDERS : RECEIVERS) + (int)answer.slot;
 }
 
 /* Under the lock: makes a call, again after each wait, also after one whose time came or in which a
    handler ran: others may have changed what it waits for before it had the lock. 0, or why it is
    refused. */
-static int make(const void *in, void *out, const struct timespec *end) {
-  for (int ended = 0;; call.waited = 1) {
-    int error = ask(in, out);
-    if (!error || !answer.wait) return error;
+static int make(struct part *part, const void *in, void *out, const struct timespec *end) {
+  for (int ended = 0;; part->call.waited = 1) {
+    int error = ask(part, in, out);
+    if (!error || !part->answer.wait) return error;
     if (ended) return ended;
-    ended = wait_in(list_of_answer(), end);
+    ended = wait_in(part, end);
   }
 }
 
-int civdrax_msgget(key_t key, int flags) {
-  if (!begin_call()) return -1;
-  call = (struct call){.kind = GET, .number = (uint32_t)key, .flags = (uint32_t)flags};
-  int error = ask(NULL, NULL);
-  if (error) return refuse(error);
-  int id = answer.value;
-  if (answer.changed) {
-    int slot = answer.slot;
-    sent_by[slot] = received_by[slot] = 0;
-    owner[slot] = (struct ipc_perm){.__key = key, .uid = geteuid(), .gid = getegid(),
-                                    .cuid = geteuid(), .cgid = getegid(), .mode = flags & 0777,
-                                    .__seq = (unsigned)id / MAX_SLOTS};
+/* Under the lock: has a msgget answered in this part. 0 and the id, or why it is refused. */
+static int get_in(struct part *part, key_t key, int flags, int *id) {
+  part->call = (struct call){.kind = GET, .number = (uint32_t)key, .flags = (uint32_t)flags};
+  int error = ask(part, NULL, NULL);
+  if (error) return error;
+  *id = id_of(part, part->answer.value);
+  if (!part->answer.changed) return 0;
+  int slot = part->answer.slot;
+  part->queues++;
+  part->sent_by[slot] = part->received_by[slot] = 0;
+  part->owner[slot] = (struct ipc_perm){.__key = key, .uid = geteuid(), .gid = getegid(),
+                                        .cuid = geteuid(), .cgid = getegid(), .mode = flags & 0777,
+                                        .__seq = (unsigned)part->answer.value / MAX_SLOTS};
+  return 0;
+}
+
+/* Under all locks: looks for the key's queue, of which a part that has not begun has none; else
+   makes one, in the first part of those that have the fewest. */
+static int get(key_t key, int flags, int *id) {
+  int error = ENOENT;
+  FOR_PARTS(part, key == IPC_PRIVATE ? 0 : sized) {
+    if (part->state == NEW && part != parts) continue;
+    error = get_in(part, key, flags & ~IPC_CREAT, id);
+    if (error != ENOENT) return error ? error : get_in(part, key, flags, id);
   }
-  end_call();
-  return id;
+  if (key != IPC_PRIVATE && !(flags & IPC_CREAT)) return error;
+  for (int most = 0; most <= PART_SLOTS; most++)
+    FOR_PARTS(part, sized) {
+      if (part->queues > most) continue;
+      error = get_in(part, key, flags, id);
+      if (error != ENOSPC) return error;
+    }
+  return error;
+}
+
+int civdrax_msgget(key_t key, int flags) {
+  int id = -1;
+  if (!begin_call()) return -1;
+  acquire_all();
+  int error = get(key, flags, &id);
+  release_these(ALL);
+  return end_call(error, id);
 }
 
 int civdrax_timedsnd(int id, const void *message, size_t size, int flags,
                      const struct timespec *end) {
   long type = 0;
   if (message) memcpy(&type, message, sizeof type);
-  if (!begin_call()) return -1;
-  call = (struct call){.kind = SEND, .number = (uint32_t)id, .flags = (uint32_t)flags,
-                       .type = (uint64_t)type, .size = size, .buffer = !!message};
-  int error = make(message ? (const char *)message + sizeof type : NULL, NULL, end);
-  if (error) return refuse(error);
-  sent_by[answer.slot] = self;
-  rouse_receivers(answer.slot, type);
-  end_call();
-  return 0;
+  struct part *part = enter(&id);
+  if (!part) return -1;
+  part->call = (struct call){.kind = SEND, .number = (uint32_t)id, .flags = (uint32_t)flags,
+                             .type = (uint64_t)type, .size = size, .buffer = !!message};
+  int error = make(part, message ? (const char *)message + sizeof type : NULL, NULL, end);
+  if (!error) {
+    part->sent_by[part->answer.slot] = self;
+    rouse(part, RECEIVERS + part->answer.slot, type);
+  }
+  release(part);
+  return end_call(error, 0);
 }
 
 int civdrax_msgsnd(int id, const void *message, size_t size, int flags) {
@@ -541,19 +635,21 @@ int civdrax_msgsnd(int id, const void *message, size_t size, int flags) {
 
 ssize_t civdrax_timedrcv(int id, void *message, size_t size, long type, int flags,
                          const struct timespec *end) {
-  if (!begin_call()) return -1;
-  call = (struct call){.kind = RECEIVE, .number = (uint32_t)id, .flags = (uint32_t)flags,
-                       .type = (uint64_t)type, .size = size, .buffer = !!message};
-  int error = make(NULL, message ? (char *)message + sizeof type : NULL, end);
-  if (error) return refuse(error);
-  ssize_t length = answer.value;
-  type = (long)answer.type;
-  memcpy(message, &type, sizeof type);
-  received_by[answer.slot] = self;
-  rouse_all(SENDERS + answer.slot);
-  rouse_all(PAGERS);
-  end_call();
-  return length;
+  struct part *part = enter(&id);
+  if (!part) return -1;
+  part->call = (struct call){.kind = RECEIVE, .number = (uint32_t)id, .flags = (uint32_t)flags,
+                             .type = (uint64_t)type, .size = size, .buffer = !!message};
+  int error = make(part, NULL, message ? (char *)message + sizeof type : NULL, end);
+  ssize_t length = part->answer.value;
+  if (!error) {
+    type = (long)part->answer.type;
+    memcpy(message, &type, sizeof type);
+    part->received_by[part->answer.slot] = self;
+    rouse(part, SENDERS + part->answer.slot, 0);
+    rouse(part, PAGERS, 0);
+  }
+  release(part);
+  return end_call(error, length);
 }
 
 ssize_t civdrax_msgrcv(int id, void *message, size_t size, long type, int flags) {
@@ -561,33 +657,52 @@ ssize_t civdrax_msgrcv(int id, void *message, size_t size, long type, int flags)
 }
 
 /* Under the lock: what `shown` says of the queue in a slot. */
-static void fill(struct msqid_ds *to, int slot) {
-  memset(to, 0, sizeof *to);
-  to->msg_perm = owner[slot];
-  to->msg_stime = shown.queue.stime;
-  to->msg_rtime = shown.queue.rtime;
-  to->msg_ctime = shown.queue.ctime;
-  to->__msg_cbytes = shown.queue.cbytes;
-  to->msg_qnum = shown.queue.qnum;
-  to->msg_qbytes = shown.queue.qbytes;
-  to->msg_lspid = shown.queue.lspid ? sent_by[slot] : 0;
-  to->msg_lrpid = shown.queue.lrpid ? received_by[slot] : 0;
+static void fill(struct msqid_ds *to, const struct part *part, int slot) {
+  const union shown *its = &part->shown;
+  *to = (struct msqid_ds){.msg_perm = part->owner[slot], .msg_stime = its->queue.stime,
+                          .msg_rtime = its->queue.rtime, .msg_ctime = its->queue.ctime,
+                          .__msg_cbytes = its->queue.cbytes, .msg_qnum = its->queue.qnum,
+                          .msg_qbytes = its->queue.qbytes};
+  if (its->queue.lspid) to->msg_lspid = part->sent_by[slot];
+  if (its->queue.lrpid) to->msg_lrpid = part->received_by[slot];
 }
 
-/* Under the lock: the limits; of MSG_INFO three fields are what is in use. */
-static void inform(struct msginfo *to, int is_usage) {
-  memset(to, 0, sizeof *to);
-  to->msgmax = shown.usage.msgmax;
-  to->msgmnb = shown.usage.msgmnb;
-  to->msgmni = shown.usage.slots;
-  to->msgssz = shown.usage.page;
-  to->msgseg = shown.usage.pages;
-  to->msgpool = is_usage ? shown.usage.queues : shown.usage.pages * shown.usage.page / 1024;
-  to->msgmap = is_usage ? shown.usage.messages : shown.usage.msgmnb;
-  to->msgtql = is_usage ? shown.usage.bytes : shown.usage.msgmnb;
+/* The limits; of MSG_INFO three fields are what is in use. */
+static void tell(struct msginfo *to, const union shown *all, int is_usage) {
+  *to = (struct msginfo){.msgmax = all->usage.msgmax, .msgmnb = all->usage.msgmnb,
+                         .msgmni = all->usage.slots, .msgssz = all->usage.page,
+                         .msgseg = all->usage.pages};
+  to->msgpool = is_usage ? all->usage.queues : all->usage.pages * all->usage.page / 1024;
+  to->msgmap = is_usage ? all->usage.messages : all->usage.msgmnb;
+  to->msgtql = is_usage ? all->usage.bytes : all->usage.msgmnb;
 }
 
-/* Under the lock: the owner and the mode, of which nothing is checked. */
+/* IPC_INFO and MSG_INFO, of one moment: the sum of the parts, of which one that has not begun has
+   its size alone, and the greatest index in use. Of the id the sign alone matters. */
+static int inform(int id, int cmd, void *buf) {
+  union shown all = {0};
+  int error = 0, greatest = 0;
+  if (!begin_call()) return -1;
+  acquire_all();
+  FOR_PARTS(part, sized) {
+    union shown its = {.usage = {.slots = part->slots, .pages = 1 << height}};
+    if (part->state != NEW || part == parts) {
+      part->call = (struct call){.kind = CONTROL, .number = (uint32_t)(id < 0 ? id : 0),
+                                 .flags = (uint32_t)cmd, .buffer = !!buf};
+      if ((error = ask(part, NULL, NULL))) break;
+      its = part->shown;
+      if (its.usage.queues && id_of(part, part->answer.value) > greatest)
+        greatest = id_of(part, part->answer.value);
+    }
+    for (int i = 0; i < 8; i++)
+      all.numbers[i] = i < SUMMED ? all.numbers[i] + its.numbers[i] : parts->shown.numbers[i];
+  }
+  release_these(ALL);
+  if (!error) tell(buf, &all, cmd == MSG_INFO);
+  return end_call(error, greatest);
+}
+
+/* The owner and the mode, of which nothing is checked. */
 static void own(struct ipc_perm *its, const struct ipc_perm *wanted) {
   its->uid = wanted->uid;
   its->gid = wanted->gid;
@@ -597,37 +712,24 @@ static void own(struct ipc_perm *its, const struct ipc_perm *wanted) {
 int civdrax_msgctl(int id, int cmd, struct msqid_ds *buf) {
   struct msqid_ds wanted = {0};
   if (cmd == IPC_SET && buf) wanted = *buf;
-  if (!begin_call()) return -1;
-  call = (struct call){.kind = CONTROL, .number = (uint32_t)id, .flags = (uint32_t)cmd,
-                       .size = wanted.msg_qbytes, .buffer = !!buf};
-  int error = ask(NULL, NULL);
-  if (error) return refuse(error);
-  int slot = answer.slot, value = answer.value;
-  if (answer.shown == SHOWN_QUEUE) fill(buf, slot);
-  if (answer.shown == SHOWN_USAGE) inform((struct msginfo *)buf, cmd == MSG_INFO);
-  if (cmd == IPC_SET) own(&owner[slot], &wanted.msg_perm);
-  if (answer.changed) rouse_all(SENDERS + slot);
-  if (cmd == IPC_RMID) {
-    rouse_all(RECEIVERS + slot);
-    rouse_all(PAGERS);
+  if (cmd == IPC_INFO || cmd == MSG_INFO) return inform(id, cmd, buf);
+  struct part *part = enter(&id);
+  if (!part) return -1;
+  part->call = (struct call){.kind = CONTROL, .number = (uint32_t)id, .flags = (uint32_t)cmd,
+                             .size = wanted.msg_qbytes, .buffer = !!buf};
+  int error = ask(part, NULL, NULL);
+  int slot = part->answer.slot, value = part->answer.value;
+  if (!error) {
+    if (cmd == MSG_STAT || cmd == MSG_STAT_ANY) value = id_of(part, value);
+    if (part->answer.shown) fill(buf, part, slot);
+    if (cmd == IPC_SET) own(&part->owner[slot], &wanted.msg_perm);
+    if (part->answer.changed) rouse(part, SENDERS + slot, 0);
+    if (cmd == IPC_RMID) {
+      part->queues--;
+      rouse(part, RECEIVERS + slot, 0);
+      rouse(part, PAGERS, 0);
+    }
   }
-  end_call();
-  return value;
-}
-
-/* What descriptor 2 was when the library was loaded. */
-static struct stat first_error;
-static int had_error;
-
-__attribute__((constructor)) static void note_standard_error(void) {
-  had_error = !fstat(2, &first_error);
-}
-
-/* Whether descriptor 2 is a terminal or what it was then, and no file that the program has since
-   opened by this number. */
-static int has_standard_error(void) {
-  struct stat now;
-  if (isatty(2)) return 1;
-  return had_error && !fstat(2, &now) && now.st_dev == first_error.st_dev &&
-         now.st_ino == first_error.st_ino;
+  release(part);
+  return end_call(error, value);
 }

@@ -16,15 +16,16 @@ struct timespec;
 extern "C" {
 #endif
 
-/* The environment gives the size, which is read at the first call: CIVDRAX_HEIGHT, 0 to 10, for
-   2 ^ height pages of 1,024 bytes (10), and CIVDRAX_SLOTS, 1 to 64, for as many queues (64). With
-   another value each call answers ENOSYS, and a line on standard error says so.
+/* The environment gives the size, which is read at the first call: CIVDRAX_SLOTS, 1 to 64, for as
+   many queues (64), and CIVDRAX_HEIGHT, 0 to 10, for 2 ^ height pages of 1,024 bytes (10), which
+   those queues share whose ids are the same modulo 8. With another value each call answers ENOSYS,
+   and a line on standard error says so.
 
    A call fails with EINTR where a signal handler ran while it waited, whatever SA_RESTART says.
    Such a handler may make calls, fork, and leave the wait by siglongjmp. One that runs while its
    thread is in a call that does not wait has EDEADLK of each call. It should not leave by
-   siglongjmp: the next call may then answer ENOTRECOVERABLE, and with it each later one of the
-   process. A thread may be cancelled while it waits. */
+   siglongjmp: then each later call on those queues, and those of all, may answer ENOTRECOVERABLE.
+   A thread may be cancelled while it waits. */
 int civdrax_msgget(key_t key, int msgflg);
 int civdrax_msgsnd(int msqid, const void *msgp, size_t msgsz, int msgflg);
 ssize_t civdrax_msgrcv(int msqid, void *msgp, size_t msgsz, long msgtyp, int msgflg);

@@ -27,7 +27,7 @@ cancels=100
 # The most lines that the C part may have.
 most_lines=850
 # The tests that are run as they are, also with the sanitizers.
-tests=(calls stack waits signals midst turns late forks wakes threads memory)
+tests=(calls parts stack waits signals midst turns late forks wakes threads memory)
 warnings=(-std=gnu11 -Wall -Wextra -Werror -Wno-nonnull)
 preload=$PWD/face/out/libcivdrax_preload.so
 

@@ -8,11 +8,11 @@ static void shows_its_size(void) {
   struct msginfo all;
   CHECK(civdrax_msgctl(0, IPC_INFO, (struct msqid_ds *)&all) == 0);
   CHECK(all.msgmax == 65536 && all.msgmnb == 131072 && all.msgmni == 3);
-  CHECK(all.msgssz == 1024 && all.msgseg == 64 && all.msgpool == 64);
+  CHECK(all.msgssz == 1024 && all.msgseg == 192 && all.msgpool == 192);
   CHECK(all.msgmap == 131072 && all.msgtql == 131072);
   CHECK(civdrax_msgctl(0, MSG_INFO, (struct msqid_ds *)&all) == 0);
   CHECK(all.msgmax == 65536 && all.msgmnb == 131072 && all.msgmni == 3);
-  CHECK(all.msgssz == 1024 && all.msgseg == 64);
+  CHECK(all.msgssz == 1024 && all.msgseg == 192);
   CHECK(all.msgpool == 0 && all.msgmap == 0 && all.msgtql == 0);
 }
 
@@ -79,6 +79,7 @@ static void sends(int id) {
   REFUSED(civdrax_msgsnd(id, NULL, 5, 0), EFAULT);
   REFUSED(civdrax_msgsnd(-1, &m, 5, 0), EINVAL);
   REFUSED(civdrax_msgsnd(id + 64, &m, 5, 0), EINVAL);
+  REFUSED(civdrax_msgsnd(id + A_SEQ, &m, 5, 0), EINVAL);
   REFUSED(civdrax_msgsnd(id, &m, 65537, 0), EINVAL);
   REFUSED(civdrax_msgsnd(id, &m, (size_t)-1, 0), EINVAL);
   m.type = 0;
@@ -94,6 +95,7 @@ static void receives(int id) {
   REFUSED(civdrax_msgrcv(id, NULL, 4, 0, IPC_NOWAIT), EFAULT);
   REFUSED(civdrax_msgrcv(-1, &m, 4, 0, 0), EINVAL);
   REFUSED(civdrax_msgrcv(id + 64, &m, 4, 0, 0), EINVAL);
+  REFUSED(civdrax_msgrcv(id + A_SEQ, &m, 4, 0, 0), EINVAL);
   REFUSED(civdrax_msgrcv(id, &m, (size_t)-1, 0, 0), EINVAL);
   REFUSED(civdrax_msgrcv(id, &m, 4, 0, MSG_COPY), EINVAL);
   REFUSED(civdrax_msgrcv(id, &m, 4, 0, MSG_COPY | MSG_EXCEPT | IPC_NOWAIT), EINVAL);
@@ -150,6 +152,7 @@ static void controls(int id) {
   REFUSED(civdrax_msgctl(63, MSG_STAT, &slot), EINVAL);
   REFUSED(civdrax_msgctl(64, MSG_STAT, &slot), EINVAL);
   REFUSED(civdrax_msgctl(256, MSG_STAT, &slot), EINVAL);
+  REFUSED(civdrax_msgctl(256 * PARTS, MSG_STAT, &slot), EINVAL);
   struct msginfo all;
   CHECK(civdrax_msgctl(0, IPC_INFO, (struct msqid_ds *)&all) == id % 64);
   CHECK(all.msgmax == 65536 && all.msgmnb == 131072 && all.msgmni == 64);
@@ -177,20 +180,17 @@ static void is_gone(int id) {
   REFUSED(civdrax_msgsnd(id, &m, 1, 0), EINVAL);
   REFUSED(civdrax_msgrcv(id, &m, 1, 0, 0), EINVAL);
   int next = new_queue();
-  CHECK(next >= 64 && next != id && next % 64 == id % 64);
-  CHECK(civdrax_msgctl(next, IPC_STAT, &ds) == 0 && ds.msg_perm.__seq == next / 64);
+  CHECK(next >= A_SEQ && next != id && next % A_SEQ == id % A_SEQ);
+  CHECK(civdrax_msgctl(next, IPC_STAT, &ds) == 0 && ds.msg_perm.__seq == next / A_SEQ);
   remove_queue(next);
 }
 
 /* All pages are lent: without IPC_NOWAIT a send would wait, and a queue that is none is told. */
 static void runs_out_of_pages(void) {
   int ids[3];
-  for (int i = 0; i < 3; i++) ids[i] = new_queue();
+  take_pages(0, ids);
   m.type = 1;
-  int sent = 0;
-  while (civdrax_msgsnd(ids[sent / 400], &m, 1, IPC_NOWAIT) == 0) sent++;
-  CHECK(errno == ENOMEM && sent == 1024);
-  REFUSED(civdrax_msgsnd(ids[0] + 64, &m, 1, 0), EINVAL);
+  REFUSED(civdrax_msgsnd(ids[0] + A_SEQ, &m, 1, 0), EINVAL);
   CHECK(civdrax_msgsnd(ids[0], &m, 0, IPC_NOWAIT) == 0);
   CHECK(civdrax_msgrcv(ids[0], &m, 1, 0, 0) == 1);
   CHECK(civdrax_msgsnd(ids[1], &m, 1, IPC_NOWAIT) == 0);

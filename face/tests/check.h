@@ -23,6 +23,10 @@
 #define MSG_STAT_ANY 13
 #endif
 
+/* The queues are dealt out to parts, each with pages of its own: an id is the number of the slot's
+   queue times A_SEQ, plus the index of the slot, of which the lowest digit tells the part. */
+enum { PARTS = 8, A_SEQ = 64 * PARTS };
+
 static int passed, failed;
 
 /* One check, of any thread. */
@@ -102,4 +106,21 @@ static inline void set_quota(int id, unsigned long quota) {
 }
 
 static inline void remove_queue(int id) { CHECK(civdrax_msgctl(id, IPC_RMID, NULL) == 0); }
+
+/* A queue that shares its pages with this one: a new one is made where there are the fewest. */
+static inline int new_queue_beside(int id) {
+  int made[64], count = 0;
+  while ((made[count] = new_queue()) >= 0 && made[count] % PARTS != id % PARTS) count++;
+  for (int i = 0; i < count; i++) remove_queue(made[i]);
+  return made[count];
+}
+
+/* Three queues beside this one, all of whose pages are taken by as many texts. */
+static inline void take_pages(int id, int ids[3]) {
+  static struct message m = {.type = 1};
+  int sent = 0;
+  for (int i = 0; i < 3; i++) ids[i] = new_queue_beside(id);
+  while (civdrax_msgsnd(ids[sent / 400], &m, 1, IPC_NOWAIT) == 0) sent++;
+  CHECK(sent == 1024 && errno == ENOMEM);
+}
 #endif

@@ -38,7 +38,7 @@ static void *waits(void *id) {
 
 /* Sends and receives numbers without a pause. */
 static void *is_busy(void *id) {
-  static struct message its;
+  static __thread struct message its;
   int queue = *(int *)id, right = 1;
   for (long i = 1; right && !is_over; i++) {
     its.type = i;
@@ -115,18 +115,23 @@ static void forks_beside_the_first_call(void) {
   CHECK(pthread_join(thread, NULL) == 0);
 }
 
-static void forks_beside_calls(void) {
-  int id = new_queue();
-  pthread_t thread;
-  CHECK(pthread_create(&thread, NULL, is_busy, &id) == 0);
+/* Each thread is busy in a queue of another part. */
+static void forks_beside_calls(int count) {
+  int ids[PARTS];
+  pthread_t threads[PARTS];
+  is_over = 0;
+  for (int i = 0; i < count; i++) {
+    ids[i] = new_queue();
+    CHECK(pthread_create(&threads[i], NULL, is_busy, &ids[i]) == 0);
+  }
   for (int i = 0; i < 200 && !failed; i++)
     if (is_child()) {
-      is_whole(id);
+      for (int k = 0; k < count; k++) is_whole(ids[k]);
       end_child();
     }
   is_over = 1;
-  CHECK(pthread_join(thread, NULL) == 0);
-  remove_queue(id);
+  for (int i = 0; i < count; i++) CHECK(pthread_join(threads[i], NULL) == 0);
+  for (int i = 0; i < count; i++) remove_queue(ids[i]);
 }
 
 static int last_sender(int id) {
@@ -191,7 +196,8 @@ static void forks_beside_a_wait(void) {
 int main(void) {
   watch(240);
   forks_beside_the_first_call();
-  forks_beside_calls();
+  forks_beside_calls(1);
+  forks_beside_calls(5);
   forks_after_calls();
   forks_beside_a_wait();
   return told();

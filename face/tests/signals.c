@@ -84,15 +84,14 @@ static void ends_by_a_signal(struct job job, int flags) {
 
 /* Each kind of wait: for a message, for room and for pages. */
 static void a_handler_ends_each_wait(int flags) {
-  int full = new_queue(), ids[3], sent = 0;
+  int full = new_queue(), ids[3];
   send(id, TYPE + 1, SIZE);
   ends_by_a_signal((struct job){.id = id, .size = SIZE}, flags);
   set_quota(full, 10);
   send(full, 1, 10);
   ends_by_a_signal((struct job){.id = full, .is_send = 1, .size = SIZE}, flags);
-  for (int i = 0; i < 3; i++) ids[i] = new_queue();
-  static struct message m = {.type = 1};
-  while (civdrax_msgsnd(ids[sent / 400], &m, 1, IPC_NOWAIT) == 0) sent++;
+  static struct message m;
+  take_pages(2, ids);
   ends_by_a_signal((struct job){.id = ids[2], .is_send = 1, .size = SIZE}, flags);
   for (int i = 0; i < 3; i++) remove_queue(ids[i]);
   remove_queue(full);
@@ -176,9 +175,11 @@ static pthread_t signal_comes(void) {
   return thread;
 }
 
-/* After a jump out of a wait each call answers as ever, and a cancel is as late as it was. */
-static void a_jump_out_of_a_wait(void) {
+/* After a jump out of a wait each call answers as ever, also where it waits in another queue, and a
+   cancel is as late as it was. */
+static void a_jump_out_of_a_wait(int other) {
   static struct message m;
+  struct timespec soon;
   pthread_t thread;
   int type;
   on_signal(SIGUSR1, jumps, 0);
@@ -189,6 +190,8 @@ static void a_jump_out_of_a_wait(void) {
       CHECK(0);
     }
     CHECK(pthread_join(thread, NULL) == 0);
+    soon = in_milliseconds(5);
+    REFUSED(civdrax_timedrcv(other, &m, SIZE, TYPE, 0, &soon), ETIMEDOUT);
     send(id, TYPE, SIZE);
     CHECK(pthread_setcanceltype(PTHREAD_CANCEL_DEFERRED, &type) == 0);
     CHECK(type == PTHREAD_CANCEL_DEFERRED);
@@ -201,6 +204,7 @@ static void a_jump_out_of_a_wait(void) {
   set_quota(id, 100);
   CHECK(civdrax_msgrcv(id, &m, SIZE, TYPE, 0) == SIZE);
   end(&job);
+  remove_queue(other);
 }
 
 static int inner;
@@ -217,10 +221,10 @@ static void calls(int number) {
   inner_error = errno;
 }
 
-static void a_handler_calls_in_a_wait(void) {
+static void a_handler_calls_in_a_wait(int in) {
   static struct message m;
   on_signal(SIGUSR1, calls, SA_RESTART);
-  inner = new_queue();
+  inner = in;
   pthread_t thread = signal_comes();
   REFUSED(civdrax_msgrcv(id, &m, SIZE, TYPE, 0), EINTR);
   CHECK(inner_result == 2 && inner_error == ETIMEDOUT);
@@ -260,8 +264,10 @@ int main(void) {
   a_handler_ends_each_wait(SA_RESTART);
   nothing_else_ends_it();
   a_message_is_not_lost();
-  a_jump_out_of_a_wait();
-  a_handler_calls_in_a_wait();
+  a_jump_out_of_a_wait(new_queue_beside(id));
+  a_jump_out_of_a_wait(new_queue());
+  a_handler_calls_in_a_wait(new_queue_beside(id));
+  a_handler_calls_in_a_wait(new_queue());
   a_handler_forks_in_a_wait();
   remove_queue(id);
   return told();

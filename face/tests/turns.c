@@ -109,14 +109,6 @@ static void each_selection(void) {
     }
 }
 
-/* Takes all pages by as many texts, in three queues. */
-static void take_pages(int ids[3]) {
-  int sent = 0;
-  struct small m = {.type = 1};
-  for (int i = 0; i < 3; i++) ids[i] = new_queue();
-  while (civdrax_msgsnd(ids[sent / 400], &m, 1, IPC_NOWAIT) == 0) sent++;
-}
-
 /* Makes a change that wakes so many, of whom so many then sleep again. */
 #define WAKES(change, woken, again) \
   do { \
@@ -129,14 +121,14 @@ static void take_pages(int ids[3]) {
 
 /* One waits for a message and one for room in a queue, and one for pages. */
 static void a_change_wakes_its_own(void) {
-  int ids[3], other = new_queue(), id = new_queue();
+  int ids[3], other = new_queue(), id = new_queue_beside(other);
   struct job receiver = {.id = id, .type = 5, .size = 1}, sender = {.id = id, .is_send = 1};
   struct job pager = {.id = other, .is_send = 1, .size = 1};
   send(id, 1, 0);
   set_quota(id, 1);
   start(&receiver);
   start(&sender);
-  take_pages(ids);
+  take_pages(other, ids);
   start(&pager);
   WAKES(send(other, 5, 0), 0, 0);
   WAKES(set_quota(other, 1000), 0, 0);
@@ -159,7 +151,7 @@ static void pages_come_of_a_text_cut_to_nothing(void) {
   struct small m;
   int ids[3];
   struct job pager = {.id = new_queue(), .is_send = 1, .size = 1};
-  take_pages(ids);
+  take_pages(pager.id, ids);
   start(&pager);
   CHECK(civdrax_msgrcv(ids[0], &m, 0, 0, MSG_NOERROR) == 0);
   end(&pager);

@@ -60,22 +60,23 @@ static void send(int id, long type, size_t size) {
   CHECK(civdrax_msgsnd(id, &m, size, IPC_NOWAIT) == 0);
 }
 
-/* While another waits in `id`, messages go through a queue of their own. */
-static void goes_on(void) {
+/* While another waits in `id`, messages go through queues of their own, beside it and elsewhere. */
+static void goes_on(int id) {
   static struct message m;
-  int id = new_queue(), right = 0;
-  for (int i = 0; i < 1000; i++) {
+  int ids[] = {new_queue_beside(id), new_queue()}, right = 0;
+  for (int i = 0; i < 2000; i++) {
     m.type = i + 1;
-    right += civdrax_msgsnd(id, &m, 10, 0) == 0 && civdrax_msgrcv(id, &m, 10, 0, 0) == 10;
+    right += civdrax_msgsnd(ids[i % 2], &m, 10, 0) == 0;
+    right += civdrax_msgrcv(ids[i % 2], &m, 10, 0, 0) == 10;
   }
-  CHECK(right == 1000);
-  remove_queue(id);
+  CHECK(right == 4000);
+  for (int i = 0; i < 2; i++) remove_queue(ids[i]);
 }
 
 static void a_message_comes(void) {
   int id = new_queue();
   struct job *job = receiver(id, 5);
-  goes_on();
+  goes_on(id);
   send(id, 4, 10);
   usleep(20000);
   CHECK(!job->ended);
@@ -92,7 +93,7 @@ static void room_comes(void) {
   set_quota(id, 10);
   send(id, 1, 10);
   struct job *by_receipt = sender(id, 5);
-  goes_on();
+  goes_on(id);
   CHECK(civdrax_msgrcv(id, &m, 10, 0, 0) == 10);
   end(by_receipt);
   CHECK(by_receipt->result == 0);
@@ -124,20 +125,10 @@ static void empty_texts_come_and_go(void) {
   free(sends);
 }
 
-/* Takes all pages by as many texts, in three queues. */
-static void take_pages(int ids[3]) {
-  static struct message m;
-  m.type = 1;
-  for (int i = 0; i < 3; i++) ids[i] = new_queue();
-  int sent = 0;
-  while (civdrax_msgsnd(ids[sent / 400], &m, 1, IPC_NOWAIT) == 0) sent++;
-  CHECK(sent == 1024 && errno == ENOMEM);
-}
-
 static void pages_come(void) {
   static struct message m;
   int ids[3], other = new_queue();
-  take_pages(ids);
+  take_pages(other, ids);
   struct job *job = sender(other, 1);
   CHECK(civdrax_msgrcv(ids[0], &m, 1, 0, 0) == 1);
   end(job);
@@ -159,8 +150,8 @@ static void removals_end_waits(void) {
   for (int i = 0; i < 3; i++) jobs[i] = receiver(id, i - 1);
   jobs[3] = sender(full, 1);
   jobs[4] = sender(full, 100);
-  goes_on();
-  take_pages(ids);
+  goes_on(id);
+  take_pages(other, ids);
   jobs[5] = sender(other, 1);
   remove_queue(id);
   remove_queue(full);
@@ -179,7 +170,7 @@ static void a_cancelled_wait_holds_up_nobody(void) {
   struct job *job = receiver(id, 1);
   CHECK(pthread_cancel(job->thread) == 0);
   end(job);
-  goes_on();
+  goes_on(id);
   send(id, 1, 3);
   remove_queue(id);
   free(job);
