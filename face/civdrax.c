@@ -80,10 +80,9 @@ _Static_assert(sizeof(union shown) == 64, "what is shown");
 
 extern int32_t civdrax_serve(int32_t calls, uint8_t height, uint8_t slots);
 
-enum { WAITS, ROUSED };
-
 /* Who waits: a thread's own, since a handler may leave the wait by siglongjmp, and it stays in its
    list then. It is changed under its part's lock alone; `part` by its thread. */
+enum { WAITS, ROUSED };
 struct waiter {
   TAILQ_ENTRY(waiter) link;
   struct part *part;  /* whose list it has still to leave, or null */
@@ -407,7 +406,8 @@ static void read_size(void) {
   if (!is_read) {
     height = configured("CIVDRAX_HEIGHT", 0, MAX_HEIGHT, MAX_HEIGHT);
     int slots = configured("CIVDRAX_SLOTS", 1, MAX_SLOTS, MAX_SLOTS);
-    for (int i = 0; i < slots; i++) parts[i % PARTS].slots++, sized |= 1 << i % PARTS;
+    for (int i = 0; i < PARTS; i++) parts[i].slots = (slots + PARTS - 1 - i) / PARTS;
+    sized = (1 << least(slots, PARTS)) - 1;
     self = getpid();
     if (height < 0 || slots < 0) no_call = ENOSYS;
     else if (pthread_key_create(&ends, leave)) no_call = ENOMEM;
@@ -598,7 +598,7 @@ static int get(key_t key, int flags, int *id) {
     FOR_PARTS(part, sized) {
       if (part->queues > most) continue;
       error = get_in(part, key, flags, id);
-      if (error != ENOSPC) return error;
+      if (error != ENOSPC && error != ENOTRECOVERABLE) return error;
     }
   return error;
 }
@@ -691,8 +691,8 @@ static int inform(int id, int cmd, void *buf) {
                                  .flags = (uint32_t)cmd, .buffer = !!buf};
       if ((error = ask(part, NULL, NULL))) break;
       its = part->shown;
-      if (its.usage.queues && id_of(part, part->answer.value) > greatest)
-        greatest = id_of(part, part->answer.value);
+      int index = its.usage.queues ? id_of(part, part->answer.value) : 0;
+      greatest = index > greatest ? index : greatest;
     }
     for (int i = 0; i < 8; i++)
       all.numbers[i] = i < SUMMED ? all.numbers[i] + its.numbers[i] : parts->shown.numbers[i];

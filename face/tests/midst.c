@@ -243,6 +243,7 @@ static void a_jump_out_of_a_step(void) {
   CHECK(later.error == ENOTRECOVERABLE);
   REFUSED(all(), ENOTRECOVERABLE);
   REFUSED(civdrax_msgget(77, IPC_CREAT), ENOTRECOVERABLE);
+  remove_queue(new_queue());
   message->type = 5;
   CHECK(civdrax_msgsnd(other, message, SIZE, 0) == 0 && stat_of(other) == 0);
   CHECK(civdrax_msgrcv(other, message, SIZE, 0, 0) == SIZE && message->type == 5);

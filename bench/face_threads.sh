@@ -1,0 +1,88 @@
+#!/bin/bash
+# Times threads that pass texts through the queues of the C library of face/, beside the kernel's:
+# `bench/face_threads.sh [TEXTS] [ROUNDS] [OTHER]`, at least 5 rounds. Rows: so many that send and so
+# many that receive through one queue; four threads each of which sends and receives by turns in a
+# queue of its own; two that pass one text there and back; one thread alone. A queue has the quota
+# 131,072, or as much as the kernel gives. OTHER is a libcivdrax.a of another commit, timed beside them.
+# Medians of rounds in which they take turns; what a run of no texts takes is left out. The library's
+# ratios are printed beside what is wanted, with ! where one is missed, and the status is 1 then.
+# Raises the kernel's limits while it runs, where it may. Times the library as it lies in face/out, and
+# builds it where it is not there. Wants cc, and a machine with nothing else to do.
+set -euo pipefail
+cd "$(dirname "$0")/.."
+[ -e face/out/libcivdrax.a ] || make -s -C face > /dev/null
+. bench/kernel_limits.sh
+folder=$(mktemp -d)
+trap 'restore_limits; rm -rf "$folder"' EXIT
+# The same program, with the calls of the library $2.
+over() {
+    cc -O2 -Wall -Wextra -include face/civdrax.h -Dmsgget=civdrax_msgget -Dmsgsnd=civdrax_msgsnd \
+        -Dmsgrcv=civdrax_msgrcv -Dmsgctl=civdrax_msgctl -o "$folder/$1" bench/peer_threads.c "$2" \
+        -pthread
+}
+cc -O2 -Wall -Wextra -o "$folder/kernel" bench/peer_threads.c -pthread
+over library face/out/libcivdrax.a
+[ $# -lt 3 ] || over other "$3"
+raise_limits
+PYTHONPATH=bench PYTHONDONTWRITEBYTECODE=1 python3 - "${1:-40000}" "${2:-9}" "$folder" <<'PYTHON'
+import os
+import sys
+from typing import NamedTuple
+
+from timing import medians, ratio, say_load, seconds
+
+TEXTS, ROUNDS, FOLDER = int(sys.argv[1]), int(sys.argv[2]), sys.argv[3]
+NAMES = [name for name in ("kernel", "library", "other") if os.path.exists(f"{FOLDER}/{name}")]
+LENGTHS = (0, 1000, 8192)
+QUOTA = 131072
+# The most of the kernel's time: in queues of their own, and of one thread.
+OWN_QUEUES, ONE_THREAD = 0.9, 0.65
+
+
+class Row(NamedTuple):
+    """Threads that do what a word of `peer_threads` says, with texts of one length, of which a count
+    is so many in all."""
+    head: str
+    word: str
+    threads: int
+    length: int
+    count: int
+    texts: int
+    wanted: float | None
+
+    def run_of(self, name, count):
+        """The seconds of a run of so many texts."""
+        return seconds([f"{FOLDER}/{name}", "kernel", self.word, self.length, count, self.threads,
+                        self.threads, QUOTA], count)
+
+
+def rows():
+    made = [Row(f"{side}x{side}", "flow", side, length, TEXTS // side, side, None)
+            for side in (1, 2, 4) for length in LENGTHS]
+    made += [Row("own queues 4", "own", 4, length, 2 * TEXTS, 4, OWN_QUEUES) for length in LENGTHS]
+    made += [Row("back", "two", 1, length, TEXTS // 4, 1, None) for length in LENGTHS]
+    return [*made, Row("one thread", "own", 1, 16, 4 * TEXTS, 1, ONE_THREAD)]
+
+
+def main():
+    if ROUNDS < 5:
+        sys.exit("at least 5 rounds")
+    say_load("nanoseconds a text, and the ratios (wanted)")
+    runs = {(row, name): (row.count, lambda count, row=row, name=name: row.run_of(name, count))
+            for row in rows() for name in NAMES}
+    found, missed = medians(runs, ROUNDS), 0
+    print(f"{'':20}" + "".join(f"{name:>10}" for name in NAMES) + "  of the kernel"
+          + "  of the other" * ("other" in NAMES))
+    for row in rows():
+        times = {name: found[row, name] / row.texts for name in NAMES}
+        text, is_missed = ratio(times["library"] / times["kernel"], row.wanted)
+        missed += is_missed
+        if "other" in NAMES:
+            text += f"  {times['library'] / times['other']:6.2f}"
+        print(f"{row.head + ', ' + str(row.length):20}"
+              + "".join(f"{times[name]:10.0f}" for name in NAMES) + "  " + text, flush=True)
+    sys.exit(f"{missed} missed" if missed else 0)
+
+
+main()
+PYTHON
