@@ -4,6 +4,7 @@
 #define CIVDRAX_H
 
 #include <stddef.h>
+#include <stdio.h>
 #include <sys/ipc.h>
 #include <sys/msg.h>
 #include <sys/types.h>
@@ -36,6 +37,9 @@ int civdrax_timedsnd(int msqid, const void *msgp, size_t msgsz, int msgflg,
                      const struct timespec *end);
 ssize_t civdrax_timedrcv(int msqid, void *msgp, size_t msgsz, long msgtyp, int msgflg,
                          const struct timespec *end);
+
+/* Prints the table of this process's queues, as `ipcs -q` does that of the kernel's: 0, or -1. */
+int civdrax_print(FILE *to);
 
 #ifdef __cplusplus
 }

@@ -81,7 +81,8 @@ names() {
 }
 
 library_names() {
-    local own='civdrax_msgctl civdrax_msgget civdrax_msgrcv civdrax_msgsnd civdrax_timedrcv civdrax_timedsnd '
+    local own='civdrax_msgctl civdrax_msgget civdrax_msgrcv civdrax_msgsnd civdrax_print '
+    own+='civdrax_timedrcv civdrax_timedsnd '
     wanted=$own names face/out/libcivdrax.a
     wanted=$own names face/out/libcivdrax.so -D
     wanted="${own}dlopen msgctl msgget msgrcv msgsnd " names face/out/libcivdrax_preload.so -D
@@ -130,6 +131,19 @@ preloaded() {
     count $? "face/tests/preloaded.c has made calls here: $calls"
 }
 
+# The printed table, also by the shared library and with the sanitizers.
+table() {
+    compile table "$folder/table" face/out/libcivdrax.a
+    compile table "$folder/shared_table" face/out/libcivdrax.so "-Wl,-rpath,$PWD/face/out"
+    compile table "$folder/sanitized/table" -fsanitize=address,undefined \
+        -fno-sanitize-recover=all "$folder/sanitized/libcivdrax.so" \
+        "-Wl,-rpath,$folder/sanitized"
+    for it in "$folder"/{,shared_,sanitized/}table; do
+        checks "$it"
+        grep 'LEFT OUT' "$folder/out"
+    done
+}
+
 # What `make install` writes.
 installed() {
     tests/face_install.sh > "$folder/installed" 2>&1
@@ -160,8 +174,9 @@ sanitized() {
     local flags=(-O1 -g -fsanitize=address,undefined -fno-sanitize-recover=all)
     mkdir "$folder/sanitized"
     cc "${warnings[@]}" "${flags[@]}" -fcf-protection=none -fPIC -shared \
-        -o "$folder/sanitized/libcivdrax.so" face/civdrax.c crates/civdrax/out/libcivdrax.a \
-        "$heap" -Wl,--wrap=read,--wrap=write -Wl,--version-script=face/civdrax.map -pthread
+        -o "$folder/sanitized/libcivdrax.so" face/civdrax.c face/print.c \
+        crates/civdrax/out/libcivdrax.a "$heap" -Wl,--wrap=read,--wrap=write \
+        -Wl,--version-script=face/civdrax.map -pthread
     count $? "the C part does not compile with the sanitizers"
     for test in "${tests[@]}" damaged; do
         cc "${warnings[@]}" "${flags[@]}" -o "$folder/sanitized/$test" "face/tests/$test.c" \
@@ -311,6 +326,7 @@ preloaded
 installed
 plus_plus
 sanitized
+table
 allocations
 sizes
 clients

@@ -4,8 +4,8 @@
 #include "check.h"
 #include <fcntl.h>
 
-/* The program anew: what it does with descriptor 2 before its first call, and which file it opens by
-   that number. */
+/* The program anew: what it does with descriptor 2 before its first call, and which file it opens
+   by that number. */
 static int refused(const char *how, const char *name) {
   int kept = dup(2);
   if (strcmp(how, "keeps")) {
