@@ -2,10 +2,10 @@
 # The C part as a library that is installed: what `make install` writes and where, and that
 # `make uninstall` leaves none of it; programs that are built by the words of pkg-config alone; the
 # names, their versions, and that the library stays once it is opened; a packager's flags, with
-# which the library is as it has to be; its processor; the manual page under each call's name; the
-# header in each edition of C and C++ that the compilers here know. All of it in a folder that goes
-# afterwards. Wants face/out to be built, as tests/face.sh has it. What a missing program leaves out
-# is said in a line of its own. Prints the cases that fail; the last line counts.
+# which the library is as it has to be; Debian's packages; its processor; the manual page under each
+# call's name; the header in each edition of C and C++ that the compilers here know. All of it in a
+# folder that goes afterwards. Wants face/out to be built, as tests/face.sh has it. What a missing
+# program leaves out is said in a line of its own. Prints the cases that fail; the last line counts.
 source "$(dirname "$0")/cases.sh"
 tree=$seen/tree
 version=$(sed -n 's/^version := //p' face/Makefile)
@@ -175,6 +175,34 @@ processor() {
     done
 }
 
+# Debian's packages, of the sources that they want, and a program that is built over them.
+packages() {
+    local it source=$seen/packages/source root=$seen/packages/root lib pair
+    [ "$(sed -n '1s/.*(\(.*\)).*/\1/p' debian/changelog)" = "$version" ]
+    count $? "debian/changelog has not the version $version"
+    for it in dpkg-buildpackage dh; do is_here $it "Debian's packages" || return; done
+    mkdir -p "$source/face" "$source/crates/civdrax/out" "$root"
+    cp -r debian "$source"
+    cp face/Makefile face/*.[ch3] face/*.map face/*.in "$source/face"
+    cp crates/civdrax/out/libcivdrax.a "$source/crates/civdrax/out"
+    (cd "$source" && MAKEFLAGS=prove=true DEB_BUILD_OPTIONS=noautodbgsym dpkg-buildpackage -b) \
+        > "$seen/made" 2>&1
+    count $? "dpkg-buildpackage: $(tail -n 3 "$seen/made")"
+    for it in libcivdrax0 libcivdrax-dev civdrax-preload; do
+        dpkg-deb -x "$seen/packages/${it}_${version}_amd64.deb" "$root" 2> "$seen/err"
+        count $? "there is no package $it"
+    done
+    lib=/usr/lib/$(dpkg-architecture -q DEB_HOST_MULTIARCH)
+    for pair in "shared -lcivdrax" "static $root$lib/libcivdrax.a"; do
+        cc "${warnings[@]}" -o "$seen/${pair%% *}" face/tests/installed.c -I"$root/usr/include" \
+            -L"$root$lib" ${pair#* } -pthread && LD_LIBRARY_PATH=$root$lib "$seen/${pair%% *}"
+        count $? "a ${pair%% *} program over the packages fails"
+    done
+    [ -f "$root$lib/libcivdrax_preload.so" ] \
+        && [ -e "$root/usr/share/man/man3/civdrax_msgget.3.gz" ]
+    count $? 'the packages lack the preloaded library or a page'
+}
+
 # Each call has its page, by its name, of which the first line names it.
 pages() {
     local it man=$seen/named/man
@@ -229,6 +257,7 @@ uninstall
 versions
 unload
 flags
+packages
 processor
 headers
 at_least 50
