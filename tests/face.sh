@@ -131,17 +131,27 @@ preloaded() {
     count $? "face/tests/preloaded.c has made calls here: $calls"
 }
 
-# The printed table, also by the shared library and with the sanitizers.
+# The printed table, also by the shared library and with the sanitizers; with each allocation refused
+# in turn nothing is printed, or all of it.
 table() {
+    local n it
     compile table "$folder/table" face/out/libcivdrax.a
     compile table "$folder/shared_table" face/out/libcivdrax.so "-Wl,-rpath,$PWD/face/out"
-    compile table "$folder/sanitized/table" -fsanitize=address,undefined \
-        -fno-sanitize-recover=all "$folder/sanitized/libcivdrax.so" \
-        "-Wl,-rpath,$folder/sanitized"
-    for it in "$folder"/{,shared_,sanitized/}table; do
+    compile table "$folder/sanitized_table" -fsanitize=address,undefined \
+        -fno-sanitize-recover=all face/print.c face/out/libcivdrax.a
+    for it in "$folder"/{,shared_,sanitized_}table; do
         checks "$it"
         grep 'LEFT OUT' "$folder/out"
     done
+    for ((n = 1; n < 1000; n++)); do
+        rm -f "$folder/mark"
+        CIVDRAX_HEIGHT=0 CIVDRAX_SLOTS=1 REFUSE_NTH=$n REFUSE_MARK="$folder/mark" \
+            LD_PRELOAD="$folder/refuse.so" "$folder/table" again > "$folder/out" 2> "$folder/err"
+        count $? "the table with allocation $n refused: $(head -n 1 "$folder/err")"
+        [ -e "$folder/mark" ] || break
+    done
+    [ "$n" -gt 10 ] && [ "$n" -lt 1000 ]
+    count $? "of the table $n allocations were refused"
 }
 
 # What `make install` writes.
@@ -174,9 +184,8 @@ sanitized() {
     local flags=(-O1 -g -fsanitize=address,undefined -fno-sanitize-recover=all)
     mkdir "$folder/sanitized"
     cc "${warnings[@]}" "${flags[@]}" -fcf-protection=none -fPIC -shared \
-        -o "$folder/sanitized/libcivdrax.so" face/civdrax.c face/print.c \
-        crates/civdrax/out/libcivdrax.a "$heap" -Wl,--wrap=read,--wrap=write \
-        -Wl,--version-script=face/civdrax.map -pthread
+        -o "$folder/sanitized/libcivdrax.so" face/civdrax.c crates/civdrax/out/libcivdrax.a \
+        "$heap" -Wl,--wrap=read,--wrap=write -Wl,--version-script=face/civdrax.map -pthread
     count $? "the C part does not compile with the sanitizers"
     for test in "${tests[@]}" damaged; do
         cc "${warnings[@]}" "${flags[@]}" -o "$folder/sanitized/$test" "face/tests/$test.c" \
@@ -326,8 +335,8 @@ preloaded
 installed
 plus_plus
 sanitized
-table
 allocations
+table
 sizes
 clients
 ends

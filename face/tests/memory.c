@@ -28,7 +28,6 @@ static void all(void) {
   CHECK(AGAIN(civdrax_msgctl(id, IPC_STAT, &ds)) == 0 && ds.msg_qnum == 0);
   ds.msg_qbytes = 7;
   CHECK(AGAIN(civdrax_msgctl(id, IPC_SET, &ds)) == 0);
-  CHECK(AGAIN(civdrax_print(stdout)) == 0);
   CHECK(AGAIN(civdrax_msgctl(id, IPC_RMID, NULL)) == 0);
   CHECK(AGAIN(civdrax_msgctl(other, IPC_RMID, NULL)) == 0);
   REFUSED(civdrax_msgctl(id, IPC_RMID, NULL), EINVAL);

@@ -1,5 +1,6 @@
 /* The table of the queues as it is printed, and that `ipcs -q` prints the same of the same queues of
-   the kernel's, but for their ids. */
+   the kernel's, but for their ids. With a word it is printed alone, and again where there was no
+   memory. */
 #include "check.h"
 
 static const char head[] = "\n------ Message Queues --------\n"
@@ -129,8 +130,28 @@ static void beside_ipcs(void) {
   }
 }
 
-int main(void) {
+/* Into a file that has its memory: nothing of the first table, or all of it. */
+static int again(void) {
+  static char bytes[BUFSIZ], text[1024];
+  FILE *to = NULL;
+  for (int i = 0; i < 2 && !to; i++) to = tmpfile();
+  CHECK(to && !setvbuf(to, bytes, _IOFBF, sizeof bytes));
+  int id = civdrax_msgget(IPC_PRIVATE, IPC_CREAT);
+  if (id < 0) id = civdrax_msgget(IPC_PRIVATE, IPC_CREAT);
+  CHECK(id >= 0);
+  if (civdrax_print(to)) {
+    CHECK(errno == ENOMEM && ftell(to) == 0);
+    CHECK(civdrax_print(to) == 0);
+  }
+  rewind(to);
+  CHECK(fread(text, 1, sizeof text, to) == sizeof head + 70);
+  return told();
+}
+
+int main(int argc, char **argv) {
+  (void)argv;
   watch(60);
+  if (argc > 1) return again();
   no_size();
   three();
   refusals();
