@@ -6,10 +6,14 @@
 #include <stdarg.h>
 
 static int sleep_count, wake_count;
+/* What is done before each wake, or null. */
+static void (*at_wake)(void);
 
 static inline void count(int operation) {
   if (operation == FUTEX_WAIT_BITSET_PRIVATE) __atomic_add_fetch(&sleep_count, 1, __ATOMIC_SEQ_CST);
-  if (operation == FUTEX_WAKE_PRIVATE) __atomic_add_fetch(&wake_count, 1, __ATOMIC_SEQ_CST);
+  if (operation != FUTEX_WAKE_PRIVATE) return;
+  __atomic_add_fetch(&wake_count, 1, __ATOMIC_SEQ_CST);
+  if (at_wake) at_wake();
 }
 
 long syscall(long number, ...) {

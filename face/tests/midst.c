@@ -6,7 +6,7 @@
 #include <setjmp.h>
 #include <sys/mman.h>
 
-enum { PAGE = 4096, SIZE = 100 };
+enum { PAGE = 4096, SIZE = 100, OWN = 1 << 16 };
 
 /* Two pages: a message whose type is the end of the first, and whose text is in the second. */
 static char *pages;
@@ -70,9 +70,9 @@ static void is_sent(void) {
   CHECK(civdrax_msgrcv(id, message, SIZE, 0, 0) == SIZE && message->type == 5);
 }
 
-static void a_handler_calls(void) {
-  static char own[1 << 16];
-  stack_t its = {.ss_sp = own, .ss_size = sizeof own};
+/* With a stack of its own for handlers, from here on. */
+static void *a_handler_calls(void *own) {
+  stack_t its = {.ss_sp = own, .ss_size = OWN};
   on_fault(calls, 0);
   is_sent();
   CHECK(sigaltstack(&its, NULL) == 0);
@@ -85,6 +85,18 @@ static void a_handler_calls(void) {
   CHECK(civdrax_msgrcv(id, message, SIZE, 0, 0) == SIZE && handled == 1);
   its.ss_flags = SS_DISABLE;
   CHECK(sigaltstack(&its, NULL) == 0);
+  return NULL;
+}
+
+/* Below the stacks of the proved part and for handlers lies that of a later thread, and above them
+   that of the first. */
+static void a_handler_calls_on_each_stack(void) {
+  static char below[OWN];
+  char above[OWN];
+  pthread_t thread;
+  a_handler_calls(below);
+  CHECK(pthread_create(&thread, NULL, a_handler_calls, above) == 0);
+  CHECK(pthread_join(thread, NULL) == 0);
 }
 
 static void child_ends(void) {
@@ -257,7 +269,7 @@ int main(void) {
   message->type = 5;
   id = new_queue();
   other = new_queue();
-  a_handler_calls();
+  a_handler_calls_on_each_stack();
   a_handler_forks();
   a_handler_forks_beside_others();
   two_handlers_fork();

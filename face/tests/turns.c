@@ -182,6 +182,28 @@ static void each_of_many_is_woken_once(void) {
   remove_queue(id);
 }
 
+static void *calls(void *its) {
+  remove_queue(new_queue());
+  return its;
+}
+
+/* Another thread calls meanwhile, and has its answer. */
+static void another_calls(void) {
+  pthread_t thread;
+  at_wake = NULL;
+  CHECK(pthread_create(&thread, NULL, calls, NULL) == 0 && pthread_join(thread, NULL) == 0);
+}
+
+static void the_lock_is_free_at_a_wake(void) {
+  struct job job = {.id = new_queue(), .size = 1};
+  start(&job);
+  at_wake = another_calls;
+  send(job.id, 1, 1);
+  end(&job);
+  CHECK(at_wake == NULL && job.result == 1);
+  remove_queue(job.id);
+}
+
 /* More than are woken once the lock is free. */
 static void a_crowd_is_woken(void) {
   static struct job jobs[CROWD];
@@ -253,6 +275,7 @@ int main(void) {
   a_change_wakes_its_own();
   pages_come_of_a_text_cut_to_nothing();
   each_of_many_is_woken_once();
+  the_lock_is_free_at_a_wake();
   a_crowd_is_woken();
   a_text_too_long_for_one_is_anothers(0);
   a_text_too_long_for_one_is_anothers(1);
