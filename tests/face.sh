@@ -177,22 +177,35 @@ plus_plus() {
     count $? "a C++ program with civdrax.h fails"
 }
 
-# With the address and undefined-behaviour sanitizers in the C part and in the tests.
-sanitized() {
+# Builds the C part and the tests from $3 on into the folder $1, with the sanitizers $2.
+sanitize() {
     local test heap
     heap="$(dirname "$(rt doc)")/c/liblibc_c.a"
-    local flags=(-O1 -g -fsanitize=address,undefined -fno-sanitize-recover=all)
-    mkdir "$folder/sanitized"
-    cc "${warnings[@]}" "${flags[@]}" -fcf-protection=none -fPIC -shared \
-        -o "$folder/sanitized/libcivdrax.so" face/civdrax.c crates/civdrax/out/libcivdrax.a \
-        "$heap" -Wl,--wrap=read,--wrap=write -Wl,--version-script=face/civdrax.map -pthread
-    count $? "the C part does not compile with the sanitizers"
-    for test in "${tests[@]}" damaged; do
-        cc "${warnings[@]}" "${flags[@]}" -o "$folder/sanitized/$test" "face/tests/$test.c" \
-            -L"$folder/sanitized" -lcivdrax "-Wl,-rpath,$folder/sanitized" -pthread
-        count $? "face/tests/$test.c does not compile with the sanitizers"
-        checks "$folder/sanitized/$test" $([ "$test" != damaged ] || echo "$damaged")
+    local flags=(-O1 -g "-fsanitize=$2" -fno-sanitize-recover=all) to=$folder/$1
+    mkdir "$to"
+    cc "${warnings[@]}" "${flags[@]}" -fcf-protection=none -fPIC -shared -o "$to/libcivdrax.so" \
+        face/civdrax.c crates/civdrax/out/libcivdrax.a "$heap" -Wl,--wrap=read,--wrap=write \
+        -Wl,--version-script=face/civdrax.map -pthread
+    count $? "the C part does not compile with the sanitizers $2"
+    for test in "${@:3}"; do
+        cc "${warnings[@]}" "${flags[@]}" -o "$to/$test" "face/tests/$test.c" \
+            -L"$to" -lcivdrax "-Wl,-rpath,$to" -pthread
+        count $? "face/tests/$test.c does not compile with the sanitizers $2"
     done
+}
+
+# With the sanitizers of addresses and undefined behaviour, and, where many threads call, that of
+# races, in the C part and in the tests.
+sanitized() {
+    local test
+    sanitize addresses address,undefined "${tests[@]}" damaged
+    for test in "${tests[@]}"; do
+        checks "$folder/addresses/$test"
+    done
+    checks "$folder/addresses/damaged" "$damaged"
+    sanitize races thread threads stress
+    checks "$folder/races/threads"
+    checks "$folder/races/stress" $((texts / 20)) "$cancels"
 }
 
 # With each allocation refused in turn.

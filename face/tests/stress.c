@@ -8,10 +8,12 @@ enum { PAIRS = 4, SIGNALS = 10000, QUOTA = 400 };
 
 static int id;
 static long texts, cancels, sent, received, sum, interrupted, handled, cancelled;
-static volatile int is_over;
+static int is_over;
 static pthread_t threads[2 * PAIRS];
 
 static void add(long *to, long number) { __atomic_add_fetch(to, number, __ATOMIC_SEQ_CST); }
+
+static int goes_on(void) { return !__atomic_load_n(&is_over, __ATOMIC_SEQ_CST); }
 
 static void handles(int number) { (void)number, add(&handled, 1); }
 
@@ -54,14 +56,14 @@ static void *receives(void *its) {
 
 static void *signals(void *its) {
   unsigned seed = 1;
-  for (long due = 0; !is_over; usleep(1000))
+  for (long due = 0; goes_on(); usleep(1000))
     for (due += SIGNALS / 1000 + 2; due > 0; due--)
       pthread_kill(threads[rand_r(&seed) % (2 * PAIRS)], SIGUSR1);
   return its;
 }
 
 static void *is_cancelled(void *its) {
-  while (!is_over) {
+  while (goes_on()) {
     pthread_t thread;
     void *result;
     if (pthread_create(&thread, NULL, receives, NULL)) abort();
@@ -87,7 +89,7 @@ int main(int count, char **words) {
   CHECK(pthread_create(&others[0], NULL, signals, NULL) == 0);
   if (cancels) CHECK(pthread_create(&others[1], NULL, is_cancelled, NULL) == 0);
   while (__atomic_load_n(&received, __ATOMIC_SEQ_CST) < texts) usleep(1000);
-  is_over = 1;
+  __atomic_store_n(&is_over, 1, __ATOMIC_SEQ_CST);
   for (int i = 0; i < 1 + !!cancels; i++) CHECK(pthread_join(others[i], NULL) == 0);
   remove_queue(id);
   for (int i = 0; i < 2 * PAIRS; i++) CHECK(pthread_join(threads[i], NULL) == 0);
