@@ -6,14 +6,21 @@
 #include <stdarg.h>
 
 static int sleep_count, wake_count;
-/* What is done before each wake, or null. */
-static void (*at_wake)(void);
+/* What is done before each wake, and between a thread's look and its sleep, or null. */
+static void (*at_wake)(void), (*at_sleep)(void);
+
+static inline void at(void (*it)(void)) {
+  if (it) it();
+}
 
 static inline void count(int operation) {
-  if (operation == FUTEX_WAIT_BITSET_PRIVATE) __atomic_add_fetch(&sleep_count, 1, __ATOMIC_SEQ_CST);
-  if (operation != FUTEX_WAKE_PRIVATE) return;
-  __atomic_add_fetch(&wake_count, 1, __ATOMIC_SEQ_CST);
-  if (at_wake) at_wake();
+  if (operation == FUTEX_WAIT_BITSET_PRIVATE) {
+    __atomic_add_fetch(&sleep_count, 1, __ATOMIC_SEQ_CST);
+    at(at_sleep);
+  } else if (operation == FUTEX_WAKE_PRIVATE) {
+    __atomic_add_fetch(&wake_count, 1, __ATOMIC_SEQ_CST);
+    at(at_wake);
+  }
 }
 
 long syscall(long number, ...) {

@@ -2,6 +2,7 @@
    else does; nothing is sent or taken by then. A message that comes with the signal is received or
    still there. Out of a wait a handler may jump, and in one it may call and fork. */
 #include "check.h"
+#include "futex.h"
 #include <setjmp.h>
 #include <sys/syscall.h>
 
@@ -19,7 +20,8 @@ struct job {
 
 static volatile int handled;
 static __thread sigjmp_buf before;
-static int id;
+static int id, inner;
+static volatile pid_t child = -1;
 
 static ssize_t call(struct job *job, struct message *m) {
   struct timespec end = in_milliseconds(200000), *its = job->is_timed ? &end : NULL;
@@ -33,6 +35,7 @@ static void *run(void *its) {
   struct message *m = calloc(1, sizeof *m);
   job->tid = gettid();
   job->result = call(job, m);
+  if (child == 0) _exit(job->result != SIZE);
   job->error = job->result < 0 ? errno : 0;
   job->ended = 1;
   free(m);
@@ -207,7 +210,6 @@ static void a_jump_out_of_a_wait(int other) {
   remove_queue(other);
 }
 
-static int inner;
 static volatile int inner_result, inner_error;
 
 /* Calls, and even waits for as long as it may, where a call waits. */
@@ -232,8 +234,6 @@ static void a_handler_calls_in_a_wait(int in) {
   remove_queue(inner);
 }
 
-static volatile pid_t child;
-
 static void forks(int number) { (void)number, child = fork(); }
 
 /* In the child too the wait ends with EINTR, and its queue is a copy. */
@@ -244,6 +244,7 @@ static void a_handler_forks_in_a_wait(void) {
   pthread_t thread = signal_comes();
   REFUSED(civdrax_msgrcv(id, &m, SIZE, TYPE, 0), EINTR);
   if (child == 0) {
+    child = -1;
     watch(60);
     struct job job = {.id = id, .size = SIZE};
     start(&job);
@@ -255,6 +256,49 @@ static void a_handler_forks_in_a_wait(void) {
   CHECK(pthread_join(thread, NULL) == 0);
   CHECK(child > 0 && waitpid(child, &status, 0) == child && status == 0);
   CHECK(messages(id) == 0);
+}
+
+static void looks(void) {
+  at_sleep = NULL;
+  messages(id);
+}
+
+static void waits(void) {
+  static struct message m;
+  struct timespec end = in_milliseconds(5);
+  at_sleep = NULL;
+  REFUSED(civdrax_timedrcv(inner, &m, SIZE, 7, 0, &end), ETIMEDOUT);
+}
+
+static void forks_and_sends(void) {
+  at_sleep = NULL;
+  child = fork();
+  if (child == 0) send(id, TYPE, SIZE);
+}
+
+/* A handler may also run just before the sleep: the wait goes on, can be cancelled and ends by its
+   message. */
+static void a_handler_comes_before_the_sleep(void) {
+  struct job job = {.id = id, .size = SIZE};
+  int status;
+  at_sleep = looks;
+  start(&job);
+  CHECK(pthread_cancel(job.thread) == 0);
+  end(&job);
+  inner = new_queue();
+  at_sleep = waits;
+  start(&job);
+  send(id, TYPE, SIZE);
+  end(&job);
+  CHECK(job.result == SIZE);
+  remove_queue(inner);
+  child = -1;
+  at_sleep = forks_and_sends;
+  start(&job);
+  CHECK(child > 0 && waitpid(child, &status, 0) == child && status == 0);
+  send(id, TYPE, SIZE);
+  end(&job);
+  CHECK(job.result == SIZE);
 }
 
 int main(void) {
@@ -269,6 +313,7 @@ int main(void) {
   a_handler_calls_in_a_wait(new_queue_beside(id));
   a_handler_calls_in_a_wait(new_queue());
   a_handler_forks_in_a_wait();
+  a_handler_comes_before_the_sleep();
   remove_queue(id);
   return told();
 }
