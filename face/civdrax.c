@@ -511,13 +511,15 @@ static struct part *enter(int *id) {
 static int sleep_until(const struct timespec *end) {
   static const struct timespec never = {.tv_sec = 1L << 32};
   struct timespec at = end ? *end : never;
+  int kept = errno, error = 0;
   /* The kernel takes no time before its clock began. */
   if (at.tv_sec < 0) at.tv_sec = 0;
-  while (__atomic_load_n(&mine.word, __ATOMIC_ACQUIRE) == WAITS)
+  while (!error && __atomic_load_n(&mine.word, __ATOMIC_ACQUIRE) == WAITS)
     if (syscall(SYS_futex, &mine.word, FUTEX_WAIT_BITSET_PRIVATE, WAITS, &at, NULL,
                 FUTEX_BITSET_MATCH_ANY) && errno != EAGAIN)
-      return errno;
-  return 0;
+      error = errno;
+  errno = kept;
+  return error;
 }
 
 /* Enters a list as the call says that was told to wait. */

@@ -25,8 +25,8 @@ extern "C" {
    A call fails with EINTR where a signal handler ran while it waited, whatever SA_RESTART says.
    Such a handler may make calls, fork, and leave the wait by siglongjmp. One that runs while its
    thread is in a call that does not wait has EDEADLK of each call. It should not leave by
-   siglongjmp: then each later call on those queues, and those of all, may answer ENOTRECOVERABLE.
-   A thread may be cancelled while it waits. */
+   siglongjmp: its thread's next call may then answer EDEADLK, or that and each later one on those
+   queues, and those of all, ENOTRECOVERABLE. A thread may be cancelled while it waits. */
 int civdrax_msgget(key_t key, int msgflg);
 int civdrax_msgsnd(int msqid, const void *msgp, size_t msgsz, int msgflg);
 ssize_t civdrax_msgrcv(int msqid, void *msgp, size_t msgsz, long msgtyp, int msgflg);

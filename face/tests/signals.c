@@ -34,9 +34,10 @@ static void *run(void *its) {
   struct job *job = its;
   struct message *m = calloc(1, sizeof *m);
   job->tid = gettid();
+  errno = 0;
   job->result = call(job, m);
   if (child == 0) _exit(job->result != SIZE);
-  job->error = job->result < 0 ? errno : 0;
+  job->error = errno;
   job->ended = 1;
   free(m);
   return NULL;
@@ -285,6 +286,11 @@ static void a_handler_comes_before_the_sleep(void) {
   start(&job);
   CHECK(pthread_cancel(job.thread) == 0);
   end(&job);
+  at_sleep = looks;
+  start(&job);
+  send(id, TYPE, SIZE);
+  end(&job);
+  CHECK(job.result == SIZE && job.error == 0);
   inner = new_queue();
   at_sleep = waits;
   start(&job);
