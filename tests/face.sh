@@ -297,6 +297,8 @@ clients() {
     count $? "face/tests/enosys.c does not compile"
     compile script "$folder/script"
     client C "$folder/script"
+    [ "$(grep -c EINTR "$folder/here")" -ge "$scripts" ]
+    count $? "a signal ended only $(grep -c EINTR "$folder/here") calls of C"
     client_of Perl 'perl face/tests/script.pl' perl -MIPC::SysV -MIPC::Msg -e 1
     client_of PHP 'php face/tests/script.php' \
         php -r 'exit(function_exists("msg_get_queue") ? 0 : 1);'

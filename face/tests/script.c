@@ -1,14 +1,17 @@
 /* Random scripts of calls by the manual's names, from the first seed on as many as the second word
-   says, and what each call answers. An id is told as the place of its queue, and a time as whether
-   there is one, so that it is the same over the kernel and over these queues. */
+   says, and what each call answers. Some may wait, until a signal ends them. An id is told as the
+   place of its queue, and a time as whether there is one, so that it is the same over the kernel
+   and over these queues. */
 #define _GNU_SOURCE
 #include <errno.h>
+#include <signal.h>
 #include <stdint.h>
 #include <stdio.h>
 #include <stdlib.h>
 #include <string.h>
 #include <sys/ipc.h>
 #include <sys/msg.h>
+#include <sys/time.h>
 #include <unistd.h>
 
 #ifndef MSG_EXCEPT
@@ -79,6 +82,14 @@ static void get(void) {
   limit(id, 4096, 0600);
 }
 
+static void handles(int number) { (void)number; }
+
+/* For a call that may wait signals come, each millisecond. */
+static void signals(int is_on) {
+  struct itimerval its = {{0, 1000 * is_on}, {0, 1000 * is_on}};
+  if (setitimer(ITIMER_REAL, &its, NULL)) abort();
+}
+
 static int an_id(void) {
   static const int odd[] = {-1, -2147483647 - 1, 2147483647};
   return next(20) ? ids[next(QUEUES)] : odd[next(3)];
@@ -89,17 +100,22 @@ static void send(void) {
   size_t size = next(8) ? next(700) : odd[next(7)];
   m.type = next(12) ? (long)next(5) + 1 : (long)next(3) - 2;
   for (size_t i = 0; i < size && i < 9000; i++) m.text[i] = (char)('a' + next(26));
-  tell("send", msgsnd(an_id(), next(40) ? &m : NULL, size, IPC_NOWAIT));
+  int flags = next(8) ? IPC_NOWAIT : 0;
+  if (!flags) signals(1);
+  tell("send", msgsnd(an_id(), next(40) ? &m : NULL, size, flags));
+  if (!flags) signals(0);
 }
 
 static void receive(void) {
   static const size_t odd[] = {0, 1, 9000, (size_t)-1, (size_t)1 << 63};
   size_t size = next(8) ? next(800) : odd[next(5)];
-  int flags = IPC_NOWAIT | (next(3) ? 0 : MSG_NOERROR) | (next(3) ? 0 : MSG_EXCEPT);
+  int flags = (next(8) ? IPC_NOWAIT : 0) | (next(3) ? 0 : MSG_NOERROR) | (next(3) ? 0 : MSG_EXCEPT);
   long type = (long)next(13) - 6;
   memset(&m, '.', sizeof m);
+  if (!(flags & IPC_NOWAIT)) signals(1);
   ssize_t length = msgrcv(an_id(), &m, size, next(20) ? type : 0x7fffffffffffffff, flags);
   tell("receive", length);
+  signals(0);
   if (length >= 0) printf("type %ld text %.*s|%c\n", m.type, (int)length, m.text, m.text[length]);
 }
 
@@ -141,6 +157,8 @@ static void run(unsigned seed) {
 
 int main(int count, char **words) {
   unsigned seed = count > 1 ? atoi(words[1]) : 1, runs = count > 2 ? atoi(words[2]) : 1;
+  struct sigaction action = {.sa_handler = handles, .sa_flags = SA_RESTART};
+  if (sigaction(SIGALRM, &action, NULL)) abort();
   first_key = 0x43000000 + (getpid() & 0xffff) * 16;
   int probe = msgget(IPC_PRIVATE, IPC_CREAT | 0600);
   if (probe < 0 || msgctl(probe, IPC_RMID, NULL) < 0) {
