@@ -4,6 +4,8 @@
 #include <errno.h>
 #include <linux/futex.h>
 #include <stdarg.h>
+#include <stdlib.h>
+#include <sys/syscall.h>
 
 static int sleep_count, wake_count;
 /* What is done before each wake, and between a thread's look and its sleep, or null. */
@@ -24,12 +26,15 @@ static inline void count(int operation) {
 }
 
 long syscall(long number, ...) {
-  long words[6], result;
+  long words[6] = {0}, result;
   va_list its;
+  if (number != SYS_futex) abort();
   va_start(its, number);
-  for (int i = 0; i < 6; i++) words[i] = va_arg(its, long);
+  for (int i = 0; i < 3; i++) words[i] = va_arg(its, long);
+  int operation = (int)words[1], given = operation == FUTEX_WAIT_BITSET_PRIVATE ? 6 : 3;
+  for (int i = 3; i < given; i++) words[i] = va_arg(its, long);
   va_end(its);
-  count((int)words[1]);
+  count(operation);
   register long fourth __asm__("r10") = words[3];
   register long fifth __asm__("r8") = words[4];
   register long sixth __asm__("r9") = words[5];

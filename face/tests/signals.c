@@ -4,7 +4,6 @@
 #include "check.h"
 #include "futex.h"
 #include <setjmp.h>
-#include <sys/syscall.h>
 
 enum { TYPE = 5, SIZE = 3, ROUNDS = 2000 };
 
@@ -23,7 +22,12 @@ static __thread sigjmp_buf before;
 static int id, inner;
 static volatile pid_t child = -1;
 
-static ssize_t call(struct job *job, struct message *m) {
+struct small {
+  long type;
+  char text[SIZE];
+};
+
+static ssize_t call(struct job *job, struct small *m) {
   struct timespec end = in_milliseconds(200000), *its = job->is_timed ? &end : NULL;
   m->type = TYPE;
   if (job->is_send) return civdrax_timedsnd(job->id, m, job->size, 0, its);
@@ -32,14 +36,13 @@ static ssize_t call(struct job *job, struct message *m) {
 
 static void *run(void *its) {
   struct job *job = its;
-  struct message *m = calloc(1, sizeof *m);
+  struct small m = {0};
   job->tid = gettid();
   errno = 0;
-  job->result = call(job, m);
+  job->result = call(job, &m);
   if (child == 0) _exit(job->result != SIZE);
   job->error = errno;
   job->ended = 1;
-  free(m);
   return NULL;
 }
 
@@ -169,7 +172,7 @@ static void *signals_once_it_sleeps(void *its) {
   static volatile int never;
   volatile pid_t tid = (pid_t)(intptr_t)its;
   await_sleep(&tid, &never);
-  CHECK(syscall(SYS_tgkill, getpid(), tid, SIGUSR1) == 0);
+  CHECK(tgkill(getpid(), tid, SIGUSR1) == 0);
   return NULL;
 }
 
