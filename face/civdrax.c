@@ -1,23 +1,21 @@
-/* The C side of the queues. Each part of them has slots and pages of its own, and a stack on which
-   `civdrax_serve`, which is proved, runs for as long as the process does. The part's lock is held
-   over each call: it writes the call's numbers into `call`, goes over to that stack, where `read`
-   takes them and the bytes of a text, and `write` fills `answer`, `shown` and the caller's buffer;
-   where the next call is read it comes back. The number of a part is the descriptor that it reads,
-   and is in each id of its queues: so queues of two parts meet in nothing. What concerns all parts
-   is done with all locks, taken in their order.
+/* The C side of the queues, which lie in parts. In each part `civdrax_serve`, which is proved, runs
+   on a stack of its own as long as the process does. Under the part's lock a call writes its
+   numbers into `call` and goes over to that stack, where `read` takes them and the bytes of a text,
+   and `write` fills `answer`, `shown` and the caller's buffer; where the next call is read it comes
+   back. A part's number is the descriptor that it reads, and in each id of its queues, so queues of
+   two parts share nothing. What concerns all parts is done with all locks, taken in their order.
 
-   All that waits does so here, outside of the proved part: a call that is told to wait enters its
-   thread's record into a list, lets the lock go, sleeps on the record's futex, and is then made
-   again. Each slot has a list of those that wait for a message and one of those that wait for room;
-   each part one of those that wait for pages. A message that is sent rouses those whose selection
-   has its type, a receipt those that wait for room there and those that wait for pages, a new quota
-   those that wait for room, a removal all of the slot and those that wait for pages. Of each all,
-   not the first alone: so none has to hand on what it does not take, as where its text is too long,
-   it is cancelled, or a handler jumps out of its wait. Between the answer and the entry the lock is
-   held, so no wake is lost. A handler that runs in the sleep ends it.
+   Each wait is here, outside of the proved part: a call that is told to wait enters its thread's
+   record into a list, lets the lock go, sleeps on the record's futex, and is then made again. Each
+   slot has a list of those that wait for a message and one of those that wait for room, each part
+   one of those that wait for pages. A message rouses those whose selection has its type, a receipt
+   those that wait for room there and for pages, a new quota those that wait for room, a removal all
+   of the slot and those that wait for pages: of each all, so that none has to hand on what it does
+   not take, where its text is too long, it is cancelled, or a handler jumps out of its wait. From
+   the answer to the entry the lock is held, so no wake is lost. A handler ends the sleep.
 
-   What is decided of a call is decided in the proved part. Kept here are the figures that it has
-   no place for: the owner, the mode and the two process ids of each slot's queue. */
+   Each call is decided in the proved part. Kept here are the figures that it has no place for: the
+   owner, the mode and the two process ids of each slot's queue. */
 #define _GNU_SOURCE
 #include "civdrax.h"
 #include <errno.h>
@@ -34,26 +32,16 @@
 #include <sys/syscall.h>
 #include <unistd.h>
 
-#ifndef __x86_64__
-#error "the proved part is built for x86-64-v2"
-#endif
-
-#define MAX_HEIGHT 10
-#define MAX_SLOTS 64
-#define PARTS 8
-#define PART_SLOTS (MAX_SLOTS / PARTS)
-/* So many are woken once the lock is free; the others before. */
-#define WOKEN_LATER 16
+enum { MAX_HEIGHT = 10, MAX_SLOTS = 64, PARTS = 8, PART_SLOTS = MAX_SLOTS / PARTS };
+#define WOKEN_LATER 16 /* once the lock is free; others before */
 /* No handler's frame is nearer to the one below which it runs: there are the registers. */
 #define SIGNAL_FRAME 1024
 /* The stack of the proved part, on which a signal handler that comes meanwhile runs too: it is as
    long as a thread's is by default. Below it lies what cannot be touched. */
-#define STACK (8 << 20)
-#define GUARD (1 << 20)
+enum { STACK = 8 << 20, GUARD = 1 << 20 };
 
 /* The numbers of the proved part. */
-enum { GET = 1, SEND, RECEIVE, CONTROL };
-enum { WAIT_CHANGE = 1, WAIT_PAGES };
+enum { GET = 1, SEND, RECEIVE, CONTROL, WAIT_CHANGE = 1, WAIT_PAGES };
 
 struct call {
   uint64_t kind, number, flags, type, size, moment, waited, buffer;
@@ -64,19 +52,14 @@ struct answer {
 };
 
 union shown {
-  struct {
-    uint64_t qnum, cbytes, qbytes, stime, rtime, ctime, lspid, lrpid;
-  } queue;
-  struct {
-    uint64_t queues, messages, bytes, slots, pages, msgmax, msgmnb, page;
-  } usage;
+  struct { uint64_t qnum, cbytes, qbytes, stime, rtime, ctime, lspid, lrpid; } queue;
+  struct { uint64_t queues, messages, bytes, slots, pages, msgmax, msgmnb, page; } usage;
   uint64_t numbers[8];
 };
-/* So many of the usage's are summed over the parts; the others are the same in each. */
-enum { SUMMED = 5 };
+enum { SUMMED = 5 }; /* so many of the usage's, over the parts; the others are alike in each */
 
-_Static_assert(sizeof(struct call) == 64 && sizeof(struct answer) == 64, "calls and answers");
-_Static_assert(sizeof(union shown) == 64, "what is shown");
+_Static_assert(sizeof(struct call) == 64 && sizeof(struct answer) == 64
+               && sizeof(union shown) == 64, "calls, answers, and what is shown");
 
 extern int32_t civdrax_serve(int32_t calls, uint8_t height, uint8_t slots);
 
@@ -122,12 +105,10 @@ struct part {
 static struct part parts[PARTS] = {
     [0 ... PARTS - 1] = {.lock = PTHREAD_MUTEX_INITIALIZER, .has_old_lists = 1}};
 
-/* A set of parts has their bits. */
-enum { ALL = (1 << PARTS) - 1 };
+enum { ALL = (1 << PARTS) - 1 }; /* a set of parts has their bits */
+static int bit_of(const struct part *part) { return 1 << (part - parts); }
 #define FOR_PARTS(part, set) \
   for (struct part *part = parts; part < parts + PARTS; part++) if ((set) & bit_of(part))
-
-static int bit_of(const struct part *part) { return 1 << (part - parts); }
 
 /* What a thread has to know where a signal handler calls, forks or jumps. */
 struct thread {
@@ -145,10 +126,8 @@ struct thread {
 #define OF_THREAD static __thread __attribute__((tls_model("initial-exec")))
 OF_THREAD struct waiter mine;
 OF_THREAD struct thread thread;
-/* By it a thread that ends leaves its list. */
-static pthread_key_t ends;
-/* This process, which a system call would tell each time. */
-static pid_t self;
+static pthread_key_t ends; /* by it a thread that ends leaves its list */
+static pid_t self;         /* this process, which a system call would tell each time */
 
 /* The size, once it is read: which parts have slots. And why no call is answered, where none is. */
 static int is_read, height, sized, no_call;
@@ -156,9 +135,8 @@ static int is_read, height, sized, no_call;
 /* Saves what a call has to keep on the stack that is left, and goes on where the other stopped. */
 void civdrax_switch(void **from, void *to) __attribute__((visibility("hidden")));
 __asm__(".text\n.globl civdrax_switch\n.hidden civdrax_switch\n"
-        ".type civdrax_switch,@function\ncivdrax_switch:\n"
-        "pushq %rbp\npushq %rbx\npushq %r12\npushq %r13\npushq %r14\npushq %r15\n"
-        "movq %rsp,(%rdi)\nmovq %rsi,%rsp\n"
+        ".type civdrax_switch,@function\ncivdrax_switch:\npushq %rbp\npushq %rbx\n"
+        "pushq %r12\npushq %r13\npushq %r14\npushq %r15\nmovq %rsp,(%rdi)\nmovq %rsi,%rsp\n"
         "popq %r15\npopq %r14\npopq %r13\npopq %r12\npopq %rbx\npopq %rbp\nret\n"
         ".size civdrax_switch,.-civdrax_switch\n");
 
@@ -169,7 +147,6 @@ static void go_in(struct part *part) {
 }
 
 static void come_out(struct part *part) { civdrax_switch(&part->inside, part->outside); }
-
 static size_t least(size_t a, size_t b) { return a < b ? a : b; }
 
 /* Gives the bytes of the text that is sent, once the call is given and before it is answered; else
@@ -222,21 +199,15 @@ static void serve(void) {
   for (;;) come_out(part);
 }
 
-/* What descriptor 2 was when the library was loaded. */
-static struct stat first_error;
-static int had_error;
+/* What descriptor 2 was when the library was loaded: no inode is 0. */
+static struct stat first;
 
-__attribute__((constructor)) static void note_standard_error(void) {
-  had_error = !fstat(2, &first_error);
-}
-
-/* Whether descriptor 2 is a terminal or what it was then, and no file that the program has since
-   opened by this number. */
+/* Whether it is a terminal or the same, and no file that the program has since opened by 2. */
 static int has_standard_error(void) {
   struct stat now;
   if (isatty(2)) return 1;
-  return had_error && !fstat(2, &now) && now.st_dev == first_error.st_dev &&
-         now.st_ino == first_error.st_ino;
+  return first.st_ino && !fstat(2, &now) && now.st_dev == first.st_dev
+      && now.st_ino == first.st_ino;
 }
 
 /* A number of the environment within its limits, or -1 and a line that says so. A thread that is
@@ -296,20 +267,13 @@ static void acquire(struct part *part) {
 
 static int acquire_within(struct part *part, int milliseconds) {
   struct timespec end;
-  clock_gettime(CLOCK_MONOTONIC, &end);
+  clock_gettime(CLOCK_REALTIME, &end);
   end.tv_nsec += milliseconds * 1000000L;
   end.tv_sec += end.tv_nsec / 1000000000;
   end.tv_nsec %= 1000000000;
-  if (pthread_mutex_clocklock(&part->lock, CLOCK_MONOTONIC, &end)) return 0;
+  if (pthread_mutex_timedlock(&part->lock, &end)) return 0;
   thread.holds |= bit_of(part);
   return 1;
-}
-
-/* Wakes those that this thread has roused. One that has ended meanwhile is not there to wake, and
-   its word not looked at. */
-static void wake_roused(void) {
-  for (int i = 0; i < thread.roused_count; i++) wake(thread.roused[i]);
-  thread.roused_count = 0;
 }
 
 /* Makes the lists, in which nobody waits any more. */
@@ -321,17 +285,17 @@ static void forget_waiters(struct part *part) {
   unlist(&mine);
 }
 
-/* Lets the lock go, and only then wakes: else they would sleep once more, for the lock. */
+/* Lets the lock go, and only then wakes those roused: else they would sleep once more, for it. One
+   that has ended meanwhile is not there to wake, and its word not looked at. */
 static void release(struct part *part) {
   if (part->has_old_lists) forget_waiters(part);
   thread.holds &= ~bit_of(part);
   pthread_mutex_unlock(&part->lock);
-  wake_roused();
+  for (int i = 0; i < thread.roused_count; i++) wake(thread.roused[i]);
+  thread.roused_count = 0;
 }
 
-static void release_these(int set) {
-  FOR_PARTS(part, set) release(part);
-}
+static void release_these(int set) { FOR_PARTS(part, set) release(part); }
 
 /* Whoever has one that is long in coming may be a fork within a call, and wait for the others. */
 static void acquire_all(void) {
@@ -381,7 +345,8 @@ static void leave(void *its) {
 }
 
 /* Before any call: a fork that began before it knew of these would copy the locks as they are. */
-__attribute__((constructor)) static void expect_forks(void) {
+__attribute__((constructor)) static void is_loaded(void) {
+  fstat(2, &first);
   if (pthread_atfork(before_fork, in_parent, in_child)) no_call = ENOMEM;
 }
 
@@ -389,12 +354,11 @@ __attribute__((constructor)) static void expect_forks(void) {
    addresses: of memory there is what was touched. */
 static int make_stack(struct part *part) {
   int flags = MAP_PRIVATE | MAP_ANONYMOUS | MAP_NORESERVE | MAP_STACK;
-  if (!part->guard) {
-    void *at = mmap(NULL, GUARD + STACK, PROT_READ | PROT_WRITE, flags, -1, 0);
-    if (at == MAP_FAILED) return ENOMEM;
-    part->guard = at;
-  }
-  if (mprotect(part->guard, GUARD, PROT_NONE)) return ENOMEM;
+  void *at = part->guard;
+  if (!at) at = mmap(NULL, GUARD + STACK, PROT_READ | PROT_WRITE, flags, -1, 0);
+  if (at == MAP_FAILED) return ENOMEM;
+  part->guard = at;
+  if (mprotect(at, GUARD, PROT_NONE)) return ENOMEM;
   void **top = (void **)(part->guard + GUARD + STACK);
   top[-2] = (void *)serve;
   part->inside = top - 8;
@@ -704,13 +668,6 @@ static int inform(int id, int cmd, void *buf) {
   return end_call(error, greatest);
 }
 
-/* The owner and the mode, of which nothing is checked. */
-static void own(struct ipc_perm *its, const struct ipc_perm *wanted) {
-  its->uid = wanted->uid;
-  its->gid = wanted->gid;
-  its->mode = (its->mode & ~0777) | (wanted->mode & 0777);
-}
-
 int civdrax_msgctl(int id, int cmd, struct msqid_ds *buf) {
   struct msqid_ds wanted = {0};
   if (cmd == IPC_SET && buf) wanted = *buf;
@@ -724,7 +681,11 @@ int civdrax_msgctl(int id, int cmd, struct msqid_ds *buf) {
   if (!error) {
     if (cmd == MSG_STAT || cmd == MSG_STAT_ANY) value = id_of(part, value);
     if (part->answer.shown) fill(buf, part, slot);
-    if (cmd == IPC_SET) own(&part->owner[slot], &wanted.msg_perm);
+    if (cmd == IPC_SET) { /* the owner and the mode, of which nothing is checked */
+      struct ipc_perm *its = &part->owner[slot], *to = &wanted.msg_perm;
+      its->uid = to->uid, its->gid = to->gid;
+      its->mode = (its->mode & ~0777) | (to->mode & 0777);
+    }
     if (part->answer.changed) rouse(part, SENDERS + slot, 0);
     if (cmd == IPC_RMID) {
       part->queues--;

@@ -10,8 +10,7 @@
 #include <sys/types.h>
 #include <time.h>
 
-/* Without it strict C89 and C99, which hide it, would know it in a list of parameters alone. */
-struct timespec;
+struct timespec; /* which strict C89 and C99 hide, and then know in a list of parameters alone */
 
 #ifdef __cplusplus
 extern "C" {

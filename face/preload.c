@@ -9,25 +9,19 @@
 
 static unsigned long calls;
 
-int msgget(key_t key, int flags) {
-  __atomic_add_fetch(&calls, 1, __ATOMIC_RELAXED);
-  return civdrax_msgget(key, flags);
-}
+static void count(void) { __atomic_add_fetch(&calls, 1, __ATOMIC_RELAXED); }
+
+int msgget(key_t key, int flags) { return count(), civdrax_msgget(key, flags); }
 
 int msgsnd(int id, const void *message, size_t size, int flags) {
-  __atomic_add_fetch(&calls, 1, __ATOMIC_RELAXED);
-  return civdrax_msgsnd(id, message, size, flags);
+  return count(), civdrax_msgsnd(id, message, size, flags);
 }
 
 ssize_t msgrcv(int id, void *message, size_t size, long type, int flags) {
-  __atomic_add_fetch(&calls, 1, __ATOMIC_RELAXED);
-  return civdrax_msgrcv(id, message, size, type, flags);
+  return count(), civdrax_msgrcv(id, message, size, type, flags);
 }
 
-int msgctl(int id, int cmd, struct msqid_ds *buf) {
-  __atomic_add_fetch(&calls, 1, __ATOMIC_RELAXED);
-  return civdrax_msgctl(id, cmd, buf);
-}
+int msgctl(int id, int cmd, struct msqid_ds *buf) { return count(), civdrax_msgctl(id, cmd, buf); }
 
 /* PHP opens its extensions with RTLD_DEEPBIND, under which a preloaded name is not seen. The C
    library searches by the paths of the caller, which it knows by the address that it returns to: so
