@@ -314,7 +314,7 @@ static void acquire_all(void) {
 static void before_fork(void) {
   int had = thread.holds;
   if (!had) acquire_all();
-  FOR_PARTS(part, ALL & ~thread.holds) acquire_within(part, 1000);
+  FOR_PARTS(part, ALL & ~thread.holds) acquire_within(part, 5000);
   thread.forks = thread.holds & ~had;
 }
 
