@@ -297,14 +297,16 @@ static void release(struct part *part) {
 
 static void release_these(int set) { FOR_PARTS(part, set) release(part); }
 
-/* Whoever has one that is long in coming may be a fork within a call, and wait for the others. */
+/* Whoever has one that is long in coming may be a fork within a call, and wait for the others; or
+   there are more threads than processors, so the next try has more time. */
 static void acquire_all(void) {
-  for (int i = 0; i < PARTS; i++) {
-    if (acquire_within(&parts[i], 20)) continue;
+  for (int i = 0, milliseconds = 20; i < PARTS; i++) {
+    if (acquire_within(&parts[i], milliseconds)) continue;
     release_these(thread.holds);
     acquire(&parts[i]);
     release(&parts[i]);
     i = -1;
+    milliseconds *= 2;
   }
 }
 

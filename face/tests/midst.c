@@ -267,8 +267,8 @@ int main(void) {
   CHECK(pages != MAP_FAILED);
   message = (struct message *)(pages + PAGE - sizeof message->type);
   message->type = 5;
-  id = new_queue();
-  other = new_queue();
+  id = new_queue_beside(5);
+  other = new_queue_beside(2);
   a_handler_calls_on_each_stack();
   a_handler_forks();
   a_handler_forks_beside_others();

@@ -178,8 +178,8 @@ static void *is_busy(void *its) {
   return its;
 }
 
-/* What is told of all parts is of one moment: no thread has two messages. Queues come and go beside
-   them. */
+/* What is told of all parts is of one moment: no thread has two messages. Queues come and go and
+   keys are looked for beside them. */
 static void is_told_of_one_moment(void) {
   pthread_t threads[GETTERS];
   int all[GETTERS];
@@ -190,6 +190,7 @@ static void is_told_of_one_moment(void) {
   for (int i = 0; i < 2000; i++) {
     struct msginfo now;
     int id = new_queue();
+    REFUSED(civdrax_msgget(7, 0), ENOENT);
     CHECK(civdrax_msgctl(0, MSG_INFO, (struct msqid_ds *)&now) == id % A_SEQ);
     CHECK(now.msgpool == GETTERS + 1 && now.msgmap <= GETTERS && now.msgtql == 10 * now.msgmap);
     remove_queue(id);
