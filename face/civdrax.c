@@ -320,10 +320,7 @@ static void before_fork(void) {
   thread.forks = thread.holds & ~had;
 }
 
-static void in_parent(void) {
-  release_these(thread.forks);
-  thread.forks = 0;
-}
+static void in_parent(void) { release_these(thread.forks), thread.forks = 0; }
 
 static void in_child(void) {
   self = getpid();

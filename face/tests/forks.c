@@ -124,7 +124,7 @@ static void forks_beside_calls(int count) {
     ids[i] = new_queue();
     CHECK(pthread_create(&threads[i], NULL, is_busy, &ids[i]) == 0);
   }
-  for (int i = 0; i < 200 / count && !failed; i++)
+  for (int i = 0; i < 60 / count && !failed; i++)
     if (is_child()) {
       for (int k = 0; k < count; k++) is_whole(ids[k]);
       end_child();
