@@ -2,7 +2,8 @@
 # Times threads that pass texts through the queues of the C library of face/, beside the kernel's:
 # `bench/face_threads.sh [TEXTS] [ROUNDS] [OTHER]`, at least 5 rounds. Rows: so many that send and so
 # many that receive through one queue; four threads each of which sends and receives by turns in a
-# queue of its own; two that pass one text there and back; one thread alone. A queue has the quota
+# queue of its own; two that pass one text there and back; one thread alone; and a thousand that wait
+# in one queue, each for a type of its own, to whom another sends. A queue has the quota
 # 131,072, or as much as the kernel gives. OTHER is a libcivdrax.a of another commit, timed beside them.
 # Medians of rounds in which they take turns; what a run of no texts takes is left out. The library's
 # ratios are printed beside what is wanted, with ! where one is missed, and the status is 1 then.
@@ -14,18 +15,22 @@ cd "$(dirname "$0")/.."
 . bench/kernel_limits.sh
 folder=$(mktemp -d)
 trap 'restore_limits; rm -rf "$folder"' EXIT
-# The same program, with the calls of the library $2.
-over() {
-    cc -O2 -Wall -Wextra -include face/civdrax.h -Dmsgget=civdrax_msgget -Dmsgsnd=civdrax_msgsnd \
-        -Dmsgrcv=civdrax_msgrcv -Dmsgctl=civdrax_msgctl -o "$folder/$1" bench/peer_threads.c "$2" \
-        -pthread
+# Both programs with the calls of the kernel, and with those of the library $2.
+build() {
+    cc -O2 -Wall -Wextra -o "$folder/$1" bench/peer_threads.c "${@:2}" -pthread
+    cc -O2 -Wall -Wextra -o "$folder/$1-waiters" bench/peer_waiters.c "${@:2}" -pthread
 }
-cc -O2 -Wall -Wextra -o "$folder/kernel" bench/peer_threads.c -pthread
+over() {
+    build "$1" -include face/civdrax.h -Dmsgget=civdrax_msgget -Dmsgsnd=civdrax_msgsnd \
+        -Dmsgrcv=civdrax_msgrcv -Dmsgctl=civdrax_msgctl "$2"
+}
+build kernel
 over library face/out/libcivdrax.a
 [ $# -lt 3 ] || over other "$3"
 raise_limits
 PYTHONPATH=bench PYTHONDONTWRITEBYTECODE=1 python3 - "${1:-40000}" "${2:-9}" "$folder" <<'PYTHON'
 import os
+import subprocess
 import sys
 from typing import NamedTuple
 
@@ -35,8 +40,9 @@ TEXTS, ROUNDS, FOLDER = int(sys.argv[1]), int(sys.argv[2]), sys.argv[3]
 NAMES = [name for name in ("kernel", "library", "other") if os.path.exists(f"{FOLDER}/{name}")]
 LENGTHS = (0, 1000, 8192)
 QUOTA = 131072
-# The most of the kernel's time: in queues of their own, and of one thread.
-OWN_QUEUES, ONE_THREAD = 0.9, 0.65
+# The most of the kernel's time: through one queue, in queues of their own, of one thread, and where
+# a thousand wait.
+ONE_QUEUE, OWN_QUEUES, ONE_THREAD, WAITERS = 1.0, 0.9, 0.65, 2.0
 
 
 class Row(NamedTuple):
@@ -51,17 +57,22 @@ class Row(NamedTuple):
     wanted: float | None
 
     def run_of(self, name, count):
-        """The seconds of a run of so many texts."""
+        """The seconds of a run of so many texts; of those that wait what they tell themselves."""
+        if self.word == "waiters":
+            command = [f"{FOLDER}/{name}-waiters", str(self.threads)]
+            said = subprocess.run(command, check=True, stdout=subprocess.PIPE) if count else None
+            return int(said.stdout) / 1e9 if said else 0
         return seconds([f"{FOLDER}/{name}", "kernel", self.word, self.length, count, self.threads,
                         self.threads, QUOTA], count)
 
 
 def rows():
-    made = [Row(f"{side}x{side}", "flow", side, length, TEXTS // side, side, None)
+    made = [Row(f"{side}x{side}", "flow", side, length, TEXTS // side, side, ONE_QUEUE)
             for side in (1, 2, 4) for length in LENGTHS]
     made += [Row("own queues 4", "own", 4, length, 2 * TEXTS, 4, OWN_QUEUES) for length in LENGTHS]
     made += [Row("back", "two", 1, length, TEXTS // 4, 1, None) for length in LENGTHS]
-    return [*made, Row("one thread", "own", 1, 16, 4 * TEXTS, 1, ONE_THREAD)]
+    made.append(Row("one thread", "own", 1, 16, 4 * TEXTS, 1, ONE_THREAD))
+    return [*made, Row("waiters", "waiters", 1000, 0, 1, 1, WAITERS)]
 
 
 def main():

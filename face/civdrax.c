@@ -7,8 +7,8 @@
 
    Each wait is here, outside of the proved part: a call that is told to wait enters its thread's
    record into a list, lets the lock go, sleeps on the record's futex, and is then made again. Each
-   slot has a list of those that wait for a message and one of those that wait for room, each part
-   one of those that wait for pages. A message rouses those whose selection has its type, a receipt
+   slot has lists of those that wait for a message, by types, and one of those that wait for room,
+   each part one for pages. A message rouses those whose selection has its type, a receipt
    those that wait for room there and for pages, a new quota those that wait for room, a removal all
    of the slot and those that wait for pages: of each all, so that none has to hand on what it does
    not take, where its text is too long, it is cancelled, or a handler jumps out of its wait. From
@@ -76,8 +76,10 @@ struct waiter {
 };
 TAILQ_HEAD(waiters, waiter);
 
-/* Who waits in a slot for a message and for room, each of these from here on, and who for pages. */
-enum { RECEIVERS, SENDERS = PART_SLOTS, PAGERS = 2 * PART_SLOTS, LISTS };
+/* Lists of who waits in a slot: for a message, of any type or more than one, and of one type by its
+   remainder; for room; and, in a part, for pages. */
+enum { TYPES = 256, KINDS, SENDERS = PART_SLOTS * KINDS, PAGERS = SENDERS + PART_SLOTS, LISTS };
+static int receivers(int slot, long type) { return slot * KINDS + (type > 0) * (1 + type % TYPES); }
 
 /* No two have a line of the processor's memory in common, nor one that it fetches with another. */
 struct part {
@@ -205,9 +207,8 @@ static struct stat first;
 /* Whether it is a terminal or the same, and no file that the program has since opened by 2. */
 static int has_standard_error(void) {
   struct stat now;
-  if (isatty(2)) return 1;
-  return first.st_ino && !fstat(2, &now) && now.st_dev == first.st_dev
-      && now.st_ino == first.st_ino;
+  return isatty(2) || (first.st_ino && !fstat(2, &now) && now.st_dev == first.st_dev
+                       && now.st_ino == first.st_ino);
 }
 
 /* A number of the environment within its limits, or -1 and a line that says so. A thread that is
@@ -253,15 +254,18 @@ static int selects(const struct waiter *its, int64_t type) {
 
 /* Those in a list whom a message of this type may serve; with 0 all. */
 static void rouse(struct part *part, int list, int64_t type) {
-  struct waiter *its, *next;
-  for (its = TAILQ_FIRST(&part->lists[list]); its; its = next) {
+  struct waiter *its, *next = TAILQ_FIRST(&part->lists[list]);
+  while ((its = next)) {
     next = TAILQ_NEXT(its, link);
     if (selects(its, type)) rouse_one(its);
   }
 }
 
+/* Who has a lock does not wait meanwhile, so whoever wants it tries 200 times before it sleeps. */
 static void acquire(struct part *part) {
-  pthread_mutex_lock(&part->lock);
+  for (int tries = 0; pthread_mutex_trylock(&part->lock); tries++)
+    if (tries < 200) __builtin_ia32_pause();
+    else if (!pthread_mutex_lock(&part->lock)) break;
   thread.holds |= bit_of(part);
 }
 
@@ -271,18 +275,14 @@ static int acquire_within(struct part *part, int milliseconds) {
   end.tv_nsec += milliseconds * 1000000L;
   end.tv_sec += end.tv_nsec / 1000000000;
   end.tv_nsec %= 1000000000;
-  if (pthread_mutex_timedlock(&part->lock, &end)) return 0;
-  thread.holds |= bit_of(part);
-  return 1;
+  return !pthread_mutex_timedlock(&part->lock, &end) && (thread.holds |= bit_of(part));
 }
 
 /* Makes the lists, in which nobody waits any more. */
 static void forget_waiters(struct part *part) {
   part->has_old_lists = 0;
   for (int list = 0; list < LISTS; list++) TAILQ_INIT(&part->lists[list]);
-  if (mine.part != part) return;
-  mine.in = NULL;
-  unlist(&mine);
+  if (mine.part == part) mine.in = NULL, unlist(&mine);
 }
 
 /* Lets the lock go, and only then wakes those roused: else they would sleep once more, for it. One
@@ -383,8 +383,7 @@ static void read_size(void) {
    call already. 0, or why no call is answered: where there was no memory the next call tries
    again. */
 static int begin(struct part *part) {
-  if (part->state == RUNS) return 0;
-  if (part->state == LOST) return ENOTRECOVERABLE;
+  if (part->state != NEW) return part->state == LOST ? ENOTRECOVERABLE : 0;
   int error = make_stack(part);
   if (error) return error;
   part->state = RUNS;
@@ -487,11 +486,12 @@ static int sleep_until(const struct timespec *end) {
 
 /* Enters a list as the call says that was told to wait. */
 static void enlist(struct part *part) {
-  int of_slot = part->call.kind == SEND ? SENDERS : RECEIVERS;
+  int slot = part->answer.slot, list = SENDERS + slot;
   mine.part = part;
-  mine.in = &part->lists[part->answer.wait == WAIT_PAGES ? PAGERS : of_slot + part->answer.slot];
   mine.type = (int64_t)part->call.type;
   mine.flags = part->call.flags;
+  if (part->call.kind == RECEIVE) list = receivers(slot, mine.flags & MSG_EXCEPT ? 0 : mine.type);
+  mine.in = &part->lists[part->answer.wait == WAIT_PAGES ? PAGERS : list];
   __atomic_store_n(&mine.word, WAITS, __ATOMIC_RELAXED);
   TAILQ_INSERT_TAIL(mine.in, &mine, link);
 }
@@ -588,7 +588,8 @@ int civdrax_timedsnd(int id, const void *message, size_t size, int flags,
   int error = make(part, message ? (const char *)message + sizeof type : NULL, NULL, end);
   if (!error) {
     part->sent_by[part->answer.slot] = self;
-    rouse(part, RECEIVERS + part->answer.slot, type);
+    rouse(part, receivers(part->answer.slot, 0), type);
+    rouse(part, receivers(part->answer.slot, type), type);
   }
   release(part);
   return end_call(error, 0);
@@ -688,7 +689,7 @@ int civdrax_msgctl(int id, int cmd, struct msqid_ds *buf) {
     if (part->answer.changed) rouse(part, SENDERS + slot, 0);
     if (cmd == IPC_RMID) {
       part->queues--;
-      rouse(part, RECEIVERS + slot, 0);
+      for (int type = 0; type <= TYPES; type++) rouse(part, receivers(slot, type), 0);
       rouse(part, PAGERS, 0);
     }
   }
