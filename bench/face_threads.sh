@@ -1,14 +1,15 @@
 #!/bin/bash
 # Times threads that pass texts through the queues of the C library of face/, beside the kernel's:
-# `bench/face_threads.sh [TEXTS] [ROUNDS] [OTHER]`, at least 5 rounds. Rows: so many that send and so
-# many that receive through one queue; four threads each of which sends and receives by turns in a
-# queue of its own; two that pass one text there and back; one thread alone; and a thousand that wait
-# in one queue, each for a type of its own, to whom another sends. A queue has the quota
-# 131,072, or as much as the kernel gives. OTHER is a libcivdrax.a of another commit, timed beside them.
-# Medians of rounds in which they take turns; what a run of no texts takes is left out. The library's
-# ratios are printed beside what is wanted, with ! where one is missed, and the status is 1 then.
-# Raises the kernel's limits while it runs, where it may. Times the library as it lies in face/out, and
-# builds it where it is not there. Wants cc, and a machine with nothing else to do.
+# `bench/face_threads.sh [TEXTS] [ROUNDS] [PICTURE] [OTHER]`, at least 5 rounds. Rows: so many that
+# send and so many that receive through one queue; four threads each of which sends and receives by
+# turns in a queue of its own; two that pass one text there and back; one thread alone; and a
+# thousand that wait in one queue, each for a type of its own, to whom another sends. A queue has
+# the quota 131,072, or as much as the kernel gives. OTHER is a libcivdrax.a of another commit,
+# timed beside them. Medians of rounds in which they take turns; what a run of no texts takes is
+# left out. The library's ratios are printed beside what is wanted, with ! where one is missed, and
+# the status is 1 then. Draws the picture by gnuplot; without a name it draws none. Raises the
+# kernel's limits while it runs, where it may. Times the library as it lies in face/out, and builds
+# it where it is not there. Wants cc, and a machine with nothing else to do.
 set -euo pipefail
 cd "$(dirname "$0")/.."
 [ -e face/out/libcivdrax.a ] || make -s -C face > /dev/null
@@ -26,17 +27,19 @@ over() {
 }
 build kernel
 over library face/out/libcivdrax.a
-[ $# -lt 3 ] || over other "$3"
+[ $# -lt 4 ] || over other "$4"
 raise_limits
-PYTHONPATH=bench PYTHONDONTWRITEBYTECODE=1 python3 - "${1:-40000}" "${2:-9}" "$folder" <<'PYTHON'
+PYTHONPATH=bench PYTHONDONTWRITEBYTECODE=1 python3 - "${1:-40000}" "${2:-9}" "$folder" \
+    "${3:-}" <<'PYTHON'
 import os
 import subprocess
 import sys
 from typing import NamedTuple
 
+import picture
 from timing import medians, ratio, say_load, seconds
 
-TEXTS, ROUNDS, FOLDER = int(sys.argv[1]), int(sys.argv[2]), sys.argv[3]
+TEXTS, ROUNDS, FOLDER, PICTURE = int(sys.argv[1]), int(sys.argv[2]), *sys.argv[3:]
 NAMES = [name for name in ("kernel", "library", "other") if os.path.exists(f"{FOLDER}/{name}")]
 LENGTHS = (0, 1000, 8192)
 QUOTA = 131072
@@ -81,17 +84,20 @@ def main():
     say_load("nanoseconds a text, and the ratios (wanted)")
     runs = {(row, name): (row.count, lambda count, row=row, name=name: row.run_of(name, count))
             for row in rows() for name in NAMES}
-    found, missed = medians(runs, ROUNDS), 0
+    found, missed, bars = medians(runs, ROUNDS), 0, []
     print(f"{'':20}" + "".join(f"{name:>10}" for name in NAMES) + "  of the kernel"
           + "  of the other" * ("other" in NAMES))
     for row in rows():
         times = {name: found[row, name] / row.texts for name in NAMES}
         text, is_missed = ratio(times["library"] / times["kernel"], row.wanted)
         missed += is_missed
+        bars.append((f"{row.head}, {row.length:,}", times["library"], times["kernel"]))
         if "other" in NAMES:
             text += f"  {times['library'] / times['other']:6.2f}"
         print(f"{row.head + ', ' + str(row.length):20}"
               + "".join(f"{times[name]:10.0f}" for name in NAMES) + "  " + text, flush=True)
+    if PICTURE:
+        picture.bars(PICTURE, ["C library", "Linux"], bars, "nanoseconds a text")
     sys.exit(f"{missed} missed" if missed else 0)
 
 
