@@ -1,35 +1,36 @@
 #!/usr/bin/env python3
-"""Compares docs/CALLS.md, which tells the public calls, with the sources.
+"""Compares the pages that tell the public calls, docs/CALLS.md and the CALLING.md of `mq`, with the
+sources.
 
-Each line of its ```rust blocks is a signature of the sources, in the form that the head of the page
-says, and the crate `mq` hands on the types that it names. Each public call of System, Caller,
-OneThread and Seat, and each name that `mq` hands on, has a place on the page; a call that refuses, in
-such a block. The refusals of a section's table are those that the comment of each of its functions
-names, or the variants of its error, in that order; a call that is another one with more around it
-need not name them again. Each clause of a sentence 'Proved' is one of the section's functions. The
-last line counts.
+Each line of their ```rust blocks is a signature of the sources, in the form that the head of CALLS.md
+says, and the crate `mq` hands on the types that it names. Each public call of the types below, and
+each name that `mq` hands on, has a place on a page; a call that refuses, in such a block. The
+refusals of a table of CALLS.md are those that the comment of each function of its section names, or
+the variants of its error, in that order; a call that is another one with more around it need not
+name them again. Each clause of a sentence 'Proved' is one of the section's functions. The last line
+counts.
 """
 import re
 import sys
 from pathlib import Path
 
 CRATES = Path(__file__).resolve().parent.parent / "crates"
-PAGE = CRATES.parent / "docs" / "CALLS.md"
-TYPES = ["System", "Caller", "OneThread", "Seat"]
+PAGES = [CRATES.parent / "docs" / "CALLS.md", CRATES / "mq" / "CALLING.md"]
+TYPES = ["System", "OneThread", "Seat", "Caller", "LocalCaller", "LocalQueues", "Moments"]
 # Errors whose variants stand in the order of the refusals.
 ERRORS = ["DraftError", "SysError", "WorkersError"]
-# Calls that are another one of their section: at a seat and with its flags, with bytes in place of a
-# text, or with an end of the wait.
-LIKE_ANOTHER = re.compile(r"Caller::|\w+_bytes$|.*_within$")
+# Calls that are another one of their section: by a caller, or with an end of the wait.
+LIKE_ANOTHER = re.compile(r"(Local)?Caller::|.*_within$")
 # What a signature names of the language.
-KNOWN = ["Result", "Option", "Vec", "Answer"]
+KNOWN = ["Result", "Option", "Vec", "Answer", "Value", "Global"]
 # Parameters of nearly every call, which a signature shows without their types.
 PLAIN = {"rt: &R": "rt", "alloc: Global": "alloc", "system: &System<P, N>": "system",
          "seat: &mut Seat<N>": "seat", "seat: &Seat<N>": "seat",
-         "queues: &mut OneThread<L>": "queues", "config: Config": "config", "id: Id": "id",
+         "config: Config": "config", "id: Id": "id",
          "key: i32": "key", "mtype: i64": "mtype", "msgtyp: i64": "msgtyp", "tag: u64": "tag",
          "len: u64": "len", "size: u64": "size", "moment: u64": "moment", "bytes: &[u8]": "bytes",
-         "patience: &mut T": "patience"}
+         "patience: &mut T": "patience", "message: Message<'_>": "message",
+         "selection: Selection": "selection", "options: ReceiveOptions": "options"}
 
 
 def handed_on():
@@ -101,11 +102,11 @@ def main():
     calls = functions(sources)
     refused = {name: refusals(it[0], it[1], sources) for name, it in calls.items()}
     by_text = {it[0]: name for name, it in calls.items()}
-    page = PAGE.read_text()
+    page, rest = (it.read_text() for it in PAGES)
     types = {it for text in PLAIN for it in re.findall(r"\b[A-Z]\w+", text)} - {"Global"}
     checks = [(it in names, f"mq does not hand on {it}") for it in sorted(types)]
     placed = set()
-    for section in re.split(r"^## ", page, flags=re.M)[1:]:
+    for section in re.split(r"^## ", page + rest, flags=re.M)[1:]:
         title = section.splitlines()[0]
         lines = [it for block in re.findall(r"```rust\n(.*?)```", section, re.S)
                  for it in block.splitlines()]
@@ -117,12 +118,13 @@ def main():
         table = re.search(r"^\| Refuses.*\n\|[-| ]*\n((?:\|.*\n)*)", section, re.M)
         told = re.findall(r"^\| `(\w+)`", table.group(1), re.M) if table else []
         checks += [(refused[it] == told, f"{title}: {it} refuses {refused[it]}, not {told}")
-                   for it in own if refused[it] or must_name(it, calls[it][0])]
+                   for it in own
+                   if section in page and (refused[it] or must_name(it, calls[it][0]))]
         clauses = {clause for name in own for clause in calls[name][2]}
         checks += [(it in clauses, f"{title}: no clause `{it}`")
                    for said in re.findall(r"\bProved[^.]*", section)
                    for it in re.findall(r"`([a-z_]+)`", said) if it not in calls]
-    text = re.sub(r"```.*?```", "", page, flags=re.S)
+    text = re.sub(r"```.*?```", "", page + rest, flags=re.S)
     told = set(re.findall(r"[\w:]+", " ".join(re.findall(r"`([^`\n]+)`", text))))
     wanted = names | {it for it in calls if it.split("::")[0] in TYPES and "::" in it}
     checks += [(it in placed or it in told and not refused.get(it), f"{it} has no place")

@@ -34,7 +34,7 @@ from promises_cases import CASES, write  # noqa: E402
 FOLDERS = ("planted", "must-not-compile")
 ONLY_TESTED = "What only tests see"
 NAME = re.compile(r"`([^`]+)`")
-BLOCK = re.compile(r"(?m)^ *(?:pub(?:\(\w+\))? )?(impl|trait)\b([^{;]*)\{")
+BLOCK = re.compile(r"(?m)^ *(?:pub(?:\(\w+\))? )?(impl|trait)\b((?:\[[^]]*\]|[^{;])*)\{")
 FUNCTION = re.compile(r"\bfn\s+(\w+)")
 CLAUSE = re.compile(r"\b(?:ensures|requires)\*?\s+(\w+)\s*\{([^{}]*)")
 # What comes before a contract, and a clause of it up to its brace.
@@ -49,8 +49,8 @@ TABLE = re.compile(r"(?m)^table (\w+)$")
 NOTHING = re.compile(r"\{\s*(?:let _ = [^;]*;\s*)?\}")
 # Public functions with no wrong body that compiles, by crate and module: they begin with nothing, take
 # apart or hand on what there is one of, or only call what their proof names.
-ONE_BODY = {"mq_arena locked::into_state", "mq_arena parts::empty", "mq_arena text::into_block",
-            "mq_index queue::new", "mq_index room::new", "mq_message message::into_body",
+ONE_BODY = {"mq caller::into_seat", "mq_arena locked::into_state", "mq_arena parts::empty",
+            "mq_arena text::into_block", "mq_index queue::new", "mq_index room::new", "mq_message message::into_body",
             "mq_queue state::base", "mq_system slot::holds", "mq_system tally::close",
             "mq_table keys::new"}
 # Comments, strings and characters, which may hold braces.
@@ -72,9 +72,10 @@ class Function:
 
     def is_printed(self, path):
         """Whether this is its path as a check prints it, where a trait's name, or arguments, may
-        stand behind the type's."""
+        stand behind the type's, which begins with a great letter, or is a tuple."""
         *front, last = path.split("::")
-        return last == self.name and any(not front or front[-1].startswith(it) for it in self.homes)
+        own = re.sub(r"^Tuple\d", "", front[-1]).lower() if front else ""
+        return last == self.name and any(not own or own.startswith(it.lower()) for it in self.homes)
 
 
 def masked(text):

@@ -33,6 +33,7 @@ NO_MEMORY = re.compile(
 )
 # The lines that a test says where what wanted memory does not tell it so: a thread that was not made.
 UNTOLD = {
+    "mq_tests values::a_thread_adds_the_numbers_that_another_sends": r"a thread cannot be made",
     "mq_text_tests threads::each_half_is_filled_by_a_thread_of_its_own": (
         r"no memory for the count of threads"
     ),
@@ -74,7 +75,7 @@ MAKE_NONE = {
     "mq_one_thread_tests names::a_refusal_is_named_as_in_the_manual",
     "mq_one_thread_tests names::each_layers_refusal_has_its_errno",
     "mq_queue_tests lists::a_msgtyp_is_read_as_the_manual_says",
-    "mq_queue_tests slots::keys::an_id_is_told_by_slot_and_seq_up_to_the_bounds",
+    "mq_slot_tests keys::an_id_is_told_by_slot_and_seq_up_to_the_bounds",
     "mq_system_tests shared::no_parts_are_opened_for_no_slot",
     "mq_system_tests waiters::a_patience_says_how_long_it_waits",
     "mq_system_tests waiters::a_wait_does_not_take_twice_its_time",
@@ -85,7 +86,7 @@ MAKE_NONE = {
     "mq_tests programs::a_size_out_of_its_limits_is_refused_before_the_program_runs",
     "mq_tests seats::a_system_out_of_its_limits_is_not_made",
     "mq_tests two::two_workers_at_one_seat_are_refused",
-    "mq_cli_tests refusals::an_empty_plan_makes_no_call",
+    "mq_threads_tests refusals::an_empty_plan_makes_no_call",
 }
 
 

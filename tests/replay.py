@@ -1,5 +1,5 @@
 #!/usr/bin/env python3
-"""Runs the test of mq_waits_tests in which sixteen threads call at once in three slots, and looks
+"""Runs the test of mq_replay_tests in which sixteen threads call at once in three slots, and looks
 that each reply is what the lists say that the slots leave.
 
 The judge is replay_model.py. First it must find each made-up mistake of replay_cases.py, and
@@ -20,7 +20,7 @@ from refused_calls import NO_MEMORY, TOP, program_of  # noqa: E402  (after that 
 from replay_cases import CASES  # noqa: E402
 from replay_model import Flaw, judge, round_of  # noqa: E402
 
-TEST = [program_of("mq_waits_tests"), "replay::runs::each_reply_is_that_of_the_slots_list"]
+TEST = [program_of("mq_replay_tests"), "runs::each_reply_is_that_of_the_slots_list"]
 ENDED = "\ntest result: ok\n"
 ROUNDS = 4
 RUNS = 8

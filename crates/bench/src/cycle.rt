@@ -3,8 +3,8 @@
 use crate::words::Words;
 use anyhow::Result;
 use mq::{
-    Config, DEFAULTS, Delivered, Errno, GetFlags, Id, Ledger, MAX_HEIGHT, MSGMAX, OneThread,
-    QueueProgram, SendRefused, with_queues,
+    Config, DEFAULTS, Delivered, Errno, GetFlags, Id, Ledger, LocalQueues, MAX_HEIGHT, MSGMAX,
+    OneThread, QueueProgram, SendRefused, with_queues,
 };
 use std::alloc::Global;
 
@@ -30,12 +30,8 @@ struct Came {
 impl QueueProgram for Cycles {
     type Answer = Result<Came, Errno>;
 
-    fn run<L: Ledger>(
-        self,
-        _alloc: Global,
-        _config: Config,
-        queues: &mut OneThread<L>,
-    ) -> Result<Came, Errno> {
+    fn run<L: Ledger>(self, _config: Config, queues: &mut LocalQueues<L>) -> Result<Came, Errno> {
+        let queues = &mut queues.queues;
         let flags = GetFlags {
             create: true,
             exclusive: false,

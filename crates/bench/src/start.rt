@@ -4,12 +4,13 @@ use crate::system::Anything;
 use crate::words::Words;
 use anyhow::Result;
 use mq::{
-    Config, DEFAULTS, Ledger, Names, OneThread, QueueProgram, Seat, System, SystemProgram,
-    with_queues, with_system,
+    Caller, Config, DEFAULTS, Ledger, LocalQueues, Names, QueueProgram, SystemProgram, with_queues,
+    with_system,
 };
 use std::alloc::Global;
 use std::rt::Files;
 use std::sync::Wait;
+use std::time::Clock;
 use std::{fs, io};
 
 /// Makes no call, and answers what /proc tells of the process's memory, where it is asked to.
@@ -32,12 +33,7 @@ impl<'a, R: Files + AllocGlobal> Idle<'a, R> {
 impl<'a, F: Files + AllocGlobal> QueueProgram for Idle<'a, F> {
     type Answer = io::Result<String>;
 
-    fn run<L: Ledger>(
-        self,
-        _alloc: Global,
-        _config: Config,
-        _queues: &mut OneThread<L>,
-    ) -> io::Result<String> {
+    fn run<L: Ledger>(self, _config: Config, _queues: &mut LocalQueues<L>) -> io::Result<String> {
         self.answer()
     }
 }
@@ -45,13 +41,10 @@ impl<'a, F: Files + AllocGlobal> QueueProgram for Idle<'a, F> {
 impl<'a, F: Files + AllocGlobal> SystemProgram<Anything> for Idle<'a, F> {
     type Answer = io::Result<String>;
 
-    fn run<N: Names, R: Wait>(
+    fn run<N: Names, R: Wait + Clock>(
         self,
-        _rt: &R,
-        _alloc: Global,
         _config: Config,
-        _system: &System<Anything, N>,
-        _seats: &mut [Seat<N>],
+        _callers: &mut [Caller<'_, Anything, N, R>],
     ) -> io::Result<String> {
         self.answer()
     }
@@ -61,7 +54,7 @@ impl<'a, F: Files + AllocGlobal> SystemProgram<Anything> for Idle<'a, F> {
 /// of 16 seats, or `none`: makes so many, one after another, and counts them. Where WHAT is
 /// `memory`, it prints what /proc tells of the process's memory while each is there.
 pub(crate) fn run(
-    rt: &(impl Print + Files + Wait + AllocGlobal),
+    rt: &(impl Print + Files + Wait + Clock + AllocGlobal),
     alloc: Global,
     words: &Words,
 ) -> Result<()> {

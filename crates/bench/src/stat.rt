@@ -3,11 +3,12 @@
 use crate::system::{Anything, queue, receive, send};
 use crate::words::Words;
 use anyhow::Result;
-use mq::{DEFAULTS, Errno, Names, Seat, System, Worker, with_workers};
+use mq::{Caller, DEFAULTS, Errno, Names, Seat, System, Worker, with_workers};
 use std::alloc::Global;
 use std::sync::Wait;
 use std::sync::atomic::{AtomicBool, Ordering};
 use std::thread::Threads;
+use std::time::Clock;
 
 /// What one seat does, by its first field: how often it asks, or what it sends and receives by
 /// turns until all has been asked.
@@ -57,13 +58,12 @@ fn send_until<N: Names, R: Wait>(
 impl<'a> Worker<Anything> for Part<'a> {
     type Answer = Result<u64, Errno>;
 
-    fn work<N: Names, R: Wait>(
+    fn work<N: Names, R: Wait + Clock>(
         self,
-        rt: &R,
-        _alloc: Global,
-        system: &System<Anything, N>,
-        seat: &mut Seat<N>,
+        caller: &mut Caller<'_, Anything, N, R>,
     ) -> Result<u64, Errno> {
+        let (rt, system) = (caller.rt, caller.system);
+        let seat = &mut caller.seat;
         match self {
             Part::Asks(count, done) => {
                 let seen = ask(rt, system, seat, count);
@@ -77,7 +77,7 @@ impl<'a> Worker<Anything> for Part<'a> {
 
 /// `stat COUNT SENDERS`: asks so many times, beside so many that send texts of 16 bytes.
 pub(crate) fn run(
-    rt: &(impl Print + Threads + Wait + Sync),
+    rt: &(impl Print + Threads + Wait + Clock + Sync),
     alloc: Global,
     words: &Words,
 ) -> Result<()> {

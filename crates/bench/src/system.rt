@@ -3,12 +3,13 @@
 use crate::words::Words;
 use anyhow::{Result, bail};
 use mq::{
-    Config, DEFAULTS, Delivered, Errno, Forever, GetFlags, Id, MAX_HEIGHT, MSGMAX, Names, Pledge,
-    RecvFlags, Seat, SendFlags, SendRefused, System, Worker, with_workers,
+    Caller, Config, DEFAULTS, Delivered, Errno, Forever, GetFlags, Id, MAX_HEIGHT, MSGMAX, Names,
+    Pledge, RecvFlags, Seat, SendFlags, SendRefused, System, Worker, with_workers,
 };
 use std::alloc::{AllocError, Global};
 use std::sync::Wait;
 use std::thread::Threads;
+use std::time::Clock;
 
 /// Nothing is pledged.
 pub(crate) struct Anything;
@@ -38,13 +39,12 @@ struct Player {
 impl Worker<Anything> for Player {
     type Answer = Result<u64, Errno>;
 
-    fn work<N: Names, R: Wait>(
+    fn work<N: Names, R: Wait + Clock>(
         self,
-        rt: &R,
-        _alloc: Global,
-        system: &System<Anything, N>,
-        seat: &mut Seat<N>,
+        caller: &mut Caller<'_, Anything, N, R>,
     ) -> Result<u64, Errno> {
+        let (rt, system) = (caller.rt, caller.system);
+        let seat = &mut caller.seat;
         let sends = queue(rt, system, seat, self.sends)?;
         let receives = queue(rt, system, seat, self.receives)?;
         let replies = queue(rt, system, seat, self.replies)?;
@@ -241,7 +241,7 @@ impl Sizes {
 /// COUNT texts to each receiver, which takes those of a type of its own: counts the bytes that
 /// came.
 pub(crate) fn run(
-    rt: &(impl Print + Threads + Wait + Sync),
+    rt: &(impl Print + Threads + Wait + Clock + Sync),
     alloc: Global,
     words: &Words,
 ) -> Result<()> {

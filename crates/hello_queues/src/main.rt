@@ -3,10 +3,8 @@
 
 use anyhow::Result;
 use mq::{
-    Config, DEFAULTS, Errno, GetFlags, Ledger, OneThread, QueueProgram, receive_bytes, send_bytes,
-    with_queues,
+    Config, DEFAULTS, Errno, Ledger, LocalQueues, Message, QueueProgram, Selection, with_queues,
 };
-use std::alloc::Global;
 
 #[derive(Drop)]
 struct Hello;
@@ -14,14 +12,10 @@ struct Hello;
 impl QueueProgram for Hello {
     type Answer = Result<Vec<u8>, Errno>;
 
-    fn run<L: Ledger>(self, alloc: Global, _: Config, queues: &mut OneThread<L>) -> Self::Answer {
-        let flags = GetFlags {
-            create: true,
-            exclusive: false,
-        };
-        let id = queues.msgget(1, 1234, flags, 1)?.id;
-        send_bytes(queues, 1, id, 7, 0, b"hello", 2)?;
-        Ok(receive_bytes(alloc, queues, 2, id, 100, 0, false, false, 3)?.text)
+    fn run<L: Ledger>(self, _: Config, queues: &mut LocalQueues<L>) -> Self::Answer {
+        let id = queues.caller(1).queue(1234)?;
+        queues.caller(1).send(id, Message::new(7, b"hello"))?;
+        Ok(queues.caller(2).receive(id, Selection::Any)?.text)
     }
 }
 

@@ -5,11 +5,9 @@
 #![tactic(auto)]
 
 use mq::{
-    Caller, Config, DEFAULTS, Errno, Id, Names, Pledge, Seat, System, Worker, WorkersError,
-    with_workers,
+    Caller, Clock, Config, DEFAULTS, Errno, Id, Message, Names, Pledge, Selection, Wait, Worker,
+    WorkersError, with_workers,
 };
-use std::alloc::Global;
-use std::sync::Wait;
 use std::{env, io};
 
 /// The keys of the queue of requests and of the queue of replies.
@@ -62,18 +60,17 @@ impl Followed {
 
     /// Cuts the log where this entry lies so many past the last cut. Here what is handed out is
     /// dropped; another server would store it.
-    fn cut_after<N: Names, R: Wait>(
+    fn cut_after<N: Names, R: Wait + Clock>(
         &mut self,
-        caller: &mut Caller<'_, N, R>,
-        system: &System<Anything, N>,
+        caller: &mut Caller<'_, Anything, N, R>,
         entry: u64,
         every: u64,
     ) -> Result<(), Errno> {
         let slot = self.id.slot();
-        if entry < self.last.saturating_add(every) || slot >= system.slots() {
+        if entry < self.last.saturating_add(every) || slot >= caller.slots() {
             return Ok(());
         }
-        let cut = caller.cut_log(system, slot)?;
+        let cut = caller.cut_log(slot)?;
         let entries = (cut.past.len() as u64).saturating_add(cut.last.len() as u64);
         self.last = cut.first.saturating_add(entries);
         self.gone = self.gone.saturating_add(entries);
@@ -82,37 +79,38 @@ impl Followed {
 }
 
 /// Answers so many requests, each with its own text. How many entries of logs were cut off.
-fn serve<N: Names, R: Wait>(
-    caller: &mut Caller<'_, N, R>,
-    system: &System<Anything, N>,
+fn serve<N: Names, R: Wait + Clock>(
+    caller: &mut Caller<'_, Anything, N, R>,
     requests: u64,
     every: u64,
 ) -> Result<u64, Errno> {
-    let mut asked = Followed::new(caller.queue(system, REQUESTS)?);
-    let mut replied = Followed::new(caller.queue(system, REPLIES)?);
+    let mut asked = Followed::new(caller.queue(REQUESTS)?);
+    let mut replied = Followed::new(caller.queue(REPLIES)?);
     for _ in 0..requests {
-        let request = caller.receive(system, asked.id, 100, 0)?;
-        let to = i64::from(request.sender);
-        let text = request.text.as_slice();
-        let entry = caller.send(system, replied.id, to, request.tag, text)?;
-        asked.cut_after(caller, system, request.entry, every)?;
-        replied.cut_after(caller, system, entry, every)?;
+        let request = caller.receive(asked.id, Selection::Any)?;
+        let reply = Message {
+            mtype: i64::from(request.sender),
+            tag: request.tag,
+            bytes: request.text.as_slice(),
+        };
+        let entry = caller.send(replied.id, reply)?;
+        asked.cut_after(caller, request.entry, every)?;
+        replied.cut_after(caller, entry, every)?;
     }
     Ok(asked.gone.saturating_add(replied.gone))
 }
 
 /// Makes so many requests, and waits for the reply to each.
-fn ask<N: Names, R: Wait>(
-    caller: &mut Caller<'_, N, R>,
-    system: &System<Anything, N>,
+fn ask<N: Names, R: Wait + Clock>(
+    caller: &mut Caller<'_, Anything, N, R>,
     requests: u64,
 ) -> Result<u64, Errno> {
-    let asked = caller.queue(system, REQUESTS)?;
-    let replied = caller.queue(system, REPLIES)?;
+    let asked = caller.queue(REQUESTS)?;
+    let replied = caller.queue(REPLIES)?;
     let own = i64::from(caller.number());
     for tag in 0..requests {
-        caller.send(system, asked, 1, tag, b"what time is it?")?;
-        caller.receive(system, replied, 100, own)?;
+        caller.send(asked, Message::new(1, b"what time is it?").tagged(tag))?;
+        caller.receive(replied, Selection::Exact(own))?;
     }
     Ok(0)
 }
@@ -120,23 +118,19 @@ fn ask<N: Names, R: Wait>(
 impl Worker<Anything> for Role {
     type Answer = Result<u64, Errno>;
 
-    fn work<N: Names, R: Wait>(
+    fn work<N: Names, R: Wait + Clock>(
         self,
-        rt: &R,
-        alloc: Global,
-        system: &System<Anything, N>,
-        seat: &mut Seat<N>,
+        caller: &mut Caller<'_, Anything, N, R>,
     ) -> Result<u64, Errno> {
-        let mut caller = Caller::new(rt, alloc, seat);
         let done = match self {
-            Role::Serve(requests, every) => serve(&mut caller, system, requests, every),
-            Role::Ask(requests) => ask(&mut caller, system, requests),
+            Role::Serve(requests, every) => serve(caller, requests, every),
+            Role::Ask(requests) => ask(caller, requests),
         };
         if done.is_err() {
             // Then the queues go, and whoever waits in them is answered EIDRM.
             for key in [REQUESTS, REPLIES] {
-                if let Ok(id) = caller.queue(system, key) {
-                    let _ = caller.remove(system, id);
+                if let Ok(id) = caller.queue(key) {
+                    let _ = caller.remove(id);
                 }
             }
         }

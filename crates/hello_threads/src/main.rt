@@ -4,9 +4,9 @@
 ghost use Rattle.std.specs.Prelude.{◌≡◌, length};
 
 use anyhow::Result;
-use mq::{Caller, DEFAULTS, Errno, Names, Pledge, Seat, System, Worker, with_workers};
-use std::alloc::Global;
-use std::sync::Wait;
+use mq::{
+    Caller, Clock, DEFAULTS, Errno, Message, Names, Pledge, Selection, Wait, Worker, with_workers,
+};
 
 struct OneByte;
 
@@ -20,19 +20,15 @@ struct Player;
 impl Worker<OneByte> for Player {
     type Answer = Result<u8, Errno>;
 
-    fn work<N: Names, R: Wait>(
+    fn work<N: Names, R: Wait + Clock>(
         self,
-        rt: &R,
-        alloc: Global,
-        system: &System<OneByte, N>,
-        seat: &mut Seat<N>,
-    ) -> Result<u8, Errno> {
-        let mut caller = Caller::new(rt, alloc, seat);
+        caller: &mut Caller<'_, OneByte, N, R>,
+    ) -> Self::Answer {
         let own = caller.number();
-        let id = caller.queue(system, 1234)?;
+        let id = caller.queue(1234)?;
         let text = [(own % 10) as u8];
-        caller.send(system, id, i64::from(own % 3 + 1), 0, &text)?;
-        Ok(caller.receive(system, id, 1, i64::from(own))?.text[0])
+        caller.send(id, Message::new(i64::from(own % 3 + 1), &text))?;
+        Ok(caller.receive(id, Selection::Exact(i64::from(own)))?.text[0])
     }
 }
 

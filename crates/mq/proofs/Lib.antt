@@ -1,6 +1,9 @@
 pub mod EitherLemmas
 pub mod FreeLemmas
 pub mod LawLemmas
+pub mod LocalLemmas
+pub mod ReceiptLemmas
 pub mod ReceiveLemmas
 pub mod SendLemmas
+pub mod ValueLemmas
 pub mod WorkerLemmas

@@ -1,10 +1,9 @@
 -- Bytes that one thread receives.
-use Rattle.std.proofs.Common.{◌≡◌, ℕ, ℤ, ◌≤◌, Bool, length, Result, Ok, Err, refl, ap, subst, arith}
+use Rattle.std.proofs.Common.{◌≡◌, ℕ, ℤ, ◌≤◌, Bool, length, Result, Ok, Err, ap, subst, arith}
 use Rattle.std.proofs.lemmas.List.{length-take}
 use Rattle.mq_arena.specs.Text.{PlainText}
 use Rattle.mq_message.specs.declared.header.Header.{Header}
 use Rattle.mq_message.specs.Selection.{selection_of}
-use Rattle.mq_queue.specs.Memory.{or_memory}
 use Rattle.mq_table.specs.Ids.{slot_of}
 use Rattle.mq_table.specs.Kept.{entries_of}
 use Rattle.mq_table.specs.KeptCalls.{KeptTurn, kept_receives}
@@ -15,7 +14,6 @@ use Rattle.mq_calls.specs.State.{QueuesState, slot_at}
 use Rattle.mq_calls.specs.Texts.{text_at}
 use Rattle.mq_calls.specs.declared.results.Delivered.{Delivered}
 use Rattle.mq_calls.specs.declared.results.Refused.{Refused}
-use Rattle.mq.specs.Bytes.{copied_out}
 
 -- what is handed out is no longer than there is room
 pub received_fits : (s after : QueuesState) (seat id size : ℕ) (msgtyp : ℤ) (except noerror : Bool)
@@ -43,9 +41,3 @@ received_fits s after seat id size msgtyp except noerror moment d is =
         (omega (arith, length-take size (text_at turn.0.place slot.messages).bytes))
     by (Ok _) (Err refusal) its = cc
     by (Err refused) turn its = cc
-
--- that a text is copied out changes no refusal
-pub copied_memory : (memory : Refused) (answer : Answer (Delivered PlainText))
-    → or_memory memory answer ≡ or_memory memory (copied_out answer)
-copied_memory memory (Ok turn) = refl
-copied_memory memory (Err refused) = refl

@@ -1,9 +1,9 @@
 -- Texts that are sent and received whole, as bytes.
-use Rattle.std.specs.Prelude.{◌≡◌, ◌⊎◌, ℕ, ℤ, ◌<◌, Bool, List, length, Result, Ok, Err, IsOk}
+use Rattle.std.specs.Prelude.{◌≡◌, ◌⊎◌, ℕ, ℤ, ◌<◌, List, length, Result, Ok, Err, IsOk}
 use Rattle.mq_arena.specs.Text.{PlainText}
 use Rattle.mq_arena.specs.declared.order.TheConstants.{INLINE_LEN}
 use Rattle.mq_queue.specs.Memory.{or_memory}
-use Rattle.mq_calls.specs.Calls.{msgrcv, msgsnd}
+use Rattle.mq_calls.specs.Calls.{msgsnd}
 use Rattle.mq_calls.specs.Look.{Answer, refused_early}
 use Rattle.mq_calls.specs.State.{QueuesState}
 use Rattle.mq_calls.specs.Texts.{draft_errno, drafts, text_spent}
@@ -46,12 +46,6 @@ copied_out (Ok turn) =
     let text = turn.0.text in
     Ok (with_text turn.0 text.bytes, text_spent text turn.1)
 copied_out (Err refused) = Err refused
-
--- the bytes of a message are received
-abbrev pub receives_bytes : QueuesState → ℕ → ℕ → ℕ → ℤ → Bool → Bool → ℕ
-    → Answer (Delivered (List ℕ))
-receives_bytes s seat id size msgtyp except noerror moment =
-    copied_out (msgrcv s seat id size msgtyp except noerror moment)
 
 -- a call of bytes was refused, by what its definition says or where memory is lacking, and left all
 -- as it was

@@ -1,12 +1,14 @@
 -- What a caller of bytes knows: of them, of its seat, and of why a call is refused.
-use Rattle.std.specs.Prelude.{◌≡◌, ◌⊎◌, ℕ, ℤ, ◌<◌, ◌≤◌, Bool, false, true, List, length}
-use Rattle.std.specs.Prelude.{None, Option}
+use Rattle.std.specs.Prelude.{◌≡◌, ◌⊎◌, ℕ, ℤ, ◌<◌, ◌≤◌, ◌^◌, ◌&&◌, ◌++◌, Bool, false, true, List, length}
+use Rattle.std.specs.Prelude.{None, Option, int_lt, min, nat_le, nat_lt, pos}
 use Rattle.mq_arena.specs.Text.{PlainText, order_for}
 use Rattle.mq_arena.specs.declared.order.TheConstants.{INLINE_LEN}
 use Rattle.mq_message.specs.declared.selection.Selection.{Selection}
+use Rattle.mq_message.specs.declared.selection.Selection.TheVariants.{Any, Exact, Except, UpTo}
+use Rattle.mq_queue.specs.declared.limits.TheConstants.{MSGMAX}
 use Rattle.mq_table.specs.Ids.{seq_of, slot_of}
 use Rattle.mq_calls.specs.declared.errno.Errno.{Errno}
-use Rattle.mq_calls.specs.declared.errno.Errno.TheVariants.{ENOMEM}
+use Rattle.mq_calls.specs.declared.errno.Errno.TheVariants.{E2BIG, EINVAL, ENOMEM}
 use Rattle.mq_calls.specs.declared.results.Delivered.{Delivered}
 use Rattle.mq_calls.specs.declared.results.GetFlags.{GetFlags}
 use Rattle.mq_system.specs.Outcome.{IsLook, IsReceived, IsRefusal}
@@ -47,10 +49,6 @@ IsAsked errno = ⊥
 abbrev pub IsUnasked : SeatState → SeatState → Type 0
 IsUnasked old new = new ≡ old
 
--- there was no memory for so many bytes, and the system was not asked
-abbrev pub HasNoRoom : ℕ → SeatState → SeatState → Errno → Type 0
-HasNoRoom size old new errno = (errno ≡ ENOMEM) × (0 < size) × IsUnasked old new
-
 -- no text was drafted of so many bytes, and the system was not asked
 abbrev pub IsNotDrafted : ℕ → SeatState → SeatState → Errno → Type 0
 IsNotDrafted n old new errno = MayNotDraft n errno × IsUnasked old new
@@ -80,9 +78,54 @@ pub record IsReceivedInto {T : Type 0} (kept : Pledged) (slots id size : ℕ) (s
   pub pledge : noerror ≡ false → kept d.sender d.tag d.mtype bytes
   pub received : IsReceived kept slots id size selection noerror moment old new (with_bytes d bytes)
 
--- bytes were not received: there was no room for so many, or the call was turned away
-abbrev pub IsNotReceivedInto : ℕ → ℕ → ℕ → Selection → Bool → Bool → SeatState → SeatState → Errno
-    → Type 0
-IsNotReceivedInto slots id size selection noerror nowait old new errno =
-    IsTurnedBack (HasNoRoom size old new) (out_of_slots slots id) (MayReceive nowait noerror)
-    (slot_of id) (receive_verdict (seq_of id) size selection noerror) old new errno
+-- a selection of types that a message can have (msgop(2))
+abbrev pub is_selectable : Selection → Bool
+is_selectable Any = true
+is_selectable (Exact mtype) = int_lt (pos 0) mtype
+is_selectable (Except mtype) = int_lt (pos 0) mtype
+is_selectable (UpTo bound) = nat_lt 0 bound && nat_le bound (2 ^ 63)
+
+-- a call was refused for its selection alone
+abbrev pub IsUnselectable : Selection → Errno → Type 0
+IsUnselectable selection errno = (errno ≡ EINVAL) × (is_selectable selection ≡ false)
+
+-- for how many bytes a call that may hand out so many made room: for all where a longer text is cut
+pub record IsRoom (most : ℕ) (noerror : Bool) (room : ℕ) : Type 0 where
+  pub within : room ≤ most
+  pub cut : noerror ≡ true → room ≡ min most MSGMAX
+
+-- the bytes of a message were received, for which there was room
+pub record IsReceivedOf {T : Type 0} (kept : Pledged) (slots id most : ℕ) (selection : Selection)
+    (noerror : Bool) (moment : ℕ) (old new : SeatState) (d : Delivered T) (bytes : List ℕ)
+    : Type 0 where
+  pub room : ℕ
+  pub is_room : IsRoom most noerror room
+  pub received : IsReceivedInto kept slots id room selection noerror moment old new d bytes
+
+-- the system was not asked yet, or refused a text that was longer than the room for it
+abbrev pub IsTooLong : ℕ → ℕ → ℕ → Selection → Bool → Bool → SeatState → SeatState → Type 0
+IsTooLong slots id most selection noerror nowait old new =
+    IsUnasked old new ⊎ ((room : ℕ) × (room < most) × IsRefusal (out_of_slots slots id)
+    (MayReceive nowait noerror) (slot_of id) (receive_verdict (seq_of id) room selection noerror)
+    old new E2BIG)
+
+-- there was no memory for more room
+abbrev pub HasNoRoom : ℕ → ℕ → ℕ → Selection → Bool → Bool → SeatState → SeatState → Errno → Type 0
+HasNoRoom slots id most selection noerror nowait old new errno =
+    (errno ≡ ENOMEM) × (0 < most) × IsTooLong slots id most selection noerror nowait old new
+
+-- bytes were not received: for the selection, for want of memory, or the call was turned away; for
+-- a text's length only where it is longer than all that may be handed out
+pub record IsNotReceivedFrom (slots id most : ℕ) (selection : Selection) (noerror nowait : Bool)
+    (old new : SeatState) (errno : Errno) : Type 0 where
+  pub room : ℕ
+  pub is_room : IsRoom most noerror room
+  pub all : errno ≡ E2BIG → room ≡ most
+  pub turned : IsTurnedBack (λ e. (IsUnselectable selection e × IsUnasked old new)
+      ⊎ HasNoRoom slots id most selection noerror nowait old new e)
+      (out_of_slots slots id) (MayReceive nowait noerror) (slot_of id)
+      (receive_verdict (seq_of id) room selection noerror) old new errno
+
+-- bytes of which a fact holds stand behind others now
+abbrev pub IsAppended : List ℕ → List ℕ → (List ℕ → Type 0) → Type 0
+IsAppended old new fact = (bytes : List ℕ) × (new ≡ old ++ bytes) × fact bytes

@@ -3,4 +3,7 @@ pub mod Caller
 pub mod Either
 pub mod Ended
 pub mod Laws
+pub mod Local
+pub mod Moments
+pub mod Values
 pub mod Workers

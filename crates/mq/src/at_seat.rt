@@ -1,13 +1,14 @@
 ghost use Rattle.std.specs.Prelude.{◌≡◌, ◌≤◌, List, [], length, vec_len, vec_capacity};
 ghost use Rattle.mq.specs.Workers.{AreAfterWork, IsOf};
 
-use crate::Worker;
+use crate::{Caller, Worker};
 use mq_jobs::Job;
 use mq_system::{Names, Pledge, Seat, System};
 use std::alloc::{AllocError, Global};
 use std::hint::spin_loop;
 use std::marker::{Brand, Model, PhantomData};
 use std::sync::Wait;
+use std::time::Clock;
 
 /// The workers of a system in the order of their places, which only proofs see.
 pub(crate) trait Crew<W> {
@@ -18,17 +19,18 @@ impl<W> Crew<W> for Brand {
     ghost workers = { [] };
 }
 
-/// A worker at its seat, where it leaves its answer. What a thread leaves behind a reference is
-/// known by its type alone, so the type says whose answer it is.
-pub(crate) struct AtSeat<P: Pledge, N: Names, C: Crew<W>, W: Worker<P>> {
+/// A worker and its caller, beside which it leaves its answer. What a thread leaves behind a
+/// reference is known by its type alone, so the type says whose answer it is.
+pub(crate) struct AtSeat<'a, P: Pledge, N: Names, R: Wait + Clock, C: Crew<W>, W: Worker<P>> {
     place: usize,
-    seat: Seat<N>,
+    caller: Caller<'a, P, N, R>,
     worker: Option<W>,
     answer: Option<W::Answer>,
-    of: PhantomData<(P, C)>,
+    of: PhantomData<C>,
 }
 
-impl<P: Pledge, N: Names, C: Crew<W>, W: Worker<P>> Model for AtSeat<P, N, C, W> {
+impl<'a, P: Pledge, N: Names, R: Wait + Clock, C: Crew<W>, W: Worker<P>> Model
+    for AtSeat<'a, P, N, R, C, W> {
     ghost use Rattle.std.specs.Prelude.{ℕ};
     ghost use Rattle.mq.specs.Workers.{IsSeatOfWorker};
 
@@ -36,17 +38,18 @@ impl<P: Pledge, N: Names, C: Crew<W>, W: Worker<P>> Model for AtSeat<P, N, C, W>
 
     ghost view = { λ s. s.place };
 
-    ghost invariant = { λ s. IsSeatOfWorker W.after C.workers s.place s.seat s.worker s.answer };
+    ghost invariant = { λ s. IsSeatOfWorker W.after C.workers s.place s.caller.seat s.worker
+        s.answer };
 }
 
-impl<P: Pledge, N: Names, C: Crew<W>, W: Worker<P>> AtSeat<P, N, C, W> {
+impl<'a, P: Pledge, N: Names, R: Wait + Clock, C: Crew<W>, W: Worker<P>> AtSeat<'a, P, N, R, C, W> {
     /// The seat and the answer of the worker of this place: no run meets that of another, or none.
-    fn leave<R: Wait>(self, rt: &R, place: usize) -> (Seat<N>, W::Answer)
+    fn leave(self, rt: &R, place: usize) -> (Seat<N>, W::Answer)
         ensures { IsOf W.after C.workers place result.0 result.1 }
     {
         let AtSeat {
             place: own,
-            seat,
+            caller,
             worker: _,
             answer,
             of: _,
@@ -54,7 +57,7 @@ impl<P: Pledge, N: Names, C: Crew<W>, W: Worker<P>> AtSeat<P, N, C, W> {
         if own == place
             && let Some(answer) = answer
         {
-            return (seat, answer);
+            return (caller.into_seat(), answer);
         }
         for _ in rt.forever() {
             spin_loop();
@@ -66,47 +69,51 @@ impl<P: Pledge, N: Names, C: Crew<W>, W: Worker<P>> AtSeat<P, N, C, W> {
     fn clear(self) -> Seat<N> {
         let AtSeat {
             place: _,
-            seat,
+            caller,
             worker: _,
             answer: _,
             of: _,
         } = self;
-        seat
+        caller.into_seat()
     }
 }
 
 /// What one thread does: the worker works, if it has not yet.
 #[derive(Drop)]
-pub(crate) struct SeatJob<'a, P: Pledge, N: Names, C: Crew<W>, W: Worker<P>> {
-    alloc: Global,
-    at: &'a mut AtSeat<P, N, C, W>,
+pub(crate) struct SeatJob<'b, 'a, P: Pledge, N: Names, R: Wait + Clock, C: Crew<W>, W: Worker<P>> {
+    at: &'b mut AtSeat<'a, P, N, R, C, W>,
 }
 
 impl<
+    'b,
     'a,
     P: Pledge + Send + Sync,
     N: Names + Send + Sync,
+    R: Wait + Clock + Sync,
     C: Crew<W> + Send + Sync,
     W: Worker<P> + Send,
-> Job for SeatJob<'a, P, N, C, W> {
-    type Shared = System<P, N>;
+> Job for SeatJob<'b, 'a, P, N, R, C, W> {
+    type Shared = ();
 
     type Answer = ();
 
-    fn run<R: Wait>(self, rt: &R, system: &System<P, N>) {
-        let SeatJob { alloc, at } = self;
+    fn run<T: Wait>(self, _rt: &T, _shared: &()) {
+        let SeatJob { at } = self;
         let Some(worker) = at.worker.take() else {
             return;
         };
-        at.answer = Some(worker.work(rt, alloc, system, &mut at.seat));
+        at.answer = Some(worker.work(&mut at.caller));
     }
 }
 
 /// Each worker at the seat of its place, the last one first.
-pub(crate) fn take_seats<P: Pledge, N: Names, C: Crew<W>, W: Worker<P>>(
+pub(crate) fn take_seats<'a, P: Pledge, N: Names, R: Wait + Clock, C: Crew<W>, W: Worker<P>>(
+    rt: &'a R,
+    alloc: Global,
+    system: &'a System<P, N>,
     seats: &mut Vec<Seat<N>>,
     workers: Vec<W>,
-    taken: &mut Vec<AtSeat<P, N, C, W>>,
+    taken: &mut Vec<AtSeat<'a, P, N, R, C, W>>,
 )
     requires crew { C.workers ≡ workers.items }
     requires seats { vec_len seats.old ≡ vec_len workers }
@@ -123,7 +130,7 @@ pub(crate) fn take_seats<P: Pledge, N: Names, C: Crew<W>, W: Worker<P>>(
         };
         taken.push_reserved(AtSeat {
             place: workers.len(),
-            seat,
+            caller: Caller::new(rt, alloc, system, seat),
             worker: Some(worker),
             answer: None,
             of: PhantomData,
@@ -132,21 +139,22 @@ pub(crate) fn take_seats<P: Pledge, N: Names, C: Crew<W>, W: Worker<P>>(
 }
 
 /// A turn for each worker.
-pub(crate) fn turns<'a, P: Pledge, N: Names, C: Crew<W>, W: Worker<P>>(
+pub(crate) fn turns<'b, 'a, P: Pledge, N: Names, R: Wait + Clock, C: Crew<W>, W: Worker<P>>(
     alloc: Global,
-    taken: &'a mut [AtSeat<P, N, C, W>],
-) -> Result<Vec<SeatJob<'a, P, N, C, W>>, AllocError> {
+    taken: &'b mut [AtSeat<'a, P, N, R, C, W>],
+) -> Result<Vec<SeatJob<'b, 'a, P, N, R, C, W>>, AllocError> {
     let mut turns = Vec::with_capacity(alloc, taken.len())?;
-    for at in taken {
-        turns.push_reserved(SeatJob { alloc, at });
+    let all = taken.iter_mut();
+    for at in all {
+        turns.push(SeatJob { at })?;
     }
     Ok(turns)
 }
 
 /// All seats, and what was answered at them, in the order of the workers.
-pub(crate) fn leave_seats<P: Pledge, N: Names, C: Crew<W>, W: Worker<P>, R: Wait>(
+pub(crate) fn leave_seats<P: Pledge, N: Names, R: Wait + Clock, C: Crew<W>, W: Worker<P>>(
     rt: &R,
-    taken: Vec<AtSeat<P, N, C, W>>,
+    taken: Vec<AtSeat<'_, P, N, R, C, W>>,
     seats: &mut Vec<Seat<N>>,
     answers: &mut Vec<W::Answer>,
 )
@@ -155,7 +163,7 @@ pub(crate) fn leave_seats<P: Pledge, N: Names, C: Crew<W>, W: Worker<P>, R: Wait
     requires no_answer { vec_len answers.old ≡ 0 }
     requires room_of_seats { vec_len taken ≤ vec_capacity seats.old }
     requires room { vec_len taken ≤ vec_capacity answers.old }
-    ensures count { vec_len seats.new ≡ vec_len taken }
+    ensures count { vec_len seats.new ≡ vec_len taken.entry }
     ensures after { AreAfterWork W.after C.workers seats.new.items answers.new.items }
 {
     let mut taken = taken;
@@ -168,13 +176,13 @@ pub(crate) fn leave_seats<P: Pledge, N: Names, C: Crew<W>, W: Worker<P>, R: Wait
 }
 
 /// All seats, where no worker has begun.
-pub(crate) fn clear_seats<P: Pledge, N: Names, C: Crew<W>, W: Worker<P>>(
-    taken: Vec<AtSeat<P, N, C, W>>,
+pub(crate) fn clear_seats<P: Pledge, N: Names, R: Wait + Clock, C: Crew<W>, W: Worker<P>>(
+    taken: Vec<AtSeat<'_, P, N, R, C, W>>,
     seats: &mut Vec<Seat<N>>,
 )
     requires none { vec_len seats.old ≡ 0 }
     requires room { vec_len taken ≤ vec_capacity seats.old }
-    ensures count { vec_len seats.new ≡ vec_len taken }
+    ensures count { vec_len seats.new ≡ vec_len taken.entry }
 {
     let mut taken = taken;
     while let Some(at) = taken.pop() {

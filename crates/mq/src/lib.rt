@@ -6,19 +6,37 @@
 mod at_seat;
 mod bytes;
 mod caller;
+mod carries;
 mod either;
 mod ended;
 pub mod laws;
+mod local_caller;
+mod local_messages;
+mod local_queues;
+mod local_texts;
+mod message;
+mod moments;
+mod msgtyp;
+mod not_received;
 mod program;
+mod receive;
+mod receive_options;
+mod send;
 mod system_program;
+mod texts;
 mod two;
+mod values;
 mod worker;
 mod workers;
 mod workers_error;
 
-pub use bytes::{receive_bytes, send_bytes};
 pub use caller::Caller;
+pub use carries::{Carries, ValuePledge, Vow};
 pub use ended::Ended;
+pub use local_caller::LocalCaller;
+pub use local_queues::LocalQueues;
+pub use message::Message;
+pub use moments::Moments;
 pub use mq_arena::{
     ArenaState, Block, Homecoming, INLINE_LEN, INLINE_ORDER, INLINE_PAGES, LEDGER_PARTS, MAX_ORDER,
     PAGE_LEN, Page, Parts, TakeError, Text,
@@ -38,8 +56,13 @@ pub use mq_system::{
 };
 pub use mq_table::{Cut, Id, MAX_SEQ, MAX_SLOTS};
 pub use mq_tree::MAX_HEIGHT;
+pub use mq_wire::{Bytes, Unread, Wire};
+pub use not_received::NotReceived;
 pub use program::{QueueProgram, with_queues};
+pub use receive_options::ReceiveOptions;
+pub use std::sync::Wait;
 pub use std::sync::ledger::{Blank, Ledger};
+pub use std::time::{Clock, Duration, Instant};
 pub use system_program::{SystemProgram, with_system};
 pub use two::with_two;
 pub use worker::Worker;

@@ -4,7 +4,7 @@ ghost use Rattle.mq_calls.specs.State.{QueuesState};
 ghost use Rattle.mq_calls.specs.declared.config.Config.{Config as Sizes};
 ghost use Rattle.mq.specs.Ended.{Leaves};
 
-use crate::Ended;
+use crate::{Ended, LocalQueues};
 use mq_arena::LEDGER_PARTS;
 use mq_calls::{Closed, Config, SysError};
 use mq_one_thread::OneThread;
@@ -23,16 +23,12 @@ pub trait QueueProgram: Drop {
     ghost after: { Self → Sizes → QueuesState → Self.Answer → Type 0 } = { λ _ _ _ _. Unit {0} };
 
     /// Runs once. No queue is made yet, and no page is lent.
-    fn run<L: Ledger>(
-        self,
-        alloc: Global,
-        config: Config,
-        queues: &mut OneThread<L>,
-    ) -> Self::Answer
+    fn run<L: Ledger>(self, config: Config, queues: &mut LocalQueues<L>) -> Self::Answer
         requires before { before self config }
         requires limits { keeps_limits config ≡ true }
-        requires start { queues.old ≡ empty_queues config }
-        ensures after { after self config queues.new result };
+        requires start { queues.old.queues ≡ empty_queues config }
+        requires moment { queues.old.moment ≡ 0 }
+        ensures after { after self config queues.new.queues result };
 }
 
 /// Makes queues of this size, runs the program on them once, and closes them. Where the answer is
@@ -64,9 +60,9 @@ fn run_program<L: Ledger, Q: QueueProgram>(
         × Q.after program config left ended.answer × Leaves left ended) }
     ensures err { IsErrOf result SysError.Config ↔ (keeps_limits config ≡ false) }
 {
-    let mut queues = OneThread::<L>::new(alloc, config, ledger)?;
-    let answer = program.run(alloc, config, &mut queues);
-    let Closed { slots, arena } = queues.close();
+    let mut queues = LocalQueues::of(alloc, OneThread::<L>::new(alloc, config, ledger)?);
+    let answer = program.run(config, &mut queues);
+    let Closed { slots, arena } = queues.into_queues().close();
     Ok(Ended {
         answer,
         slots,

@@ -5,18 +5,19 @@ ghost use Rattle.mq.specs.Ended.{IsEnded};
 ghost use Rattle.mq.specs.Workers.{AreOfTwo};
 
 use crate::either::{Either, apart, both};
-use crate::{Ended, Worker, WorkersError, with_workers};
-use mq_system::{Config, Names, Pledge, Seat, System};
+use crate::{Caller, Ended, Worker, WorkersError, with_workers};
+use mq_system::{Config, Names, Pledge};
 use std::alloc::Global;
 use std::sync::Wait;
 use std::thread::Threads;
+use std::time::Clock;
 
 /// `with_workers` for two workers of different types, at seats 1 and 2.
 pub fn with_two<
     P: Pledge + Send + Sync,
     A: Worker<P> + Send,
     B: Worker<P> + Send,
-    R: Threads + Wait + Sync,
+    R: Threads + Wait + Clock + Sync,
 >(
     rt: &R,
     alloc: Global,
@@ -55,16 +56,13 @@ impl<P: Pledge, A: Worker<P>, B: Worker<P>> Worker<P> for Either<A, B> {
 
     ghost after = { after_either A.after B.after };
 
-    fn work<N: Names, R: Wait>(
+    fn work<N: Names, R: Wait + Clock>(
         self,
-        rt: &R,
-        alloc: Global,
-        system: &System<P, N>,
-        seat: &mut Seat<N>,
+        caller: &mut Caller<'_, P, N, R>,
     ) -> Either<A::Answer, B::Answer> {
         match self {
-            Either::One(worker) => Either::One(worker.work(rt, alloc, system, seat)),
-            Either::Other(worker) => Either::Other(worker.work(rt, alloc, system, seat)),
+            Either::One(worker) => Either::One(worker.work(caller)),
+            Either::Other(worker) => Either::Other(worker.work(caller)),
         }
     }
 }

@@ -15,12 +15,13 @@ use std::alloc::Global;
 use std::marker::Brand;
 use std::sync::Wait;
 use std::thread::Threads;
+use std::time::Clock;
 
 /// Makes a system of this size, runs each worker on a thread and at a seat of its own, and closes
 /// the system once all have ended. It has as many seats as workers, since each takes memory of its
 /// own; `config` says how many there may be. No worker begins before there is a thread for each;
 /// where the answer is `Err`, none has begun.
-pub fn with_workers<P: Pledge + Send + Sync, W: Worker<P> + Send, R: Threads + Wait + Sync>(
+pub fn with_workers<P: Pledge + Send + Sync, W: Worker<P> + Send, R: Threads + Wait + Clock + Sync>(
     rt: &R,
     alloc: Global,
     config: Config,
@@ -57,7 +58,7 @@ fn run_workers<
     N: Names + Send + Sync,
     C: Crew<W> + Send + Sync,
     W: Worker<P> + Send,
-    R: Threads + Wait + Sync,
+    R: Threads + Wait + Clock + Sync,
 >(
     rt: &R,
     alloc: Global,
@@ -93,7 +94,7 @@ fn run_at<
     N: Names + Send + Sync,
     C: Crew<W> + Send + Sync,
     W: Worker<P> + Send,
-    R: Threads + Wait + Sync,
+    R: Threads + Wait + Clock + Sync,
 >(
     rt: &R,
     alloc: Global,
@@ -114,8 +115,8 @@ fn run_at<
     let Ok(mut taken) = Vec::with_capacity(alloc, workers.len()) else {
         return Err(WorkersError::Memory);
     };
-    take_seats::<P, N, C, W>(seats, workers, &mut taken);
-    match run_turns(rt, alloc, system, &mut taken) {
+    take_seats::<P, N, R, C, W>(rt, alloc, system, seats, workers, &mut taken);
+    match run_turns(rt, alloc, &mut taken) {
         Ok(()) => {
             leave_seats(rt, taken, seats, &mut answers);
             Ok(answers)
@@ -133,20 +134,15 @@ fn run_turns<
     N: Names + Send + Sync,
     C: Crew<W> + Send + Sync,
     W: Worker<P> + Send,
-    R: Threads + Wait + Sync,
->(
-    rt: &R,
-    alloc: Global,
-    system: &System<P, N>,
-    taken: &mut Vec<AtSeat<P, N, C, W>>,
-) -> Result<(), WorkersError>
+    R: Threads + Wait + Clock + Sync,
+>(rt: &R, alloc: Global, taken: &mut Vec<AtSeat<'_, P, N, R, C, W>>) -> Result<(), WorkersError>
     ensures count { vec_len taken.new ≡ vec_len taken.old }
     ensures err { IfErr result (λ e. (e ≡ Memory) ⊎ (e ≡ Thread)) }
 {
     let Ok(jobs) = turns(alloc, taken) else {
         return Err(WorkersError::Memory);
     };
-    match run_jobs(rt, alloc, system, jobs) {
+    match run_jobs(rt, alloc, &(), jobs) {
         Ok(_) => Ok(()),
         Err(JobsError::Memory) => Err(WorkersError::Memory),
         Err(JobsError::Thread) => Err(WorkersError::Thread),

@@ -1,5 +1,5 @@
-//! Tests of waiting lists, plain and found by type, of one queue, of texts on their way through
-//! queues, of ids, keys, slots and boards.
+//! Tests of waiting lists, plain and found by type, of one queue, and of texts on their way through
+//! queues.
 
 #![tactic(auto)]
 
@@ -32,8 +32,6 @@ macro_rules! holds {
 #[cfg(test)]
 mod bases;
 #[cfg(test)]
-mod boards;
-#[cfg(test)]
 mod calls;
 #[cfg(test)]
 mod cut_often;
@@ -51,8 +49,6 @@ mod logs;
 mod notices;
 #[cfg(test)]
 mod parts;
-#[cfg(test)]
-mod slots;
 #[cfg(test)]
 mod steps;
 #[cfg(test)]

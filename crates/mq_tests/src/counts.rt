@@ -1,10 +1,9 @@
 //! What two seats count that work at the same time.
 use crate::runs::{Nothing, SMALL, Worked, ended_of, slot_of, wanted_memory};
-use crate::seat_calls::{At, SeatCalls, receive, send};
-use mq::{Caller, ClosedSlot, Errno, GetFlags, Id, Names, Seat, System, Worker, with_two};
+use crate::seat_calls::{SeatCalls, receive, send};
+use mq::{Caller, Clock, ClosedSlot, Errno, GetFlags, Id, Names, Wait, Worker, with_two};
 use std::alloc::Global;
 use std::process::Abort;
-use std::sync::Wait;
 use std::thread::Threads;
 
 /// Sends three texts to one queue and receives three from the other.
@@ -22,10 +21,8 @@ struct Counted {
 }
 
 /// The queue with this key, which counts where this call made it.
-fn queue<N: Names, R: Wait>(
-    rt: &R,
-    system: &System<Nothing, N>,
-    seat: &mut Seat<N>,
+fn queue<N: Names, R: Wait + Clock>(
+    caller: &mut Caller<'_, Nothing, N, R>,
     key: i32,
     made: &mut [u64; 2],
 ) -> Result<Id, Errno> {
@@ -34,7 +31,7 @@ fn queue<N: Names, R: Wait>(
         exclusive: false,
     };
     for _ in 0..2 {
-        match system.msgget(rt, seat, key, flags, 0) {
+        match caller.get(key, flags) {
             Ok(got) => {
                 if got.made.is_some() {
                     add(made, got.id);
@@ -57,15 +54,13 @@ fn add(made: &mut [u64; 2], id: Id) {
 }
 
 /// Both queues, the one that is sent to first.
-fn queues<N: Names, R: Wait>(
-    rt: &R,
-    system: &System<Nothing, N>,
-    seat: &mut Seat<N>,
+fn queues<N: Names, R: Wait + Clock>(
+    caller: &mut Caller<'_, Nothing, N, R>,
     trader: Trader,
     made: &mut [u64; 2],
 ) -> Result<(Id, Id), Errno> {
-    let out = queue(rt, system, seat, trader.sends_to, made)?;
-    let back = queue(rt, system, seat, trader.receives_from, made)?;
+    let out = queue(caller, trader.sends_to, made)?;
+    let back = queue(caller, trader.receives_from, made)?;
     Ok((out, back))
 }
 
@@ -90,24 +85,20 @@ fn trades<C: SeatCalls>(
 impl Worker<Nothing> for Trader {
     type Answer = Result<Counted, Errno>;
 
-    fn work<N: Names, R: Wait>(
+    fn work<N: Names, R: Wait + Clock>(
         self,
-        rt: &R,
-        alloc: Global,
-        system: &System<Nothing, N>,
-        seat: &mut Seat<N>,
+        caller: &mut Caller<'_, Nothing, N, R>,
     ) -> Result<Counted, Errno> {
         let mut made = [0u64; 2];
-        let (out, back) = match queues(rt, system, seat, self, &mut made) {
+        let (out, back) = match queues(caller, self, &mut made) {
             Ok(queues) => queues,
             Err(errno) => return Err(errno),
         };
-        let caller = Caller::new(rt, alloc, seat);
-        trades(&mut At { caller, system }, out, back, made)
+        trades(caller, out, back, made)
     }
 }
 
-fn trade<R: Threads + Wait + Sync>(
+fn trade<R: Threads + Wait + Clock + Sync>(
     rt: &R,
     alloc: Global,
 ) -> Worked<(Result<Counted, Errno>, Result<Counted, Errno>)> {

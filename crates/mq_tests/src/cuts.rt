@@ -10,6 +10,7 @@ use std::hint::spin_loop;
 use std::sync::Wait;
 use std::sync::atomic::{AtomicU64, Ordering};
 use std::thread::Threads;
+use std::time::Clock;
 
 /// How many queues there are, one after another, and how many texts go through each.
 const QUEUES: u64 = 3;
@@ -176,7 +177,7 @@ fn roles(alloc: Global, shared: &Shared) -> Result<Vec<By<Role<'_>>>, AllocError
 }
 
 /// Runs the four, and once more where none has begun for lack of memory.
-fn worked<R: Threads + Wait + Sync>(
+fn worked<R: Threads + Wait + Clock + Sync>(
     rt: &R,
     alloc: Global,
     shared: &Shared,

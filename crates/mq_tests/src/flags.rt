@@ -5,6 +5,7 @@ use std::alloc::Global;
 use std::process::Abort;
 use std::sync::Wait;
 use std::thread::Threads;
+use std::time::Clock;
 
 const AT_ONCE: RecvFlags = RecvFlags {
     nowait: true,
@@ -51,7 +52,7 @@ impl Work for Alone {
         };
         let text = bytes.as_slice();
         let id = calls.queue(7)?;
-        let empty = calls.receive_with(id, 1, 0, AT_ONCE).err();
+        let empty = calls.receive_flagged(id, 1, 0, AT_ONCE).err();
         for tag in 1..3 {
             calls.send(id, 1, tag, text)?;
         }
@@ -59,7 +60,7 @@ impl Work for Alone {
             .send_with(id, 1, 3, text, SendFlags { nowait: true })
             .err();
         let long = calls.receive(id, 65_535, 0).err();
-        let Delivered { length, text, .. } = calls.receive_with(id, 10, 0, CUT)?;
+        let Delivered { length, text, .. } = calls.receive_flagged(id, 10, 0, CUT)?;
         Ok(Met {
             empty,
             full,
@@ -70,7 +71,7 @@ impl Work for Alone {
 }
 
 /// What the worker met whose text is left in the queue; ENOMEM where memory was wanted.
-fn answered<R: Abort + Threads + Wait + Sync>(rt: &R, alloc: Global) -> Result<Met, Errno> {
+fn answered<R: Abort + Threads + Wait + Clock + Sync>(rt: &R, alloc: Global) -> Result<Met, Errno> {
     let mut workers = Vec::new(alloc);
     if workers.push(By(Alone)).is_err() {
         return Err(Errno::ENOMEM);

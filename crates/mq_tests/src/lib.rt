@@ -40,6 +40,8 @@ mod flags;
 #[cfg(test)]
 mod joined;
 #[cfg(test)]
+mod locals;
+#[cfg(test)]
 mod memory;
 #[cfg(test)]
 mod programs;
@@ -51,5 +53,7 @@ mod seat_calls;
 mod seats;
 #[cfg(test)]
 mod two;
+#[cfg(test)]
+mod values;
 #[cfg(test)]
 mod workers;

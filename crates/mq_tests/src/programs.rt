@@ -1,8 +1,8 @@
 ghost use Rattle.std.specs.Prelude.{◌≡◌, ◌^◌, IfOk};
 
 use mq::{
-    ClosedSlot, Config, DEFAULTS, Delivered, Ended, Errno, GetFlags, Id, Ledger, OneThread,
-    QueueProgram, SendRefused, SysError, receive_bytes, send_bytes, with_queues,
+    ClosedSlot, Config, DEFAULTS, Delivered, Ended, Errno, GetFlags, Id, Ledger, LocalQueues,
+    Message, QueueProgram, ReceiveOptions, Selection, SendRefused, SysError, with_queues,
 };
 use std::alloc::Global;
 use std::cell::Cell;
@@ -21,17 +21,15 @@ const SMALL: Config = Config {
 };
 
 /// Leaves a text of so many zero bytes in a queue.
-fn left<L: Ledger>(queues: &mut OneThread<L>, key: i32, len: u64) -> Result<(), Errno> {
-    let id = queues.msgget(1, key, NEW, 1)?.id;
-    let text = match queues.draft(len) {
-        Ok(text) => text,
-        Err(error) => return Err(error.errno()),
-    };
-    match queues.msgsnd(2, id, 1, 0, text, 2) {
+fn left<L: Ledger>(queues: &mut LocalQueues<L>, key: i32, len: u64) -> Result<(), Errno> {
+    let id = queues.caller(1).get(key, NEW)?.id;
+    let mut sender = queues.caller(2);
+    let text = sender.draft(len)?;
+    match sender.send_text(id, 1, 0, text) {
         Ok(_) => Ok(()),
         Err(refusal) => {
             let SendRefused { refused, text } = refusal;
-            queues.spend(text);
+            sender.spend(text);
             Err(refused.errno)
         }
     }
@@ -48,14 +46,13 @@ impl<'a> QueueProgram for TwoLeft<'a> {
 
     fn run<L: Ledger>(
         self,
-        _alloc: Global,
         config: Config,
-        queues: &mut OneThread<L>,
+        queues: &mut LocalQueues<L>,
     ) -> Result<(u8, u32), Errno> {
         self.runs.set(self.runs.get().saturating_add(1));
         left(queues, 5, 1)?;
         left(queues, 6, 4096)?;
-        Ok((config.slots, queues.free_pages()))
+        Ok((config.slots, queues.queues.free_pages()))
     }
 }
 
@@ -138,8 +135,8 @@ impl QueueProgram for Pages {
 
     ghost after = { λ _ config _ pages. pages ≡ 2 ^ config.height };
 
-    fn run<L: Ledger>(self, _alloc: Global, _config: Config, queues: &mut OneThread<L>) -> u32 {
-        queues.pages()
+    fn run<L: Ledger>(self, _config: Config, queues: &mut LocalQueues<L>) -> u32 {
+        queues.queues.pages()
     }
 }
 
@@ -172,14 +169,14 @@ fn same(answer: Result<u64, Errno>, wanted: Result<u64, Errno>) -> bool {
 }
 
 /// Whether the text is sent or refused so.
-fn sends<L: Ledger>(alloc: Global, queues: &mut OneThread<L>, sending: &Sending) -> bool {
+fn sends<L: Ledger>(queues: &mut LocalQueues<L>, sending: &Sending) -> bool {
     let (id, mtype, len, wanted, free_pages) = *sending;
     let id = Id::from_number(id);
-    let answer = match vec![in alloc; 7; len] {
-        Ok(bytes) => send_bytes(queues, 1, id, mtype, 0, bytes.as_slice(), 2),
+    let answer = match vec![in queues.alloc(); 7; len] {
+        Ok(bytes) => queues.caller(1).send(id, Message::new(mtype, &bytes)),
         Err(_) => Err(Errno::ENOMEM),
     };
-    same(answer, wanted) && queues.free_pages() == free_pages
+    same(answer, wanted) && queues.queues.free_pages() == free_pages
 }
 
 /// Whether it is this text, all of sevens.
@@ -194,14 +191,16 @@ fn is(delivered: &Delivered<Vec<u8>>, wanted: Result<(i64, u64, usize), Errno>) 
 }
 
 /// Whether a text is received or refused so.
-fn receives<L: Ledger>(alloc: Global, queues: &mut OneThread<L>, receipt: &Receipt) -> bool {
-    let (size, cut, wanted, free_pages) = *receipt;
+fn receives<L: Ledger>(queues: &mut LocalQueues<L>, receipt: &Receipt) -> bool {
+    let (size, noerror, wanted, free_pages) = *receipt;
     let id = Id::from_number(0);
-    let right = match receive_bytes(alloc, queues, 2, id, size, 0, false, cut, 3) {
+    let options = ReceiveOptions { size, noerror };
+    let answer = queues.caller(2).receive_with(id, Selection::Any, options);
+    let right = match answer {
         Ok(delivered) => is(&delivered, wanted),
         Err(errno) => matches!(wanted, Err(refusal) if refusal == errno),
     };
-    right && queues.free_pages() == free_pages
+    right && queues.queues.free_pages() == free_pages
 }
 
 /// Sends to a queue, then receives, and answers whether each call is answered as it says.
@@ -214,15 +213,15 @@ struct Exchange<'a> {
 impl<'a> QueueProgram for Exchange<'a> {
     type Answer = bool;
 
-    fn run<L: Ledger>(self, alloc: Global, _config: Config, queues: &mut OneThread<L>) -> bool {
-        let _made = queues.msgget(1, 5, NEW, 1);
+    fn run<L: Ledger>(self, _config: Config, queues: &mut LocalQueues<L>) -> bool {
+        let _made = queues.caller(1).get(5, NEW);
         for sending in self.sendings {
-            if !sends(alloc, queues, sending) {
+            if !sends(queues, sending) {
                 return false;
             }
         }
         for receipt in self.receipts {
-            if !receives(alloc, queues, receipt) {
+            if !receives(queues, receipt) {
                 return false;
             }
         }
@@ -262,8 +261,8 @@ fn bytes_come_whole_or_cut_and_a_refusal_leaves_no_page_out(rt: HostRuntime) {
     let receipts: [Receipt; 5] = [
         (2049, false, Err(Errno::E2BIG), 4),
         (3, true, Ok((1, 2050, 3)), 8),
-        (u64::MAX, false, Err(Errno::ENOMEM), 8),
-        (0, false, Ok((2, 0, 0)), 8),
+        (u64::MAX, false, Ok((2, 0, 0)), 8),
+        (0, false, Err(Errno::ENOMSG), 8),
         (9, false, Err(Errno::ENOMSG), 8),
     ];
     exchanges(&rt, rt.alloc(), SMALL, &sendings, &receipts);

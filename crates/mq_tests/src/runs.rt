@@ -7,6 +7,7 @@ use std::alloc::Global;
 use std::process::Abort;
 use std::sync::Wait;
 use std::thread::Threads;
+use std::time::Clock;
 
 pub(crate) const SMALL: Config = Config {
     height: 5,
@@ -34,7 +35,7 @@ pub(crate) fn wanted_memory<T>(worked: &Worked<T>) -> bool {
 }
 
 /// Runs all at once.
-pub(crate) fn work_all<W: Work + Send, R: Threads + Wait + Sync>(
+pub(crate) fn work_all<W: Work + Send, R: Threads + Wait + Clock + Sync>(
     rt: &R,
     alloc: Global,
     config: Config,
@@ -44,13 +45,11 @@ pub(crate) fn work_all<W: Work + Send, R: Threads + Wait + Sync>(
 }
 
 /// Runs both at once, and once more where none has begun for lack of memory.
-pub(crate) fn work_both<A: Work + Copy + Send, B: Work + Copy + Send, R: Threads + Wait + Sync>(
-    rt: &R,
-    alloc: Global,
-    config: Config,
-    one: A,
-    other: B,
-) -> Worked<(A::Answer, B::Answer)> {
+pub(crate) fn work_both<
+    A: Work + Copy + Send,
+    B: Work + Copy + Send,
+    R: Threads + Wait + Clock + Sync,
+>(rt: &R, alloc: Global, config: Config, one: A, other: B) -> Worked<(A::Answer, B::Answer)> {
     for _ in 0..2 {
         let worked = with_two(rt, alloc, config, By(one), By(other));
         if !wanted_memory(&worked) {

@@ -2,18 +2,20 @@
 
 use crate::runs::Nothing;
 use mq::{
-    Caller, Cut, Delivered, Errno, Id, Names, RecvFlags, Removal, Seat, SendFlags, System, Usage,
-    Worker,
+    Caller, Clock, Cut, Delivered, Errno, Forever, Id, Message, Moments, Names, NoWait,
+    ReceiveOptions, RecvFlags, Removal, Selection, SendFlags, Usage, Wait, Worker,
 };
 use std::alloc::Global;
-use std::sync::Wait;
 
-/// The calls of `mq::Caller`, by the same names, at one system.
+/// The calls of `mq::Caller`, by names of one form each.
 pub(crate) trait SeatCalls {
     fn slots(&self) -> u8;
 
     /// The number of the seat.
     fn number(&self) -> u16;
+
+    /// Its calls tell this moment from now on.
+    fn tell(&mut self, moment: u64);
 
     /// How many changes the seat made in the slot, or 0 where there is no such slot.
     fn count(&self, slot: u8) -> u64;
@@ -33,7 +35,7 @@ pub(crate) trait SeatCalls {
 
     fn receive(&mut self, id: Id, size: u64, msgtyp: i64) -> Result<Delivered<Vec<u8>>, Errno>;
 
-    fn receive_with(
+    fn receive_flagged(
         &mut self,
         id: Id,
         size: u64,
@@ -49,35 +51,32 @@ pub(crate) trait SeatCalls {
     fn info(&mut self) -> Usage;
 }
 
-/// A caller at a system.
-#[derive(Drop)]
-pub(crate) struct At<'c, 's, N: Names, R: Wait> {
-    pub(crate) caller: Caller<'c, N, R>,
-    pub(crate) system: &'s System<Nothing, N>,
-}
-
-impl<'c, 's, N: Names, R: Wait> SeatCalls for At<'c, 's, N, R> {
+impl<'a, N: Names, R: Wait + Clock> SeatCalls for Caller<'a, Nothing, N, R> {
     fn slots(&self) -> u8 {
-        self.system.slots()
+        self.slots()
     }
 
     fn number(&self) -> u16 {
-        self.caller.number()
+        self.number()
+    }
+
+    fn tell(&mut self, moment: u64) {
+        self.moments = Moments::at(moment);
     }
 
     fn count(&self, slot: u8) -> u64 {
-        if slot >= self.system.slots() {
+        if slot >= self.slots() {
             return 0;
         }
-        self.caller.count(slot as usize)
+        self.count(slot as usize)
     }
 
     fn queue(&mut self, key: i32) -> Result<Id, Errno> {
-        self.caller.queue(self.system, key)
+        self.queue(key)
     }
 
     fn send(&mut self, id: Id, mtype: i64, tag: u64, bytes: &[u8]) -> Result<u64, Errno> {
-        self.caller.send(self.system, id, mtype, tag, bytes)
+        self.send(id, Message { mtype, tag, bytes })
     }
 
     fn send_with(
@@ -88,38 +87,55 @@ impl<'c, 's, N: Names, R: Wait> SeatCalls for At<'c, 's, N, R> {
         bytes: &[u8],
         flags: SendFlags,
     ) -> Result<u64, Errno> {
-        self.caller
-            .send_with(self.system, id, mtype, tag, bytes, flags)
+        let message = Message { mtype, tag, bytes };
+        if flags.nowait {
+            self.try_send(id, message)
+        } else {
+            self.send(id, message)
+        }
     }
 
     fn receive(&mut self, id: Id, size: u64, msgtyp: i64) -> Result<Delivered<Vec<u8>>, Errno> {
-        self.caller.receive(self.system, id, size, msgtyp)
+        let flags = RecvFlags {
+            nowait: false,
+            noerror: false,
+            except: false,
+        };
+        self.receive_flagged(id, size, msgtyp, flags)
     }
 
-    fn receive_with(
+    fn receive_flagged(
         &mut self,
         id: Id,
         size: u64,
         msgtyp: i64,
         flags: RecvFlags,
     ) -> Result<Delivered<Vec<u8>>, Errno> {
-        self.caller
-            .receive_with(self.system, id, size, msgtyp, flags)
+        let selection = Selection::read(msgtyp, flags.except);
+        let options = ReceiveOptions {
+            size,
+            noerror: flags.noerror,
+        };
+        if flags.nowait {
+            self.receive_within(id, selection, options, &mut NoWait)
+        } else {
+            self.receive_within(id, selection, options, &mut Forever)
+        }
     }
 
     fn remove(&mut self, id: Id) -> Result<Removal, Errno> {
-        self.caller.remove(self.system, id)
+        self.remove(id)
     }
 
     fn cut_log(&mut self, slot: u8) -> Result<Cut, Errno> {
-        if slot >= self.system.slots() {
+        if slot >= self.slots() {
             return Err(Errno::EINVAL);
         }
-        self.caller.cut_log(self.system, slot)
+        self.cut_log(slot)
     }
 
     fn info(&mut self) -> Usage {
-        self.caller.info(self.system)
+        self.info()
     }
 }
 
@@ -137,15 +153,8 @@ pub(crate) struct By<W: Work>(pub(crate) W);
 impl<W: Work> Worker<Nothing> for By<W> {
     type Answer = W::Answer;
 
-    fn work<N: Names, R: Wait>(
-        self,
-        rt: &R,
-        alloc: Global,
-        system: &System<Nothing, N>,
-        seat: &mut Seat<N>,
-    ) -> W::Answer {
-        let caller = Caller::new(rt, alloc, seat);
-        self.0.work(rt, alloc, &mut At { caller, system })
+    fn work<N: Names, R: Wait + Clock>(self, caller: &mut Caller<'_, Nothing, N, R>) -> W::Answer {
+        self.0.work(caller.rt, caller.alloc, caller)
     }
 }
 

@@ -2,11 +2,10 @@ ghost use Rattle.std.specs.Prelude.{◌≡◌, ◌%◌, IfOk, slice_index_or};
 
 use crate::runs::SMALL;
 use mq::{
-    Caller, ClosedSlot, Config, Ended, Errno, Id, Names, Pledge, Seat, SysError, System,
-    SystemProgram, with_system,
+    Caller, Clock, ClosedSlot, Config, Ended, Errno, Id, Message, Names, Pledge, Selection,
+    SysError, SystemProgram, Wait, with_system,
 };
 use std::alloc::Global;
-use std::sync::Wait;
 
 /// Each text begins with the last byte of its sender's number.
 struct Signed;
@@ -16,16 +15,10 @@ impl Pledge for Signed {
 }
 
 /// At seat 1, sends one text to the queue that it makes.
-fn send<N: Names, R: Wait>(
-    rt: &R,
-    alloc: Global,
-    system: &System<Signed, N>,
-    seat: &mut Seat<N>,
-) -> Result<Id, Errno> {
-    let mut caller = Caller::new(rt, alloc, seat);
-    let id = caller.queue(system, 5)?;
+fn send<N: Names, R: Wait + Clock>(caller: &mut Caller<'_, Signed, N, R>) -> Result<Id, Errno> {
+    let id = caller.queue(5)?;
     let number = (caller.number() % 256) as u8;
-    caller.send(system, id, 1, 0, &[number])?;
+    caller.send(id, Message::new(1, &[number]))?;
     Ok(id)
 }
 
@@ -40,17 +33,13 @@ fn first_of(bytes: &[u8]) -> u8
 }
 
 /// At seat 2, receives what waits, and answers its sender and its first byte.
-fn receive<N: Names, R: Wait>(
-    rt: &R,
-    alloc: Global,
-    system: &System<Signed, N>,
-    seat: &mut Seat<N>,
+fn receive<N: Names, R: Wait + Clock>(
+    caller: &mut Caller<'_, Signed, N, R>,
     id: Id,
 ) -> Result<(u16, u8), Errno>
     ensures { IfOk result (λ a. a.1 ≡ a.0 % 256) }
 {
-    let mut caller = Caller::new(rt, alloc, seat);
-    match caller.receive(system, id, 100, 0) {
+    match caller.receive(id, Selection::Any) {
         Ok(d) => Ok((d.sender, first_of(d.text.as_slice()))),
         Err(errno) => Err(errno),
     }
@@ -65,20 +54,17 @@ impl SystemProgram<Signed> for Both {
 
     ghost after = { λ _ _ _ answer. IfOk answer (λ a. a.1 ≡ a.0 % 256) };
 
-    fn run<N: Names, R: Wait>(
+    fn run<N: Names, R: Wait + Clock>(
         self,
-        rt: &R,
-        alloc: Global,
         _config: Config,
-        system: &System<Signed, N>,
-        seats: &mut [Seat<N>],
+        callers: &mut [Caller<'_, Signed, N, R>],
     ) -> Result<(u16, u8), Errno> {
-        let id = match seats.get_mut(0) {
-            Some(seat) => send(rt, alloc, system, seat)?,
+        let id = match callers.get_mut(0) {
+            Some(caller) => send(caller)?,
             None => return Err(Errno::EINVAL),
         };
-        match seats.get_mut(1) {
-            Some(seat) => receive(rt, alloc, system, seat, id),
+        match callers.get_mut(1) {
+            Some(caller) => receive(caller, id),
             None => Err(Errno::EINVAL),
         }
     }
@@ -86,7 +72,7 @@ impl SystemProgram<Signed> for Both {
 
 type Answered = Result<Ended<Result<(u16, u8), Errno>>, SysError>;
 
-fn answered<R: Wait>(rt: &R, alloc: Global, config: Config) -> Answered {
+fn answered<R: Wait + Clock>(rt: &R, alloc: Global, config: Config) -> Answered {
     with_system(rt, alloc, config, Both)
 }
 
@@ -99,7 +85,7 @@ fn wanted_memory(answered: &Answered) -> bool {
 }
 
 /// Runs it, and once more where it found no memory.
-fn ended<R: Wait>(rt: &R, alloc: Global, config: Config) -> Answered {
+fn ended<R: Wait + Clock>(rt: &R, alloc: Global, config: Config) -> Answered {
     let first = answered(rt, alloc, config);
     if wanted_memory(&first) {
         return answered(rt, alloc, config);

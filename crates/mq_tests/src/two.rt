@@ -6,6 +6,7 @@ use std::process::Abort;
 use std::sync::Wait;
 use std::test::Fail;
 use std::thread::{Threads, yield_now};
+use std::time::Clock;
 
 /// Receives three messages.
 #[derive(Clone, Copy)]
@@ -108,7 +109,10 @@ impl Work for Remover {
 }
 
 /// Three messages with this text go from one worker to the other; the queue has room for two.
-fn three_messages_go_through<R: AllocGlobal + Abort + Threads + Wait + Sync>(rt: &R, text: &[u8]) {
+fn three_messages_go_through<R: AllocGlobal + Abort + Threads + Wait + Clock + Sync>(
+    rt: &R,
+    text: &[u8],
+) {
     let ended = ended_of(
         rt,
         work_both(rt, rt.alloc(), ROOMY, Receiver, Sender { text }),

@@ -6,6 +6,7 @@ use std::process::Abort;
 use std::sync::Wait;
 use std::sync::atomic::{AtomicU64, Ordering};
 use std::thread::Threads;
+use std::time::Clock;
 
 /// Counts its runs, and answers its name and the number of its seat.
 #[derive(Drop)]
@@ -32,7 +33,7 @@ fn so_many(alloc: Global, count: u16, runs: &AtomicU64) -> Result<Vec<By<Named<'
 }
 
 /// Runs so many workers, and once more where none has begun for lack of memory.
-fn worked<R: Threads + Wait + Sync>(
+fn worked<R: Threads + Wait + Clock + Sync>(
     rt: &R,
     alloc: Global,
     config: Config,
@@ -76,7 +77,7 @@ fn each_worker_answers_at_its_place_and_at_its_seat(rt: HostRuntime) {
 }
 
 /// Four workers are refused with this, and none begins.
-fn are_refused<R: Abort + Threads + Wait + Sync>(
+fn are_refused<R: Abort + Threads + Wait + Clock + Sync>(
     rt: &R,
     alloc: Global,
     config: Config,

@@ -4,7 +4,7 @@ use crate::calls::{Nothing, queue, receive, remove, send};
 use crate::is_same;
 use crate::watch::in_time;
 use mq::{
-    ClosedSlot, Config, Ended, Errno, Event, Id, Names, Seat, SendFlags, System, Worker,
+    Caller, ClosedSlot, Config, Ended, Errno, Event, Id, Names, Seat, SendFlags, System, Worker,
     WorkersError, with_workers,
 };
 use std::alloc::{AllocError, Global};
@@ -13,6 +13,7 @@ use std::process::Abort;
 use std::sync::Wait;
 use std::sync::atomic::{AtomicU32, Ordering};
 use std::thread::Threads;
+use std::time::Clock;
 
 /// One slot for ten queues.
 const ONE: Config = Config {
@@ -171,13 +172,9 @@ fn takes<N: Names, R: Wait>(rt: &R, system: &System<Nothing, N>, seat: &mut Seat
 impl<'a> Worker<Nothing> for Part<'a> {
     type Answer = Done;
 
-    fn work<N: Names, R: Wait>(
-        self,
-        rt: &R,
-        _alloc: Global,
-        system: &System<Nothing, N>,
-        seat: &mut Seat<N>,
-    ) -> Done {
+    fn work<N: Names, R: Wait + Clock>(self, caller: &mut Caller<'_, Nothing, N, R>) -> Done {
+        let (rt, system) = (caller.rt, caller.system);
+        let seat = &mut caller.seat;
         match self {
             Part::Makes => makes(rt, system, seat),
             Part::Sends => sends(rt, system, seat),
@@ -190,7 +187,7 @@ impl<'a> Worker<Nothing> for Part<'a> {
 }
 
 /// Plays the parts, once more where no thread had begun for lack of memory.
-fn played<R: Threads + Wait + Sync>(
+fn played<R: Threads + Wait + Clock + Sync>(
     rt: &R,
     alloc: Global,
     parts: &[Part<'_>],
@@ -208,7 +205,7 @@ fn played<R: Threads + Wait + Sync>(
 }
 
 /// Plays the parts, which end by what is told.
-fn ended<R: Abort + Threads + Wait + Sync>(
+fn ended<R: Abort + Threads + Wait + Clock + Sync>(
     rt: &R,
     alloc: Global,
     what: &str,

@@ -1,11 +1,11 @@
 //! Eight threads whose waits all end by their time, most of them before: no message is lost or
 //! received twice.
 
-use crate::calls::{Nothing, ended_of, queue, set};
+use crate::calls::{Nothing, ended_of};
 use crate::watch::Watch;
 use mq::{
-    Caller, ClosedSlot, Config, Errno, Id, Names, RecvFlags, Seat, System, Until, Worker,
-    WorkersError, with_workers,
+    Caller, ClosedSlot, Config, Errno, Id, Message, Names, ReceiveOptions, Selection, Until,
+    Worker, WorkersError, with_workers,
 };
 use std::alloc::{AllocError, Global};
 use std::process::Abort;
@@ -29,12 +29,6 @@ const EACH: u64 = 12_500;
 
 /// How many four senders send.
 const ALL: u64 = 50_000;
-
-const FLAGS: RecvFlags = RecvFlags {
-    nowait: false,
-    noerror: false,
-    except: false,
-};
 
 /// What all workers have done: the tags are 1 to `ALL`, each once.
 #[derive(Drop)]
@@ -98,10 +92,9 @@ impl<'a, C: Clock> InACrowd<'a, C> {
         Until::within(self.clock, Duration::from_millis(turn % 3))
     }
 
-    fn sends<N: Names, R: Wait>(
+    fn sends<N: Names, R: Wait + Clock>(
         &self,
-        caller: &mut Caller<'_, N, R>,
-        system: &System<Nothing, N>,
+        caller: &mut Caller<'_, Nothing, N, R>,
         id: Id,
         first: u64,
     ) -> Result<(), Errno> {
@@ -112,7 +105,7 @@ impl<'a, C: Clock> InACrowd<'a, C> {
             }
             let tag = first.wrapping_add(sent).wrapping_add(1);
             let mut end = self.end(turn);
-            match caller.send_within(system, id, 1, tag, b"", &mut end) {
+            match caller.send_within(id, Message::new(1, b"").tagged(tag), &mut end) {
                 Ok(_) => sent = sent.wrapping_add(1),
                 Err(Errno::EAGAIN) => {
                     self.sums.ended.fetch_add(1, Ordering::SeqCst);
@@ -124,10 +117,9 @@ impl<'a, C: Clock> InACrowd<'a, C> {
         Ok(())
     }
 
-    fn receives<N: Names, R: Wait>(
+    fn receives<N: Names, R: Wait + Clock>(
         &self,
-        caller: &mut Caller<'_, N, R>,
-        system: &System<Nothing, N>,
+        caller: &mut Caller<'_, Nothing, N, R>,
         id: Id,
     ) -> Result<(), Errno> {
         for turn in 0..u64::MAX {
@@ -135,7 +127,8 @@ impl<'a, C: Clock> InACrowd<'a, C> {
                 break;
             }
             let mut end = self.end(turn);
-            match caller.receive_within(system, id, 0, 0, FLAGS, &mut end) {
+            let none = ReceiveOptions::new().up_to(0);
+            match caller.receive_within(id, Selection::Any, none, &mut end) {
                 Ok(delivered) => {
                     let tag = delivered.tag;
                     self.sums.tags.fetch_add(tag, Ordering::SeqCst);
@@ -158,24 +151,16 @@ impl<'a, C: Clock> InACrowd<'a, C> {
 impl<'a, C: Clock> Worker<Nothing> for InACrowd<'a, C> {
     type Answer = Result<(), Errno>;
 
-    fn work<N: Names, R: Wait>(
+    fn work<N: Names, R: Wait + Clock>(
         self,
-        rt: &R,
-        alloc: Global,
-        system: &System<Nothing, N>,
-        seat: &mut Seat<N>,
+        caller: &mut Caller<'_, Nothing, N, R>,
     ) -> Result<(), Errno> {
-        let made = queue(rt, system, seat, 1);
-        let done = match made {
-            Ok(id) => {
-                let done = set(rt, system, seat, id, ROOM);
-                let mut caller = Caller::new(rt, alloc, seat);
-                match (done, self.part) {
-                    (Ok(()), Part::Sends(first)) => self.sends(&mut caller, system, id, first),
-                    (Ok(()), Part::Receives) => self.receives(&mut caller, system, id),
-                    (Err(errno), _) => Err(errno),
-                }
-            }
+        let done = match caller.queue(1) {
+            Ok(id) => match (caller.set(id, ROOM), self.part) {
+                (Ok(_), Part::Sends(first)) => self.sends(caller, id, first),
+                (Ok(_), Part::Receives) => self.receives(caller, id),
+                (Err(errno), _) => Err(errno),
+            },
             Err(errno) => Err(errno),
         };
         if done.is_err() {

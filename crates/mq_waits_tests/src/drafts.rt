@@ -4,14 +4,16 @@ use crate::calls::{Nothing, ended_of, queue, remove, send};
 use crate::is_same;
 use crate::watch::{Watch, in_time};
 use mq::{
-    Caller, Config, DraftError, Ended, Errno, Forever, Id, Names, Seat, SendFlags, SysError,
-    System, SystemProgram, TextOf, Worker, WorkersError, with_system, with_two, with_workers,
+    Caller, Config, DraftError, Ended, Errno, Forever, Id, Message, Names, Seat, Selection,
+    SysError, System, SystemProgram, TextOf, Worker, WorkersError, with_system, with_two,
+    with_workers,
 };
 use std::alloc::Global;
 use std::process::Abort;
 use std::sync::Wait;
 use std::sync::atomic::{AtomicU64, Ordering};
 use std::thread::{Threads, join};
+use std::time::{Clock, Duration};
 
 /// An arena of one page, and one of two.
 const ONE: Config = Config {
@@ -48,13 +50,12 @@ impl<'a> Worker<Nothing> for TakesTurns<'a> {
     /// How often.
     type Answer = Result<u32, Errno>;
 
-    fn work<N: Names, R: Wait>(
+    fn work<N: Names, R: Wait + Clock>(
         self,
-        rt: &R,
-        _alloc: Global,
-        system: &System<Nothing, N>,
-        seat: &mut Seat<N>,
+        caller: &mut Caller<'_, Nothing, N, R>,
     ) -> Result<u32, Errno> {
+        let (rt, system) = (caller.rt, caller.system);
+        let seat = &mut caller.seat;
         let mut taken = 0u32;
         for _ in 0..TURNS {
             let drafted = match self.way {
@@ -89,13 +90,12 @@ enum Part<'a> {
 impl<'a> Worker<Nothing> for Part<'a> {
     type Answer = Result<(), Errno>;
 
-    fn work<N: Names, R: Wait>(
+    fn work<N: Names, R: Wait + Clock>(
         self,
-        rt: &R,
-        _alloc: Global,
-        system: &System<Nothing, N>,
-        seat: &mut Seat<N>,
+        caller: &mut Caller<'_, Nothing, N, R>,
     ) -> Result<(), Errno> {
+        let (rt, system) = (caller.rt, caller.system);
+        let seat = &mut caller.seat;
         match self {
             Part::Spends(lent) => {
                 let first = system.draft_by(rt, seat, b"first");
@@ -159,7 +159,7 @@ fn spent<N: Names, R: Wait>(
 
 /// Two threads take the one page in turn, which is slow where others want the processors: the one
 /// sleeps, and wakes, for nearly each turn of the other.
-fn in_turn<R: Abort + Threads + Wait + Sync>(rt: &R, alloc: Global, way: Way) {
+fn in_turn<R: Abort + Threads + Wait + Clock + Sync>(rt: &R, alloc: Global, way: Way) {
     let watch = Watch::new();
     let done = AtomicU64::new(0);
     let ((), ended) = join(
@@ -192,7 +192,7 @@ fn two_threads_take_a_page_that_each_keeps_back(rt: HostRuntime) {
 }
 
 /// The first worker has both pages, and each other waits for a text of so many bytes.
-fn run_drafts<R: Threads + Wait + Sync>(
+fn run_drafts<R: Threads + Wait + Clock + Sync>(
     rt: &R,
     alloc: Global,
     first: Part<'_>,
@@ -214,7 +214,7 @@ fn run_drafts<R: Threads + Wait + Sync>(
 }
 
 /// Once the first worker has both pages, each other waits for a text of so many bytes.
-fn all_draft<R: Abort + Threads + Wait + Sync>(
+fn all_draft<R: Abort + Threads + Wait + Clock + Sync>(
     rt: &R,
     alloc: Global,
     first: Part<'_>,
@@ -256,24 +256,21 @@ impl SystemProgram<Nothing> for SendsWithoutPages {
     /// What the two sends answered.
     type Answer = Result<(Result<u64, Errno>, Result<u64, Errno>), Errno>;
 
-    fn run<N: Names, R: Wait>(
+    fn run<N: Names, R: Wait + Clock>(
         self,
-        rt: &R,
-        alloc: Global,
         _config: Config,
-        system: &System<Nothing, N>,
-        seats: &mut [Seat<N>],
+        callers: &mut [Caller<'_, Nothing, N, R>],
     ) -> Result<(Result<u64, Errno>, Result<u64, Errno>), Errno> {
-        let Some(seat) = seats.first_mut() else {
+        let Some(caller) = callers.first_mut() else {
             return Err(Errno::EINVAL);
         };
-        let id = queue(rt, system, seat, 1)?;
-        let drafted = system.draft_by(rt, seat, b"one");
-        let mut caller = Caller::new(rt, alloc, seat);
-        let at_once = SendFlags { nowait: true };
-        let one = caller.send_with(system, id, 1, 0, b"two", at_once);
-        let other = caller.send(system, id, 1, 0, b"two");
-        spent(rt, system, seat, drafted)?;
+        let (rt, system) = (caller.rt, caller.system);
+        let id = caller.queue(1)?;
+        let drafted = system.draft_by(rt, &caller.seat, b"one");
+        let two = Message::new(1, b"two");
+        let one = caller.try_send(id, two);
+        let other = caller.send_timeout(id, two, Duration::from_millis(1));
+        spent(rt, system, &mut caller.seat, drafted)?;
         Ok((one, other))
     }
 }
@@ -294,4 +291,49 @@ fn a_send_answers_enomem_at_once_where_no_page_is_free(rt: HostRuntime) {
         Err(SysError::Memory) => panic!(rt; "out of memory"),
         Err(error) => panic!(rt; "{error}"),
     }
+}
+
+/// How many texts go through the two pages.
+const TEXTS: u64 = 100;
+
+/// Sends texts of a byte each, or receives them.
+#[derive(Clone, Copy, Drop)]
+enum Passer {
+    Sends,
+    Receives,
+}
+
+impl Worker<Nothing> for Passer {
+    /// How many.
+    type Answer = Result<u64, Errno>;
+
+    fn work<N: Names, R: Wait + Clock>(
+        self,
+        caller: &mut Caller<'_, Nothing, N, R>,
+    ) -> Result<u64, Errno> {
+        let id = queue(caller.rt, caller.system, &mut caller.seat, 1)?;
+        for passed in 0..TEXTS {
+            let done = match self {
+                Passer::Sends => caller.send(id, Message::new(1, b"x")).is_ok(),
+                Passer::Receives => caller.receive(id, Selection::Any).is_ok(),
+            };
+            if !done {
+                // Then the other waits no longer.
+                let _ = caller.remove(id);
+                return Ok(passed);
+            }
+        }
+        Ok(TEXTS)
+    }
+}
+
+#[test]
+fn a_send_waits_until_pages_are_free(rt: HostRuntime) {
+    let alloc = rt.alloc();
+    let ended = in_time(&rt, "more texts than pages", || {
+        with_two(&rt, alloc, TWO, Passer::Sends, Passer::Receives)
+    });
+    let ended = ended_of(&rt, ended, 2);
+    let (sent, received) = ended.answer;
+    holds!(rt; sent == Ok(TEXTS) && received == Ok(TEXTS), "out of memory");
 }

@@ -3,9 +3,9 @@
 use crate::calls::{Nothing, ended_of, queue, receive, remove, send, set};
 use crate::watch::{Watch, in_time};
 use mq::{
-    Caller, ClosedSlot, Config, DraftError, Ended, Errno, Figures, Id, Names, NoWait, Patience,
-    RecvFlags, Seat, SendFlags, SendRefused, System, Until, Worker, WorkersError, with_two,
-    with_workers,
+    Caller, ClosedSlot, Config, DraftError, Ended, Errno, Figures, Id, Message, Names, NoWait,
+    Patience, ReceiveOptions, Seat, Selection, SendFlags, SendRefused, System, Until, Worker,
+    WorkersError, with_two, with_workers,
 };
 use std::alloc::Global;
 use std::io;
@@ -23,12 +23,6 @@ const SIZE: Config = Config {
 
 /// How many pages the arena has.
 const PAGES: u32 = 8;
-
-const FLAGS: RecvFlags = RecvFlags {
-    nowait: false,
-    noerror: false,
-    except: false,
-};
 
 /// The milliseconds of a wait that ends by its time.
 const TEN: u64 = 10;
@@ -108,17 +102,14 @@ fn answers<T: Drop>(answer: Result<T, Errno>, errno: Errno) -> Done {
 }
 
 /// A message of type 1 is looked for, as long as this patience lasts.
-fn receives<N: Names, R: Wait, T: Patience>(
-    rt: &R,
-    alloc: Global,
-    system: &System<Nothing, N>,
-    seat: &mut Seat<N>,
+fn receives<N: Names, R: Wait + Clock, T: Patience>(
+    caller: &mut Caller<'_, Nothing, N, R>,
     id: Id,
     patience: &mut T,
 ) -> Result<u64, Errno> {
-    let mut caller = Caller::new(rt, alloc, seat);
-    let received = match caller.receive_within(system, id, 9, 1, FLAGS, patience) {
-        Err(Errno::ENOMEM) => caller.receive_within(system, id, 9, 1, FLAGS, patience)?,
+    let nine = ReceiveOptions::new().up_to(9);
+    let received = match caller.receive_within(id, Selection::Exact(1), nine, patience) {
+        Err(Errno::ENOMEM) => caller.receive_within(id, Selection::Exact(1), nine, patience)?,
         received => received?,
     };
     Ok(received.length)
@@ -151,44 +142,36 @@ fn is_handed_back<N: Names, R: Wait, T: Patience>(
 }
 
 /// Receives from a queue with no message: each call is to find none, and to leave the figures.
-fn finds_nothing<N: Names, R: Wait, T: Patience>(
-    rt: &R,
-    alloc: Global,
-    system: &System<Nothing, N>,
-    seat: &mut Seat<N>,
+fn finds_nothing<N: Names, R: Wait + Clock, T: Patience>(
+    caller: &mut Caller<'_, Nothing, N, R>,
     id: Id,
     patience: &mut T,
 ) -> Done {
-    let empty = system.stat(seat, id)?;
-    let received = receives(rt, alloc, system, seat, id, patience);
+    let empty = caller.stat(id)?;
+    let received = receives(caller, id, patience);
     answers(received, Errno::ENOMSG)?;
-    is_still(system, seat, id, empty)
+    is_still(caller, id, empty)
 }
 
 /// Sends to a queue without room, by both calls.
-fn finds_no_room<N: Names, R: Wait, T: Patience>(
-    rt: &R,
-    alloc: Global,
-    system: &System<Nothing, N>,
-    seat: &mut Seat<N>,
+fn finds_no_room<N: Names, R: Wait + Clock, T: Patience>(
+    caller: &mut Caller<'_, Nothing, N, R>,
     id: Id,
     patience: &mut T,
 ) -> Done {
-    let full = system.stat(seat, id)?;
-    is_handed_back(rt, system, seat, id, patience)?;
-    let mut caller = Caller::new(rt, alloc, seat);
-    let sent = caller.send_within(system, id, 1, 0, b"more", patience);
+    let full = caller.stat(id)?;
+    is_handed_back(caller.rt, caller.system, &mut caller.seat, id, patience)?;
+    let sent = caller.send_within(id, Message::new(1, b"more"), patience);
     answers(sent, Errno::EAGAIN)?;
-    is_still(system, seat, id, full)
+    is_still(caller, id, full)
 }
 
-fn is_still<N: Names>(
-    system: &System<Nothing, N>,
-    seat: &mut Seat<N>,
+fn is_still<N: Names, R: Wait + Clock>(
+    caller: &mut Caller<'_, Nothing, N, R>,
     id: Id,
     before: Figures,
 ) -> Done {
-    if system.stat(seat, id)? == before {
+    if caller.stat(id)? == before {
         Ok(())
     } else {
         Err(Wrong::Changed)
@@ -204,23 +187,17 @@ struct WaitsTen<'a, C: Clock> {
 impl<'a, C: Clock> Worker<Nothing> for WaitsTen<'a, C> {
     type Answer = Done;
 
-    fn work<N: Names, R: Wait>(
-        self,
-        rt: &R,
-        alloc: Global,
-        system: &System<Nothing, N>,
-        seat: &mut Seat<N>,
-    ) -> Done {
-        let id = queue(rt, system, seat, 1)?;
-        set(rt, system, seat, id, 4)?;
+    fn work<N: Names, R: Wait + Clock>(self, caller: &mut Caller<'_, Nothing, N, R>) -> Done {
+        let id = caller.queue(1)?;
+        caller.set(id, 4)?;
         let began = now(self.clock)?;
         let ten = &mut within(self.clock, TEN);
-        finds_nothing(rt, alloc, system, seat, id, ten)?;
+        finds_nothing(caller, id, ten)?;
         took_ten(self.clock, began)?;
-        send(rt, system, seat, id, 1, 4)?;
+        caller.send(id, Message::new(1, b"four"))?;
         let began = now(self.clock)?;
         let ten = &mut within(self.clock, TEN);
-        finds_no_room(rt, alloc, system, seat, id, ten)?;
+        finds_no_room(caller, id, ten)?;
         took_ten(self.clock, began)
     }
 }
@@ -234,27 +211,112 @@ struct HasNoTime<'a, C: Clock> {
 impl<'a, C: Clock> Worker<Nothing> for HasNoTime<'a, C> {
     type Answer = Done;
 
-    fn work<N: Names, R: Wait>(
-        self,
-        rt: &R,
-        alloc: Global,
-        system: &System<Nothing, N>,
-        seat: &mut Seat<N>,
-    ) -> Done {
-        let id = queue(rt, system, seat, 1)?;
-        set(rt, system, seat, id, 4)?;
+    fn work<N: Names, R: Wait + Clock>(self, caller: &mut Caller<'_, Nothing, N, R>) -> Done {
+        let id = caller.queue(1)?;
+        caller.set(id, 4)?;
         let mut over = Until::at(self.clock, now(self.clock)?);
-        finds_nothing(rt, alloc, system, seat, id, &mut over)?;
-        finds_nothing(rt, alloc, system, seat, id, &mut NoWait)?;
+        finds_nothing(caller, id, &mut over)?;
+        finds_nothing(caller, id, &mut NoWait)?;
         let broken = &mut within(&Broken, HOUR);
-        finds_nothing(rt, alloc, system, seat, id, broken)?;
-        send(rt, system, seat, id, 1, 4)?;
-        finds_no_room(rt, alloc, system, seat, id, &mut NoWait)?;
+        finds_nothing(caller, id, broken)?;
+        caller.send(id, Message::new(1, b"four"))?;
+        finds_no_room(caller, id, &mut NoWait)?;
         // A message that is there is received.
-        match receives(rt, alloc, system, seat, id, &mut over)? {
+        match receives(caller, id, &mut over)? {
             4 => Ok(()),
             _ => Err(Wrong::Answered),
         }
+    }
+}
+
+/// Makes the calls that wait for nobody, or for ten milliseconds.
+#[derive(Drop)]
+struct HasLittleTime;
+
+/// When ten milliseconds are over.
+fn in_ten<C: Clock>(clock: &C) -> Result<Instant, Wrong> {
+    match now(clock)?.checked_add(Duration::from_millis(TEN)) {
+        Some(end) => Ok(end),
+        None => Err(Wrong::Clock),
+    }
+}
+
+impl HasLittleTime {
+    /// At a queue with no message.
+    fn receives<N: Names, R: Wait + Clock>(
+        &self,
+        caller: &mut Caller<'_, Nothing, N, R>,
+        id: Id,
+    ) -> Done {
+        let ten = Duration::from_millis(TEN);
+        answers(caller.try_receive(id, Selection::Any), Errno::ENOMSG)?;
+        let began = now(caller.rt)?;
+        answers(
+            caller.receive_timeout(id, Selection::Any, ten),
+            Errno::ENOMSG,
+        )?;
+        took_ten(caller.rt, began)?;
+        let began = now(caller.rt)?;
+        let end = in_ten(caller.rt)?;
+        answers(
+            caller.receive_deadline(id, Selection::Exact(1), end),
+            Errno::ENOMSG,
+        )?;
+        took_ten(caller.rt, began)
+    }
+
+    /// At a queue without room.
+    fn sends<N: Names, R: Wait + Clock>(
+        &self,
+        caller: &mut Caller<'_, Nothing, N, R>,
+        id: Id,
+    ) -> Done {
+        let ten = Duration::from_millis(TEN);
+        let more = Message::new(1, b"more");
+        answers(caller.try_send(id, more), Errno::EAGAIN)?;
+        let began = now(caller.rt)?;
+        answers(caller.send_timeout(id, more, ten), Errno::EAGAIN)?;
+        took_ten(caller.rt, began)?;
+        let began = now(caller.rt)?;
+        let end = in_ten(caller.rt)?;
+        answers(caller.send_deadline(id, more, end), Errno::EAGAIN)?;
+        took_ten(caller.rt, began)
+    }
+
+    /// Each of these calls passes a message where it need not wait.
+    fn passes<N: Names, R: Wait + Clock>(
+        &self,
+        caller: &mut Caller<'_, Nothing, N, R>,
+        id: Id,
+    ) -> Done {
+        let ten = Duration::from_millis(TEN);
+        let end = in_ten(caller.rt)?;
+        let one = caller.receive_timeout(id, Selection::Any, ten)?;
+        caller.send_timeout(id, Message::new(2, b"next"), ten)?;
+        let other = caller.receive_deadline(id, Selection::UpTo(2), end)?;
+        caller.send_deadline(id, Message::new(3, b"last"), end)?;
+        let third = caller.try_receive(id, Selection::Except(2))?;
+        if one.text.as_slice() == b"four".as_slice()
+            && other.text.as_slice() == b"next".as_slice()
+            && third.text.as_slice() == b"last".as_slice()
+        {
+            Ok(())
+        } else {
+            Err(Wrong::Text)
+        }
+    }
+}
+
+impl Worker<Nothing> for HasLittleTime {
+    type Answer = Done;
+
+    fn work<N: Names, R: Wait + Clock>(self, caller: &mut Caller<'_, Nothing, N, R>) -> Done {
+        let id = caller.queue(1)?;
+        caller.set(id, 4)?;
+        self.receives(caller, id)?;
+        caller.send(id, Message::new(1, b"four"))?;
+        self.sends(caller, id)?;
+        self.passes(caller, id)
     }
 }
 
@@ -296,13 +358,9 @@ impl<'a, C: Clock> AtTheArena<'a, C> {
 impl<'a, C: Clock> Worker<Nothing> for AtTheArena<'a, C> {
     type Answer = Done;
 
-    fn work<N: Names, R: Wait>(
-        self,
-        rt: &R,
-        _alloc: Global,
-        system: &System<Nothing, N>,
-        seat: &mut Seat<N>,
-    ) -> Done {
+    fn work<N: Names, R: Wait + Clock>(self, caller: &mut Caller<'_, Nothing, N, R>) -> Done {
+        let (rt, system) = (caller.rt, caller.system);
+        let seat = &mut caller.seat;
         let all = match system.draft(rt, 8192) {
             Ok(all) => all,
             Err(error) => return Err(Wrong::Refused(error.errno())),
@@ -331,17 +389,14 @@ struct WaitsAnHour<'a, C: Clock> {
 impl<'a, C: Clock> Worker<Nothing> for WaitsAnHour<'a, C> {
     type Answer = Result<u64, Errno>;
 
-    fn work<N: Names, R: Wait>(
+    fn work<N: Names, R: Wait + Clock>(
         self,
-        rt: &R,
-        alloc: Global,
-        system: &System<Nothing, N>,
-        seat: &mut Seat<N>,
+        caller: &mut Caller<'_, Nothing, N, R>,
     ) -> Result<u64, Errno> {
-        let id = queue(rt, system, seat, 1);
+        let id = queue(caller.rt, caller.system, &mut caller.seat, 1);
         self.comes.ends();
         let mut hour = within(self.clock, HOUR);
-        receives(rt, alloc, system, seat, id?, &mut hour)
+        receives(caller, id?, &mut hour)
     }
 }
 
@@ -355,13 +410,12 @@ struct EndsIt<'a> {
 impl<'a> Worker<Nothing> for EndsIt<'a> {
     type Answer = Result<(), Errno>;
 
-    fn work<N: Names, R: Wait>(
+    fn work<N: Names, R: Wait + Clock>(
         self,
-        rt: &R,
-        _alloc: Global,
-        system: &System<Nothing, N>,
-        seat: &mut Seat<N>,
+        caller: &mut Caller<'_, Nothing, N, R>,
     ) -> Result<(), Errno> {
+        let (rt, system) = (caller.rt, caller.system);
+        let seat = &mut caller.seat;
         self.comes.is_over(rt);
         let id = queue(rt, system, seat, 1)?;
         for _ in 0..LOOKS {
@@ -383,20 +437,11 @@ struct WaitsInVain<'a, C: Clock> {
 }
 
 impl<'a, C: Clock> WaitsInVain<'a, C> {
-    fn waits<N: Names, R: Wait>(
-        &self,
-        rt: &R,
-        alloc: Global,
-        system: &System<Nothing, N>,
-        seat: &mut Seat<N>,
-    ) -> Done {
-        let id = queue(rt, system, seat, 1)?;
+    fn waits<N: Names, R: Wait + Clock>(&self, caller: &mut Caller<'_, Nothing, N, R>) -> Done {
+        let id = caller.queue(1)?;
         for _ in 0..100u8 {
             let mut one = within(self.clock, 1);
-            answers(
-                receives(rt, alloc, system, seat, id, &mut one),
-                Errno::ENOMSG,
-            )?;
+            answers(receives(caller, id, &mut one), Errno::ENOMSG)?;
         }
         Ok(())
     }
@@ -405,14 +450,8 @@ impl<'a, C: Clock> WaitsInVain<'a, C> {
 impl<'a, C: Clock> Worker<Nothing> for WaitsInVain<'a, C> {
     type Answer = Done;
 
-    fn work<N: Names, R: Wait>(
-        self,
-        rt: &R,
-        alloc: Global,
-        system: &System<Nothing, N>,
-        seat: &mut Seat<N>,
-    ) -> Done {
-        let done = self.waits(rt, alloc, system, seat);
+    fn work<N: Names, R: Wait + Clock>(self, caller: &mut Caller<'_, Nothing, N, R>) -> Done {
+        let done = self.waits(caller);
         self.over.ends();
         done
     }
@@ -428,13 +467,12 @@ impl<'a> Worker<Nothing> for Stirs<'a> {
     /// How many.
     type Answer = Result<u64, Errno>;
 
-    fn work<N: Names, R: Wait>(
+    fn work<N: Names, R: Wait + Clock>(
         self,
-        rt: &R,
-        _alloc: Global,
-        system: &System<Nothing, N>,
-        seat: &mut Seat<N>,
+        caller: &mut Caller<'_, Nothing, N, R>,
     ) -> Result<u64, Errno> {
+        let (rt, system) = (caller.rt, caller.system);
+        let seat = &mut caller.seat;
         let id = queue(rt, system, seat, 1)?;
         for count in 0..u64::MAX {
             if self.over.is_said() {
@@ -462,7 +500,7 @@ fn is_done<R: Abort>(rt: &R, done: Done) {
 }
 
 /// One worker, run by itself.
-fn run_alone<R: Threads + Wait + Sync, W: Worker<Nothing, Answer = Done> + Send>(
+fn run_alone<R: Threads + Wait + Clock + Sync, W: Worker<Nothing, Answer = Done> + Send>(
     rt: &R,
     alloc: Global,
     worker: W,
@@ -475,7 +513,7 @@ fn run_alone<R: Threads + Wait + Sync, W: Worker<Nothing, Answer = Done> + Send>
 }
 
 /// What one worker finds by itself, in time.
-fn alone<R: Abort + Threads + Wait + Sync, W: Worker<Nothing, Answer = Done> + Send>(
+fn alone<R: Abort + Threads + Wait + Clock + Sync, W: Worker<Nothing, Answer = Done> + Send>(
     rt: &R,
     alloc: Global,
     what: &str,
@@ -498,12 +536,17 @@ fn a_call_without_time_looks_once(rt: HostRuntime) {
 }
 
 #[test]
+fn calls_that_may_not_wait_for_long_end(rt: HostRuntime) {
+    alone(&rt, rt.alloc(), "little time", HasLittleTime);
+}
+
+#[test]
 fn a_draft_that_waits_ends_and_is_not_made_greater_than_the_arena(rt: HostRuntime) {
     alone(&rt, rt.alloc(), "a draft ends", AtTheArena { clock: &rt });
 }
 
 /// What a wait of an hour answers that another worker ends.
-fn ended_by<R: Abort + Clock + Threads + Wait + Sync>(
+fn ended_by<R: Abort + Threads + Wait + Clock + Sync>(
     rt: &R,
     alloc: Global,
     what: &str,

@@ -1,5 +1,4 @@
-//! Tests of calls that wait, of who wakes them, and of the slots that calls reach; in `replay`,
-//! of many calls that sixteen threads make at once.
+//! Tests of calls that wait, of who wakes them, and of the slots that calls reach.
 
 #![tactic(auto)]
 
@@ -49,8 +48,6 @@ mod drafts;
 mod ends;
 #[cfg(test)]
 mod pages;
-#[cfg(test)]
-mod replay;
 #[cfg(test)]
 mod sleeps;
 #[cfg(test)]

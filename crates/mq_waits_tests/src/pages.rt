@@ -1,10 +1,11 @@
 use crate::calls::{Nothing, queue, receive, send};
 use crate::is_same;
-use mq::{Config, Errno, Id, Names, Seat, System, Worker, WorkersError, with_workers};
+use mq::{Caller, Config, Errno, Id, Names, Seat, System, Worker, WorkersError, with_workers};
 use std::alloc::{AllocError, Global};
 use std::hint::spin_loop;
 use std::sync::Wait;
 use std::sync::atomic::{AtomicU32, Ordering};
+use std::time::Clock;
 
 /// Four pages for as many threads.
 const FOUR: Config = Config {
@@ -27,13 +28,12 @@ impl<'a> Worker<Nothing> for Keeper<'a> {
     /// How many pages it kept.
     type Answer = Result<u32, Errno>;
 
-    fn work<N: Names, R: Wait>(
+    fn work<N: Names, R: Wait + Clock>(
         self,
-        rt: &R,
-        _alloc: Global,
-        system: &System<Nothing, N>,
-        seat: &mut Seat<N>,
+        caller: &mut Caller<'_, Nothing, N, R>,
     ) -> Result<u32, Errno> {
+        let (rt, system) = (caller.rt, caller.system);
+        let seat = &mut caller.seat;
         let kept = keep(rt, system, seat, self.key);
         self.done.fetch_add(1, Ordering::SeqCst);
         for _ in rt.forever() {

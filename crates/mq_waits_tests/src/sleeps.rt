@@ -2,8 +2,7 @@
 
 use crate::calls::{Nothing, queue, receive, send};
 use crate::watch::Watch;
-use mq::{Config, Errno, Names, Seat, System, Worker, WorkersError, with_workers};
-use std::alloc::Global;
+use mq::{Caller, Config, Errno, Names, Worker, WorkersError, with_workers};
 use std::fs;
 use std::fs::Files;
 use std::sync::Wait;
@@ -37,13 +36,12 @@ enum Part<'a> {
 impl<'a> Worker<Nothing> for Part<'a> {
     type Answer = Result<(), Errno>;
 
-    fn work<N: Names, R: Wait>(
+    fn work<N: Names, R: Wait + Clock>(
         self,
-        rt: &R,
-        _alloc: Global,
-        system: &System<Nothing, N>,
-        seat: &mut Seat<N>,
+        caller: &mut Caller<'_, Nothing, N, R>,
     ) -> Result<(), Errno> {
+        let (rt, system) = (caller.rt, caller.system);
+        let seat = &mut caller.seat;
         let id = queue(rt, system, seat, 1)?;
         match self {
             Part::Receives(waits) => {

@@ -4,13 +4,14 @@
 use crate::calls::{Nothing, queue, receive, remove, send, set};
 use crate::watch::in_time;
 use mq::{
-    Caller, Config, Cut, Errno, GetFlags, Id, Names, RecvFlags, Seat, SendFlags, System,
-    SystemProgram, with_system,
+    Caller, Config, Cut, Delivered, Errno, GetFlags, Id, Message, Names, RecvFlags, Seat,
+    Selection, System, SystemProgram, with_system,
 };
 use std::alloc::Global;
 use std::process::Abort;
 use std::sync::Wait;
 use std::thread::Threads;
+use std::time::Clock;
 
 const SIZE: Config = Config {
     height: 3,
@@ -18,8 +19,6 @@ const SIZE: Config = Config {
     seats: 1,
     last_seq: 1,
 };
-
-const NOWAIT: SendFlags = SendFlags { nowait: true };
 
 const AT_ONCE: RecvFlags = RecvFlags {
     nowait: true,
@@ -96,7 +95,18 @@ fn called<N: Names, R: Wait>(
             send(rt, system, seat, id, 2, 9)?;
             Ok(shows(system, seat, id, 2, 131_072))
         }
-        Call::Receive => Ok(receive(rt, system, seat, id, 9, 0)? == (5, 3)),
+        Call::Receive => {
+            let first = receive(rt, system, seat, id, 9, 0)?;
+            let none = match system.msgrcv(rt, seat, id, 9, 0, AT_ONCE, 1) {
+                Err(refused) => refused.errno == Errno::ENOMSG,
+                Ok(received) => {
+                    let Delivered { text, .. } = received;
+                    system.spend(rt, text);
+                    false
+                }
+            };
+            Ok(first == (5, 3) && none)
+        }
         Call::Set => {
             set(rt, system, seat, id, 77)?;
             Ok(shows(system, seat, id, 1, 77))
@@ -120,28 +130,27 @@ fn called<N: Names, R: Wait>(
 }
 
 /// Whether a caller's call answers as it must.
-fn asked<N: Names, R: Wait>(
-    caller: &mut Caller<'_, N, R>,
-    system: &System<Nothing, N>,
+fn asked<N: Names, R: Wait + Clock>(
+    caller: &mut Caller<'_, Nothing, N, R>,
     call: Call,
     id: Id,
 ) -> Result<bool, Errno> {
     match call {
-        Call::CallerFinds => Ok(caller.queue(system, key_of(id.slot()))? == id),
+        Call::CallerFinds => Ok(caller.queue(key_of(id.slot()))? == id),
         Call::CallerSends => {
-            let own = caller.send(system, id, 2, 7, b"word")?;
-            Ok(own == 2 && caller.send_with(system, id, 2, 7, b"", NOWAIT)? == 3)
+            let own = caller.send(id, Message::new(2, b"word"))?;
+            Ok(own == 2 && caller.try_send(id, Message::new(2, b""))? == 3)
         }
         Call::CallerReceives => {
-            let first = caller.receive(system, id, 9, 0)?;
-            let none = caller.receive_with(system, id, 9, 0, AT_ONCE).err();
+            let first = caller.receive(id, Selection::Any)?;
+            let none = caller.try_receive(id, Selection::Any).err();
             Ok(first.entry == 2 && first.length == 3 && none == Some(Errno::ENOMSG))
         }
-        Call::CallerCuts if id.slot() < system.slots() => {
-            let cut = caller.cut_log(system, id.slot())?;
+        Call::CallerCuts if id.slot() < caller.slots() => {
+            let cut = caller.cut_log(id.slot())?;
             Ok(has_both(cut) && caller.count(id.slot() as usize) == 2)
         }
-        Call::CallerRemoves => Ok(caller.remove(system, id)?.entry == 2),
+        Call::CallerRemoves => Ok(caller.remove(id)?.entry == 2),
         _ => Ok(false),
     }
 }
@@ -149,29 +158,24 @@ fn asked<N: Names, R: Wait>(
 impl SystemProgram<Nothing> for Elsewhere {
     type Answer = Result<bool, Errno>;
 
-    fn run<N: Names, R: Wait>(
+    fn run<N: Names, R: Wait + Clock>(
         self,
-        rt: &R,
-        alloc: Global,
         _config: Config,
-        system: &System<Nothing, N>,
-        seats: &mut [Seat<N>],
+        callers: &mut [Caller<'_, Nothing, N, R>],
     ) -> Result<bool, Errno> {
-        let Some(seat) = seats.first_mut() else {
+        let Some(caller) = callers.first_mut() else {
             return Ok(false);
         };
+        let (rt, system) = (caller.rt, caller.system);
         for slot in 0..3u8 {
-            let id = queue(rt, system, seat, key_of(slot))?;
-            send(rt, system, seat, id, 5, 3)?;
+            let id = caller.queue(key_of(slot))?;
+            send(rt, system, &mut caller.seat, id, 5, 3)?;
         }
         for slot in 1..3u8 {
             let id = Id::of(slot, 0);
-            let mut right = called(rt, system, seat, self.call, id)?;
-            if !right {
-                let mut caller = Caller::new(rt, alloc, seat);
-                right = asked(&mut caller, system, self.call, id)?;
-            }
-            if !right {
+            if !called(rt, system, &mut caller.seat, self.call, id)?
+                && !asked(caller, self.call, id)?
+            {
                 return Ok(false);
             }
         }
@@ -180,7 +184,12 @@ impl SystemProgram<Nothing> for Elsewhere {
 }
 
 /// Wants that the call comes to its end, and answers as it must.
-fn reaches<R: Abort + Threads + Wait + Sync>(rt: &R, alloc: Global, name: &str, call: Call) {
+fn reaches<R: Abort + Threads + Wait + Clock + Sync>(
+    rt: &R,
+    alloc: Global,
+    name: &str,
+    call: Call,
+) {
     let ended = in_time(rt, name, || {
         with_system(rt, alloc, SIZE, Elsewhere { call })
     });

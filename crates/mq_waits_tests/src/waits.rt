@@ -7,12 +7,14 @@ use crate::calls::{Nothing, queue, receive, remove, send, set};
 use crate::is_same;
 use crate::watch::in_time;
 use mq::{
-    Config, Ended, Errno, Id, MSGMNB, Names, Seat, System, Worker, WorkersError, with_workers,
+    Caller, Config, Ended, Errno, Id, MSGMNB, Names, Seat, System, Worker, WorkersError,
+    with_workers,
 };
 use std::alloc::Global;
 use std::process::Abort;
 use std::sync::Wait;
 use std::thread::Threads;
+use std::time::Clock;
 
 const SIZE: Config = Config {
     height: 8,
@@ -121,13 +123,9 @@ impl<'a, N: Names, R: Wait> At<'a, N, R> {
 impl<'a> Worker<Nothing> for Part<'a> {
     type Answer = Done;
 
-    fn work<N: Names, R: Wait>(
-        self,
-        rt: &R,
-        _alloc: Global,
-        system: &System<Nothing, N>,
-        seat: &mut Seat<N>,
-    ) -> Done {
+    fn work<N: Names, R: Wait + Clock>(self, caller: &mut Caller<'_, Nothing, N, R>) -> Done {
+        let (rt, system) = (caller.rt, caller.system);
+        let seat = &mut caller.seat;
         let said = queue(rt, system, seat, 1)?;
         let here = queue(rt, system, seat, 2)?;
         let mut at = At {
@@ -141,7 +139,7 @@ impl<'a> Worker<Nothing> for Part<'a> {
 }
 
 /// Plays the parts, once more where no thread had begun for lack of memory.
-fn played<R: Threads + Wait + Sync>(
+fn played<R: Threads + Wait + Clock + Sync>(
     rt: &R,
     alloc: Global,
     parts: &[Part<'_>],
@@ -160,7 +158,7 @@ fn played<R: Threads + Wait + Sync>(
 
 /// Plays the parts, which end by this wake, and wants these answers, so many messages left, and all
 /// pages home.
-fn wakes<R: Abort + Threads + Wait + Sync>(
+fn wakes<R: Abort + Threads + Wait + Clock + Sync>(
     rt: &R,
     alloc: Global,
     wake: &str,
@@ -317,7 +315,7 @@ fn a_receipt_of_an_empty_message_wakes_a_sender_of_one(rt: HostRuntime) {
 }
 
 /// Three senders wait for room, until the quota is set to this.
-fn a_quota_wakes<R: Abort + Threads + Wait + Sync>(rt: &R, alloc: Global, qbytes: u64) {
+fn a_quota_wakes<R: Abort + Threads + Wait + Clock + Sync>(rt: &R, alloc: Global, qbytes: u64) {
     let sender = [Hears(1, 1), Says(2, 1), Sends(1, 3), Says(3, 1)];
     let setter = [
         Sets(2),

@@ -4,7 +4,7 @@ use std::process::Abort;
 use std::sync::atomic::{AtomicBool, AtomicU64, Ordering};
 use std::sync::{Condvar, Wait};
 use std::thread::{Threads, join};
-use std::time::Duration;
+use std::time::{Clock, Duration};
 
 /// The seconds after which a test that has not come to its end counts as one that never does.
 const SECONDS: u32 = 50;
@@ -69,7 +69,7 @@ impl Watch {
 
 /// What this answers, whose threads wait for one another. Where it does not end in time, the test
 /// fails, and tells what has not come.
-pub(crate) fn in_time<R: Abort + Threads + Wait + Sync, T: Send, F: FnOnce() -> T + Send>(
+pub(crate) fn in_time<R: Abort + Threads + Wait + Clock + Sync, T: Send, F: FnOnce() -> T + Send>(
     rt: &R,
     what: &str,
     run: F,

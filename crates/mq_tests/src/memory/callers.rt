@@ -2,15 +2,13 @@
 
 use crate::memory::calls::{Calls, MOST};
 use crate::memory::lists::{List, Wrong, plays};
-use crate::memory::seats::AtSeats;
+use crate::memory::seats::OnSeat;
 use crate::runs::Nothing;
-use crate::seat_calls::{At, SeatCalls};
+use crate::seat_calls::SeatCalls;
 use mq::{
-    Caller, Config, DraftError, Errno, Id, MSGMAX, Names, RecvFlags, Seat, SendFlags, System,
-    SystemProgram,
+    Caller, Clock, Config, DraftError, Errno, Id, MSGMAX, Names, RecvFlags, SendFlags,
+    SystemProgram, Wait,
 };
-use std::alloc::Global;
-use std::sync::Wait;
 
 const NOWAIT: SendFlags = SendFlags { nowait: true };
 
@@ -20,66 +18,83 @@ const AT_ONCE: RecvFlags = RecvFlags {
     except: false,
 };
 
-/// The seats of a system, each with a caller of its own at each call.
+/// The callers of a system.
 #[derive(Drop)]
-struct ByCallers<'a, N: Names, R: Wait> {
-    alloc: Global,
-    seats: AtSeats<'a, N, R>,
+struct ByCallers<'a, C: SeatCalls + OnSeat> {
+    callers: &'a mut [C],
 }
 
-impl<'a, N: Names, R: Wait> ByCallers<'a, N, R> {
-    /// A caller at a seat.
-    fn at(&mut self, seat: u16) -> Result<At<'_, 'a, N, R>, Errno> {
-        let rt = self.seats.rt;
-        let system = self.seats.system;
-        let mut caller = Caller::new(rt, self.alloc, self.seats.seat(seat)?);
-        caller.moment = MOST;
-        Ok(At { caller, system })
-    }
-}
-
-impl<'a, N: Names, R: Wait> Calls for ByCallers<'a, N, R> {
+impl<'a, C: SeatCalls + OnSeat> Calls for ByCallers<'a, C> {
     fn most(&self) -> u64 {
         MSGMAX
     }
 
     fn queue(&mut self, seat: u16, key: i32) -> Result<Id, Errno> {
-        self.at(seat)?.queue(key)
+        match self.callers.get_mut(seat as usize) {
+            Some(caller) => {
+                caller.tell(MOST);
+                caller.queue(key)
+            }
+            None => Err(Errno::EINVAL),
+        }
     }
 
     fn draft(&mut self, len: u64) -> Result<(), DraftError> {
-        self.seats.draft(len)
+        match self.callers.get_mut(0) {
+            Some(caller) => caller.drafts(len),
+            None => Ok(()),
+        }
     }
 
     fn send(&mut self, seat: u16, id: Id, mtype: i64, bytes: &[u8]) -> Result<(), Errno> {
-        let mut calls = self.at(seat)?;
-        calls.send_with(id, mtype, MOST, bytes, NOWAIT)?;
-        Ok(())
+        match self.callers.get_mut(seat as usize) {
+            Some(caller) => {
+                caller.send_with(id, mtype, MOST, bytes, NOWAIT)?;
+                Ok(())
+            }
+            None => Err(Errno::EINVAL),
+        }
     }
 
     fn receive(&mut self, seat: u16, id: Id, size: u64, msgtyp: i64) -> Result<u64, Errno> {
-        let mut calls = self.at(seat)?;
-        Ok(calls.receive_with(id, size, msgtyp, AT_ONCE)?.length)
+        match self.callers.get_mut(seat as usize) {
+            Some(caller) => Ok(caller.receive_flagged(id, size, msgtyp, AT_ONCE)?.length),
+            None => Err(Errno::EINVAL),
+        }
     }
 
     fn set(&mut self, seat: u16, id: Id, qbytes: u64) -> Result<(), Errno> {
-        self.seats.set(seat, id, qbytes)
+        match self.callers.get_mut(seat as usize) {
+            Some(caller) => caller.sets(id, qbytes),
+            None => Err(Errno::EINVAL),
+        }
     }
 
     fn waiting(&mut self, seat: u16, id: Id) -> Result<u64, Errno> {
-        self.seats.waiting(seat, id)
+        match self.callers.get_mut(seat as usize) {
+            Some(caller) => caller.shows(id),
+            None => Err(Errno::EINVAL),
+        }
     }
 
     fn cut(&mut self, seat: u16, slot: u8) -> Result<(), Errno> {
-        let mut calls = self.at(seat)?;
-        calls.cut_log(slot)?;
-        Ok(())
+        match self.callers.get_mut(seat as usize) {
+            Some(caller) => {
+                caller.cut_log(slot)?;
+                Ok(())
+            }
+            None => Err(Errno::EINVAL),
+        }
     }
 
     fn remove(&mut self, seat: u16, id: Id) -> Result<(), Errno> {
-        let mut calls = self.at(seat)?;
-        calls.remove(id)?;
-        Ok(())
+        match self.callers.get_mut(seat as usize) {
+            Some(caller) => {
+                caller.remove(id)?;
+                Ok(())
+            }
+            None => Err(Errno::EINVAL),
+        }
     }
 }
 
@@ -93,15 +108,11 @@ pub(crate) struct OnCallers<'t> {
 impl<'t> SystemProgram<Nothing> for OnCallers<'t> {
     type Answer = Option<Wrong>;
 
-    fn run<N: Names, R: Wait>(
+    fn run<N: Names, R: Wait + Clock>(
         self,
-        rt: &R,
-        alloc: Global,
         config: Config,
-        system: &System<Nothing, N>,
-        seats: &mut [Seat<N>],
+        callers: &mut [Caller<'_, Nothing, N, R>],
     ) -> Option<Wrong> {
-        let seats = AtSeats::new(rt, system, seats);
-        plays(self.list, ByCallers { alloc, seats }, config, self.bytes)
+        plays(self.list, ByCallers { callers }, config, self.bytes)
     }
 }

@@ -3,10 +3,48 @@
 use crate::memory::calls::Calls;
 use mq::{Config, DraftError, Errno, Id, MSGMNB};
 
+/// A call of a list, or what is wanted of it.
+#[derive(Clone, Copy, Drop)]
+pub(crate) enum Step {
+    Msgget,
+    Draft,
+    Msgsnd,
+    Msgrcv,
+    Set,
+    Stat,
+    CutLog,
+    Rmid,
+    Full,
+    UsedUp,
+    IdOfSlot,
+    NextId,
+    IdAnew,
+}
+
+impl Step {
+    pub(crate) fn name(self) -> &'static str {
+        match self {
+            Step::Msgget => "msgget",
+            Step::Draft => "draft",
+            Step::Msgsnd => "msgsnd",
+            Step::Msgrcv => "msgrcv",
+            Step::Set => "set",
+            Step::Stat => "stat",
+            Step::CutLog => "cut_log",
+            Step::Rmid => "rmid",
+            Step::Full => "a text in a full queue",
+            Step::UsedUp => "a queue in a slot that is used up",
+            Step::IdOfSlot => "the id of a slot",
+            Step::NextId => "the id of the next queue",
+            Step::IdAnew => "the id of a queue that is made anew",
+        }
+    }
+}
+
 /// A call that answered otherwise, and the refusal where it was refused.
 #[derive(Drop)]
 pub(crate) struct Wrong {
-    pub(crate) call: &'static str,
+    pub(crate) call: Step,
     pub(crate) errno: Option<Errno>,
 }
 
@@ -57,27 +95,27 @@ struct Player<C: Calls + Drop> {
 }
 
 impl<C: Calls + Drop> Player<C> {
-    fn is_wrong(&mut self, call: &'static str, errno: Option<Errno>) {
+    fn is_wrong(&mut self, call: Step, errno: Option<Errno>) {
         if self.wrong.is_none() {
             self.wrong = Some(Wrong { call, errno });
         }
     }
 
     /// Wants that an answer is right.
-    fn is(&mut self, call: &'static str, right: bool) {
+    fn is(&mut self, call: Step, right: bool) {
         if !right {
             self.is_wrong(call, None);
         }
     }
 
-    fn did(&mut self, call: &'static str, answer: Result<(), Errno>) {
+    fn did(&mut self, call: Step, answer: Result<(), Errno>) {
         if let Err(errno) = answer {
             self.is_wrong(call, Some(errno));
         }
     }
 
     /// Wants this number.
-    fn told(&mut self, call: &'static str, answer: Result<u64, Errno>, wanted: u64) {
+    fn told(&mut self, call: Step, answer: Result<u64, Errno>, wanted: u64) {
         match answer {
             Ok(number) => self.is(call, number == wanted),
             Err(errno) => self.is_wrong(call, Some(errno)),
@@ -89,7 +127,7 @@ impl<C: Calls + Drop> Player<C> {
         match self.calls.queue(seat, key) {
             Ok(id) => id,
             Err(errno) => {
-                self.is_wrong("msgget", Some(errno));
+                self.is_wrong(Step::Msgget, Some(errno));
                 Id::from_number(0)
             }
         }
@@ -97,40 +135,40 @@ impl<C: Calls + Drop> Player<C> {
 
     fn drafts(&mut self, len: u64) {
         if let Err(error) = self.calls.draft(len) {
-            self.is_wrong("draft", Some(error.errno()));
+            self.is_wrong(Step::Draft, Some(error.errno()));
         }
     }
 
     fn sends(&mut self, seat: u16, id: Id, mtype: i64, bytes: &[u8]) {
         let answer = self.calls.send(seat, id, mtype, bytes);
-        self.did("msgsnd", answer);
+        self.did(Step::Msgsnd, answer);
     }
 
     /// Wants that so many bytes are received.
     fn takes(&mut self, seat: u16, id: Id, size: u64, msgtyp: i64, len: u64) {
         let answer = self.calls.receive(seat, id, size, msgtyp);
-        self.told("msgrcv", answer, len);
+        self.told(Step::Msgrcv, answer, len);
     }
 
     fn sets(&mut self, seat: u16, id: Id, qbytes: u64) {
         let answer = self.calls.set(seat, id, qbytes);
-        self.did("set", answer);
+        self.did(Step::Set, answer);
     }
 
     /// Wants that so many messages wait.
     fn waits(&mut self, seat: u16, id: Id, count: u64) {
         let answer = self.calls.waiting(seat, id);
-        self.told("stat", answer, count);
+        self.told(Step::Stat, answer, count);
     }
 
     fn cuts(&mut self, seat: u16, slot: u8) {
         let answer = self.calls.cut(seat, slot);
-        self.did("cut_log", answer);
+        self.did(Step::CutLog, answer);
     }
 
     fn removes(&mut self, seat: u16, id: Id) {
         let answer = self.calls.remove(seat, id);
-        self.did("rmid", answer);
+        self.did(Step::Rmid, answer);
     }
 
     /// A text of this length, which is drafted, sent, and received by either way to name its type.
@@ -157,7 +195,7 @@ impl<C: Calls + Drop> Player<C> {
     /// Each call of a seat at the queue of a slot, which the first seat makes.
     fn at_seat(&mut self, seat: u16, slot: u8) {
         let id = self.queue(seat, key_of(slot));
-        self.is("the id of a slot", id.slot() == slot && id.seq() == 0);
+        self.is(Step::IdOfSlot, id.slot() == slot && id.seq() == 0);
         for qbytes in [0, 1, MSGMNB] {
             self.sets(seat, id, qbytes);
         }
@@ -172,7 +210,7 @@ impl<C: Calls + Drop> Player<C> {
         self.removes(15, first);
         let id = self.queue(0, key_of(first.slot()));
         let next = id.slot() == first.slot() && id.seq() == 1;
-        self.is("the id of a queue that is made anew", next);
+        self.is(Step::IdAnew, next);
     }
 
     fn slots(&mut self) {
@@ -194,7 +232,7 @@ impl<C: Calls + Drop> Player<C> {
                 self.sends(0, id, 1, bytes);
             } else {
                 let refused = matches!(self.calls.send(0, id, 1, bytes), Err(Errno::EAGAIN));
-                self.is("a text in a full queue", refused);
+                self.is(Step::Full, refused);
             }
             let _other = self.queue(0, 9);
             self.sets(0, id, MSGMNB);
@@ -244,7 +282,7 @@ impl<C: Calls + Drop> Player<C> {
         for seq in 0..last_seq {
             let id = self.queue(0, 7);
             let next = id.slot() == 0 && id.seq() == seq;
-            self.is("the id of the next queue", next);
+            self.is(Step::NextId, next);
             self.sets(0, id, 9);
             self.removes(0, id);
         }
@@ -252,7 +290,7 @@ impl<C: Calls + Drop> Player<C> {
         self.sends(0, last, 1, b"last");
         self.removes(0, last);
         let refused = matches!(self.calls.queue(0, 7), Err(Errno::ENOSPC));
-        self.is("a queue in a slot that is used up", refused);
+        self.is(Step::UsedUp, refused);
     }
 }
 

@@ -3,15 +3,14 @@
 use crate::memory::calls::{Calls, MOST};
 use crate::memory::lists::{List, Wrong, plays};
 use mq::{
-    Config, Delivered, DraftError, Errno, GetFlags, Id, Ledger, OneThread, QueueProgram,
-    SendRefused,
+    Config, DraftError, Errno, Id, Ledger, LocalQueues, Message, QueueProgram, ReceiveOptions,
+    Selection,
 };
-use std::alloc::Global;
 
 /// The queues of one thread.
 #[derive(Drop)]
 struct One<'a, L: Ledger> {
-    queues: &'a mut OneThread<L>,
+    queues: &'a mut LocalQueues<L>,
 }
 
 impl<'a, L: Ledger> Calls for One<'a, L> {
@@ -20,17 +19,14 @@ impl<'a, L: Ledger> Calls for One<'a, L> {
     }
 
     fn queue(&mut self, seat: u16, key: i32) -> Result<Id, Errno> {
-        let flags = GetFlags {
-            create: true,
-            exclusive: false,
-        };
-        Ok(self.queues.msgget(seat, key, flags, MOST)?.id)
+        self.queues.moment = MOST;
+        self.queues.caller(seat).queue(key)
     }
 
     fn draft(&mut self, len: u64) -> Result<(), DraftError> {
-        match self.queues.draft(len) {
+        match self.queues.queues.draft(len) {
             Ok(text) => {
-                self.queues.spend(text);
+                self.queues.caller(0).spend(text);
                 Ok(())
             }
             Err(error) => Err(error),
@@ -38,60 +34,39 @@ impl<'a, L: Ledger> Calls for One<'a, L> {
     }
 
     fn send(&mut self, seat: u16, id: Id, mtype: i64, bytes: &[u8]) -> Result<(), Errno> {
-        let text = match self.queues.draft_of(bytes) {
-            Ok(text) => text,
-            Err(error) => return Err(error.errno()),
-        };
-        match self.queues.msgsnd(seat, id, mtype, MOST, text, MOST) {
-            Ok(_) => Ok(()),
-            Err(refusal) => {
-                let SendRefused { refused, text } = refusal;
-                self.queues.spend(text);
-                Err(refused.errno)
-            }
-        }
+        let message = Message::new(mtype, bytes).tagged(MOST);
+        self.queues.caller(seat).send(id, message)?;
+        Ok(())
     }
 
     fn receive(&mut self, seat: u16, id: Id, size: u64, msgtyp: i64) -> Result<u64, Errno> {
-        match self
-            .queues
-            .msgrcv(seat, id, size, msgtyp, false, false, MOST)
-        {
-            Ok(received) => {
-                let Delivered { length, text, .. } = received;
-                self.queues.spend(text);
-                Ok(length)
-            }
-            Err(refused) => Err(refused.errno),
-        }
+        let selection = Selection::read(msgtyp, false);
+        let options = ReceiveOptions::new().up_to(size);
+        let mut caller = self.queues.caller(seat);
+        Ok(caller.receive_with(id, selection, options)?.length)
     }
 
     fn set(&mut self, seat: u16, id: Id, qbytes: u64) -> Result<(), Errno> {
-        match self.queues.set(seat, id, qbytes, MOST) {
-            Ok(_) => Ok(()),
-            Err(refused) => Err(refused.errno),
-        }
+        self.queues.caller(seat).set(id, qbytes)?;
+        Ok(())
     }
 
-    fn waiting(&mut self, _seat: u16, id: Id) -> Result<u64, Errno> {
-        Ok(self.queues.stat(id)?.qnum)
+    fn waiting(&mut self, seat: u16, id: Id) -> Result<u64, Errno> {
+        Ok(self.queues.caller(seat).stat(id)?.qnum)
     }
 
-    fn cut(&mut self, _seat: u16, slot: u8) -> Result<(), Errno> {
-        if slot >= self.queues.slots() {
+    fn cut(&mut self, seat: u16, slot: u8) -> Result<(), Errno> {
+        let mut caller = self.queues.caller(seat);
+        if slot >= caller.slots() {
             return Err(Errno::EINVAL);
         }
-        match self.queues.cut_log(slot) {
-            Ok(_) => Ok(()),
-            Err(refused) => Err(refused.errno),
-        }
+        caller.cut_log(slot)?;
+        Ok(())
     }
 
     fn remove(&mut self, seat: u16, id: Id) -> Result<(), Errno> {
-        match self.queues.rmid(seat, id, MOST) {
-            Ok(_) => Ok(()),
-            Err(refused) => Err(refused.errno),
-        }
+        self.queues.caller(seat).remove(id)?;
+        Ok(())
     }
 }
 
@@ -105,12 +80,7 @@ pub(crate) struct OnOne<'t> {
 impl<'t> QueueProgram for OnOne<'t> {
     type Answer = Option<Wrong>;
 
-    fn run<L: Ledger>(
-        self,
-        _alloc: Global,
-        config: Config,
-        queues: &mut OneThread<L>,
-    ) -> Option<Wrong> {
+    fn run<L: Ledger>(self, config: Config, queues: &mut LocalQueues<L>) -> Option<Wrong> {
         plays(self.list, One { queues }, config, self.bytes)
     }
 }

@@ -11,6 +11,7 @@ use std::alloc::{AllocError, Global};
 use std::process::Abort;
 use std::sync::Wait;
 use std::test::Fail;
+use std::time::Clock;
 
 const ALL: Config = Config {
     height: MAX_HEIGHT,
@@ -30,6 +31,7 @@ const ONE: Config = Config {
 /// that memory ran out.
 fn is_right(rt: &impl Abort, on: &str, wrong: Option<Wrong>) {
     if let Some(Wrong { call, errno }) = wrong {
+        let call = call.name();
         match errno {
             Some(errno) => panic!(rt; "{on}: {call}: {errno}\n{errno}"),
             None => panic!(rt; "{on}: {call}"),
@@ -54,7 +56,13 @@ fn ends(rt: &impl Abort, on: &str, config: Config, ended: Result<Ended<Option<Wr
 }
 
 /// Plays the list on all three, with a text of at most so many bytes.
-fn on_all<R: Abort + Wait>(rt: &R, alloc: Global, config: Config, list: List, bytes: &[u8]) {
+fn on_all<R: Abort + Wait + Clock>(
+    rt: &R,
+    alloc: Global,
+    config: Config,
+    list: List,
+    bytes: &[u8],
+) {
     ends(
         rt,
         "one thread",

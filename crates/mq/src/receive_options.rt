@@ -1,0 +1,54 @@
+ghost use Rattle.std.specs.Prelude.{◌≡◌, true, false};
+ghost use Rattle.mq_queue.specs.declared.limits.TheConstants.{MSGMAX};
+
+use mq_queue::MSGMAX;
+
+/// Which messages a receive takes, by their length (msgop(2), msgrcv).
+#[derive(Clone, Copy, Debug, PartialEq, Eq)]
+pub struct ReceiveOptions {
+    /// The most bytes that are handed out.
+    pub size: u64,
+    /// Whether a longer text is cut (MSG_NOERROR), and not refused with E2BIG.
+    pub noerror: bool,
+}
+
+impl ReceiveOptions {
+    /// A message of any length.
+    pub fn new() -> ReceiveOptions
+        ensures size { result.size ≡ MSGMAX }
+        ensures noerror { result.noerror ≡ false }
+    {
+        ReceiveOptions {
+            size: MSGMAX,
+            noerror: false,
+        }
+    }
+
+    /// One of at most so many bytes; a longer one stays, with E2BIG.
+    pub fn up_to(self, size: u64) -> ReceiveOptions
+        ensures size { result.size ≡ size }
+        ensures noerror { result.noerror ≡ self.noerror }
+    {
+        ReceiveOptions { size, ..self }
+    }
+
+    /// A longer one too, of which the first bytes are handed out.
+    pub fn cut(self) -> ReceiveOptions
+        ensures size { result.size ≡ self.size }
+        ensures noerror { result.noerror ≡ true }
+    {
+        ReceiveOptions {
+            noerror: true,
+            ..self
+        }
+    }
+}
+
+impl Default for ReceiveOptions {
+    fn default() -> ReceiveOptions
+        ensures size { result.size ≡ MSGMAX }
+        ensures noerror { result.noerror ≡ false }
+    {
+        ReceiveOptions::new()
+    }
+}

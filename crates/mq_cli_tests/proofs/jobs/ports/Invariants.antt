@@ -1,6 +1,0 @@
-use Rattle.std.proofs.Common.{◌≡◌, vec_len}
-use Rattle.mq_cli_tests.proofs.jobs.ports.Given as goal
-
--- a port was made in each round
-abbrev pub invariant-loop : goal.invariant-loop
-invariant-loop l = vec_len l.ports ≡ l.counter

@@ -1,5 +1,0 @@
-use Rattle.mq_board.proofs.Names.{named}
-use Rattle.mq_queue_tests.proofs.boards.opened.run.Goals as goal
-
-pub play-requires-clause-named : goal.play-requires-clause-named
-play-requires-clause-named g c = named c.in_ok-opened.opened.items

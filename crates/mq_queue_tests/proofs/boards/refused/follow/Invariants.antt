@@ -1,6 +1,0 @@
-use Rattle.mq_queue_tests.specs.Shown.{IsShown}
-use Rattle.mq_queue_tests.proofs.boards.refused.follow.Given as goal
-
--- all that was done is published
-abbrev pub invariant-loop-place : goal.invariant-loop-place
-invariant-loop-place g l = IsShown l.queue.base l.queue.tail l.writer

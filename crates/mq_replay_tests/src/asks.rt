@@ -1,0 +1,269 @@
+//! Calls of a system, each with the answer that is kept.
+
+use crate::calls::{Answer, Asked, Handed, Kept, KeptCut, KeptLog, SLOTS, byte_of};
+use mq::{
+    BoardRow, Delivered, Figures, GetFlags, Id, Names, Pledge, RecvFlags, Refused, Removal, Seat,
+    SendFlags, System, TextOf,
+};
+use std::sync::Wait;
+
+/// Nothing is pledged: what comes is looked at when it came.
+pub(crate) struct Nothing;
+
+impl Pledge for Nothing {
+    ghost kept = { λ _ _ _ _. Unit {0} };
+}
+
+const NO_ROW: BoardRow = BoardRow {
+    made: 0,
+    live: false,
+    key: 0,
+    figures: Figures {
+        qnum: 0,
+        cbytes: 0,
+        qbytes: 0,
+        stime: 0,
+        rtime: 0,
+        ctime: 0,
+        lspid: 0,
+        lrpid: 0,
+    },
+};
+
+fn refused(refused: Refused) -> Answer {
+    Answer::Refused(refused.errno, refused.entry)
+}
+
+fn get<N: Names, R: Wait>(
+    rt: &R,
+    system: &System<Nothing, N>,
+    seat: &mut Seat<N>,
+    key: i32,
+    flags: GetFlags,
+    moment: u64,
+) -> Answer {
+    match system.msgget(rt, seat, key, flags, moment) {
+        Ok(got) => Answer::Got(got.id.number(), got.made),
+        Err(errno) => Answer::Refused(errno, None),
+    }
+}
+
+/// The text with this tag, or `None` where there are no pages or no memory for it.
+fn drafted<N: Names, R: Wait>(
+    rt: &R,
+    system: &System<Nothing, N>,
+    room: &mut [u8],
+    tag: u64,
+    length: u64,
+) -> Option<TextOf<N>> {
+    let bytes = room.get_mut(..length as usize)?;
+    for (position, byte) in bytes.iter_mut().enumerate() {
+        *byte = byte_of(tag, position as u64);
+    }
+    system.draft_of(rt, bytes).ok()
+}
+
+/// `None` where the text is not drafted.
+fn send<N: Names, R: Wait>(
+    rt: &R,
+    system: &System<Nothing, N>,
+    seat: &mut Seat<N>,
+    room: &mut [u8],
+    id: u32,
+    mtype: i64,
+    tag: u64,
+    length: u64,
+    nowait: bool,
+    moment: u64,
+) -> Option<Answer> {
+    let text = drafted(rt, system, room, tag, length)?;
+    let flags = SendFlags { nowait };
+    let id = Id::from_number(id);
+    match system.msgsnd(rt, seat, id, mtype, tag, text, flags, moment) {
+        Ok(entry) => Some(Answer::Done(entry)),
+        Err(refusal) => {
+            let (why, text) = refusal.into_text();
+            system.spend(rt, text);
+            Some(refused(why))
+        }
+    }
+}
+
+/// What came, with a look at each byte.
+fn handed<N: Names>(delivered: &Delivered<TextOf<N>>) -> Handed {
+    let mut came = 0u64;
+    let mut as_sent = true;
+    for part in delivered.text.parts() {
+        for byte in part {
+            as_sent = as_sent && *byte == byte_of(delivered.tag, came);
+            came = came.wrapping_add(1);
+        }
+    }
+    Handed {
+        entry: delivered.entry,
+        mtype: delivered.mtype,
+        sender: delivered.sender,
+        tag: delivered.tag,
+        length: delivered.length,
+        came,
+        as_sent,
+    }
+}
+
+fn receive<N: Names, R: Wait>(
+    rt: &R,
+    system: &System<Nothing, N>,
+    seat: &mut Seat<N>,
+    id: u32,
+    size: u64,
+    msgtyp: i64,
+    flags: RecvFlags,
+    moment: u64,
+) -> Answer {
+    match system.msgrcv(rt, seat, Id::from_number(id), size, msgtyp, flags, moment) {
+        Ok(delivered) => {
+            let came = handed(&delivered);
+            let Delivered {
+                entry: _,
+                mtype: _,
+                sender: _,
+                tag: _,
+                length: _,
+                text,
+            } = delivered;
+            system.spend(rt, text);
+            Answer::Handed(came)
+        }
+        Err(why) => refused(why),
+    }
+}
+
+fn set<N: Names, R: Wait>(
+    rt: &R,
+    system: &System<Nothing, N>,
+    seat: &mut Seat<N>,
+    id: u32,
+    qbytes: u64,
+    moment: u64,
+) -> Answer {
+    match system.set(rt, seat, Id::from_number(id), qbytes, moment) {
+        Ok(entry) => Answer::Done(entry),
+        Err(why) => refused(why),
+    }
+}
+
+fn remove<N: Names, R: Wait>(
+    rt: &R,
+    system: &System<Nothing, N>,
+    seat: &mut Seat<N>,
+    logs: &mut Vec<KeptLog>,
+    id: u32,
+    moment: u64,
+) -> Answer {
+    match system.rmid(rt, seat, Id::from_number(id), moment) {
+        Ok(removal) => {
+            let Removal { entry, log } = removal;
+            let (base, tail) = log.into_parts();
+            let _ = logs.push(KeptLog { base, tail });
+            Answer::Removed(entry)
+        }
+        Err(why) => refused(why),
+    }
+}
+
+/// `None` where there is no such slot.
+fn cut<N: Names, R: Wait>(
+    rt: &R,
+    system: &System<Nothing, N>,
+    seat: &mut Seat<N>,
+    cuts: &mut Vec<KeptCut>,
+    slot: u8,
+) -> Option<Answer> {
+    if slot >= system.slots() {
+        return None;
+    }
+    match system.cut_log(rt, seat, slot) {
+        Ok(cut) => {
+            let entries = (cut.past.len() as u64).wrapping_add(cut.last.len() as u64);
+            let end = cut.first.wrapping_add(entries);
+            let _ = cuts.push(KeptCut { slot, cut });
+            Some(Answer::Cut(end))
+        }
+        Err(why) => Some(refused(why)),
+    }
+}
+
+fn stat<N: Names>(system: &System<Nothing, N>, seat: &mut Seat<N>, id: u32) -> Answer {
+    match system.stat(seat, Id::from_number(id)) {
+        Ok(figures) => Answer::Shown(figures),
+        Err(errno) => Answer::Refused(errno, None),
+    }
+}
+
+/// `None` where the system has another number of slots.
+pub(crate) fn report<N: Names>(
+    system: &System<Nothing, N>,
+    seat: &mut Seat<N>,
+) -> Option<[BoardRow; SLOTS]> {
+    if system.slots() != SLOTS as u8 {
+        return None;
+    }
+    let mut rows = [NO_ROW; SLOTS];
+    system.report(seat, &mut rows);
+    Some(rows)
+}
+
+/// How many changes the seat has counted in each slot.
+pub(crate) fn counts<N: Names>(system: &System<Nothing, N>, seat: &Seat<N>) -> [u64; SLOTS] {
+    if system.slots() != SLOTS as u8 {
+        return [0; SLOTS];
+    }
+    [seat.count(0), seat.count(1), seat.count(2)]
+}
+
+/// The answer to this call; the log of a queue that it removes is kept, and what it cuts off.
+/// `None` where a text was not drafted, and no call was made.
+pub(crate) fn answer<N: Names, R: Wait>(
+    rt: &R,
+    system: &System<Nothing, N>,
+    seat: &mut Seat<N>,
+    kept: &mut Kept,
+    asked: Asked,
+    moment: u64,
+) -> Option<Answer> {
+    match asked {
+        Asked::Get { key, flags } => Some(get(rt, system, seat, key, flags, moment)),
+        Asked::Send {
+            id,
+            mtype,
+            tag,
+            length,
+            nowait,
+        } => {
+            let room = kept.text.as_mut_slice();
+            send(
+                rt, system, seat, room, id, mtype, tag, length, nowait, moment,
+            )
+        }
+        Asked::Receive {
+            id,
+            size,
+            msgtyp,
+            except,
+            noerror,
+            nowait,
+        } => {
+            let flags = RecvFlags {
+                nowait,
+                noerror,
+                except,
+            };
+            Some(receive(rt, system, seat, id, size, msgtyp, flags, moment))
+        }
+        Asked::Set { id, qbytes } => Some(set(rt, system, seat, id, qbytes, moment)),
+        Asked::Remove { id } => Some(remove(rt, system, seat, &mut kept.logs, id, moment)),
+        Asked::Stat { id } => Some(stat(system, seat, id)),
+        Asked::Cut { slot } => cut(rt, system, seat, &mut kept.cuts, slot),
+        Asked::Report => Some(Answer::Rows(report(system, seat)?)),
+    }
+}
