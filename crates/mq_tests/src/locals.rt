@@ -388,16 +388,21 @@ fn drains<C: Calls>(
         Ok(bytes.len() as u64),
         caller.takes_text(id, Selection::Exact(-9)),
         caller.takes_text(id, Selection::Exact(9)),
-        caller.set(id, MSGMNB),
-        caller.send(id, Message::new(3, &[4; 3_000])),
-        told(caller.receive(id, Selection::Any)),
-        caller.send(id, Message::new(3, b"")),
-        caller.cut_log(0),
     ];
     for answer in all {
         keep(answers, answer)?;
     }
-    Ok(())
+    // Each of these waits for what the one before it did not do.
+    let set = caller.set(id, MSGMNB);
+    keep(answers, set)?;
+    let sent = caller.send(id, Message::new(3, &[4; 3_000]));
+    keep(answers, sent)?;
+    let received = told(caller.receive(id, Selection::Any));
+    keep(answers, received)?;
+    let sent = caller.send(id, Message::new(3, b""));
+    keep(answers, sent)?;
+    let cut = caller.cut_log(0);
+    keep(answers, cut)
 }
 
 /// All calls, and what is shown at the end.
