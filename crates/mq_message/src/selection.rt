@@ -1,4 +1,7 @@
-ghost use Rattle.std.specs.Prelude.{◌≡◌};
+ghost use Rattle.std.specs.Prelude.{◌≡◌, Some};
+ghost use Rattle.mq_message.specs.Shown.{selection_text};
+
+use std::fmt;
 
 /// Which of the waiting messages a receiver wants, by their types (msgop(2), msgrcv).
 #[derive(Clone, Copy, Debug, PartialEq, Eq)]
@@ -29,6 +32,20 @@ impl Selection {
             Selection::Except(msgtyp)
         } else {
             Selection::Exact(msgtyp)
+        }
+    }
+}
+
+/// In words: `any`, `type 5`, `not type 5` or `up to 5`.
+impl fmt::Display for Selection {
+    ghost output = { λ selection. Some (selection_text selection) };
+
+    fn fmt<W: fmt::Write>(&self, f: &mut fmt::Formatter<W>) -> fmt::Result {
+        match *self {
+            Selection::Any => f.write_str("any"),
+            Selection::Exact(mtype) => write!(f, "type {mtype}"),
+            Selection::Except(mtype) => write!(f, "not type {mtype}"),
+            Selection::UpTo(bound) => write!(f, "up to {bound}"),
         }
     }
 }

@@ -1,9 +1,10 @@
 //! Examples of what receives hand out: each is proved of the definitions alone.
 
-ghost use Rattle.std.specs.Prelude.{◌≡◌, ◌-◌, ◌^◌, ◌∷◌, [], pos, negsuc, true, false, map};
+ghost use Rattle.std.specs.Prelude.{◌≡◌, ◌-◌, ◌^◌, ◌∷◌, [], pos, negsuc, true, false, codes, map};
 ghost use Rattle.mq_message.specs.declared.selection.Selection.TheVariants.{Any, Exact};
 ghost use Rattle.mq_message.specs.declared.selection.Selection.TheVariants.{Except, UpTo};
 ghost use Rattle.mq_message.specs.Selection.{selection_of};
+ghost use Rattle.mq_message.specs.Shown.{selection_text};
 ghost use Rattle.mq_message.specs.Worked.{places_handed_out, two_of_type_1, two_of_type_7};
 ghost use Rattle.mq_message.specs.Worked.{greatest_then_8, msgtyps};
 
@@ -36,4 +37,10 @@ pub fn worked_receives()
         ≡ Any ∷ Exact (pos 7) ∷ UpTo 7 ∷ UpTo (2 ^ 63) ∷ [] }
     ensures excepted { map (λ t. selection_of t true) msgtyps
         ≡ Any ∷ Except (pos 7) ∷ UpTo 7 ∷ UpTo (2 ^ 63) ∷ [] }
+{}
+
+/// How each kind of selection is printed.
+pub fn worked_texts()
+    ensures { map selection_text (Any ∷ Exact (pos 5) ∷ Except (pos 70) ∷ UpTo 5 ∷ [])
+        ≡ codes "any" ∷ codes "type 5" ∷ codes "not type 70" ∷ codes "up to 5" ∷ [] }
 {}
