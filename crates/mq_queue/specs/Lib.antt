@@ -12,5 +12,6 @@ pub mod Replay
 pub mod Replies
 pub mod Room
 pub mod Row
+pub mod Shown
 pub mod Waiting
 pub mod Worked

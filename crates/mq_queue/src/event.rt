@@ -1,4 +1,8 @@
+ghost use Rattle.std.specs.Prelude.{Some};
+ghost use Rattle.mq_queue.specs.Shown.{event_text};
+
 use mq_message::Selection;
+use std::fmt;
 
 /// A change of a queue, by the seat that called and at the moment that the caller named. A place
 /// is a position in the queue's log, from 0.
@@ -38,4 +42,45 @@ pub enum Event {
         seat: u16,
         moment: u64,
     },
+}
+
+/// In words, as `sent seat=1 moment=77 type=5 length=3 tag=0`.
+impl fmt::Display for Event {
+    ghost output = { λ event. Some (event_text event) };
+
+    fn fmt<W: fmt::Write>(&self, f: &mut fmt::Formatter<W>) -> fmt::Result {
+        match *self {
+            Event::Made { seat, moment, key } => {
+                write!(f, "made seat={seat} moment={moment} key={key}")
+            }
+            Event::Sent {
+                seat,
+                moment,
+                tag,
+                mtype,
+                length,
+            } => write!(
+                f,
+                "sent seat={seat} moment={moment} type={mtype} length={length} tag={tag}"
+            ),
+            Event::Received {
+                seat,
+                moment,
+                place,
+                selection,
+                size,
+                noerror,
+            } => write!(
+                f,
+                "received seat={seat} moment={moment} place={place} size={size} noerror={noerror} \
+                 selection={selection}"
+            ),
+            Event::Changed {
+                seat,
+                moment,
+                qbytes,
+            } => write!(f, "changed seat={seat} moment={moment} qbytes={qbytes}"),
+            Event::Removed { seat, moment } => { write!(f, "removed seat={seat} moment={moment}") }
+        }
+    }
 }

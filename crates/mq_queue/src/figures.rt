@@ -1,3 +1,8 @@
+ghost use Rattle.std.specs.Prelude.{Some};
+ghost use Rattle.mq_queue.specs.Shown.{figures_text, row_text};
+
+use std::fmt;
+
 /// What IPC_STAT shows of a queue, by the names of msgctl(2).
 #[derive(Clone, Copy, Debug, PartialEq, Eq)]
 pub struct Figures {
@@ -42,4 +47,31 @@ pub struct BoardRow {
     pub key: i32,
     /// Its figures, or all 0.
     pub figures: Figures,
+}
+
+/// In words, as `qnum=1 cbytes=3 qbytes=131072 lspid=1 lrpid=0 stime=77 rtime=0 ctime=76`.
+impl fmt::Display for Figures {
+    ghost output = { λ figures. Some (figures_text figures) };
+
+    fn fmt<W: fmt::Write>(&self, f: &mut fmt::Formatter<W>) -> fmt::Result {
+        let (qnum, cbytes, qbytes) = (self.qnum, self.cbytes, self.qbytes);
+        let (lspid, lrpid) = (self.lspid, self.lrpid);
+        let (stime, rtime, ctime) = (self.stime, self.rtime, self.ctime);
+        write!(
+            f,
+            "qnum={qnum} cbytes={cbytes} qbytes={qbytes} lspid={lspid} lrpid={lrpid} \
+             stime={stime} rtime={rtime} ctime={ctime}"
+        )
+    }
+}
+
+/// In words, as `made=1 live=true key=5`, and then as its figures are.
+impl fmt::Display for BoardRow {
+    ghost output = { λ row. Some (row_text row) };
+
+    fn fmt<W: fmt::Write>(&self, f: &mut fmt::Formatter<W>) -> fmt::Result {
+        let (made, live, key) = (self.made, self.live, self.key);
+        let figures = self.figures;
+        write!(f, "made={made} live={live} key={key} {figures}")
+    }
 }

@@ -57,6 +57,13 @@ impl Log {
         event_at(self.base.places, &self.tail, i)
     }
 
+    /// The events since then, of which the first is at the place `first`.
+    pub fn events(&self) -> &[Event]
+        ensures { result.now ≡ self.now.tail }
+    {
+        self.tail.as_slice()
+    }
+
     /// What is kept of the events that were cut off, and the events since then. This takes no
     /// memory.
     pub fn into_parts(self) -> (Base, Vec<Event>)

@@ -1,6 +1,6 @@
 //! Examples of what a queue answers: each is proved of the definitions alone.
 
-ghost use Rattle.std.specs.Prelude.{◌≡◌, ◌∷◌, ◌++◌, [], drop, pos, true, false};
+ghost use Rattle.std.specs.Prelude.{◌≡◌, ◌∷◌, ◌++◌, [], codes, drop, pos, true, false};
 ghost use Rattle.mq_message.specs.declared.selection.Selection.TheVariants.{Any, Exact, Except, UpTo};
 ghost use Rattle.mq_queue.specs.declared.error.QueueError.TheVariants.{TypeInvalid, TooLong, Full, NoMessage, TooBig, OverLimit};
 ghost use Rattle.mq_queue.specs.Answer.{send_refusal, receive_answer, set_refusal};
@@ -10,11 +10,12 @@ ghost use Rattle.mq_queue.specs.Log.{made_key};
 ghost use Rattle.mq_queue.specs.Replay.{state_after};
 ghost use Rattle.mq_queue.specs.Replies.{replayed};
 ghost use Rattle.mq_queue.specs.Room.{quota};
+ghost use Rattle.mq_queue.specs.Shown.{event_text, figures_text};
 ghost use Rattle.mq_queue.specs.Waiting.{waiting};
 ghost use Rattle.mq_queue.specs.Worked.{text, ab_and_cd, hello_and_hi, four_types, a_receipt};
 ghost use Rattle.mq_queue.specs.Worked.{quota_of_4, ef_for_ab, four_texts, over_quota, under_quota};
 ghost use Rattle.mq_queue.specs.Worked.{shut, hello_received, two_of_type_1_received, a_making};
-ghost use Rattle.mq_queue.specs.Worked.{a_removal};
+ghost use Rattle.mq_queue.specs.Worked.{a_removal, a_sending};
 
 /// With a quota of 4, the bytes are at most 4, and so are the messages.
 pub(crate) fn room_by_quota()
@@ -129,4 +130,15 @@ pub(crate) fn cut_and_gone_on()
     ensures cut_off { event_from 4 ef_for_ab 3 ≡ None }
     ensures entry { event_from 4 ef_for_ab 4 ≡ Some (a_receipt 5 1) }
     ensures end { event_from 4 ef_for_ab 6 ≡ None }
+{}
+
+/// Events and figures, as they are printed.
+pub(crate) fn printed()
+    ensures made { event_text (a_making 76) ≡ codes "made seat=1 moment=76 key=7" }
+    ensures sent { event_text (a_sending 77 5 3)
+        ≡ codes "sent seat=1 moment=77 type=5 length=3 tag=0" }
+    ensures received { event_text (a_receipt 78 1)
+        ≡ codes "received seat=2 moment=78 place=1 size=9 noerror=false selection=any" }
+    ensures figures { figures_text (figures quota_of_4)
+        ≡ codes "qnum=2 cbytes=4 qbytes=4 lspid=1 lrpid=0 stime=3 rtime=0 ctime=4" }
 {}
