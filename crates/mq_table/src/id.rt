@@ -1,7 +1,9 @@
-ghost use Rattle.std.specs.Prelude.{◌≡◌, ◌<◌, ◌≤◌, ◌/◌};
+ghost use Rattle.std.specs.Prelude.{◌≡◌, ◌<◌, ◌≤◌, ◌/◌, Some};
+ghost use Rattle.std.specs.Fmt.{decimal};
 ghost use Rattle.mq_table.specs.Ids.{id_of, slot_of, seq_of};
 
 use crate::MAX_SLOTS;
+use std::fmt;
 use std::marker::Model;
 
 /// What msgget(2) answers: the number of a slot, and how many queues were made in it before. It
@@ -60,5 +62,31 @@ impl Id {
         ensures { result ≡ self }
     {
         self.number
+    }
+}
+
+/// Its number, in decimal.
+impl fmt::Display for Id {
+    ghost output = { λ id. Some (decimal id) };
+
+    fn fmt<W: fmt::Write>(&self, f: &mut fmt::Formatter<W>) -> fmt::Result {
+        let number = self.number;
+        write!(f, "{number}")
+    }
+}
+
+impl From<u32> for Id {
+    ghost from_gives = { λ number id. id ≡ number };
+
+    fn from(number: u32) -> Id {
+        Id::from_number(number)
+    }
+}
+
+impl From<Id> for u32 {
+    ghost from_gives = { λ id number. number ≡ id };
+
+    fn from(id: Id) -> u32 {
+        id.number()
     }
 }
