@@ -5,6 +5,7 @@ pub mod Get
 pub mod Limits
 pub mod Look
 pub mod Names
+pub mod Sizes
 pub mod State
 pub mod Texts
 pub mod Usages

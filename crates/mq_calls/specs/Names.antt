@@ -1,4 +1,4 @@
--- The names and numbers of the refusals (errno(3)).
+-- The names, numbers and messages of the refusals (errno(3), strerror(3)).
 use Rattle.std.specs.Prelude.{ℕ, ℤ, pos, List, codes}
 use Rattle.mq_calls.specs.declared.errno.Errno.{Errno}
 use Rattle.mq_calls.specs.declared.errno.Errno.TheVariants.{EINVAL, EIDRM, EAGAIN, ENOMEM}
@@ -30,3 +30,16 @@ errno_number EINVAL = pos 22
 errno_number ENOSPC = pos 28
 errno_number ENOMSG = pos 42
 errno_number EIDRM = pos 43
+
+-- its message, as the C library of Linux has it (strerror(3))
+abbrev pub errno_message : Errno → List ℕ
+errno_message EPERM = codes "Operation not permitted"
+errno_message ENOENT = codes "No such file or directory"
+errno_message E2BIG = codes "Argument list too long"
+errno_message EAGAIN = codes "Resource temporarily unavailable"
+errno_message ENOMEM = codes "Cannot allocate memory"
+errno_message EEXIST = codes "File exists"
+errno_message EINVAL = codes "Invalid argument"
+errno_message ENOSPC = codes "No space left on device"
+errno_message ENOMSG = codes "No message of desired type"
+errno_message EIDRM = codes "Identifier removed"

@@ -2,8 +2,10 @@
 
 ghost use Rattle.std.specs.Prelude.{◌≡◌, IsTrue};
 ghost use Rattle.mq_calls.specs.Limits.{keeps_limits, IsWithin};
+ghost use Rattle.mq_calls.specs.Sizes.{config_with_height, config_with_slots};
+ghost use Rattle.mq_calls.specs.Sizes.{config_with_seats, config_with_last_seq};
 
-use crate::MAX_SEATS;
+use crate::{ConfigError, MAX_SEATS};
 use mq_table::{MAX_SEQ, MAX_SLOTS};
 use mq_tree::MAX_HEIGHT;
 use thiserror::Error;
@@ -53,5 +55,60 @@ impl Config {
             && 1 <= self.seats
             && self.seats <= MAX_SEATS
             && self.last_seq <= MAX_SEQ
+    }
+
+    /// The same with another height.
+    pub fn with_height(self, height: u8) -> Result<Config, ConfigError>
+        ensures { result ≡ config_with_height self height }
+    {
+        if height <= MAX_HEIGHT {
+            Ok(Config { height, ..self })
+        } else {
+            Err(ConfigError::Height)
+        }
+    }
+
+    /// The same with another number of slots.
+    pub fn with_slots(self, slots: u8) -> Result<Config, ConfigError>
+        ensures { result ≡ config_with_slots self slots }
+    {
+        if 1 <= slots && slots <= MAX_SLOTS {
+            Ok(Config { slots, ..self })
+        } else {
+            Err(ConfigError::Slots)
+        }
+    }
+
+    /// The same with another number of seats.
+    pub fn with_seats(self, seats: u16) -> Result<Config, ConfigError>
+        ensures { result ≡ config_with_seats self seats }
+    {
+        if 1 <= seats && seats <= MAX_SEATS {
+            Ok(Config { seats, ..self })
+        } else {
+            Err(ConfigError::Seats)
+        }
+    }
+
+    /// The same with another greatest seq.
+    pub fn with_last_seq(self, last_seq: u32) -> Result<Config, ConfigError>
+        ensures { result ≡ config_with_last_seq self last_seq }
+    {
+        if last_seq <= MAX_SEQ {
+            Ok(Config { last_seq, ..self })
+        } else {
+            Err(ConfigError::LastSeq)
+        }
+    }
+}
+
+/// `DEFAULTS`.
+impl Default for Config {
+    ghost use Rattle.mq_calls.specs.declared.config.TheConstants.{DEFAULTS};
+
+    ghost is_default = { λ config. config ≡ DEFAULTS };
+
+    fn default() -> Config {
+        DEFAULTS
     }
 }

@@ -1,7 +1,9 @@
 ghost use Rattle.std.specs.Prelude.{◌≡◌};
 ghost use Rattle.mq_calls.specs.Answer.{errno_of, errno_of_id};
-ghost use Rattle.mq_calls.specs.Names.{errno_name, errno_number};
+ghost use Rattle.mq_calls.specs.Names.{errno_message, errno_name, errno_number};
+ghost use Rattle.mq_calls.specs.Texts.{draft_errno};
 
+use crate::{DraftError, Refused, SendRefused};
 use mq_queue::QueueError;
 use mq_table::IdRefusal;
 use std::error::Error;
@@ -58,6 +60,24 @@ impl Errno {
             Errno::EIDRM => 43,
         }
     }
+
+    /// The words that the C library of Linux has for it (strerror(3)).
+    pub fn message(self) -> &'static str
+        ensures { result.now ≡ errno_message self }
+    {
+        match self {
+            Errno::EPERM => "Operation not permitted",
+            Errno::ENOENT => "No such file or directory",
+            Errno::E2BIG => "Argument list too long",
+            Errno::EAGAIN => "Resource temporarily unavailable",
+            Errno::ENOMEM => "Cannot allocate memory",
+            Errno::EEXIST => "File exists",
+            Errno::EINVAL => "Invalid argument",
+            Errno::ENOSPC => "No space left on device",
+            Errno::ENOMSG => "No message of desired type",
+            Errno::EIDRM => "Identifier removed",
+        }
+    }
 }
 
 impl fmt::Display for Errno {
@@ -91,5 +111,30 @@ impl From<IdRefusal> for Errno {
             IdRefusal::Never => Errno::EINVAL,
             IdRefusal::Removed => Errno::EIDRM,
         }
+    }
+}
+
+impl From<DraftError> for Errno {
+    ghost from_gives = { λ refusal errno. errno ≡ draft_errno refusal };
+
+    fn from(refusal: DraftError) -> Errno {
+        refusal.errno()
+    }
+}
+
+impl From<Refused> for Errno {
+    ghost from_gives = { λ refused errno. errno ≡ refused.errno };
+
+    fn from(refused: Refused) -> Errno {
+        refused.errno
+    }
+}
+
+/// The text is dropped.
+impl<B: Drop> From<SendRefused<B>> for Errno {
+    ghost from_gives = { λ unsent errno. errno ≡ unsent.refused.errno };
+
+    fn from(unsent: SendRefused<B>) -> Errno {
+        unsent.refused.errno
     }
 }

@@ -5,6 +5,7 @@
 
 mod close;
 mod config;
+mod config_error;
 mod draft_error;
 mod errno;
 pub mod home;
@@ -16,6 +17,7 @@ pub mod worked;
 
 pub use close::{Closed, ClosedSlot, end_slot};
 pub use config::{Config, DEFAULTS, SysError};
+pub use config_error::ConfigError;
 pub use draft_error::DraftError;
 pub use errno::Errno;
 pub use limits::MAX_SEATS;
