@@ -1,3 +1,4 @@
 pub mod Holds
 pub mod Kept
+pub mod Many
 pub mod Outcome

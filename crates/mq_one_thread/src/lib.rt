@@ -6,6 +6,7 @@ mod close;
 mod control;
 mod cut;
 mod get;
+mod many;
 mod messages;
 mod one_thread;
 

@@ -1,11 +1,13 @@
 //! A system as its tests see it: its calls, and nothing of what it is made of.
 
+use crate::calls::Wanted;
 use mq_arena::{Homecoming, Text};
 use mq_calls::{Delivered, DraftError, Errno, GetFlags, Got, Refused, Removal, SendRefused};
-use mq_message::Body;
+use mq_message::{Body, Message};
 use mq_one_thread::OneThread;
 use mq_queue::{BoardRow, Figures};
 use mq_table::{Cut, Id};
+use std::collections::VecDeque;
 use std::process::Abort;
 use std::sync::ledger::Ledger;
 
@@ -52,6 +54,25 @@ pub(crate) trait Calls {
         noerror: bool,
         moment: u64,
     ) -> Result<Delivered<Self::Text>, Refused>;
+
+    fn msgsnd_many(
+        &mut self,
+        id: Id,
+        messages: &mut VecDeque<Message<Self::Text>>,
+        moment: u64,
+    ) -> Result<(), Refused>;
+
+    /// Nothing may be in `out`, and there must be room for as many.
+    fn msgrcv_many<R: Abort>(
+        &mut self,
+        rt: &R,
+        seat: u16,
+        id: Id,
+        wanted: Wanted,
+        n: usize,
+        moment: u64,
+        out: &mut Vec<Delivered<Self::Text>>,
+    ) -> Result<(), Refused>;
 
     fn set(&mut self, seat: u16, id: Id, qbytes: u64, moment: u64) -> Result<u64, Refused>;
 
@@ -125,6 +146,40 @@ impl<L: Ledger> Calls for OneThread<L> {
         moment: u64,
     ) -> Result<Delivered<Text<L>>, Refused> {
         self.msgrcv(seat, id, size, msgtyp, except, noerror, moment)
+    }
+
+    fn msgsnd_many(
+        &mut self,
+        id: Id,
+        messages: &mut VecDeque<Message<Text<L>>>,
+        moment: u64,
+    ) -> Result<(), Refused> {
+        self.msgsnd_many(id, messages, moment)
+    }
+
+    fn msgrcv_many<R: Abort>(
+        &mut self,
+        rt: &R,
+        seat: u16,
+        id: Id,
+        wanted: Wanted,
+        n: usize,
+        moment: u64,
+        out: &mut Vec<Delivered<Text<L>>>,
+    ) -> Result<(), Refused> {
+        if !out.is_empty() {
+            panic!(rt; "something was received before");
+        }
+        if n > out.capacity() {
+            panic!(rt; "there is no room for as many");
+        }
+        let Wanted {
+            size,
+            msgtyp,
+            except,
+            noerror,
+        } = wanted;
+        self.msgrcv_many(seat, id, size, msgtyp, except, noerror, n, moment, out)
     }
 
     fn set(&mut self, seat: u16, id: Id, qbytes: u64, moment: u64) -> Result<u64, Refused> {
