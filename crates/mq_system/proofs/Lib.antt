@@ -8,13 +8,16 @@ pub mod HomeLemmas
 pub mod KeysLemmas
 pub mod LaterLemmas
 pub mod NameLemmas
+pub mod NextLemmas
 pub mod PatienceLemmas
 pub mod PledgeLemmas
 pub mod RefusalLemmas
 pub mod ReportLemmas
 pub mod SeatLemmas
 pub mod SeenLemmas
+pub mod SeenTurns
 pub mod SharedLemmas
 pub mod StartLemmas
 pub mod SumLemmas
 pub mod TallyLemmas
+pub mod TurnLemmas

@@ -5,12 +5,14 @@ pub mod Fronts
 pub mod Get
 pub mod Held
 pub mod Making
+pub mod Many
 pub mod Outcome
 pub mod Patience
 pub mod Pledge
 pub mod Refusals
 pub mod Seat
 pub mod Seen
+pub mod SeenMany
 pub mod Shared
 pub mod Shown
 pub mod Sizes

@@ -1,5 +1,6 @@
 -- What the locks of a system protect.
-use Rattle.std.specs.Prelude.{◌≡◌, ℕ, ℤ, ◌+◌, ◌<◌, List, [], ◌++◌, All, length, map}
+use Rattle.std.specs.Prelude.{◌≡◌, ℕ, ℤ, ◌+◌, ◌-◌, ◌<◌, Bool, if◌then◌else◌, nat_le}
+use Rattle.std.specs.Prelude.{List, [], ◌++◌, All, length, map}
 use Rattle.mq_arena.specs.Text.{PlainText}
 use Rattle.mq_queue.specs.declared.event.Event.{Event}
 use Rattle.mq_table.specs.Ids.{slot_of}
@@ -36,6 +37,14 @@ empty_locked number = record { whole = empty_slot number; first = 0 }
 -- the slot once its list was cut where it ends
 abbrev pub cut_at_end : LockedSlot → LockedSlot
 cut_at_end slot = record slot { first = length slot.whole.events }
+
+-- whether at least so many entries are kept of the list
+abbrev pub keeps_from : ℕ → LockedSlot → Bool
+keeps_from entries slot = nat_le entries (length slot.whole.events - slot.first)
+
+-- the slot, once its list was cut where it ends if that was to be
+abbrev pub cut_where : Bool → LockedSlot → LockedSlot
+cut_where is slot = if is then cut_at_end slot else slot
 
 -- a slot under its lock, with its board: it is one of the system's, its list has no more queues
 -- than ids allow, the pledge holds of each message that waits, and its part of the ledger of

@@ -52,6 +52,7 @@ mod get;
 mod keys;
 mod magazines;
 mod making;
+mod many;
 mod messages;
 mod monitor;
 mod names;
@@ -69,6 +70,7 @@ pub use blanks::Blanks;
 pub use flags::{RecvFlags, SendFlags};
 pub use fronts::Fronts;
 pub use keys::Keys;
+pub use many::{BatchSent, Letter, MAX_BATCH};
 pub(crate) use monitor::SlotMonitor;
 pub use mq_calls::{
     Closed, ClosedSlot, Config, DEFAULTS, Delivered, DraftError, Errno, GetFlags, Got, MAX_HEIGHT,

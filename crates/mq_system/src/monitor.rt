@@ -1,8 +1,9 @@
-ghost use Rattle.std.specs.Prelude.{◌≡◌, ◌<◌, Some, length};
+ghost use Rattle.std.specs.Prelude.{◌≡◌, ◌<◌, IsTrue, Some, length};
 ghost use Rattle.std.specs.Sync.Mutex.{mutex_guard_value};
 ghost use Rattle.mq_calls.specs.declared.errno.Errno.TheVariants.{EAGAIN, ENOMSG};
 ghost use Rattle.mq_table.specs.Ids.{seq_of};
-ghost use Rattle.mq_system.specs.Outcome.{IsUnderLock};
+ghost use Rattle.mq_system.specs.Outcome.{IsLook, IsUnderLock};
+ghost use Rattle.mq_system.specs.Seat.{front_of};
 ghost use Rattle.mq_system.specs.Seen.{receive_verdict, send_verdict};
 
 use crate::{Names, Pledge, Seat, SharedSlot, TextOf, Waiters};
@@ -65,6 +66,8 @@ pub(crate) struct SlotMonitor<P: Pledge, N: Names> {
     held: Mutex<SharedSlot<P, N>>,
     room: CachePadded<Waiters>,
     arrived: CachePadded<Waiters>,
+    /// How many entries are kept of the slot's list before the next call cuts it off.
+    log_limit: u64,
 }
 
 /// A call that is among those who wait in a slot, since it held the slot's lock and found that it
@@ -88,7 +91,13 @@ impl<P: Pledge, N: Names> SlotMonitor<P, N> {
             held: Mutex::new(slot),
             room: CachePadded::new(Waiters::new()),
             arrived: CachePadded::new(Waiters::new()),
+            log_limit: u64::MAX,
         }
+    }
+
+    /// From now on a call cuts the slot's list off where so many entries are kept of it.
+    pub(crate) fn limit_log(&mut self, entries: u64) {
+        self.log_limit = entries;
     }
 
     /// The slot alone. No thread has the monitor any more.
@@ -97,8 +106,24 @@ impl<P: Pledge, N: Names> SlotMonitor<P, N> {
             held,
             room: _,
             arrived: _,
+            log_limit: _,
         } = self;
         held.into_inner()
+    }
+
+    /// The seat learns what happened in the slot, whose list is cut off where it is to be. Where
+    /// there is no memory for that, the next call does it.
+    fn admit(&self, held: &mut SharedSlot<P, N>, seat: &mut Seat<N>, number: u8) -> bool
+        requires within { number < N.slots }
+        ensures look { IsLook seat.old seat.new }
+        ensures known { IsTrue result → (held.new.whole.number ≡ number)
+            × (front_of seat.new number ≡ held.new.whole.events) }
+    {
+        if !held.enter(seat, number) {
+            return false;
+        }
+        let _ = held.cut_from(self.log_limit);
+        true
     }
 
     /// Takes the lock for a seat, which then knows all that happened in the slot. A slot of another
@@ -118,7 +143,7 @@ impl<P: Pledge, N: Names> SlotMonitor<P, N> {
         let pauses = Pauses::of(seat, number);
         for _try in 0..TRIES {
             if let Some(mut held) = self.held.try_lock() {
-                if held.enter(seat, number) {
+                if self.admit(&mut held, seat, number) {
                     return held;
                 }
                 MutexGuard::unlock(held);
@@ -127,7 +152,7 @@ impl<P: Pledge, N: Names> SlotMonitor<P, N> {
         }
         for _ in rt.forever() {
             let mut held = self.held.lock(rt);
-            if held.enter(seat, number) {
+            if self.admit(&mut held, seat, number) {
                 return held;
             }
             MutexGuard::unlock(held);

@@ -13,7 +13,8 @@ ghost use Rattle.mq_system.specs.Answer.{id_with_key, looks_in_slot, refused_her
 ghost use Rattle.mq_system.specs.Pledge.{IsPledged};
 ghost use Rattle.mq_system.specs.Outcome.{IsLook};
 ghost use Rattle.mq_system.specs.Seat.{front_of};
-ghost use Rattle.mq_system.specs.Shared.{IsShared, cut_at_end, empty_locked, locked};
+ghost use Rattle.mq_system.specs.Shared.{IsShared, cut_at_end, cut_where, empty_locked, keeps_from};
+ghost use Rattle.mq_system.specs.Shared.{locked};
 
 use crate::{Entries, Names, Pledge, Seat, SlotOf};
 use mq_board::BoardWriter;
@@ -170,6 +171,22 @@ impl<P: Pledge, N: Names> SharedSlot<P, N> {
             Ok(cut) => Ok(cut),
             Err(_) => Err(self.refused(Errno::ENOMEM)),
         }
+    }
+
+    /// Cuts the slot's list off as `cut` does where at least so many entries are kept of it, and
+    /// drops these. Whether they were as many. ENOMEM alone.
+    pub fn cut_from(&mut self, entries: u64) -> Result<bool, Refused>
+        ensures answer { MatchResult result
+            (λ cut. (cut ≡ keeps_from entries self.old) × (self.new ≡ cut_where cut self.old))
+            (λ r. (keeps_from entries self.old ≡ true) × (self.new ≡ self.old)
+            × (r ≡ refused_here self.old.whole ENOMEM)) }
+    {
+        self.holds();
+        if self.slot.events() - self.slot.first() < entries {
+            return Ok(false);
+        }
+        self.cut()?;
+        Ok(true)
     }
 
     /// What it is made of, at the end.

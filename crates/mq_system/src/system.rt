@@ -125,6 +125,20 @@ impl<P: Pledge, N: Names> System<P, N> {
         Ok((system, seats))
     }
 
+    /// The same system, whose logs need not grow: a call that finds so many entries of its slot
+    /// kept, or more, cuts them off before it looks, and drops them. What `cut_log` and `close`
+    /// hand out is what is kept then. Where there is no memory for a cut, the next call makes it.
+    /// Without this the logs are kept.
+    pub fn with_log_limit(self, entries: u64) -> System<P, N>
+        ensures { result ≡ self }
+    {
+        let mut system = self;
+        for monitor in system.monitors.iter_mut() {
+            monitor.limit_log(entries);
+        }
+        system
+    }
+
     /// How many slots there are.
     pub fn slots(&self) -> u8
         ensures count { result ≡ N.slots }

@@ -47,6 +47,16 @@ pub(crate) struct Wanted {
     pub(crate) nowait: bool,
 }
 
+impl Wanted {
+    pub(crate) fn flags(&self) -> RecvFlags {
+        RecvFlags {
+            nowait: self.nowait,
+            noerror: self.noerror,
+            except: self.except,
+        }
+    }
+}
+
 /// The first message, up to so many bytes, of those that are there.
 pub(crate) fn first(size: u64) -> Wanted {
     Wanted {
@@ -126,11 +136,7 @@ pub(crate) fn receive<S: Calls, R: Abort + Wait>(
 ) -> Result<Delivered<S::Text>, Refused> {
     let seat = seat(rt, seats, 1);
     let id = Id::from_number(id);
-    let flags = RecvFlags {
-        nowait: wanted.nowait,
-        noerror: wanted.noerror,
-        except: wanted.except,
-    };
+    let flags = wanted.flags();
     match system.msgrcv(rt, seat, id, wanted.size, wanted.msgtyp, flags, moment) {
         Err(
             Refused {

@@ -19,6 +19,8 @@ fn holds(rt: &impl Abort, is: bool, what: &str)
 }
 
 #[cfg(test)]
+mod batches;
+#[cfg(test)]
 mod calls;
 #[cfg(test)]
 mod cuts;
@@ -34,6 +36,10 @@ mod limits;
 mod list;
 #[cfg(test)]
 mod magazines;
+#[cfg(test)]
+mod many;
+#[cfg(test)]
+mod many_waits;
 #[cfg(test)]
 mod parts;
 #[cfg(test)]

@@ -1,6 +1,7 @@
 //! A system as its tests see it: its calls, and nothing of what it is made of.
 ghost use Rattle.std.specs.Prelude.{◌≡◌};
 
+use crate::calls::Wanted;
 use crate::day::Anything;
 use crate::holds;
 use mq_arena::{Homecoming, PAGE_LEN};
@@ -8,9 +9,11 @@ use mq_calls::{Delivered, Removal, SendRefused, Usage};
 use mq_message::Body;
 use mq_queue::{BoardRow, Figures};
 use mq_system::{
-    DraftError, Errno, GetFlags, Got, Names, RecvFlags, Refused, Seat, SendFlags, System, TextOf,
+    BatchSent, DraftError, Errno, GetFlags, Got, Letter, MAX_BATCH, Names, Patience, RecvFlags,
+    Refused, Seat, SendFlags, System, TextOf,
 };
 use mq_table::{Cut, Id};
+use std::collections::VecDeque;
 use std::process::Abort;
 use std::sync::Wait;
 use std::thread::Threads;
@@ -65,6 +68,30 @@ pub(crate) trait Calls {
         flags: RecvFlags,
         moment: u64,
     ) -> Result<Delivered<Self::Text>, Refused>;
+
+    fn msgsnd_many<R: Wait, T: Patience>(
+        &self,
+        rt: &R,
+        seat: &mut Self::Seat,
+        id: Id,
+        letters: &mut VecDeque<Letter<Self::Text>>,
+        flags: SendFlags,
+        patience: &mut T,
+        moment: u64,
+    ) -> BatchSent;
+
+    /// There must be room for as many, and nothing in it.
+    fn msgrcv_many<R: Abort + Wait, T: Patience>(
+        &self,
+        rt: &R,
+        seat: &mut Self::Seat,
+        id: Id,
+        wanted: Wanted,
+        patience: &mut T,
+        n: usize,
+        moment: u64,
+        out: &mut Vec<Delivered<Self::Text>>,
+    ) -> Result<(), Refused>;
 
     fn set<R: Wait>(
         &self,
@@ -182,6 +209,37 @@ impl<N: Names> Calls for System<Anything, N> {
         moment: u64,
     ) -> Result<Delivered<TextOf<N>>, Refused> {
         self.msgrcv(rt, seat, id, size, msgtyp, flags, moment)
+    }
+
+    fn msgsnd_many<R: Wait, T: Patience>(
+        &self,
+        rt: &R,
+        seat: &mut Seat<N>,
+        id: Id,
+        letters: &mut VecDeque<Letter<TextOf<N>>>,
+        flags: SendFlags,
+        patience: &mut T,
+        moment: u64,
+    ) -> BatchSent {
+        self.msgsnd_many_within(rt, seat, id, letters, flags, patience, moment)
+    }
+
+    fn msgrcv_many<R: Abort + Wait, T: Patience>(
+        &self,
+        rt: &R,
+        seat: &mut Seat<N>,
+        id: Id,
+        wanted: Wanted,
+        patience: &mut T,
+        n: usize,
+        moment: u64,
+        out: &mut Vec<Delivered<TextOf<N>>>,
+    ) -> Result<(), Refused> {
+        holds(rt, out.is_empty(), "nothing was received before");
+        holds(rt, n.min(MAX_BATCH) <= out.capacity(), "room for as many");
+        let Wanted { size, msgtyp, .. } = wanted;
+        let flags = wanted.flags();
+        self.msgrcv_many_within(rt, seat, id, size, msgtyp, flags, patience, n, moment, out)
     }
 
     fn set<R: Wait>(
