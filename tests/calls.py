@@ -20,9 +20,9 @@ TYPES = ["System", "OneThread", "Seat", "Caller", "LocalCaller", "LocalQueues", 
 # Errors whose variants stand in the order of the refusals.
 ERRORS = ["DraftError", "SysError", "WorkersError"]
 # Calls that are another one of their section: by a caller, or with an end of the wait.
-LIKE_ANOTHER = re.compile(r"(Local)?Caller::|.*_within$")
+LIKE_ANOTHER = re.compile(r"(Local)?Caller::|.*_(within|many)$")
 # What a signature names of the language.
-KNOWN = ["Result", "Option", "Vec", "Answer", "Value", "Global"]
+KNOWN = ["Result", "Option", "Vec", "VecDeque", "Answer", "Value", "Global"]
 # Parameters of nearly every call, which a signature shows without their types.
 PLAIN = {"rt: &R": "rt", "alloc: Global": "alloc", "system: &System<P, N>": "system",
          "seat: &mut Seat<N>": "seat", "seat: &Seat<N>": "seat",

@@ -68,6 +68,8 @@ WAIT_FOR_OTHERS = {
 }
 # The tests that may make no allocation.
 MAKE_NONE = {
+    "mq_caller_tests seats::a_system_out_of_its_limits_is_not_made",
+    "mq_memory_tests programs::a_size_out_of_its_limits_is_refused_before_the_program_runs",
     "mq_one_thread_tests face::layout::a_call_has_the_numbers_of_the_struct",
     "mq_one_thread_tests face::layout::an_answer_has_the_numbers_of_the_struct",
     "mq_one_thread_tests face::layout::the_flags_and_commands_are_those_of_linux",
@@ -83,8 +85,7 @@ MAKE_NONE = {
     "mq_system_tests waiters::who_is_woken_before_it_sleeps_does_not_sleep",
     "mq_system_tests waiters::who_waited_until_its_time_is_not_woken_twice",
     "mq_system_tests worked::a_size_out_of_its_limits_is_refused",
-    "mq_tests programs::a_size_out_of_its_limits_is_refused_before_the_program_runs",
-    "mq_tests seats::a_system_out_of_its_limits_is_not_made",
+    "mq_tests printed::each_refusal_becomes_an_errno_with_the_words_of_strerror",
     "mq_tests two::two_workers_at_one_seat_are_refused",
     "mq_threads_tests refusals::an_empty_plan_makes_no_call",
 }

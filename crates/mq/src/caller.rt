@@ -105,6 +105,7 @@ impl<'a, P: Pledge, N: Names, R: Wait + Clock> Caller<'a, P, N, R> {
     }
 
     /// Begins a call: its moment is that of the clock, where it is to be read.
+    #[inline(always)]
     pub(crate) fn begin(&mut self)
         ensures seat { self.new.seat ≡ self.old.seat }
         ensures moments { IsTimed self.old.moments self.new.moments }

@@ -29,8 +29,8 @@ pub trait Vow {
     ghost vowed: { ℕ → ℕ → ℤ → Self.Value → Type 0 } = { λ _ _ _ _. Unit {0} };
 }
 
-/// The pledge of such a vow. A value with a `Bytes` in it wants a pledge of the program's own, whose
-/// two laws are those below.
+/// The pledge of such a vow. A value with a `Bytes` in it wants a pledge of the program's own,
+/// whose two laws are those below.
 pub struct Carries<V> {
     of: PhantomData<V>,
 }

@@ -4,6 +4,7 @@
 #![tactic(auto)]
 
 mod at_seat;
+mod batches;
 mod bytes;
 mod caller;
 mod carries;
@@ -17,11 +18,13 @@ mod local_texts;
 mod message;
 mod moments;
 mod msgtyp;
+mod no_pledge;
 mod not_received;
 mod program;
 mod receive;
 mod receive_options;
 mod send;
+mod setup;
 mod system_program;
 mod texts;
 mod two;
@@ -30,6 +33,7 @@ mod worker;
 mod workers;
 mod workers_error;
 
+pub use batches::BatchReceived;
 pub use caller::Caller;
 pub use carries::{Carries, ValuePledge, Vow};
 pub use ended::Ended;
@@ -42,8 +46,8 @@ pub use mq_arena::{
     PAGE_LEN, Page, Parts, TakeError, Text,
 };
 pub use mq_calls::{
-    Closed, ClosedSlot, Config, DEFAULTS, Delivered, DraftError, Errno, GetFlags, Got, MAX_SEATS,
-    Refused, Removal, SendRefused, SysError, Usage,
+    Closed, ClosedSlot, Config, ConfigError, DEFAULTS, Delivered, DraftError, Errno, GetFlags, Got,
+    MAX_SEATS, Refused, Removal, SendRefused, SysError, Usage,
 };
 pub use mq_message::{Body, Selection};
 pub use mq_one_thread::OneThread;
@@ -51,15 +55,17 @@ pub use mq_queue::{
     Base, BaseEntries, BaseEntry, BoardRow, Event, Figures, Log, MSGMAX, MSGMNB, Received,
 };
 pub use mq_system::{
-    Blanks, Forever, Names, NoWait, Pages, Patience, Pledge, RecvFlags, Seat, SendFlags, System,
-    TextOf, Until,
+    BatchSent, Blanks, Forever, Letter, MAX_BATCH, Names, NoWait, Pages, Patience, Pledge,
+    RecvFlags, Seat, SendFlags, System, TextOf, Until,
 };
 pub use mq_table::{Cut, Id, MAX_SEQ, MAX_SLOTS};
 pub use mq_tree::MAX_HEIGHT;
-pub use mq_wire::{Bytes, Unread, Wire};
+pub use mq_wire::{Bytes, UnreadError, Wire};
+pub use no_pledge::NoPledge;
 pub use not_received::NotReceived;
 pub use program::{QueueProgram, with_queues};
 pub use receive_options::ReceiveOptions;
+pub use setup::Setup;
 pub use std::sync::Wait;
 pub use std::sync::ledger::{Blank, Ledger};
 pub use std::time::{Clock, Duration, Instant};

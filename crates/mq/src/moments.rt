@@ -37,6 +37,7 @@ impl Moments {
 
     /// Those of a call that begins. A clock that cannot be read, or stands before 1970, tells what
     /// it told last.
+    #[inline(always)]
     pub(crate) fn of_call(self, clock: &impl Clock) -> Moments
         ensures { IsTimed self result }
     {

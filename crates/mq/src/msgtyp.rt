@@ -5,6 +5,7 @@ ghost use Rattle.mq.specs.Caller.{is_selectable};
 use mq_message::Selection;
 
 /// The msgtyp that selects so, and whether MSG_EXCEPT does; or that no message has such a type.
+#[inline(always)]
 pub(crate) fn msgtyp_of(selection: Selection) -> Option<(i64, bool)>
     ensures some { IfSome result (λ m. selection_of m.0 m.1 ≡ selection) }
     ensures none { IsNone result → is_selectable selection ≡ false }

@@ -105,6 +105,7 @@ impl<'a, P: Pledge, N: Names, R: Wait + Clock> Caller<'a, P, N, R> {
     /// Receives a message as the options say, and waits for one no longer than until the patience
     /// ends: ENOMSG then. A selection of types that no message has is refused with EINVAL. Where
     /// there is no memory for the bytes it answers ENOMEM, and the message stays.
+    #[inline]
     pub fn receive_within<T: Patience>(
         &mut self,
         id: Id,
@@ -177,6 +178,68 @@ impl<'a, P: Pledge, N: Names, R: Wait + Clock> Caller<'a, P, N, R> {
         self.receive_into_within(id, selection, options, bytes, &mut Forever)
     }
 
+    /// Receives a message as `receive_into` does, and waits for nobody: ENOMSG where there is none.
+    pub fn try_receive_into(
+        &mut self,
+        id: Id,
+        selection: Selection,
+        bytes: &mut Vec<u8>,
+    ) -> Result<Delivered<()>, Errno>
+        ensures answer { MatchResult result
+            (λ d. IsAppended bytes.old.items bytes.new.items (IsReceivedOf P.kept N.slots id MSGMAX
+            selection false self.new.moments.now self.old.seat self.new.seat d))
+            (IsNotReceivedFrom N.slots id MSGMAX selection false true
+            self.old.seat self.new.seat) }
+        ensures unchanged { OnErr result (bytes.new.items ≡ bytes.old.items) }
+        ensures moments { IsTimed self.old.moments self.new.moments }
+    {
+        let options = ReceiveOptions::new();
+        self.receive_into_within(id, selection, options, bytes, &mut NoWait)
+    }
+
+    /// Receives a message as `receive_into` does, and waits for so long at most: ENOMSG then.
+    pub fn receive_into_timeout(
+        &mut self,
+        id: Id,
+        selection: Selection,
+        bytes: &mut Vec<u8>,
+        timeout: Duration,
+    ) -> Result<Delivered<()>, Errno>
+        ensures answer { MatchResult result
+            (λ d. IsAppended bytes.old.items bytes.new.items (IsReceivedOf P.kept N.slots id MSGMAX
+            selection false self.new.moments.now self.old.seat self.new.seat d))
+            (IsNotReceivedFrom N.slots id MSGMAX selection false true
+            self.old.seat self.new.seat) }
+        ensures unchanged { OnErr result (bytes.new.items ≡ bytes.old.items) }
+        ensures moments { IsTimed self.old.moments self.new.moments }
+    {
+        let options = ReceiveOptions::new();
+        let mut end = Until::within(self.rt, timeout);
+        self.receive_into_within(id, selection, options, bytes, &mut end)
+    }
+
+    /// Receives a message as `receive_into` does, and waits no longer than until its runtime's
+    /// clock reads this: ENOMSG then.
+    pub fn receive_into_deadline(
+        &mut self,
+        id: Id,
+        selection: Selection,
+        bytes: &mut Vec<u8>,
+        deadline: Instant,
+    ) -> Result<Delivered<()>, Errno>
+        ensures answer { MatchResult result
+            (λ d. IsAppended bytes.old.items bytes.new.items (IsReceivedOf P.kept N.slots id MSGMAX
+            selection false self.new.moments.now self.old.seat self.new.seat d))
+            (IsNotReceivedFrom N.slots id MSGMAX selection false true
+            self.old.seat self.new.seat) }
+        ensures unchanged { OnErr result (bytes.new.items ≡ bytes.old.items) }
+        ensures moments { IsTimed self.old.moments self.new.moments }
+    {
+        let options = ReceiveOptions::new();
+        let mut end = Until::at(self.rt, deadline);
+        self.receive_into_within(id, selection, options, bytes, &mut end)
+    }
+
     /// Receives a message as `receive_within` does, and appends its bytes.
     pub fn receive_into_within<T: Patience>(
         &mut self,
@@ -246,6 +309,65 @@ impl<'a, P: Pledge, N: Names, R: Wait + Clock> Caller<'a, P, N, R> {
         self.receive_text_within(id, selection, ReceiveOptions::new(), &mut Forever)
     }
 
+    /// Receives a text as `receive_text` does, and waits for nobody: ENOMSG where there is none.
+    pub fn try_receive_text(
+        &mut self,
+        id: Id,
+        selection: Selection,
+    ) -> Result<Delivered<TextOf<N>>, Errno>
+        ensures answer { MatchResult result
+            (IsReceived P.kept N.slots id MSGMAX selection false self.new.moments.now
+            self.old.seat self.new.seat)
+            (IsTurnedBack (IsUnselectable selection) (out_of_slots N.slots id)
+            (MayReceive true false) (slot_of id)
+            (receive_verdict (seq_of id) MSGMAX selection false)
+            self.old.seat self.new.seat) }
+        ensures moments { IsTimed self.old.moments self.new.moments }
+    {
+        self.receive_text_within(id, selection, ReceiveOptions::new(), &mut NoWait)
+    }
+
+    /// Receives a text as `receive_text` does, and waits for so long at most: ENOMSG then.
+    pub fn receive_text_timeout(
+        &mut self,
+        id: Id,
+        selection: Selection,
+        timeout: Duration,
+    ) -> Result<Delivered<TextOf<N>>, Errno>
+        ensures answer { MatchResult result
+            (IsReceived P.kept N.slots id MSGMAX selection false self.new.moments.now
+            self.old.seat self.new.seat)
+            (IsTurnedBack (IsUnselectable selection) (out_of_slots N.slots id)
+            (MayReceive true false) (slot_of id)
+            (receive_verdict (seq_of id) MSGMAX selection false)
+            self.old.seat self.new.seat) }
+        ensures moments { IsTimed self.old.moments self.new.moments }
+    {
+        let mut patience = Until::within(self.rt, timeout);
+        self.receive_text_within(id, selection, ReceiveOptions::new(), &mut patience)
+    }
+
+    /// Receives a text as `receive_text` does, and waits no longer than until its runtime's clock
+    /// reads this: ENOMSG then.
+    pub fn receive_text_deadline(
+        &mut self,
+        id: Id,
+        selection: Selection,
+        deadline: Instant,
+    ) -> Result<Delivered<TextOf<N>>, Errno>
+        ensures answer { MatchResult result
+            (IsReceived P.kept N.slots id MSGMAX selection false self.new.moments.now
+            self.old.seat self.new.seat)
+            (IsTurnedBack (IsUnselectable selection) (out_of_slots N.slots id)
+            (MayReceive true false) (slot_of id)
+            (receive_verdict (seq_of id) MSGMAX selection false)
+            self.old.seat self.new.seat) }
+        ensures moments { IsTimed self.old.moments self.new.moments }
+    {
+        let mut patience = Until::at(self.rt, deadline);
+        self.receive_text_within(id, selection, ReceiveOptions::new(), &mut patience)
+    }
+
     /// Receives a text as `receive_text` does, as the options say, and waits for one no longer than
     /// until the patience ends.
     pub fn receive_text_within<T: Patience>(
@@ -291,6 +413,7 @@ impl<'a, P: Pledge, N: Names, R: Wait + Clock> Caller<'a, P, N, R> {
 
 /// Receives the text of the first message that is selected, once there is room for its bytes: a
 /// call that has too little is refused with E2BIG, and made again with twice as much.
+#[inline(always)]
 fn take<P: Pledge, N: Names, R: Wait, T: Patience>(
     rt: &R,
     system: &System<P, N>,

@@ -89,6 +89,7 @@ impl<'a, P: Pledge, N: Names, R: Wait + Clock> Caller<'a, P, N, R> {
     /// Sends a message, and waits for pages, and then for room, until the patience ends: one end
     /// holds for both. Then it answers ENOMEM or EAGAIN. EINVAL of the type and of the slot, EINVAL
     /// and ENOMEM of the draft, then the refusals of `System::msgsnd`.
+    #[inline]
     pub fn send_within<T: Patience>(
         &mut self,
         id: Id,
@@ -118,6 +119,7 @@ impl<'a, P: Pledge, N: Names, R: Wait + Clock> Caller<'a, P, N, R> {
     }
 
     /// Sends a text, which is spent where it is refused.
+    #[inline(always)]
     fn send_drafted<T: Patience>(
         &mut self,
         id: Id,
@@ -165,8 +167,74 @@ impl<'a, P: Pledge, N: Names, R: Wait + Clock> Caller<'a, P, N, R> {
         self.send_text_within(id, mtype, tag, text, &mut Forever)
     }
 
+    /// Sends a text as `send_text` does, and waits for nobody: EAGAIN where the queue is full.
+    pub fn try_send_text(
+        &mut self,
+        id: Id,
+        mtype: i64,
+        tag: u64,
+        text: TextOf<N>,
+    ) -> Result<u64, SendRefused<TextOf<N>>>
+        requires pledge { P.kept self.old.seat.number tag mtype text.bytes }
+        ensures answer { MatchResult result
+            (IsSent N.slots id mtype tag (length text.bytes) self.new.moments.now
+            self.old.seat self.new.seat)
+            (λ r. IsNotSent N.slots id mtype (length text.bytes) true
+            self.old.seat self.new.seat r.refused) }
+        ensures handed_back { IfErr result (λ r. r.text ≡ text) }
+        ensures moments { IsTimed self.old.moments self.new.moments }
+    {
+        self.send_text_within(id, mtype, tag, text, &mut NoWait)
+    }
+
+    /// Sends a text as `send_text` does, and waits for so long at most: EAGAIN then.
+    pub fn send_text_timeout(
+        &mut self,
+        id: Id,
+        mtype: i64,
+        tag: u64,
+        text: TextOf<N>,
+        timeout: Duration,
+    ) -> Result<u64, SendRefused<TextOf<N>>>
+        requires pledge { P.kept self.old.seat.number tag mtype text.bytes }
+        ensures answer { MatchResult result
+            (IsSent N.slots id mtype tag (length text.bytes) self.new.moments.now
+            self.old.seat self.new.seat)
+            (λ r. IsNotSent N.slots id mtype (length text.bytes) true
+            self.old.seat self.new.seat r.refused) }
+        ensures handed_back { IfErr result (λ r. r.text ≡ text) }
+        ensures moments { IsTimed self.old.moments self.new.moments }
+    {
+        let mut patience = Until::within(self.rt, timeout);
+        self.send_text_within(id, mtype, tag, text, &mut patience)
+    }
+
+    /// Sends a text as `send_text` does, and waits no longer than until its runtime's clock reads
+    /// this: EAGAIN then.
+    pub fn send_text_deadline(
+        &mut self,
+        id: Id,
+        mtype: i64,
+        tag: u64,
+        text: TextOf<N>,
+        deadline: Instant,
+    ) -> Result<u64, SendRefused<TextOf<N>>>
+        requires pledge { P.kept self.old.seat.number tag mtype text.bytes }
+        ensures answer { MatchResult result
+            (IsSent N.slots id mtype tag (length text.bytes) self.new.moments.now
+            self.old.seat self.new.seat)
+            (λ r. IsNotSent N.slots id mtype (length text.bytes) true
+            self.old.seat self.new.seat r.refused) }
+        ensures handed_back { IfErr result (λ r. r.text ≡ text) }
+        ensures moments { IsTimed self.old.moments self.new.moments }
+    {
+        let mut patience = Until::at(self.rt, deadline);
+        self.send_text_within(id, mtype, tag, text, &mut patience)
+    }
+
     /// Sends a text as `send_text` does, and waits for room until the patience ends: EAGAIN then.
     /// EINVAL for the type and the slot, then the refusals of `System::msgsnd`.
+    #[inline(always)]
     pub fn send_text_within<T: Patience>(
         &mut self,
         id: Id,

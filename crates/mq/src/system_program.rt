@@ -7,7 +7,7 @@ ghost use Rattle.mq_system.specs.Sizes.{AreNames};
 ghost use Rattle.mq_system.specs.Started.{AreFresh};
 ghost use Rattle.mq.specs.Ended.{IsAfterAll, IsEnded};
 
-use crate::{Caller, Ended};
+use crate::{Caller, Ended, Setup};
 use mq_arena::LEDGER_PARTS;
 use mq_system::{Blanks, Config, Names, Pledge, Seat, SysError, System};
 use std::alloc::Global;
@@ -57,11 +57,30 @@ pub fn with_system<P: Pledge, Q: SystemProgram<P>, R: Wait + Clock>(
     ensures ended { IfOk result (IsEnded config.slots config.last_seq config.height) }
     ensures err { IsErrOf result SysError.Config ↔ (keeps_limits config ≡ false) }
 {
-    let blanks = match Blanks::of(alloc, config) {
-        Ok(blanks) => blanks,
-        Err(error) => return Err(error),
-    };
-    run_system::<P, Brand, Q, R>(rt, alloc, config, blanks, program)
+    Setup::new(config).with_system(rt, alloc, program)
+}
+
+impl Setup {
+    /// `with_system` for a system that is set up so.
+    pub fn with_system<P: Pledge, Q: SystemProgram<P>, R: Wait + Clock>(
+        self,
+        rt: &R,
+        alloc: Global,
+        program: Q,
+    ) -> Result<Ended<Q::Answer>, SysError>
+        requires before { Q.before program self.config }
+        ensures after { IfOk result (IsAfterAll Q.after program self.config) }
+        ensures ended { IfOk result
+            (IsEnded self.config.slots self.config.last_seq self.config.height) }
+        ensures err { IsErrOf result SysError.Config ↔ (keeps_limits self.config ≡ false) }
+    {
+        let Setup { config, log_limit } = self;
+        let blanks = match Blanks::of(alloc, config) {
+            Ok(blanks) => blanks,
+            Err(error) => return Err(error),
+        };
+        run_system::<P, Brand, Q, R>(rt, alloc, config, log_limit, blanks, program)
+    }
 }
 
 #[tactic(auto, using(crate::proofs::FreeLemmas::free_within))]
@@ -69,6 +88,7 @@ fn run_system<P: Pledge, N: Names, Q: SystemProgram<P>, R: Wait + Clock>(
     rt: &R,
     alloc: Global,
     config: Config,
+    log_limit: u64,
     blanks: Blanks,
     program: Q,
 ) -> Result<Ended<Q::Answer>, SysError>
@@ -83,6 +103,7 @@ fn run_system<P: Pledge, N: Names, Q: SystemProgram<P>, R: Wait + Clock>(
         Ok(made) => made,
         Err(error) => return Err(error),
     };
+    let system = system.with_log_limit(log_limit);
     let Ok(mut callers) = Vec::with_capacity(alloc, seats.len()) else {
         system.close(rt, seats);
         return Err(SysError::Memory);

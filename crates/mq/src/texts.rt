@@ -5,9 +5,9 @@ ghost use Rattle.mq.specs.Caller.{IsNotDraftedWithin};
 
 use crate::Caller;
 use mq_calls::Errno;
-use mq_system::{Forever, Names, NoWait, Patience, Pledge, TextOf};
+use mq_system::{Forever, Names, NoWait, Patience, Pledge, TextOf, Until};
 use std::sync::Wait;
-use std::time::Clock;
+use std::time::{Clock, Duration, Instant};
 
 impl<'a, P: Pledge, N: Names, R: Wait + Clock> Caller<'a, P, N, R> {
     /// A text of so many zero bytes in pages of its own, which is written in place, and sent or
@@ -29,6 +29,29 @@ impl<'a, P: Pledge, N: Names, R: Wait + Clock> Caller<'a, P, N, R> {
             (IsNotDraftedWithin true N.height len self.now.seat self.now.seat) }
     {
         self.draft_within(len, &mut NoWait)
+    }
+
+    /// A text as `draft` makes it, which waits for so long at most: ENOMEM then.
+    pub fn draft_timeout(&self, len: u64, timeout: Duration) -> Result<TextOf<N>, Errno>
+        ensures zero { IfOk result (λ text. text.bytes ≡ replicate len 0) }
+        ensures block { IfOk result (IsInLeast len) }
+        ensures refused { IfErr result
+            (IsNotDraftedWithin true N.height len self.now.seat self.now.seat) }
+    {
+        let mut until = Until::within(self.rt, timeout);
+        self.draft_within(len, &mut until)
+    }
+
+    /// A text as `draft` makes it, which waits no longer than until its runtime's clock reads this:
+    /// ENOMEM then.
+    pub fn draft_deadline(&self, len: u64, deadline: Instant) -> Result<TextOf<N>, Errno>
+        ensures zero { IfOk result (λ text. text.bytes ≡ replicate len 0) }
+        ensures block { IfOk result (IsInLeast len) }
+        ensures refused { IfErr result
+            (IsNotDraftedWithin true N.height len self.now.seat self.now.seat) }
+    {
+        let mut until = Until::at(self.rt, deadline);
+        self.draft_within(len, &mut until)
     }
 
     /// A text as `draft` makes it, which waits for pages until the patience ends: ENOMEM then.

@@ -5,7 +5,7 @@ ghost use Rattle.mq.specs.Ended.{IsEnded};
 ghost use Rattle.mq.specs.Workers.{AreOfTwo};
 
 use crate::either::{Either, apart, both};
-use crate::{Caller, Ended, Worker, WorkersError, with_workers};
+use crate::{Caller, Ended, Setup, Worker, WorkersError};
 use mq_system::{Config, Names, Pledge};
 use std::alloc::Global;
 use std::sync::Wait;
@@ -32,21 +32,47 @@ pub fn with_two<
     ensures seats { IsErrOf result WorkersError.TooManyWorkers
         ↔ ((keeps_limits config ≡ true) × (config.seats < 2)) }
 {
-    if !config.is_valid() {
-        return Err(WorkersError::Config);
+    Setup::new(config).with_two(rt, alloc, one, other)
+}
+
+impl Setup {
+    /// `with_two` for a system that is set up so.
+    pub fn with_two<
+        P: Pledge + Send + Sync,
+        A: Worker<P> + Send,
+        B: Worker<P> + Send,
+        R: Threads + Wait + Clock + Sync,
+    >(
+        self,
+        rt: &R,
+        alloc: Global,
+        one: A,
+        other: B,
+    ) -> Result<Ended<(A::Answer, B::Answer)>, WorkersError>
+        ensures after { IfOk result (λ e.
+            AreOfTwo A.after B.after self.config.last_seq one other e.answer e.slots.items) }
+        ensures ended { IfOk result
+            (IsEnded self.config.slots self.config.last_seq self.config.height) }
+        ensures config { IsErrOf result WorkersError.Config ↔ (keeps_limits self.config ≡ false) }
+        ensures seats { IsErrOf result WorkersError.TooManyWorkers
+            ↔ ((keeps_limits self.config ≡ true) × (self.config.seats < 2)) }
+    {
+        if !self.config.is_valid() {
+            return Err(WorkersError::Config);
+        }
+        if self.config.seats < 2 {
+            return Err(WorkersError::TooManyWorkers);
+        }
+        let Ok(workers) = both(alloc, one, other) else {
+            return Err(WorkersError::Memory);
+        };
+        let ended = self.with_workers(rt, alloc, workers)?;
+        Ok(Ended {
+            answer: apart(ended.answer),
+            slots: ended.slots,
+            free_pages: ended.free_pages,
+        })
     }
-    if config.seats < 2 {
-        return Err(WorkersError::TooManyWorkers);
-    }
-    let Ok(workers) = both(alloc, one, other) else {
-        return Err(WorkersError::Memory);
-    };
-    let ended = with_workers(rt, alloc, config, workers)?;
-    Ok(Ended {
-        answer: apart(ended.answer),
-        slots: ended.slots,
-        free_pages: ended.free_pages,
-    })
 }
 
 impl<P: Pledge, A: Worker<P>, B: Worker<P>> Worker<P> for Either<A, B> {

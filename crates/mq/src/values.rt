@@ -12,10 +12,10 @@ use mq_calls::{Delivered, Errno};
 use mq_message::Selection;
 use mq_system::{Forever, Names, NoWait, Patience, Until};
 use mq_table::Id;
-use mq_wire::{Unread, Wire};
+use mq_wire::{UnreadError, Wire};
 use std::mem::replace;
 use std::sync::Wait;
-use std::time::{Clock, Duration};
+use std::time::{Clock, Duration, Instant};
 
 impl<'a, P: ValuePledge, N: Names, R: Wait + Clock> Caller<'a, P, N, R> {
     /// Sends a value, and answers its entry. It waits where no pages are free for its bytes, and
@@ -80,6 +80,29 @@ impl<'a, P: ValuePledge, N: Names, R: Wait + Clock> Caller<'a, P, N, R> {
     {
         let mut until = Until::within(self.rt, timeout);
         self.send_value_within(id, mtype, tag, value, &mut until)
+    }
+
+    /// Sends a value, and waits no longer than until its runtime's clock reads this: ENOMEM or
+    /// EAGAIN then.
+    pub fn send_value_deadline(
+        &mut self,
+        id: Id,
+        mtype: i64,
+        tag: u64,
+        value: &P::Value,
+        deadline: Instant,
+    ) -> Result<u64, Errno>
+        requires vow { P.vowed self.old.seat.number tag mtype value.now }
+        ensures answer { MatchResult result
+            (IsSent N.slots id mtype tag (length (P.Value.bytes_of value.now))
+            self.new.moments.now self.old.seat self.new.seat)
+            (IsNotSentFrom (IsNotMade true N.height (length (P.Value.bytes_of value.now))
+            self.old.seat self.new.seat) N.slots id mtype (length (P.Value.bytes_of value.now))
+            true self.old.seat self.new.seat) }
+        ensures moments { IsTimed self.old.moments self.new.moments }
+    {
+        let mut patience = Until::at(self.rt, deadline);
+        self.send_value_within(id, mtype, tag, value, &mut patience)
     }
 
     /// Sends a value, and waits for pages, and then for room, until the patience ends. EINVAL where
@@ -174,6 +197,29 @@ impl<'a, P: ValuePledge, N: Names, R: Wait + Clock> Caller<'a, P, N, R> {
         self.receive_value_within(id, selection, &mut until)
     }
 
+    /// Receives a value, and waits no longer than until its runtime's clock reads this: ENOMSG
+    /// then.
+    pub fn receive_value_deadline(
+        &mut self,
+        id: Id,
+        selection: Selection,
+        deadline: Instant,
+    ) -> Result<Delivered<P::Value>, NotReceived>
+        ensures answer { MatchResult result
+            (λ d. P.vowed d.sender d.tag d.mtype d.text
+            × IsReceivedOf P.kept N.slots id MSGMAX selection false
+            self.new.moments.now self.old.seat self.new.seat d (P.Value.bytes_of d.text))
+            (IsNoValue (IsNotReceivedFrom N.slots id MSGMAX selection false true
+            self.old.seat self.new.seat)
+            (λ d. (P.Value.allocates ≡ true)
+            × IsReceivedOf P.kept N.slots id MSGMAX selection false
+            self.new.moments.now self.old.seat self.new.seat d d.text.items)) }
+        ensures moments { IsTimed self.old.moments self.new.moments }
+    {
+        let mut end = Until::at(self.rt, deadline);
+        self.receive_value_within(id, selection, &mut end)
+    }
+
     /// Receives a value, and waits for one no longer than until the patience ends. What arrives is
     /// the value that was sent; where there is no memory for it beside its bytes, they are handed
     /// out.
@@ -226,7 +272,7 @@ impl<'a, P: ValuePledge, N: Names, R: Wait + Clock> Caller<'a, P, N, R> {
                     text: value,
                 })
             }
-            Err(Unread::NoMemory) => Err(NotReceived::NoMemory(Delivered {
+            Err(UnreadError::NoMemory) => Err(NotReceived::NoMemory(Delivered {
                 entry,
                 mtype,
                 sender,
@@ -234,7 +280,7 @@ impl<'a, P: ValuePledge, N: Names, R: Wait + Clock> Caller<'a, P, N, R> {
                 length,
                 text: bytes,
             })),
-            Err(Unread::NoValue) => unreachable!(),
+            Err(UnreadError::NoValue) => unreachable!(),
         }
     }
 }

@@ -7,7 +7,7 @@ ghost use Rattle.mq.specs.Workers.{AreAfterWork, AreOf};
 ghost use Rattle.mq.specs.declared.workers_error.WorkersError.TheVariants.{Memory, Thread};
 
 use crate::at_seat::{AtSeat, Crew, clear_seats, leave_seats, take_seats, turns};
-use crate::{Ended, Worker, WorkersError};
+use crate::{Ended, Setup, Worker, WorkersError};
 use mq_arena::LEDGER_PARTS;
 use mq_jobs::{JobsError, run_jobs};
 use mq_system::{Blanks, Config, Names, Pledge, Seat, System};
@@ -34,22 +34,42 @@ pub fn with_workers<P: Pledge + Send + Sync, W: Worker<P> + Send, R: Threads + W
     ensures seats { IsErrOf result WorkersError.TooManyWorkers
         ↔ ((keeps_limits config ≡ true) × (config.seats < length workers.items)) }
 {
-    if !config.is_valid() {
-        return Err(WorkersError::Config);
+    Setup::new(config).with_workers(rt, alloc, workers)
+}
+
+impl Setup {
+    /// `with_workers` for a system that is set up so.
+    pub fn with_workers<
+        P: Pledge + Send + Sync,
+        W: Worker<P> + Send,
+        R: Threads + Wait + Clock + Sync,
+    >(self, rt: &R, alloc: Global, workers: Vec<W>) -> Result<Ended<Vec<W::Answer>>, WorkersError>
+        ensures after { IfOk result (λ e.
+            AreOf W.after self.config.last_seq workers.items e.answer.items e.slots.items) }
+        ensures ended { IfOk result
+            (IsEnded self.config.slots self.config.last_seq self.config.height) }
+        ensures config { IsErrOf result WorkersError.Config ↔ (keeps_limits self.config ≡ false) }
+        ensures seats { IsErrOf result WorkersError.TooManyWorkers
+            ↔ ((keeps_limits self.config ≡ true) × (self.config.seats < length workers.items)) }
+    {
+        let Setup { config, log_limit } = self;
+        if !config.is_valid() {
+            return Err(WorkersError::Config);
+        }
+        if workers.len() > config.seats as usize {
+            return Err(WorkersError::TooManyWorkers);
+        }
+        let seats = if workers.is_empty() {
+            1
+        } else {
+            workers.len() as u16
+        };
+        let sized = Config { seats, ..config };
+        let Ok(blanks) = Blanks::of(alloc, sized) else {
+            return Err(WorkersError::Memory);
+        };
+        run_workers::<P, Brand, Brand, W, R>(rt, alloc, sized, log_limit, blanks, workers)
     }
-    if workers.len() > config.seats as usize {
-        return Err(WorkersError::TooManyWorkers);
-    }
-    let seats = if workers.is_empty() {
-        1
-    } else {
-        workers.len() as u16
-    };
-    let sized = Config { seats, ..config };
-    let Ok(blanks) = Blanks::of(alloc, sized) else {
-        return Err(WorkersError::Memory);
-    };
-    run_workers::<P, Brand, Brand, W, R>(rt, alloc, sized, blanks, workers)
 }
 
 #[tactic(auto, using(crate::proofs::FreeLemmas::free_within))]
@@ -63,6 +83,7 @@ fn run_workers<
     rt: &R,
     alloc: Global,
     config: Config,
+    log_limit: u64,
     blanks: Blanks,
     workers: Vec<W>,
 ) -> Result<Ended<Vec<W::Answer>>, WorkersError>
@@ -79,6 +100,7 @@ fn run_workers<
     let Ok((system, mut seats)) = System::<P, N>::new(alloc, rt, config, blanks) else {
         return Err(WorkersError::Memory);
     };
+    let system = system.with_log_limit(log_limit);
     if workers.is_empty() {
         let closed = system.close(rt, seats);
         return Ok(Ended::of(Vec::new(alloc), closed));

@@ -1,5 +1,4 @@
-//! Tests of programs over the queues of one thread, of one thread's calls at a seat, and of
-//! programs of several threads.
+//! Tests of workers, each at its seat, of the logs that they cut, and of values.
 
 #![tactic(auto)]
 
@@ -30,8 +29,6 @@ macro_rules! holds {
 }
 
 #[cfg(test)]
-mod callers;
-#[cfg(test)]
 mod counts;
 #[cfg(test)]
 mod cuts;
@@ -40,17 +37,13 @@ mod flags;
 #[cfg(test)]
 mod joined;
 #[cfg(test)]
-mod locals;
+mod logs;
 #[cfg(test)]
-mod memory;
-#[cfg(test)]
-mod programs;
+mod printed;
 #[cfg(test)]
 mod runs;
 #[cfg(test)]
 mod seat_calls;
-#[cfg(test)]
-mod seats;
 #[cfg(test)]
 mod two;
 #[cfg(test)]

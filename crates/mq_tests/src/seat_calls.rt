@@ -2,20 +2,15 @@
 
 use crate::runs::Nothing;
 use mq::{
-    Caller, Clock, Cut, Delivered, Errno, Forever, Id, Message, Moments, Names, NoWait,
-    ReceiveOptions, RecvFlags, Removal, Selection, SendFlags, Usage, Wait, Worker,
+    Caller, Clock, Cut, Delivered, Errno, Forever, Id, Message, Names, NoWait, ReceiveOptions,
+    RecvFlags, Removal, Selection, SendFlags, Wait, Worker,
 };
 use std::alloc::Global;
 
 /// The calls of `mq::Caller`, by names of one form each.
 pub(crate) trait SeatCalls {
-    fn slots(&self) -> u8;
-
     /// The number of the seat.
     fn number(&self) -> u16;
-
-    /// Its calls tell this moment from now on.
-    fn tell(&mut self, moment: u64);
 
     /// How many changes the seat made in the slot, or 0 where there is no such slot.
     fn count(&self, slot: u8) -> u64;
@@ -47,21 +42,11 @@ pub(crate) trait SeatCalls {
 
     /// EINVAL where there is no such slot.
     fn cut_log(&mut self, slot: u8) -> Result<Cut, Errno>;
-
-    fn info(&mut self) -> Usage;
 }
 
 impl<'a, N: Names, R: Wait + Clock> SeatCalls for Caller<'a, Nothing, N, R> {
-    fn slots(&self) -> u8 {
-        self.slots()
-    }
-
     fn number(&self) -> u16 {
         self.number()
-    }
-
-    fn tell(&mut self, moment: u64) {
-        self.moments = Moments::at(moment);
     }
 
     fn count(&self, slot: u8) -> u64 {
@@ -132,10 +117,6 @@ impl<'a, N: Names, R: Wait + Clock> SeatCalls for Caller<'a, Nothing, N, R> {
             return Err(Errno::EINVAL);
         }
         self.cut_log(slot)
-    }
-
-    fn info(&mut self) -> Usage {
-        self.info()
     }
 }
 

@@ -8,7 +8,7 @@ use mq::{
     Selection, SystemProgram, ValuePledge, Vow, Wait, Wire, Worker, with_system, with_two,
 };
 use std::alloc::Global;
-use std::time::Duration;
+use std::time::{Duration, Instant};
 
 /// A number that is at most a thousand, and a flag.
 type Pair = (u64, bool);
@@ -63,11 +63,15 @@ impl SystemProgram<Carries<Bounded>> for EachCall {
         };
         let id = caller.queue(1)?;
         let span = Duration::from_millis(1);
+        let Ok(time) = Instant::now(caller.runtime()) else {
+            return Ok(Some("no time"));
+        };
         let sent = [
             caller.send_value(id, 1, 10, &(1, true)),
             caller.try_send_value(id, 2, 20, &(2, false)),
             caller.send_value_timeout(id, 3, 30, &(3, true), span),
             caller.send_value_within(id, 4, 40, &(4, false), &mut NoWait),
+            caller.send_value_deadline(id, 5, 50, &(5, true), time),
         ];
         for (place, answer) in sent.iter().enumerate() {
             if *answer != Ok(place as u64 + 1) {
@@ -84,12 +88,14 @@ impl SystemProgram<Carries<Bounded>> for EachCall {
             caller.receive_value(id, Selection::UpTo(9))?,
             caller.receive_value_timeout(id, Selection::Any, span)?,
             caller.receive_value_within(id, Selection::Any, &mut NoWait)?,
+            caller.receive_value_deadline(id, Selection::Any, time)?,
         ];
         let wanted = [
             (4, (4, false)),
             (1, (1, true)),
             (2, (2, false)),
             (3, (3, true)),
+            (5, (5, true)),
         ];
         for (delivered, (number, value)) in received.iter().zip(wanted) {
             if delivered.text != value
@@ -103,6 +109,9 @@ impl SystemProgram<Carries<Bounded>> for EachCall {
         let none = [
             caller.try_receive_value(id, Selection::Any).err(),
             caller.receive_value_timeout(id, Selection::Any, span).err(),
+            caller
+                .receive_value_deadline(id, Selection::Any, time)
+                .err(),
         ];
         for refusal in none {
             if !matches!(&refusal, Some(NotReceived::Refused(Errno::ENOMSG)))

@@ -2,7 +2,7 @@ ghost use Rattle.std.specs.Prelude.{◌≡◌, ◌++◌, false};
 ghost use Rattle.mq_wire.specs.Encoding.{array_bytes};
 
 use crate::front::take_array;
-use crate::unread::Unread;
+use crate::unread_error::UnreadError;
 use crate::wire::Wire;
 use std::alloc::{AllocError, Global};
 
@@ -17,7 +17,7 @@ impl<const N: usize> Wire for [u8; N] {
         out.extend_from_slice(self)
     }
 
-    fn read(_alloc: Global, from: &mut &[u8]) -> Result<[u8; N], Unread> {
+    fn read(_alloc: Global, from: &mut &[u8]) -> Result<[u8; N], UnreadError> {
         take_array(from)
     }
 }

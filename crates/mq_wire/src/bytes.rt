@@ -1,7 +1,7 @@
 ghost use Rattle.std.specs.Prelude.{◌≡◌, ◌++◌, ℕ, List, IfOk};
 ghost use Rattle.mq_wire.specs.Encoding.{counted_bytes};
 
-use crate::unread::Unread;
+use crate::unread_error::UnreadError;
 use crate::wire::Wire;
 use std::alloc::{AllocError, Global};
 use std::marker::Model;
@@ -59,15 +59,15 @@ impl Wire for Bytes {
         out.extend_from_slice(bytes)
     }
 
-    fn read(alloc: Global, from: &mut &[u8]) -> Result<Bytes, Unread> {
+    fn read(alloc: Global, from: &mut &[u8]) -> Result<Bytes, UnreadError> {
         let length = u64::read(alloc, from)? as usize;
         let Some((front, rest)) = from.split_at_checked(length) else {
-            return Err(Unread::NoValue);
+            return Err(UnreadError::NoValue);
         };
         *from = rest;
         match Bytes::from_slice(alloc, front) {
             Ok(bytes) => Ok(bytes),
-            Err(_) => Err(Unread::NoMemory),
+            Err(_) => Err(UnreadError::NoMemory),
         }
     }
 }

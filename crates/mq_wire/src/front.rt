@@ -1,9 +1,9 @@
 ghost use Rattle.std.specs.Prelude.{◌≡◌, ◌++◌, Bool, true, List, ℕ, length};
 ghost use Rattle.std.specs.Prelude.{IfOk, IfSome, IsErrOf, MatchOption, Ok};
 ghost use Rattle.mq_wire.specs.Encoding.{bytes_if};
-ghost use Rattle.mq_wire.specs.declared.unread.Unread.TheVariants.{NoMemory};
+ghost use Rattle.mq_wire.specs.declared.unread_error.UnreadError.TheVariants.{NoMemory};
 
-use crate::unread::Unread;
+use crate::unread_error::UnreadError;
 
 /// The first `N` bytes, and those behind them.
 fn front<const N: usize>(bytes: &[u8]) -> Option<(&[u8; N], &[u8])>
@@ -16,7 +16,7 @@ fn front<const N: usize>(bytes: &[u8]) -> Option<(&[u8; N], &[u8])>
 }
 
 /// Takes the first `N` bytes.
-pub(crate) fn take_array<const N: usize>(from: &mut &[u8]) -> Result<[u8; N], Unread>
+pub(crate) fn take_array<const N: usize>(from: &mut &[u8]) -> Result<[u8; N], UnreadError>
     ensures parts { IfOk result (λ a. from.old.now ≡ a ++ from.new.now) }
     ensures back { (test : Bool) (xs rest : List ℕ) → (test ≡ true → length xs ≡ N)
         → from.old.now ≡ bytes_if test xs ++ rest
@@ -24,7 +24,7 @@ pub(crate) fn take_array<const N: usize>(from: &mut &[u8]) -> Result<[u8; N], Un
     ensures memory { IsErrOf result NoMemory → ⊥ }
 {
     let Some((array, rest)) = front::<N>(*from) else {
-        return Err(Unread::NoValue);
+        return Err(UnreadError::NoValue);
     };
     *from = rest;
     Ok(*array)

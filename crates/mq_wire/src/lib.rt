@@ -12,11 +12,11 @@ mod pair;
 mod plain;
 mod signed;
 mod triple;
-mod unread;
+mod unread_error;
 mod unsigned;
 mod wire;
 pub mod worked;
 
 pub use bytes::Bytes;
-pub use unread::Unread;
+pub use unread_error::UnreadError;
 pub use wire::Wire;

@@ -1,7 +1,7 @@
 ghost use Rattle.std.specs.Prelude.{◌≡◌, ◌++◌, Option};
 ghost use Rattle.mq_wire.specs.Encoding.{option_bytes};
 
-use crate::unread::Unread;
+use crate::unread_error::UnreadError;
 use crate::wire::Wire;
 use std::alloc::{AllocError, Global};
 
@@ -22,11 +22,11 @@ impl<A: Wire> Wire for Option<A> {
         }
     }
 
-    fn read(alloc: Global, from: &mut &[u8]) -> Result<Option<A>, Unread> {
+    fn read(alloc: Global, from: &mut &[u8]) -> Result<Option<A>, UnreadError> {
         match u8::read(alloc, from)? {
             0 => Ok(None),
             1 => Ok(Some(A::read(alloc, from)?)),
-            _ => Err(Unread::NoValue),
+            _ => Err(UnreadError::NoValue),
         }
     }
 }

@@ -1,6 +1,6 @@
 ghost use Rattle.std.specs.Prelude.{◌≡◌, ◌++◌, ◌||◌};
 
-use crate::unread::Unread;
+use crate::unread_error::UnreadError;
 use crate::wire::Wire;
 use std::alloc::{AllocError, Global};
 
@@ -15,7 +15,7 @@ impl<A: Wire, B: Wire> Wire for (A, B) {
         self.1.write(out)
     }
 
-    fn read(alloc: Global, from: &mut &[u8]) -> Result<(A, B), Unread> {
+    fn read(alloc: Global, from: &mut &[u8]) -> Result<(A, B), UnreadError> {
         Ok((A::read(alloc, from)?, B::read(alloc, from)?))
     }
 }

@@ -1,7 +1,7 @@
 ghost use Rattle.std.specs.Prelude.{◌≡◌, ◌++◌, [], false};
 ghost use Rattle.mq_wire.specs.Encoding.{bool_bytes};
 
-use crate::unread::Unread;
+use crate::unread_error::UnreadError;
 use crate::wire::Wire;
 use std::alloc::{AllocError, Global};
 
@@ -16,11 +16,11 @@ impl Wire for bool {
         (if *self { 1u8 } else { 0 }).write(out)
     }
 
-    fn read(alloc: Global, from: &mut &[u8]) -> Result<bool, Unread> {
+    fn read(alloc: Global, from: &mut &[u8]) -> Result<bool, UnreadError> {
         match u8::read(alloc, from)? {
             0 => Ok(false),
             1 => Ok(true),
-            _ => Err(Unread::NoValue),
+            _ => Err(UnreadError::NoValue),
         }
     }
 }
@@ -35,7 +35,7 @@ impl Wire for () {
         Ok(())
     }
 
-    fn read(_alloc: Global, _from: &mut &[u8]) -> Result<(), Unread> {
+    fn read(_alloc: Global, _from: &mut &[u8]) -> Result<(), UnreadError> {
         Ok(())
     }
 }

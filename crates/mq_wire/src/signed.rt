@@ -2,7 +2,7 @@ ghost use Rattle.std.specs.Prelude.{◌≡◌, ◌++◌, false};
 ghost use Rattle.mq_wire.specs.Encoding.{i16_bytes, i32_bytes, i64_bytes, i8_bytes};
 
 use crate::front::take_array;
-use crate::unread::Unread;
+use crate::unread_error::UnreadError;
 use crate::wire::Wire;
 use std::alloc::{AllocError, Global};
 
@@ -17,7 +17,7 @@ impl Wire for i8 {
         out.extend_from_slice(&[self.cast_unsigned()])
     }
 
-    fn read(_alloc: Global, from: &mut &[u8]) -> Result<i8, Unread> {
+    fn read(_alloc: Global, from: &mut &[u8]) -> Result<i8, UnreadError> {
         let [byte] = take_array::<1>(from)?;
         Ok(byte.cast_signed())
     }
@@ -34,7 +34,7 @@ impl Wire for i16 {
         out.extend_from_slice(&i16::to_le_bytes(*self))
     }
 
-    fn read(_alloc: Global, from: &mut &[u8]) -> Result<i16, Unread> {
+    fn read(_alloc: Global, from: &mut &[u8]) -> Result<i16, UnreadError> {
         Ok(u16::from_le_bytes(take_array(from)?).cast_signed())
     }
 }
@@ -50,7 +50,7 @@ impl Wire for i32 {
         out.extend_from_slice(&i32::to_le_bytes(*self))
     }
 
-    fn read(_alloc: Global, from: &mut &[u8]) -> Result<i32, Unread> {
+    fn read(_alloc: Global, from: &mut &[u8]) -> Result<i32, UnreadError> {
         Ok(u32::from_le_bytes(take_array(from)?).cast_signed())
     }
 }
@@ -66,7 +66,7 @@ impl Wire for i64 {
         out.extend_from_slice(&i64::to_le_bytes(*self))
     }
 
-    fn read(_alloc: Global, from: &mut &[u8]) -> Result<i64, Unread> {
+    fn read(_alloc: Global, from: &mut &[u8]) -> Result<i64, UnreadError> {
         Ok(u64::from_le_bytes(take_array(from)?).cast_signed())
     }
 }

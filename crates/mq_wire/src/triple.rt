@@ -1,6 +1,6 @@
 ghost use Rattle.std.specs.Prelude.{◌≡◌, ◌++◌, ◌||◌};
 
-use crate::unread::Unread;
+use crate::unread_error::UnreadError;
 use crate::wire::Wire;
 use std::alloc::{AllocError, Global};
 
@@ -16,7 +16,7 @@ impl<A: Wire, B: Wire, C: Wire> Wire for (A, B, C) {
         self.2.write(out)
     }
 
-    fn read(alloc: Global, from: &mut &[u8]) -> Result<(A, B, C), Unread> {
+    fn read(alloc: Global, from: &mut &[u8]) -> Result<(A, B, C), UnreadError> {
         Ok((
             A::read(alloc, from)?,
             B::read(alloc, from)?,

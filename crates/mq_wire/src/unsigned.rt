@@ -2,7 +2,7 @@ ghost use Rattle.std.specs.Prelude.{◌≡◌, ◌++◌, [], ◌∷◌, false};
 ghost use Rattle.mq_wire.specs.Encoding.{u16_bytes, u32_bytes, u64_bytes};
 
 use crate::front::take_array;
-use crate::unread::Unread;
+use crate::unread_error::UnreadError;
 use crate::wire::Wire;
 use std::alloc::{AllocError, Global};
 
@@ -16,10 +16,10 @@ impl Wire for u8 {
         out.extend_from_slice(&[*self])
     }
 
-    fn read(_alloc: Global, from: &mut &[u8]) -> Result<u8, Unread> {
+    fn read(_alloc: Global, from: &mut &[u8]) -> Result<u8, UnreadError> {
         match from.split_off_first() {
             Some(byte) => Ok(*byte),
-            None => Err(Unread::NoValue),
+            None => Err(UnreadError::NoValue),
         }
     }
 }
@@ -35,7 +35,7 @@ impl Wire for u16 {
         out.extend_from_slice(&u16::to_le_bytes(*self))
     }
 
-    fn read(_alloc: Global, from: &mut &[u8]) -> Result<u16, Unread> {
+    fn read(_alloc: Global, from: &mut &[u8]) -> Result<u16, UnreadError> {
         Ok(u16::from_le_bytes(take_array(from)?))
     }
 }
@@ -51,7 +51,7 @@ impl Wire for u32 {
         out.extend_from_slice(&u32::to_le_bytes(*self))
     }
 
-    fn read(_alloc: Global, from: &mut &[u8]) -> Result<u32, Unread> {
+    fn read(_alloc: Global, from: &mut &[u8]) -> Result<u32, UnreadError> {
         Ok(u32::from_le_bytes(take_array(from)?))
     }
 }
@@ -67,7 +67,7 @@ impl Wire for u64 {
         out.extend_from_slice(&u64::to_le_bytes(*self))
     }
 
-    fn read(_alloc: Global, from: &mut &[u8]) -> Result<u64, Unread> {
+    fn read(_alloc: Global, from: &mut &[u8]) -> Result<u64, UnreadError> {
         Ok(u64::from_le_bytes(take_array(from)?))
     }
 }

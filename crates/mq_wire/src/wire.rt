@@ -1,8 +1,8 @@
 ghost use Rattle.std.specs.Prelude.{ℕ, List, Bool, true, ◌≡◌, ◌++◌};
 ghost use Rattle.std.specs.Prelude.{OnOk, IfOk, IsErrOf, MatchResult};
-ghost use Rattle.mq_wire.specs.declared.unread.Unread.TheVariants.{NoMemory};
+ghost use Rattle.mq_wire.specs.declared.unread_error.UnreadError.TheVariants.{NoMemory};
 
-use crate::unread::Unread;
+use crate::unread_error::UnreadError;
 use std::alloc::{AllocError, Global};
 
 /// A value that has bytes, by which it is read back whatever follows them. A struct writes its
@@ -20,7 +20,7 @@ pub trait Wire: Drop {
 
     /// Takes the value at the front of these bytes. Where there is none, or no memory for it, some
     /// bytes may have been taken.
-    fn read(alloc: Global, from: &mut &[u8]) -> Result<Self, Unread>
+    fn read(alloc: Global, from: &mut &[u8]) -> Result<Self, UnreadError>
         ensures whole { IfOk result (λ v. from.old.now ≡ bytes_of v ++ from.new.now) }
         ensures back { (x : Self) (rest : List ℕ) → from.old.now ≡ bytes_of x ++ rest
             → MatchResult result (λ v. (v ≡ x) × (from.new.now ≡ rest)) (λ e. e ≡ NoMemory) }

@@ -4,7 +4,7 @@ ghost use Rattle.std.specs.Prelude.{[], ◌∷◌, ◌++◌, false};
 ghost use Rattle.mq_wire_tests.specs.declared.jobs.Kind.TheVariants.{Add, Move, Stop};
 
 use crate::trips::{has_none, is_kept, returns};
-use mq_wire::{Bytes, Unread, Wire};
+use mq_wire::{Bytes, UnreadError, Wire};
 use std::alloc::{AllocError, Global};
 use std::test::Fail;
 
@@ -46,7 +46,7 @@ impl Wire for Kind {
         }
     }
 
-    fn read(alloc: Global, from: &mut &[u8]) -> Result<Kind, Unread> {
+    fn read(alloc: Global, from: &mut &[u8]) -> Result<Kind, UnreadError> {
         match u8::read(alloc, from)? {
             0 => Ok(Kind::Stop),
             1 => Ok(Kind::Add(u16::read(alloc, from)?)),
@@ -54,7 +54,7 @@ impl Wire for Kind {
                 from: u16::read(alloc, from)?,
                 to: u16::read(alloc, from)?,
             }),
-            _ => Err(Unread::NoValue),
+            _ => Err(UnreadError::NoValue),
         }
     }
 }
@@ -71,7 +71,7 @@ impl Wire for Job {
         self.urgent.write(out)
     }
 
-    fn read(alloc: Global, from: &mut &[u8]) -> Result<Job, Unread> {
+    fn read(alloc: Global, from: &mut &[u8]) -> Result<Job, UnreadError> {
         Ok(Job {
             id: u16::read(alloc, from)?,
             kind: Kind::read(alloc, from)?,
@@ -98,7 +98,7 @@ impl Wire for Note {
         self.cost.write(out)
     }
 
-    fn read(alloc: Global, from: &mut &[u8]) -> Result<Note, Unread> {
+    fn read(alloc: Global, from: &mut &[u8]) -> Result<Note, UnreadError> {
         Ok(Note {
             number: u32::read(alloc, from)?,
             text: Bytes::read(alloc, from)?,

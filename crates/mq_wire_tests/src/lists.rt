@@ -1,7 +1,7 @@
 //! Lists of bytes, and why no value is read.
 
 use crate::trips::{has_none, returns};
-use mq_wire::{Bytes, Unread};
+use mq_wire::{Bytes, UnreadError};
 use std::alloc::{AllocError, Global};
 use std::process::Abort;
 use std::test::Fail;
@@ -55,7 +55,7 @@ fn a_list_within_others_comes_back(rt: HostRuntime) -> Result<(), Fail> {
 #[test]
 fn what_was_not_read_is_told_in_words(rt: HostRuntime) -> Result<(), Fail> {
     let alloc = rt.alloc();
-    holds!(rt; format!(in alloc; "{}", Unread::NoMemory)?.as_str() == "out of memory");
-    holds!(rt; format!(in alloc; "{}", Unread::NoValue)?.as_str() == "no value");
+    holds!(rt; format!(in alloc; "{}", UnreadError::NoMemory)?.as_str() == "out of memory");
+    holds!(rt; format!(in alloc; "{}", UnreadError::NoValue)?.as_str() == "no value");
     Ok(())
 }

@@ -1,6 +1,6 @@
 //! The way of a value into bytes and back. Where memory is refused, a call is made once more.
 
-use mq_wire::{Unread, Wire};
+use mq_wire::{UnreadError, Wire};
 use std::alloc::{AllocError, Global};
 use std::process::Abort;
 
@@ -18,10 +18,10 @@ fn write<T: Wire>(value: &T, out: &mut Vec<u8>) -> Result<(), AllocError> {
 }
 
 /// Takes the value at the front of these bytes.
-pub(crate) fn read<T: Wire>(alloc: Global, from: &mut &[u8]) -> Result<T, Unread> {
+pub(crate) fn read<T: Wire>(alloc: Global, from: &mut &[u8]) -> Result<T, UnreadError> {
     let before = *from;
     match T::read(alloc, from) {
-        Err(Unread::NoMemory) => {
+        Err(UnreadError::NoMemory) => {
             *from = before;
             T::read(alloc, from)
         }
@@ -34,11 +34,12 @@ pub(crate) fn has_none<T: Wire>(rt: &impl Abort, alloc: Global, bytes: &[u8]) {
     let mut from = bytes;
     match read::<T>(alloc, &mut from) {
         Ok(_) => holds!(rt; false, "a value is read where there is none"),
-        Err(why) => holds!(rt; why == Unread::NoValue),
+        Err(why) => holds!(rt; why == UnreadError::NoValue),
     }
 }
 
-/// The value has these bytes and is read from them, whatever follows, and from none of their fronts.
+/// The value has these bytes and is read from them, whatever follows, and from none of their
+/// fronts.
 pub(crate) fn returns<T: Wire>(
     rt: &impl Abort,
     alloc: Global,

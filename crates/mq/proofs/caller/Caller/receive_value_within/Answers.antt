@@ -1,13 +1,13 @@
 use Rattle.std.proofs.Common.{rules, ◌≡◌, [], false, ℕ, List, refl, sym, ◌∙◌, ap, to_z, of_z, w64, arith}
 use Rattle.std.proofs.lemmas.List.{append-nil}
 use Rattle.mq_queue.specs.declared.limits.TheConstants.{MSGMAX}
-use Rattle.mq_wire.specs.declared.unread.Unread.{Unread}
-use Rattle.mq_wire.specs.declared.unread.Unread.TheVariants.{NoMemory, NoValue}
+use Rattle.mq_wire.specs.declared.unread_error.UnreadError.{UnreadError}
+use Rattle.mq_wire.specs.declared.unread_error.UnreadError.TheVariants.{NoMemory, NoValue}
 use Rattle.mq.specs.Caller.{IsReceivedOf}
 use Rattle.mq.proofs.ValueLemmas.{moved}
 use Rattle.mq.proofs.caller.Caller.receive_value_within.Goals as goal
 
-abbrev code : Unread → ℕ
+abbrev code : UnreadError → ℕ
 code NoMemory = 0
 code NoValue = 1
 

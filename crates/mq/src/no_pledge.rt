@@ -1,0 +1,10 @@
+use mq_system::Pledge;
+
+/// The pledge of a system whose senders promise nothing of their texts.
+pub struct NoPledge;
+
+impl Pledge for NoPledge {
+    ghost use Rattle.std.specs.Prelude.{⊤};
+
+    ghost kept = { λ _seat _tag _mtype _bytes. ⊤ };
+}

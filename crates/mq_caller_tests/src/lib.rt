@@ -1,0 +1,43 @@
+//! Tests of callers: each call of one, one thread at all seats, and the calls of one thread beside
+//! those of a system.
+
+#![tactic(auto)]
+
+ghost use Rattle.std.specs.Prelude.{◌≡◌, true};
+
+#[cfg(test)]
+use std::process::Abort;
+
+/// Ends the test with this text where something does not hold.
+#[cfg(test)]
+fn holds(rt: &impl Abort, is: bool, what: &str)
+    ensures { is ≡ true }
+{
+    if !is {
+        panic!(rt; "{what}");
+    }
+}
+
+/// `assert!` as a call: a branch at each place would make the proof of a test grow.
+#[cfg(test)]
+macro_rules! holds {
+    ($rt:expr; $is:expr $(,)?) => {
+        $crate::holds(&$rt, $is, stringify!($is))
+    };
+    ($rt:expr; $is:expr, $what:expr $(,)?) => {
+        $crate::holds(&$rt, $is, $what)
+    };
+}
+
+#[cfg(test)]
+mod batches;
+#[cfg(test)]
+mod callers;
+#[cfg(test)]
+mod forms;
+#[cfg(test)]
+mod locals;
+#[cfg(test)]
+mod runs;
+#[cfg(test)]
+mod seats;

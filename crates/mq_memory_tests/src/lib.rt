@@ -1,0 +1,39 @@
+//! Tests that calls succeed while there is enough memory, that each refusal has its name, and of
+//! programs over the queues of one thread.
+
+#![tactic(auto)]
+
+ghost use Rattle.std.specs.Prelude.{◌≡◌, true};
+
+#[cfg(test)]
+use std::process::Abort;
+
+/// Ends the test with this text where something does not hold.
+#[cfg(test)]
+fn holds(rt: &impl Abort, is: bool, what: &str)
+    ensures { is ≡ true }
+{
+    if !is {
+        panic!(rt; "{what}");
+    }
+}
+
+/// `assert!` as a call: a branch at each place would make the proof of a test grow.
+#[cfg(test)]
+macro_rules! holds {
+    ($rt:expr; $is:expr $(,)?) => {
+        $crate::holds(&$rt, $is, stringify!($is))
+    };
+    ($rt:expr; $is:expr, $what:expr $(,)?) => {
+        $crate::holds(&$rt, $is, $what)
+    };
+}
+
+#[cfg(test)]
+mod callers;
+#[cfg(test)]
+mod memory;
+#[cfg(test)]
+mod programs;
+#[cfg(test)]
+mod seat_calls;
