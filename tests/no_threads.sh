@@ -78,11 +78,11 @@ allocations() {
     count $? "of $n allocations only $calls were refused to calls of workers"
 }
 
-# A server and two who ask, of ten requests, each of whose logs is cut after five entries.
+# A server and two clients, of ten requests, each of whose logs is cut after five entries.
 place hello_server || exit 1
 hello=("$folder/hello_server" 10 5)
 stored=$folder/stored
-echo '10 requests, 42 entries' > "$stored"
+echo '10 requests, 45 entries' > "$stored"
 cc -shared -fPIC -O1 -o "$folder/refuse.so" tests/refuse_nth.c -ldl || exit 1
 allocations "$stored" "${hello[@]}"
 if [ "$(id -u)" -eq 0 ]; then

@@ -46,7 +46,7 @@ def main():
     memories = []
     for requests in (SHORT, LONG):
         told, status, memory, seconds = run(requests)
-        wanted = f"{requests} requests, {4 * requests + 2} entries\n"
+        wanted = f"{requests} requests, {4 * requests + 5} entries\n"
         memories.append(memory)
         checks += [
             (f"{requests} requests answer {told!r}, status {status}",

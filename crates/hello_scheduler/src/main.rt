@@ -1,6 +1,6 @@
 //! A scheduler: one thread submits jobs, and three work them off. The type of a job's message is
-//! its priority, of which 1 is the most urgent. A worker takes the most urgent job that waits, up to
-//! a bound of its own, so that one worker does urgent jobs alone. Few jobs may wait, so the
+//! its priority, of which 1 is the most urgent. A worker takes the most urgent job that waits, up
+//! to a bound of its own, so that one worker does urgent jobs alone. Few jobs may wait, so the
 //! submitter waits for the workers. At the end the queue's log is read: no job waited while a less
 //! urgent one was taken. The first word says how many jobs there are.
 

@@ -1,19 +1,33 @@
-//! A server that runs as long as one likes: one thread answers the requests of two others, and cuts
-//! the logs of both queues as they grow, so that its memory stays as it is. The first word says how
-//! many requests there are, the second after how many entries a log is cut.
+//! A server that runs as long as one likes: one thread answers the questions of two others, each by
+//! a value. The logs are cut as they grow, so that memory stays as it is. The client that ends last
+//! removes the queue of questions, and with that the server ends. The first word says how many
+//! questions there are, the second after how many entries a log is cut.
 
 #![tactic(auto)]
 
+ghost use Rattle.std.specs.Prelude.{◌≡◌, ◌*◌, IfSome};
+ghost use Rattle.hello_server.specs.declared.TheConstants.{PRICE};
+
 use mq::{
-    Caller, Clock, Config, DEFAULTS, Errno, Id, Message, Names, Pledge, Selection, Wait, Worker,
-    WorkersError, with_workers,
+    Caller, Carries, Clock, Config, DEFAULTS, Duration, Errno, Names, Selection, Setup, Vow, Wait,
+    Worker, WorkersError,
 };
 use std::{env, io};
 
-/// The keys of the queue of requests and of the queue of replies.
-const REQUESTS: i32 = 1;
+/// The keys of the queue of questions and of the queue of answers. A question is of type 1, an
+/// answer of the type that its client's seat has.
+const QUESTIONS: i32 = 1;
 
-const REPLIES: i32 = 2;
+const ANSWERS: i32 = 2;
+
+/// The type by which a client tells the other one that it has ended.
+const ENDED: i64 = 100;
+
+/// What one piece costs.
+const PRICE: u64 = 7;
+
+/// The seconds that each waits for another.
+const PATIENCE: u64 = 60;
 
 /// Two slots, each of which serves one queue and no other after it: who comes late to a queue that
 /// was removed makes none anew.
@@ -23,112 +37,81 @@ const SIZE: Config = Config {
     ..DEFAULTS
 };
 
-/// Nothing is pledged.
-struct Anything;
+/// What is sent: how many pieces, and in an answer what they cost.
+struct Prices;
 
-impl Pledge for Anything {
-    ghost kept = { λ _ _ _ _. Unit {0} };
+impl Vow for Prices {
+    type Value = (u32, Option<u64>);
+
+    ghost vowed = { λ _seat _tag _mtype sent. IfSome sent.1 (λ cost. cost ≡ sent.0 * PRICE) };
 }
 
 /// What a thread does.
 #[derive(Drop)]
 enum Role {
-    /// Answers so many requests, and cuts a log after so many entries.
-    Serve(u64, u64),
-    /// Makes so many requests.
-    Ask(u64),
+    /// Answers questions until their queue is removed.
+    Serve,
+    /// Asks so many questions, as the client that ends last or as the other one.
+    Ask { count: u64, last: bool },
 }
 
-/// A queue's log, as its server follows it.
-#[derive(Drop)]
-struct Followed {
-    id: Id,
-    /// Where the last cut ended.
-    last: u64,
-    /// How many entries were cut off.
-    gone: u64,
-}
-
-impl Followed {
-    fn new(id: Id) -> Followed {
-        Followed {
-            id,
-            last: 0,
-            gone: 0,
-        }
-    }
-
-    /// Cuts the log where this entry lies so many past the last cut. Here what is handed out is
-    /// dropped; another server would store it.
-    fn cut_after<N: Names, R: Wait + Clock>(
-        &mut self,
-        caller: &mut Caller<'_, Anything, N, R>,
-        entry: u64,
-        every: u64,
-    ) -> Result<(), Errno> {
-        let slot = self.id.slot();
-        if entry < self.last.saturating_add(every) || slot >= caller.slots() {
-            return Ok(());
-        }
-        let cut = caller.cut_log(slot)?;
-        let entries = (cut.past.len() as u64).saturating_add(cut.last.len() as u64);
-        self.last = cut.first.saturating_add(entries);
-        self.gone = self.gone.saturating_add(entries);
-        Ok(())
-    }
-}
-
-/// Answers so many requests, each with its own text. How many entries of logs were cut off.
+/// Answers questions until their queue is removed.
 fn serve<N: Names, R: Wait + Clock>(
-    caller: &mut Caller<'_, Anything, N, R>,
-    requests: u64,
-    every: u64,
-) -> Result<u64, Errno> {
-    let mut asked = Followed::new(caller.queue(REQUESTS)?);
-    let mut replied = Followed::new(caller.queue(REPLIES)?);
-    for _ in 0..requests {
-        let request = caller.receive(asked.id, Selection::Any)?;
-        let reply = Message {
-            mtype: i64::from(request.sender),
-            tag: request.tag,
-            bytes: request.text.as_slice(),
+    caller: &mut Caller<'_, Carries<Prices>, N, R>,
+) -> Result<(), Errno> {
+    let patience = Duration::from_secs(PATIENCE);
+    let questions = caller.queue(QUESTIONS)?;
+    let answers = caller.queue(ANSWERS)?;
+    for _ in 0..u64::MAX {
+        let asked = match caller.receive_value_timeout(questions, Selection::Any, patience) {
+            Ok(asked) => asked,
+            Err(refusal) if refusal.errno() == Errno::EIDRM => break,
+            Err(refusal) => return Err(refusal.errno()),
         };
-        let entry = caller.send(replied.id, reply)?;
-        asked.cut_after(caller, request.entry, every)?;
-        replied.cut_after(caller, entry, every)?;
+        let (pieces, _) = asked.text;
+        let answer = (pieces, Some(u64::from(pieces) * PRICE));
+        caller.send_value(answers, i64::from(asked.sender), asked.tag, &answer)?;
     }
-    Ok(asked.gone.saturating_add(replied.gone))
+    Ok(())
 }
 
-/// Makes so many requests, and waits for the reply to each.
+/// Asks so many questions, and waits for the answer to each.
 fn ask<N: Names, R: Wait + Clock>(
-    caller: &mut Caller<'_, Anything, N, R>,
-    requests: u64,
-) -> Result<u64, Errno> {
-    let asked = caller.queue(REQUESTS)?;
-    let replied = caller.queue(REPLIES)?;
+    caller: &mut Caller<'_, Carries<Prices>, N, R>,
+    count: u64,
+    last: bool,
+) -> Result<(), Errno> {
+    let patience = Duration::from_secs(PATIENCE);
+    let questions = caller.queue(QUESTIONS)?;
+    let answers = caller.queue(ANSWERS)?;
     let own = i64::from(caller.number());
-    for tag in 0..requests {
-        caller.send(asked, Message::new(1, b"what time is it?").tagged(tag))?;
-        caller.receive(replied, Selection::Exact(own))?;
+    for tag in 0..count {
+        caller.send_value(questions, 1, tag, &((tag % 100) as u32, None))?;
+        caller.receive_value_timeout(answers, Selection::Exact(own), patience)?;
     }
-    Ok(0)
+    if last {
+        caller.receive_value_timeout(answers, Selection::Exact(ENDED), patience)?;
+        caller.remove(questions)?;
+    } else {
+        caller.send_value(answers, ENDED, 0, &(0, None))?;
+    }
+    Ok(())
 }
 
-impl Worker<Anything> for Role {
-    type Answer = Result<u64, Errno>;
+impl Worker<Carries<Prices>> for Role {
+    type Answer = Result<(), Errno>;
 
     fn work<N: Names, R: Wait + Clock>(
         self,
-        caller: &mut Caller<'_, Anything, N, R>,
-    ) -> Result<u64, Errno> {
+        caller: &mut Caller<'_, Carries<Prices>, N, R>,
+    ) -> Result<(), Errno> {
         let done = match self {
-            Role::Serve(requests, every) => serve(caller, requests, every),
-            Role::Ask(requests) => ask(caller, requests),
+            Role::Serve => serve(caller),
+            Role::Ask { count, last } => ask(caller, count, last),
         };
         if done.is_err() {
             // Then the queues go, and whoever waits in them is answered EIDRM.
-            for key in [REQUESTS, REPLIES] {
+            for key in [QUESTIONS, ANSWERS] {
                 if let Ok(id) = caller.queue(key) {
                     let _ = caller.remove(id);
                 }
@@ -150,7 +133,7 @@ enum Fault {
 
 /// The numbers of the two words, where there are such words.
 fn numbers(rt: &HostRuntime) -> Result<[u64; 2], io::Error> {
-    let mut numbers = [1_000_000, 100_000];
+    let mut numbers = [100_000, 10_000];
     let mut words = env::args(rt)?;
     let _program = words.next();
     for number in numbers.iter_mut() {
@@ -164,24 +147,33 @@ fn numbers(rt: &HostRuntime) -> Result<[u64; 2], io::Error> {
 }
 
 fn main(rt: HostRuntime) -> Result<(), Fault> {
-    let [requests, every] = numbers(&rt).map_err(Fault::Word)?;
-    let half = requests / 2;
+    let [questions, every] = numbers(&rt).map_err(Fault::Word)?;
+    let half = questions / 2;
     let mut roles = Vec::new(rt.alloc());
     for role in [
-        Role::Serve(requests, every),
-        Role::Ask(half),
-        Role::Ask(requests - half),
+        Role::Serve,
+        Role::Ask {
+            count: half,
+            last: false,
+        },
+        Role::Ask {
+            count: questions - half,
+            last: true,
+        },
     ] {
         roles.push(role).map_err(|_| Fault::Memory)?;
     }
-    let ended = with_workers(&rt, rt.alloc(), SIZE, roles).map_err(Fault::Workers)?;
+    let ended = Setup::new(SIZE)
+        .cut_logs_after(every)
+        .with_workers(&rt, rt.alloc(), roles)
+        .map_err(Fault::Workers)?;
+    for done in ended.answer {
+        done.map_err(Fault::Call)?;
+    }
     let mut entries = 0u64;
-    for gone in ended.answer {
-        entries = entries.saturating_add(gone.map_err(Fault::Call)?);
-    }
     for slot in ended.slots.iter() {
-        entries = entries.saturating_add(slot.past.len() as u64);
-        entries = entries.saturating_add(slot.last.len() as u64);
+        let kept = (slot.past.len() as u64).saturating_add(slot.last.len() as u64);
+        entries = entries.saturating_add(slot.first).saturating_add(kept);
     }
-    println!(rt; "{requests} requests, {entries} entries").map_err(Fault::Output)
+    println!(rt; "{questions} requests, {entries} entries").map_err(Fault::Output)
 }
