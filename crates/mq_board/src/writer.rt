@@ -21,8 +21,9 @@ use std::alloc::AllocError;
 use std::marker::Model;
 use std::sync::Wait;
 
-/// The writer of a board, seen as its published list, what is pending and the readers that came
-/// home. There is one of each board. It can't be dropped: `end` or `close` gives the board up.
+/// The writer of a board, seen as its published list, the prefix of it that the copies show, what is
+/// pending and the readers that came home. There is one of each board. It can't be dropped: `end` or
+/// `close` gives the board up.
 pub struct BoardWriter<J: Naming> {
     copies: Copies<J>,
     history: HistoryWriter<J>,
@@ -34,24 +35,26 @@ pub struct BoardWriter<J: Naming> {
     /// A place for the event that is prepared and not published yet, and whether one is there.
     next: Posting,
     is_pending: bool,
+    /// Whether events were appended that the copies do not show yet.
+    is_behind: bool,
 }
 
 impl<J: Naming> Model for BoardWriter<J> {
     ghost use Rattle.std.specs.Prelude.{◌≡◌};
-    ghost use Rattle.mq_board.specs.Writers.{WriterState, IsWriter, pending_in};
-    ghost use Rattle.mq_board.specs.Snapshots.{snapshot_of};
+    ghost use Rattle.mq_board.specs.Writers.{AreShown, IsWriter, WriterState, pending_in};
 
     ghost Value = { WriterState };
 
     ghost view = { λ w. record {
       board = w.history.board;
       events = w.history.events;
+      shown = w.copies.events;
       pending = pending_in w.is_pending w.next;
       home = w.roll.home;
     } };
 
     ghost invariant = { λ w. IsWriter w.history w.roll.board w.row w.key
-        × (w.copies ≡ snapshot_of w.history.board (J.board w.history.board) w.history.events) };
+        × AreShown J.board w.history w.is_behind w.copies };
 }
 
 impl<J: Naming> Notice for BoardWriter<J> {
@@ -80,6 +83,7 @@ impl<J: Naming> BoardWriter<J> {
         ensures { result ≡ record {
           board = history.board;
           events = [];
+          shown = [];
           pending = [];
           home = roll.home;
         } }
@@ -92,6 +96,7 @@ impl<J: Naming> BoardWriter<J> {
             key: 0,
             next: NOTHING,
             is_pending: false,
+            is_behind: false,
         }
     }
 
@@ -117,9 +122,9 @@ impl<J: Naming> BoardWriter<J> {
         ToldList::new(self.history.snapshot(self.row))
     }
 
-    /// Publishes the event that is pending: readers find it from then on. It takes no memory, and
-    /// waits for a reader that is still inside the copy that was published before the last.
-    pub fn publish<R: Wait>(&mut self, rt: &R)
+    /// Appends the event that is pending to the published list. It takes no memory. The copies do not
+    /// show it before `show`.
+    pub fn append<R: Wait>(&mut self, rt: &R)
         requires { HasOnePending self.old.events self.old.pending }
         ensures { self.new ≡ record self.old {
           events = self.old.events ++ map (λ p. p.event) self.old.pending;
@@ -130,8 +135,33 @@ impl<J: Naming> BoardWriter<J> {
         self.row = next_row(self.row, self.key, event, self.next.after);
         self.key = next_key(self.key, event);
         self.is_pending = false;
+        self.is_behind = true;
         self.history.add(rt, event);
-        self.copies.publish(rt, self.history.snapshot(self.row));
+    }
+
+    /// Has the copies show all of the published list: readers find it from then on. It takes no
+    /// memory, and waits for a reader that is still inside the copy that was published before the
+    /// last.
+    pub fn show<R: Wait>(&mut self, rt: &R)
+        ensures { self.new ≡ record self.old { shown = self.old.events } }
+    {
+        if self.is_behind {
+            self.is_behind = false;
+            self.copies.publish(rt, self.history.snapshot(self.row));
+        }
+    }
+
+    /// Publishes the event that is pending, as `append` and `show` do.
+    pub fn publish<R: Wait>(&mut self, rt: &R)
+        requires { HasOnePending self.old.events self.old.pending }
+        ensures { self.new ≡ record self.old {
+          events = self.old.events ++ map (λ p. p.event) self.old.pending;
+          shown = self.old.events ++ map (λ p. p.event) self.old.pending;
+          pending = [];
+        } }
+    {
+        self.append(rt);
+        self.show(rt);
     }
 
     /// A reader comes home. Its front begins the published list, and its place was not at home.
@@ -174,6 +204,7 @@ impl<J: Naming> BoardWriter<J> {
             key: _,
             next: _,
             is_pending: _,
+            is_behind: _,
         } = self;
         copies.close(rt);
     }

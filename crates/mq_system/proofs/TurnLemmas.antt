@@ -34,6 +34,14 @@ sends_next id moment u v l entry told =
     subst (λ n. Changes (send_of id moment l) u n v)
     (sent_next u.slot.whole id (message_of u.seat.number l) moment entry v.slot.whole told.ok).0 told
 
+abbrev pub under : LockedSlot → SeatState → Under
+under slot seat = record { slot = slot; seat = seat }
+
+-- what a refused call leaves, slot and seat, is what there was
+pub left_same : (held left : LockedSlot) (old new : SeatState) → left ≡ held → new ≡ old
+    → under left new ≡ under held old
+left_same held left old new slot seat = rw (slot, seat) refl
+
 -- where nothing was done, all is as it was
 pub none_done : {T : Type 0} (does : Under → T → Under → Type 0) (xs : List T) (u v : Under)
     → FoldsTo does u xs v → xs ≡ [] → u ≡ v

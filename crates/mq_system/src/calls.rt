@@ -12,7 +12,7 @@ ghost use Rattle.mq_system.specs.Pledge.{MeetsItsPledge};
 ghost use Rattle.mq_system.specs.Seat.{front_of};
 ghost use Rattle.mq_system.specs.Shared.{IsDue, IsShared, with_pending};
 
-use crate::{Entries, Keys, Names, Pledge, Seat, SharedSlot, SlotOf, TextOf, WaitingOf};
+use crate::{Entries, Keys, Names, Pledge, Seat, SharedSlot, SlotOf, SlotParts, TextOf, WaitingOf};
 use mq_board::BoardWriter;
 use mq_calls::{Delivered, Errno, Got, Refused, Removal, SendRefused};
 use mq_message::{Message, Selection};
@@ -20,26 +20,6 @@ use mq_table::{Id, make_under, remove_under};
 use std::alloc::AllocError;
 use std::sync::Wait;
 use std::sync::ledger::Share;
-
-/// Publishes the event by which the slot was just changed, and notes it in the seat that made it.
-fn publish<P: Pledge, N: Names, R: Wait>(
-    rt: &R,
-    slot: &SlotOf<N>,
-    writer: &mut BoardWriter<N>,
-    entries: &mut Share<Entries<N>>,
-    seat: &mut Seat<N>,
-)
-    requires due { IsDue P.kept N.slots N.last_seq seat.old.number writer.old.board
-        writer.old.events writer.old.pending slot.now entries.old.parts entries.old.amount }
-    requires known { front_of seat.old slot.now.number ≡ writer.old.events }
-    ensures shared { IsShared P.kept N.slots N.last_seq writer.new.board writer.new.events
-        writer.new.pending slot.now entries.new.parts entries.new.amount }
-    ensures events { writer.new.events ≡ with_pending writer.old.events writer.old.pending }
-    ensures noted { HasNoted seat.old seat.new slot.now.number writer.new.events }
-{
-    writer.publish(rt);
-    seat.note(entries, slot.number(), writer.tell());
-}
 
 impl<P: Pledge, N: Names> SharedSlot<P, N> {
     /// Sends a text as this seat (msgop(2), msgsnd with IPC_NOWAIT), and answers the entry. EINVAL
@@ -65,34 +45,11 @@ impl<P: Pledge, N: Names> SharedSlot<P, N> {
             self.old self.new seat.old seat.new r.refused) }
         ensures handed_back { IfErr result (λ r. r.text ≡ text) }
     {
-        if mtype < 1 {
-            let refused = Refused {
-                errno: Errno::EINVAL,
-                entry: None,
-            };
-            return Err(SendRefused { refused, text });
-        }
-        match self.look(id) {
-            Ok(()) => (),
-            Err(refused) => return Err(SendRefused { refused, text }),
-        }
-        self.holds();
-        let message = Message {
-            mtype,
-            sender: seat.number(),
-            tag,
-            body: text,
-        };
-        match self.slot.send(message, moment, &mut self.writer) {
-            Ok(entry) => {
-                publish::<P, N, R>(rt, &self.slot, &mut self.writer, &mut self.entries, seat);
-                Ok(entry)
-            }
-            Err((refusal, message)) => Err(SendRefused {
-                refused: self.refused(Errno::from(refusal)),
-                text: message.into_body(),
-            }),
-        }
+        let answer = self
+            .parts
+            .send::<P, R>(rt, seat, id, mtype, tag, text, moment);
+        self.parts.writer.show(rt);
+        answer
     }
 
     /// Receives the first message that the selection names (msgop(2), msgrcv with IPC_NOWAIT).
@@ -118,19 +75,11 @@ impl<P: Pledge, N: Names> SharedSlot<P, N> {
             self.old self.new seat.old seat.new) }
         ensures pledge { IfOk result (MeetsItsPledge P.kept size noerror) }
     {
-        self.look(id)?;
-        self.holds();
-        let number = seat.number();
-        match self
-            .slot
-            .receive(size, selection, noerror, number, moment, &mut self.writer)
-        {
-            Ok(received) => {
-                publish::<P, N, R>(rt, &self.slot, &mut self.writer, &mut self.entries, seat);
-                Ok(Delivered::of(received))
-            }
-            Err(refusal) => Err(self.refused(Errno::from(refusal))),
-        }
+        let answer = self
+            .parts
+            .receive::<P, R>(rt, seat, id, size, selection, noerror, moment);
+        self.parts.writer.show(rt);
+        answer
     }
 
     /// Sets the quota (msgctl(2), IPC_SET of msg_qbytes), and answers the entry. EINVAL, EIDRM,
@@ -153,9 +102,10 @@ impl<P: Pledge, N: Names> SharedSlot<P, N> {
         self.look(id)?;
         self.holds();
         let number = seat.number();
-        match self.slot.set(qbytes, number, moment, &mut self.writer) {
+        let desk = &mut self.parts.writer;
+        match self.parts.slot.set(qbytes, number, moment, desk) {
             Ok(entry) => {
-                publish::<P, N, R>(rt, &self.slot, &mut self.writer, &mut self.entries, seat);
+                self.parts.publish::<P, R>(rt, seat);
                 Ok(entry)
             }
             Err(refusal) => Err(self.refused(Errno::from(refusal))),
@@ -181,11 +131,12 @@ impl<P: Pledge, N: Names> SharedSlot<P, N> {
             (λ _. (self.new ≡ self.old) × (keys.new ≡ keys.old) × (seat.new ≡ seat.old)) }
     {
         self.holds();
-        let entry = self.slot.events();
+        let entry = self.parts.slot.events();
         let number = seat.number();
         let table = &mut keys.table;
-        let id = make_under(table, &mut self.slot, key, number, moment, &mut self.writer)?;
-        publish::<P, N, R>(rt, &self.slot, &mut self.writer, &mut self.entries, seat);
+        let desk = &mut self.parts.writer;
+        let id = make_under(table, &mut self.parts.slot, key, number, moment, desk)?;
+        self.parts.publish::<P, R>(rt, seat);
         Ok(Got {
             id,
             made: Some(entry),
@@ -216,14 +167,15 @@ impl<P: Pledge, N: Names> SharedSlot<P, N> {
     {
         self.look(id)?;
         self.holds();
-        let entry = self.slot.events();
+        let entry = self.parts.slot.events();
         let number = seat.number();
         let table = &mut keys.table;
-        let removed = remove_under(table, &mut self.slot, number, moment, &mut self.writer);
+        let desk = &mut self.parts.writer;
+        let removed = remove_under(table, &mut self.parts.slot, number, moment, desk);
         let Ok((log, waiting)) = removed else {
             return Err(self.refused(Errno::ENOMEM));
         };
-        publish::<P, N, R>(rt, &self.slot, &mut self.writer, &mut self.entries, seat);
+        self.parts.publish::<P, R>(rt, seat);
         Ok((Removal { entry, log }, waiting))
     }
 }

@@ -12,9 +12,10 @@
 //! - The keys' lock is held throughout a `msgget` and the change of an `rmid`, so that a key is
 //!   entered with its queue and forgotten with it. Slots are looked at one by one under it.
 //! - A slot's lock protects its slot list and what waits in its queue. A call holds it for one look
-//!   and one change. A call that waits lets it go, and looks at the id and the queue anew. A
-//!   change may wait, with the lock held, for a reader that is inside a copy of the slot's board:
-//!   so long as it takes to read a row, or as that reader's thread is stopped there.
+//!   and one change, or up to `MAX_BATCH` changes, which the slot's board shows before the lock is
+//!   released. A call that waits releases it, and then finds the id and the queue anew. A change may
+//!   wait, with the lock held, for a reader that is inside a copy of the slot's board: so long as it
+//!   takes to read a row, or as that reader's thread is stopped there.
 //! - The arena's lock protects which pages are lent; it is held while blocks leave or come home.
 //!   Texts are drafted before a slot is locked, their pages are cleared and written with no lock,
 //!   and the texts of a removed queue go home after its slot's lock is let go.
@@ -64,6 +65,7 @@ mod seat;
 mod slot;
 mod system;
 mod tally;
+mod turns;
 mod waiters;
 
 pub use blanks::Blanks;

@@ -62,22 +62,18 @@ impl<P: Pledge, N: Names> SharedSlot<P, N> {
         ensures pledge { All (MeetsItsPledge P.kept size noerror) out.new.items }
         ensures capacity { vec_capacity out.new ≡ vec_capacity out.old }
     {
-        self.holds();
-        seat.holds();
-        for _done in 0..n {
-            match self.receive(rt, seat, id, size, selection, noerror, moment) {
-                Ok(delivered) => out.push_reserved(delivered),
-                Err(refused) => return Err(refused),
-            }
-        }
-        Ok(())
+        let answer = self
+            .parts
+            .receive_many::<P, R>(rt, seat, id, size, selection, noerror, n, moment, out);
+        self.parts.writer.show(rt);
+        answer
     }
 
     /// The entry of the next change.
     pub fn next_entry(&self) -> u64
         ensures { result ≡ length self.now.whole.events }
     {
-        self.slot.events()
+        self.parts.slot.events()
     }
 
     /// Sends up to `most` letters as this seat, as so many calls of `send`, one after another. The
@@ -98,22 +94,11 @@ impl<P: Pledge, N: Names> SharedSlot<P, N> {
             (record { slot = self.new; seat = seat.new }) letters.old.items letters.new.items
             result }
     {
-        self.holds();
-        seat.holds();
-        for _done in 0..most {
-            let Some(letter) = letters.pop_front() else {
-                return Ok(());
-            };
-            let Letter { mtype, tag, text } = letter;
-            match self.send(rt, seat, id, mtype, tag, text, moment) {
-                Ok(_entry) => (),
-                Err(SendRefused { refused, text }) => {
-                    letters.push_front_reserved(Letter { mtype, tag, text });
-                    return Err(refused);
-                }
-            }
-        }
-        Ok(())
+        let answer = self
+            .parts
+            .send_many::<P, R>(rt, seat, id, letters, most, moment);
+        self.parts.writer.show(rt);
+        answer
     }
 }
 

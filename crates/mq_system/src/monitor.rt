@@ -122,7 +122,9 @@ impl<P: Pledge, N: Names> SlotMonitor<P, N> {
         if !held.enter(seat, number) {
             return false;
         }
-        let _ = held.cut_from(self.log_limit);
+        if self.log_limit != u64::MAX {
+            let _ = held.cut_from(self.log_limit);
+        }
         true
     }
 

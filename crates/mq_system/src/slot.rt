@@ -28,29 +28,30 @@ use std::sync::ledger::Share;
 /// is seen as the whole slot and the number of entries that were cut off; the pledge holds of each
 /// message that waits in it.
 pub struct SharedSlot<P: Pledge, N: Names> {
-    pub(crate) slot: SlotOf<N>,
-    pub(crate) writer: BoardWriter<N>,
-    /// As much as its whole list has entries.
-    pub(crate) entries: Share<Entries<N>>,
+    pub(crate) parts: SlotParts<N>,
     pledge: PhantomData<P>,
 }
 
-/// What a slot under its lock is made of.
+/// What a slot under its lock is made of. Between two calls of several, the board's copies do not
+/// show all of its list.
 pub struct SlotParts<N: Names> {
     pub slot: SlotOf<N>,
     pub writer: BoardWriter<N>,
+    /// As much as its whole list has entries.
     pub entries: Share<Entries<N>>,
 }
 
 impl<P: Pledge, N: Names> Model for SharedSlot<P, N> {
+    ghost use Rattle.std.specs.Prelude.{◌≡◌};
     ghost use Rattle.mq_system.specs.Shared.{IsShared, LockedSlot, locked};
 
     ghost Value = { LockedSlot };
 
-    ghost view = { λ s. locked s.writer.events s.slot };
+    ghost view = { λ s. locked s.parts.writer.events s.parts.slot };
 
-    ghost invariant = { λ s. IsShared P.kept N.slots N.last_seq s.writer.board s.writer.events
-        s.writer.pending s.slot s.entries.parts s.entries.amount };
+    ghost invariant = { λ s. IsShared P.kept N.slots N.last_seq s.parts.writer.board
+        s.parts.writer.events s.parts.writer.pending s.parts.slot s.parts.entries.parts
+        s.parts.entries.amount × (s.parts.writer.shown ≡ s.parts.writer.events) };
 }
 
 impl<P: Pledge, N: Names> SharedSlot<P, N> {
@@ -64,15 +65,18 @@ impl<P: Pledge, N: Names> SharedSlot<P, N> {
         requires within { slot.number < N.slots }
         requires board { writer.board ≡ slot.number }
         requires empty { slot ≡ empty_kept slot.number }
-        requires unused { (writer.events ≡ []) × (writer.pending ≡ []) }
+        requires unused { (writer.events ≡ []) × (writer.shown ≡ []) × (writer.pending ≡ []) }
         requires part { entries.parts ≡ 1 }
         requires none { entries.amount ≡ 0 }
         ensures { result ≡ empty_locked slot.number }
     {
-        SharedSlot {
+        let parts = SlotParts {
             slot,
             writer,
             entries,
+        };
+        SharedSlot {
+            parts,
             pledge: PhantomData,
         }
     }
@@ -87,17 +91,15 @@ impl<P: Pledge, N: Names> SharedSlot<P, N> {
         ensures few { length self.now.whole.events < 2 ^ 64 - 1 }
         ensures made { made_count self.now.whole.events ≤ MAX_SEQ + 1 }
     {
-        let slot = &self.slot;
-        slot.holds();
-        slot.events();
-        slot.made();
+        self.parts.slot.holds();
+        self.parts.holds();
     }
 
     /// Whether this is its number.
     pub fn is_number(&self, number: u8) -> bool
         ensures { result ≡ (self.now.whole.number == number) }
     {
-        self.slot.number() == number
+        self.parts.slot.number() == number
     }
 
     /// The seat learns what happened in this slot. Whether this is its number, and the seat did not
@@ -112,7 +114,7 @@ impl<P: Pledge, N: Names> SharedSlot<P, N> {
             ⊎ (length self.old.whole.events < length (front_of seat.old number)) }
         ensures same { self.new ≡ self.old }
     {
-        self.is_number(number) && seat.learn(number, self.writer.tell())
+        self.is_number(number) && seat.learn(number, self.parts.writer.tell())
     }
 
     /// Whether this id's queue is in the slot, or why not.
@@ -121,20 +123,14 @@ impl<P: Pledge, N: Names> SharedSlot<P, N> {
         ensures value { result ≡ looks_in_slot self.now.whole id }
         ensures live { OnOk result (is_live self.now.whole.events ≡ true) }
     {
-        match self.slot.look(id) {
-            Ok(()) => Ok(()),
-            Err(refusal) => Err(self.refused(Errno::from(refusal))),
-        }
+        self.parts.look(id)
     }
 
     /// The refusal after all that has happened in the slot.
     pub(crate) fn refused(&self, errno: Errno) -> Refused
         ensures { result ≡ refused_here self.now.whole errno }
     {
-        Refused {
-            errno,
-            entry: Some(self.slot.events()),
-        }
+        self.parts.refused(errno)
     }
 
     /// The id of the queue in the slot, where it is there and has this key.
@@ -142,7 +138,7 @@ impl<P: Pledge, N: Names> SharedSlot<P, N> {
         ensures value { result ≡ id_with_key self.now.whole key }
         ensures within { IfSome result (λ id. slot_of id ≡ self.now.whole.number) }
     {
-        let slot = &self.slot;
+        let slot = &self.parts.slot;
         slot.holds();
         if slot.is_live() && slot.key() == key {
             Some(slot.last_id())
@@ -155,7 +151,7 @@ impl<P: Pledge, N: Names> SharedSlot<P, N> {
     pub fn is_free(&self, last_seq: u32) -> bool
         ensures { result ≡ is_free last_seq self.now.whole.events }
     {
-        self.slot.is_free(last_seq)
+        self.parts.slot.is_free(last_seq)
     }
 
     /// Cuts the slot's list off where it ends now, and hands out what was kept of it, from the last
@@ -167,7 +163,7 @@ impl<P: Pledge, N: Names> SharedSlot<P, N> {
         ensures after { MatchResult result (λ _. self.new ≡ cut_at_end self.old)
             (λ _. self.new ≡ self.old) }
     {
-        match self.slot.cut() {
+        match self.parts.slot.cut() {
             Ok(cut) => Ok(cut),
             Err(_) => Err(self.refused(Errno::ENOMEM)),
         }
@@ -182,7 +178,7 @@ impl<P: Pledge, N: Names> SharedSlot<P, N> {
             × (r ≡ refused_here self.old.whole ENOMEM)) }
     {
         self.holds();
-        if self.slot.events() - self.slot.first() < entries {
+        if self.parts.slot.events() - self.parts.slot.first() < entries {
             return Ok(false);
         }
         self.cut()?;
@@ -198,16 +194,7 @@ impl<P: Pledge, N: Names> SharedSlot<P, N> {
         ensures waits { Waits bytes_of self.whole }
     {
         self.holds();
-        let SharedSlot {
-            slot,
-            writer,
-            entries,
-            pledge: _,
-        } = self;
-        SlotParts {
-            slot,
-            writer,
-            entries,
-        }
+        let SharedSlot { parts, pledge: _ } = self;
+        parts
     }
 }

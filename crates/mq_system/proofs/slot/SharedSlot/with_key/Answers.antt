@@ -10,24 +10,24 @@ use Rattle.mq_system.proofs.slot.SharedSlot.with_key.Goals as goal
 
 pub returns-then-key-clause-value : goal.returns-then-key-clause-value
 returns-then-key-clause-value g c =
-    let slot = c.self.inside.slot in
+    let slot = c.self.inside.parts.slot in
     let found : Some c.last_id.result
     ≡ id_where (is_live_kept slot) (int_eq slot.key c.args.key) (last_id_now slot) =
     search (rules, c.last_id.ensures) in
     rw (← c.self.view_is)
-    (with_key_is c.self.inside.writer.events slot c.self.invariant.published.kept c.args.key _ found)
+    (with_key_is c.self.inside.parts.writer.events slot c.self.invariant.0.published.kept c.args.key _ found)
 
 pub returns-then-key-clause-within : goal.returns-then-key-clause-within
 returns-then-key-clause-within g c =
-    let s = whole c.self.inside.writer.events c.self.inside.slot in
+    let s = whole c.self.inside.parts.writer.events c.self.inside.parts.slot in
     rw (← c.self.view_is)
-    (rw (c.last_id.ensures ∙ last_id_is _ _ c.self.invariant.published.kept)
+    (rw (c.last_id.ensures ∙ last_id_is _ _ c.self.invariant.0.published.kept)
     (slot_of_last s c.holds.ensures.numbered))
 
 pub returns-else-is_live-clause-value : goal.returns-else-is_live-clause-value
 returns-else-is_live-clause-value g c =
-    let slot = c.self.inside.slot in
+    let slot = c.self.inside.parts.slot in
     let none : None ≡ id_where (is_live_kept slot) (int_eq slot.key c.args.key) (last_id_now slot) =
     search rules in
     rw (← c.self.view_is)
-    (with_key_is c.self.inside.writer.events slot c.self.invariant.published.kept c.args.key _ none)
+    (with_key_is c.self.inside.parts.writer.events slot c.self.invariant.0.published.kept c.args.key _ none)

@@ -1,7 +1,0 @@
-use Rattle.mq_table.proofs.Kepts.{entries_is}
-use Rattle.mq_system.proofs.slot.SharedSlot.refused.Goals as goal
-
-pub returns : goal.returns
-returns g c =
-    let same = entries_is _ _ c.self.invariant.published.kept in
-    rw (← c.self.view_is) (cc)
