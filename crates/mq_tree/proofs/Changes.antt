@@ -74,6 +74,7 @@ pub tree_set : (height k p but v : ℕ) (nodes : List ℕ) → IsTreeBut height 
 tree_set height k p but v nodes tree place others new = record {
   low = tree.low;
   len = length-set nodes p v ∙ tree.len;
+  roof = get_or-set_other nodes p 0 v 0 (λ e. omega (arith, e, place_pos place)) ∙ tree.roof;
   right =
       λ m i q n. elim (cases_eq i p) [
         | inl e ↦ right_at height k m p i (set nodes p v) place new q e
@@ -90,6 +91,7 @@ pub tree_whole : (height k p : ℕ) (nodes : List ℕ) → IsTreeBut height p no
 tree_whole height k p nodes tree place new = record {
   low = tree.low;
   len = tree.len;
+  roof = tree.roof;
   right = λ m i q n. elim (cases_eq i p) [ inl e ↦ right_at height k m p i nodes place new q e | inr e ↦ tree.right m i q e ];
 }
 

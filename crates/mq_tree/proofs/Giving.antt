@@ -8,7 +8,7 @@ use Rattle.std.proofs.lemmas.List.Folds.{list_any_none}
 use Rattle.mq_tree.specs.Blocks.{PlainBlock, block, is_block, IsInArena, IsAligned, moved_up}
 use Rattle.mq_tree.specs.LentSet.{IsLentSet, left, is_lent}
 use Rattle.mq_tree.specs.Nodes.{node_at}
-use Rattle.mq_tree.specs.Trees.{blocks_under, lent_blocks, HasHeight, IsTree, IsClear, IsOpen}
+use Rattle.mq_tree.specs.Trees.{blocks_under, lent_blocks, HasHeight, IsTree, IsClear, IsFreed}
 use Rattle.mq_tree.specs.Trees.{IsRunOf}
 use Rattle.mq_tree.proofs.Heap.{up_last, up_none, one_of_halves, over_root, to_left, to_right, place_pos, place_below}
 use Rattle.mq_tree.proofs.LentSets.{is_block_itself, is_block_order}
@@ -141,11 +141,14 @@ module _ {height order start j : ℕ} {nodes : List ℕ} (tree : IsTree height n
   clear_over : node_at nodes j ≡ 0 → IsClear j nodes
   clear_over e n l = grind (arith, free_under_lent height nodes tree order j n run.place (over_root run.place (suc n) l))
 
-  pub open_freed : node_at nodes j ≡ 0 → IsOpen height order j (set nodes j (order + 2))
-  open_freed e = record {
-    place = run.place;
-    clear = clear_marked height order j nodes tree run.place (order + 2) (clear_over e);
-    tree = marked_free height order j nodes tree run.place e;
+  pub freed_open : node_at nodes j ≡ 0 → IsFreed height order j (set nodes j (order + 2))
+  freed_open e = record {
+    opened = record {
+      place = run.place;
+      clear = clear_marked height order j nodes tree run.place (order + 2) (clear_over e);
+      tree = marked_free height order j nodes tree run.place e;
+    };
+    free = get_or-set_same nodes j (order + 2) 0 (omega (arith, tree.len, place_below run.place));
   }
 
 -- a block that is lent is aligned, and in the arena

@@ -1,16 +1,17 @@
 -- The first free run of an order, on the way down by the largest orders.
-use Rattle.std.proofs.Common.{◌≡◌, ℕ, ◌+◌, ◌-◌, ◌*◌, ◌/◌, ◌^◌, ◌<◌, ◌≤◌, zero, suc, refl, ◌∙◌, arith, false, List, ◌++◌, Some, None, set, length, leb}
+use Rattle.std.proofs.Common.{◌≡◌, ℕ, ◌+◌, ◌-◌, ◌*◌, ◌/◌, ◌^◌, ◌<◌, ◌≤◌, zero, suc, refl, sym, ap, ◌∙◌, ◌≢◌, subst, arith, inl, inr, false, List, ◌++◌, Some, None, set, length, leb, zero-add}
 use Rattle.std.specs.List.{All}
-use Rattle.std.proofs.lemmas.Bool.{lt-leb}
+use Rattle.std.proofs.lemmas.Bool.{lt-leb, cases_lt}
 use Rattle.std.proofs.lemmas.List.{get_or-set_same}
 use Rattle.mq_tree.specs.Blocks.{PlainBlock, block, IsInArena, moved_up}
 use Rattle.mq_tree.specs.LentSet.{inserted}
 use Rattle.mq_tree.specs.Fit.{fit}
 use Rattle.mq_tree.specs.Nodes.{node_at}
-use Rattle.mq_tree.specs.Trees.{blocks_under, HasHeight, IsTree, IsClear, HasRoom, Found}
+use Rattle.mq_tree.specs.Trees.{blocks_under, HasHeight, IsTree, IsClear, HasRoom, Found, FoundRun}
+use Rattle.mq_tree.proofs.Powers.{pow_suc}
 use Rattle.mq_tree.proofs.Fits.{fit_empty}
-use Rattle.mq_tree.proofs.Heap.{up_first, up_last, up_none, at_root, over_root, to_left, to_right, place_pos, place_below}
-use Rattle.mq_tree.proofs.Trees.{bounded, room_is, free_blocks, blocks_lent, blocks_halves, blocks_lent_set, right_room}
+use Rattle.mq_tree.proofs.Heap.{up_first, up_last, up_none, to_left, to_right, place_pos, place_below}
+use Rattle.mq_tree.proofs.Trees.{bounded, room_is, free_halves, free_blocks, blocks_lent, blocks_halves, blocks_lent_set, right_room}
 use Rattle.mq_tree.proofs.Halving.{fit_halves}
 use Rattle.mq_tree.proofs.Halves.{none_is, lent_left, lent_right}
 use Rattle.mq_tree.proofs.Changes.{left_written, right_written}
@@ -76,25 +77,11 @@ pub record Down (height order k i : ℕ) (nodes : List ℕ) : Type 0 where
   pub room : order + 2 ≤ node_at nodes i
   pub picked : (d j : ℕ) → d + order ≡ k → IsPicked order nodes d k i j → (e : ℕ) × (e + order ≡ height) × IsPicked order nodes e height 1 j
 
-pub down_first : {height order : ℕ} {nodes : List ℕ} → HasRoom height order nodes → Down height order height 1 nodes
-down_first {height = height} has = record {
-  has = has;
-  low = has.low;
-  place = at_root height;
-  clear = λ n l. absurd (omega (arith, over_root (at_root height) (suc n) l));
-  room = has.room;
-  picked = λ d j e q. (d, e, q);
-}
-
--- where the loop goes on, the height is over another
-pub one_down : {height order k i : ℕ} {nodes : List ℕ} → order < k → Down height order k i nodes → Down height order (suc (k - 1)) i nodes
-one_down {k = k} l down = let e : k ≡ suc (k - 1) = omega arith in rw e at down
-
 clear_half : (nodes : List ℕ) (i j : ℕ) → j / 2 ≡ i → 0 < node_at nodes i → IsClear i nodes → IsClear j nodes
 clear_half nodes i j e some c zero l = rw (up_first 0 j, e, up_none i) some
 clear_half nodes i j e some c (suc n) l = rw (up_first (suc n) j, e) (c n (rw (up_first (suc n) j, e) at l))
 
-pub down_found : {height order i : ℕ} {nodes : List ℕ} → Down height order order i nodes → Found height order i nodes
+down_found : {height order i : ℕ} {nodes : List ℕ} → Down height order order i nodes → Found height order i nodes
 down_found {height = height} {order = order} {i = i} {nodes = nodes} down =
     let q = down.picked 0 i (omega arith) (picked_here height order nodes down.has.tree i down.place down.room) in
     let place : HasHeight height order i = record { depth = q.0; depth_is = q.1; root_is = q.2.over } in
@@ -127,3 +114,55 @@ module _ {height order half i : ℕ} {nodes : List ℕ} (low : order ≤ half) (
         room = right_room height nodes down.has.tree half i down.place order low down.room full;
         picked = λ d j e q. down.picked (suc d) j (omega arith) (picked_right height order nodes down.has.tree d half i j down.place down.room e full q);
       }
+
+-- ---- the loop: a node is compared with that of a free run of its height
+pub record DownTo (height order whole i : ℕ) (nodes : List ℕ) : Type 0 where
+  pub level : ℕ
+  pub whole_is : whole ≡ level + 2
+  pub down : Down height order level i nodes
+
+module _ {height order whole i : ℕ} {nodes : List ℕ} (d : DownTo height order whole i nodes) where
+  module _ (other : node_at nodes i ≢ whole) where
+    -- where it is another, the height is over one that is no lower than the order
+    over_order : order < d.level
+    over_order = elim (cases_lt order d.level) [
+      | inl l ↦ l
+      | inr l ↦
+          absurd (other (omega (arith, l, d.whole_is, d.down.low, d.down.room, bounded height nodes d.down.has.tree d.level i d.down.place)))
+    ]
+
+    one_down : Down height order (suc (d.level - 1)) i nodes
+    one_down = let e : d.level ≡ suc (d.level - 1) = omega (arith, over_order) in subst (λ k. Down height order k i nodes) e d.down
+
+    low : order ≤ d.level - 1
+    low = omega (arith, over_order)
+
+    pub both_in : 2 * i + 1 < length nodes
+    both_in = halves_in low one_down
+
+    pub to_left_half : order + 2 ≤ node_at nodes (2 * i) → DownTo height order (whole - 1) (2 * i) nodes
+    to_left_half room = record { level = d.level - 1; whole_is = omega (arith, over_order, d.whole_is); down = goes_left low one_down room }
+
+    pub to_right_half : node_at nodes (2 * i) < order + 2 → DownTo height order (whole - 1) (2 * i + 1) nodes
+    to_right_half less = record { level = d.level - 1; whole_is = omega (arith, over_order, d.whole_is); down = goes_right low one_down less }
+
+-- in a free run the first block is the leftmost one
+leftmost : (steps : ℕ) {height order i : ℕ} {nodes : List ℕ} → Down height order (steps + order) i nodes → node_at nodes i ≡ steps + order + 2 → Found height order (i * 2 ^ steps) nodes
+leftmost zero {height = height} {order = order} {i = i} {nodes = nodes} down free =
+    let here : i ≡ i * 2 ^ 0 = omega arith in subst (λ j. Found height order j nodes) here (down_found (rw (zero-add order) at down))
+leftmost (suc steps) {height = height} {order = order} {i = i} {nodes = nodes} down free =
+    let half = steps + order in
+    let e : suc steps + order ≡ suc half = omega arith in
+    let over : Down height order (suc half) i nodes = subst (λ k. Down height order k i nodes) e down in
+    let left = (free_halves height nodes over.has.tree half i over.place (inl (omega (arith, free, e)))).0 in
+    let twice : 2 * i * 2 ^ steps ≡ i * (2 ^ steps + 2 ^ steps) = omega arith in
+    let place : 2 * i * 2 ^ steps ≡ i * 2 ^ suc steps = twice ∙ ap (λ x. i * x) (sym (pow_suc steps)) in
+    subst (λ j. Found height order j nodes) place (leftmost steps (goes_left (omega arith) over (omega (arith, left))) left)
+
+pub found_run : {height order whole i : ℕ} {nodes : List ℕ} → DownTo height order whole i nodes → node_at nodes i ≡ whole → FoundRun height order i nodes
+found_run {height = height} {order = order} {i = i} {nodes = nodes} d free =
+    let steps = d.level - order in
+    let e : d.level ≡ steps + order = omega (arith, d.down.low) in
+    let down : Down height order (steps + order) i nodes = subst (λ k. Down height order k i nodes) e d.down in
+    let is : node_at nodes i ≡ steps + order + 2 = omega (arith, free, d.whole_is, e) in
+    record { tree = down.has.tree; steps = steps; place = down.place; free = is; found = leftmost steps down is }

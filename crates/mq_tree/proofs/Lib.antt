@@ -15,6 +15,7 @@ pub mod Starts
 pub mod Lending
 pub mod Giving
 pub mod Closing
+pub mod Splitting
 pub mod Freeing
 pub mod Totals
 pub mod LawLemmas

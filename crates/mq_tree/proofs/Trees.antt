@@ -7,7 +7,7 @@ use Rattle.mq_tree.specs.Blocks.{PlainBlock, block, moved_up}
 use Rattle.mq_tree.specs.LentSet.{IsLentSet}
 use Rattle.mq_tree.specs.Fit.{fit}
 use Rattle.mq_tree.specs.Nodes.{node_at, parent, IsRight}
-use Rattle.mq_tree.specs.Trees.{blocks_under, HasHeight, IsTree}
+use Rattle.mq_tree.specs.Trees.{blocks_under, HasHeight, IsTree, IsTreeBut}
 use Rattle.mq_tree.proofs.Powers.{pow_le}
 use Rattle.mq_tree.proofs.Fits.{fit_empty, fit_over, fit_lent, fit_whole}
 use Rattle.mq_tree.proofs.Halving.{fit_halves}
@@ -80,19 +80,23 @@ halves_empty c [] (y ∷ ys) e = absurd (cc)
 halves_empty c (x ∷ xs) ys e = absurd (cc)
 
 -- ---- a tree
+-- a node that comes after the one that may break the rule is free at most
+pub bounded_over : (height but : ℕ) (nodes : List ℕ) → IsTreeBut height but nodes → (k i : ℕ) → HasHeight height k i → but < i → node_at nodes i ≤ k + 2
+bounded_over height but nodes tree zero i p l = elim (tree.right zero i p (λ e. omega (arith, e, l))) [ inl e ↦ omega arith | inr e ↦ omega arith ]
+bounded_over height but nodes tree (suc half) i p l = elim (tree.right (suc half) i p (λ e. omega (arith, e, l))) [
+  | inl e ↦ omega (arith, e.lent)
+  | inr e ↦
+      rw e (parent_bounded half (node_at nodes (2 * i)) (node_at nodes (2 * i + 1)) (bounded_over height but nodes tree half (2 * i) (to_left height half i p) (omega (arith, l)))
+      (bounded_over height but nodes tree half (2 * i + 1) (to_right height half i p) (omega (arith, l))))
+]
+
 module _ (height : ℕ) (nodes : List ℕ) (tree : IsTree height nodes) where
   pub rule : (k i : ℕ) → HasHeight height k i → IsRight k i nodes
   rule k i p = tree.right k i p (λ e. omega (arith, e, place_pos p))
 
   -- a node is free at most
   pub bounded : (k i : ℕ) → HasHeight height k i → node_at nodes i ≤ k + 2
-  bounded zero i p = elim (rule zero i p) [ inl e ↦ omega arith | inr e ↦ omega arith ]
-  bounded (suc half) i p = elim (rule (suc half) i p) [
-    | inl e ↦ omega (arith, e.lent)
-    | inr e ↦
-        rw e (parent_bounded half (node_at nodes (2 * i)) (node_at nodes (2 * i + 1)) (bounded half (2 * i) (to_left height half i p))
-        (bounded half (2 * i + 1) (to_right height half i p)))
-  ]
+  bounded k i p = bounded_over height 0 nodes tree k i p (place_pos p)
 
   -- the halves of a node that is free, or lent as one block, are free
   pub free_halves : (half i : ℕ) → HasHeight height (suc half) i → (node_at nodes i ≡ suc half + 2) ⊎ (node_at nodes i ≡ 0)
@@ -122,7 +126,7 @@ module _ (height : ℕ) (nodes : List ℕ) (tree : IsTree height nodes) where
       let h = free_halves half (i / 2) p is in elim (one_of_halves i) [ inl e ↦ rw e h.0 | inr e ↦ rw e h.1 ]
 
   -- each node under a free one, or under one that is lent as one block, is free
-  free_under : (k i n h : ℕ) → h ≡ suc (n + k) → HasHeight height k i → h ≤ height → (node_at nodes (i / 2 ^ suc n) ≡ h + 2) ⊎ (node_at nodes (i / 2 ^ suc n) ≡ 0) → node_at nodes i ≡ k + 2
+  pub free_under : (k i n h : ℕ) → h ≡ suc (n + k) → HasHeight height k i → h ≤ height → (node_at nodes (i / 2 ^ suc n) ≡ h + 2) ⊎ (node_at nodes (i / 2 ^ suc n) ≡ 0) → node_at nodes i ≡ k + 2
   free_under k i zero h e p l is = half_of k i (to_parent p (omega arith)) (rw (e, zero-add k, up_last 0 i, up_none i) at is)
   free_under k i (suc n) h e p l is =
       let over = to_parent p (omega arith) in

@@ -1,6 +1,7 @@
 -- The nodes of a tree, in the layout of a heap: node 1 is the root, and the halves of node i are
--- nodes 2 * i and 2 * i + 1. A node is 0 where its run of pages is lent as one block, 1 where
--- nothing in it is free, and else two more than the largest order that is free in it.
+-- nodes 2 * i and 2 * i + 1, each the buddy of the other. A node is 0 where its run of pages is
+-- lent as one block, 1 where nothing in it is free, and else two more than the largest order that
+-- is free in it.
 use Rattle.std.specs.Prelude.{◌≡◌, ℕ, ◌+◌, ◌*◌, ◌-◌, zero, suc, ◌&&◌, ◌==◌, ◌⊎◌, nat_lt, List, max, slice_index, Option, Some, None, if◌then◌else◌}
 
 -- the node at that index

@@ -4,6 +4,7 @@ use Rattle.mq_tree.specs.Blocks.{PlainBlock, block, moved_up}
 use Rattle.mq_tree.specs.LentSet.{IsLentSet, inserted, is_lent, free_pages}
 use Rattle.mq_tree.specs.Fit.{fit}
 use Rattle.mq_tree.specs.declared.limits.TheConstants.{MAX_HEIGHT}
+use Rattle.mq_tree.specs.declared.node.TheConstants.{ROOF}
 use Rattle.mq_tree.specs.Nodes.{node_at, whole_free, IsRight}
 
 -- the blocks that are lent in the run of node i, of that height: the whole, or those of its halves
@@ -29,9 +30,10 @@ pub record HasHeight (height k i : ℕ) : Type 0 where
 pub record IsTreeBut (height but : ℕ) (nodes : List ℕ) : Type 0 where
   pub low : height ≤ MAX_HEIGHT
   pub len : length nodes ≡ 2 * 2 ^ height
+  pub roof : node_at nodes 0 ≡ ROOF
   pub right : (k i : ℕ) → HasHeight height k i → i ≢ but → IsRight k i nodes
 
--- the nodes are those of a tree of that height; there is no node 0
+-- the nodes are those of a tree of that height; node 0 has no rule
 abbrev pub IsTree : ℕ → List ℕ → Type 0
 IsTree height nodes = IsTreeBut height 0 nodes
 
@@ -49,6 +51,20 @@ pub record IsOpen (height k i : ℕ) (nodes : List ℕ) : Type 0 where
   pub place : HasHeight height k i
   pub clear : IsClear i nodes
   pub tree : IsTreeBut height (i / 2) nodes
+
+-- an open tree in which node i is a free run of that height
+pub record IsFreed (height k i : ℕ) (nodes : List ℕ) : Type 0 where
+  pub opened : IsOpen height k i nodes
+  pub free : node_at nodes i ≡ whole_free k
+
+-- an open tree in which node i and its buddy are not both free, so that the node over them has
+-- the larger order of the two
+pub record IsParted (height i : ℕ) (nodes : List ℕ) : Type 0 where
+  pub level : ℕ
+  pub opened : IsOpen height level i nodes
+  pub parted :
+      (j : ℕ) → j / 2 ≡ i / 2 → j ≢ i → node_at nodes i ≡ whole_free level
+      → node_at nodes j ≢ whole_free level
 
 -- a tree with room for a block of that order
 pub record HasRoom (height order : ℕ) (nodes : List ℕ) : Type 0 where
@@ -79,6 +95,14 @@ pub record Found (height order i : ℕ) (nodes : List ℕ) : Type 0 where
   pub lent_is :
       lent_blocks height (slice_set nodes i 0)
       ≡ inserted (block (start_of height order i) order) (lent_blocks height nodes)
+
+-- node i is a free run, and so many steps down on its left side is the first block of the order
+pub record FoundRun (height order i : ℕ) (nodes : List ℕ) : Type 0 where
+  pub tree : IsTree height nodes
+  pub steps : ℕ
+  pub place : HasHeight height (steps + order) i
+  pub free : node_at nodes i ≡ whole_free (steps + order)
+  pub found : Found height order (i * 2 ^ steps) nodes
 
 -- all pages of a tree to be are free
 pub record ArePagesFree (height : ℕ) (nodes : List ℕ) : Type 0 where

@@ -2,11 +2,11 @@ ghost use Rattle.std.specs.Prelude.{◌≡◌, ◌≤◌, MatchOption};
 ghost use Rattle.std.specs.Bool.{OnTrue};
 ghost use Rattle.mq_tree.specs.Blocks.{block};
 ghost use Rattle.mq_tree.specs.LentSet.{left as without, is_lent};
-ghost use Rattle.mq_tree.specs.Trees.{IsTree, IsTreeOf, IsRunOf, IsNoRun, lent_blocks};
+ghost use Rattle.mq_tree.specs.Trees.{IsTree, IsTreeOf, IsFreed, IsParted, IsRunOf, IsNoRun, lent_blocks};
 
 use crate::close::close;
 use crate::limits::MAX_HEIGHT;
-use crate::node::{LENT, Node, free_run, pages_in};
+use crate::node::{LENT, Node, buddy, free_run, pages_in};
 
 // The node of that run of pages, if the arena has one.
 fn run_at(height: u8, start: u32, order: u8) -> Option<usize>
@@ -28,7 +28,23 @@ fn run_at(height: u8, start: u32, order: u8) -> Option<usize>
     Some(((all + start) / pages) as usize)
 }
 
-// Takes that block back, if it is lent, and merges buddies that are free on the way up.
+// Merges the free run of that node with its buddy, and on the way up as long as the buddy is free.
+fn join(nodes: &mut [Node], height: u8, order: u8, below: usize) -> usize
+    requires { IsFreed height order below nodes.old }
+    ensures parted { IsParted height result nodes.new }
+    ensures unchanged { lent_blocks height nodes.new ≡ lent_blocks height nodes.old }
+{
+    let mut at = below;
+    let mut free = free_run(order);
+    while nodes[buddy(at)] == free {
+        at /= 2;
+        free += 1;
+        nodes[at] = free;
+    }
+    at
+}
+
+// Takes that block back, if it is lent.
 pub(crate) fn give_in(nodes: &mut [Node], height: u8, start: u32, order: u8) -> bool
     requires { IsTree height nodes.old }
     ensures order { OnTrue result (order ≤ height) }
@@ -43,6 +59,7 @@ pub(crate) fn give_in(nodes: &mut [Node], height: u8, start: u32, order: u8) -> 
         return false;
     }
     nodes[at] = free_run(order);
-    close(nodes, height, order, at);
+    let run = join(nodes, height, order, at);
+    close(nodes, height, run);
     true
 }

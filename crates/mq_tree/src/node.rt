@@ -1,5 +1,5 @@
-ghost use Rattle.std.specs.Prelude.{◌≡◌, ◌+◌, ◌^◌, ◌≤◌};
-ghost use Rattle.mq_tree.specs.Nodes.{whole_free, parent, largest_under};
+ghost use Rattle.std.specs.Prelude.{◌≡◌, ◌≢◌, ◌/◌, ◌^◌, ◌≤◌};
+ghost use Rattle.mq_tree.specs.Nodes.{whole_free, largest_under};
 
 use crate::limits::MAX_HEIGHT;
 
@@ -11,7 +11,10 @@ pub(crate) type Node = u8;
 pub(crate) const LENT: Node = 0;
 
 /// A run in which no page is free, lent in parts.
-const FULL: Node = 1;
+pub(crate) const FULL: Node = 1;
+
+/// Node 0, over the root: larger than each other node, so that a way up ends there.
+pub(crate) const ROOF: Node = 255;
 
 // How many pages a block of this order has.
 pub(crate) fn pages_in(order: u8) -> u32
@@ -29,18 +32,12 @@ pub(crate) fn free_run(height: u8) -> Node
     height + 2
 }
 
-// The node over two halves, where it is not lent as one block.
-pub(crate) fn over(left: Node, right: Node, half: u8) -> Node
-    requires { half ≤ MAX_HEIGHT }
-    ensures { result ≡ parent half left right }
+// The node of the other half of the run that this node's run is a half of.
+pub(crate) fn buddy(node: usize) -> usize
+    ensures over { result / 2 ≡ node / 2 }
+    ensures other { result ≢ node }
 {
-    if left != right {
-        return left.max(right);
-    }
-    if left == free_run(half) {
-        return left + 1;
-    }
-    left.max(FULL)
+    node ^ 1
 }
 
 // The largest order that is free in that run.

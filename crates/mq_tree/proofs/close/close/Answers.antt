@@ -1,18 +1,27 @@
-use Rattle.std.proofs.Common.{◌≡◌, ◌∙◌, arith}
-use Rattle.mq_tree.specs.Nodes.{node_at}
-use Rattle.mq_tree.proofs.Closing.{closes_first, stays, next_over, all_closed}
+use Rattle.std.proofs.Common.{arith}
+use Rattle.mq_tree.proofs.Closing.{opened_in, buddy_in, half_in, closed, next_over}
 use Rattle.mq_tree.proofs.close.close.Goals as goal
 
-pub loop-half-init : goal.loop-half-init
-loop-half-init c = closes_first c.requires
+pub bounds-nodes-at : goal.bounds-nodes-at
+bounds-nodes-at c = opened_in c.requires.opened
 
-pub returns-then-node-nodes : goal.returns-then-node-nodes
-returns-then-node-nodes c =
-    let same : node_at c.loop-half.nodes c.loop-half.at ≡ c.over-node.result = omega (arith, c.if-node-nodes.true) in
-    record { tree = stays c.loop-half.invariant c.loop-half-test.true (same ∙ c.over-node.ensures); lent_is = c.loop-half.invariant.lent_is }
+pub bounds-nodes-buddy : goal.bounds-nodes-buddy
+bounds-nodes-buddy c = buddy_in c.loop-node.invariant.parted.opened c.buddy.result c.buddy.ensures.over c.buddy.ensures.other
 
-pub loop-half-preserved : goal.loop-half-preserved
-loop-half-preserved c = next_over c.loop-half.invariant c.loop-half-test.true c.over-node.result c.over-node.ensures
+pub bounds-nodes-at-in-loop-node : goal.bounds-nodes-at-in-loop-node
+bounds-nodes-at-in-loop-node c = half_in c.loop-node.invariant.parted.opened
 
-pub returns : goal.returns
-returns c = record { tree = all_closed c.loop-half.invariant (omega (arith, c.loop-half-test.false)); lent_is = c.loop-half.invariant.lent_is }
+pub returns-then-node-over : goal.returns-then-node-over
+returns-then-node-over c = record {
+  tree = closed c.loop-node.invariant c.buddy.result c.buddy.ensures.over c.buddy.ensures.other (omega (arith, c.max-node-in-loop-node.ensures, c.if-node-over.true));
+  lent_is = c.loop-node.invariant.lent_is;
+}
+
+pub bounds-nodes-at-in-loop-node-2 : goal.bounds-nodes-at-in-loop-node-2
+bounds-nodes-at-in-loop-node-2 c = half_in c.loop-node.invariant.parted.opened
+
+pub loop-node-preserved : goal.loop-node-preserved
+loop-node-preserved c =
+    rw c.max-node-in-loop-node.ensures
+    (next_over c.loop-node.invariant c.buddy.result c.buddy.ensures.over c.buddy.ensures.other
+    (λ e. omega (arith, c.if-node-over.false, c.max-node-in-loop-node.ensures, e)))

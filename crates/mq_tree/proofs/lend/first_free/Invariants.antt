@@ -1,9 +1,8 @@
-use Rattle.std.proofs.Common.{◌-◌}
-use Rattle.mq_tree.proofs.Lending.{Down}
+use Rattle.mq_tree.proofs.Lending.{DownTo}
 use Rattle.mq_tree.proofs.lend.first_free.Given as goal
 
-abbrev pub invariant-loop-level : goal.invariant-loop-level
-invariant-loop-level l = Down l.height l.order l.level l.at l.nodes
+abbrev pub invariant-loop-at : goal.invariant-loop-at
+invariant-loop-at l = DownTo l.height l.order l.whole l.at l.nodes
 
-abbrev pub decreases-loop-level : goal.decreases-loop-level
-decreases-loop-level l = l.level - l.order
+abbrev pub decreases-loop-at : goal.decreases-loop-at
+decreases-loop-at l = l.whole
