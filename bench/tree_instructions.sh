@@ -2,7 +2,8 @@
 # Counts the instructions of one page lent and given back, at heights 5 and 10, in an arena that is
 # empty, half full, or full but for its last page: `bench/tree_instructions.sh`. Wants valgrind.
 # A figure is the difference of two runs of the program, by the pairs that one makes more. Fails if
-# a pair at height 10 takes more than 500 instructions, or more than 2.5 times those at height 5.
+# a pair at height 10 takes more instructions than is wanted of its arena, or more than 2.5 times
+# those at height 5.
 set -euo pipefail
 cd "$(dirname "$0")/.."
 (cd crates/bench && rt run > /dev/null)
@@ -13,6 +14,7 @@ import sys
 
 PROGRAM = ["crates/bench/out/bench", "tree"]
 FREE = {"empty": lambda pages: pages, "half": lambda pages: pages // 2, "last": lambda pages: 1}
+WANTED = {"empty": 250, "half": 200, "last": 400}
 FEW, MORE = 1000, 11000
 
 
@@ -34,8 +36,8 @@ missed = 0
 print("arena      height 5  height 10  ratio")
 for state in FREE:
     low, high = pair(5, state), pair(10, state)
-    over = high > 500 or high > 2.5 * low
+    over = high > WANTED[state] or high > 2.5 * low
     missed += over
     print(f"{state:9}  {low:8.0f}  {high:9.0f}  {high / low:5.2f}{'  over' if over else ''}")
-sys.exit("over 500 instructions, or 2.5 times those at height 5" if missed else 0)
+sys.exit("over what is wanted, or 2.5 times those at height 5" if missed else 0)
 PYTHON
