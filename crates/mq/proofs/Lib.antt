@@ -1,6 +1,8 @@
+pub mod BatchLemmas
 pub mod EitherLemmas
 pub mod FreeLemmas
 pub mod LawLemmas
+pub mod LocalBatchLemmas
 pub mod LocalLemmas
 pub mod ReceiptLemmas
 pub mod ReceiveLemmas

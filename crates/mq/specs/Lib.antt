@@ -5,6 +5,8 @@ pub mod Either
 pub mod Ended
 pub mod Laws
 pub mod Local
+pub mod LocalBatches
 pub mod Moments
+pub mod ValueBatches
 pub mod Values
 pub mod Workers

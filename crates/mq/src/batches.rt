@@ -31,7 +31,7 @@ pub struct BatchReceived<T> {
 
 impl<T> BatchReceived<T> {
     /// None, for this refusal, before the queues were asked.
-    fn none(alloc: Global, errno: Errno) -> BatchReceived<T>
+    pub(crate) fn none(alloc: Global, errno: Errno) -> BatchReceived<T>
         ensures texts { result.texts.items ≡ [] }
         ensures ended { result.ended ≡ Err (refused_early errno) }
     {

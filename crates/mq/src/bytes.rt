@@ -47,7 +47,8 @@ pub(crate) fn send_bytes<L: Ledger>(
 /// Copies a text's bytes into a vector that has room for them.
 pub(crate) fn copy_out<L: Ledger>(text: &Text<L>, bytes: &mut Vec<u8>)
     requires { vec_len bytes.old + length text.now.bytes ≤ vec_capacity bytes.old }
-    ensures { bytes.new.items ≡ bytes.old.items ++ text.now.bytes }
+    ensures items { bytes.new.items ≡ bytes.old.items ++ text.now.bytes }
+    ensures capacity { vec_capacity bytes.old ≤ vec_capacity bytes.new }
 {
     for part in text.parts() {
         match bytes.extend_from_slice(part) {

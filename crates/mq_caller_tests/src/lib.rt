@@ -36,8 +36,12 @@ mod callers;
 #[cfg(test)]
 mod forms;
 #[cfg(test)]
+mod local_batches;
+#[cfg(test)]
 mod locals;
 #[cfg(test)]
 mod runs;
 #[cfg(test)]
 mod seats;
+#[cfg(test)]
+mod value_batches;

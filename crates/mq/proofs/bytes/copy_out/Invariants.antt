@@ -7,3 +7,4 @@ abbrev pub invariant-loop-part : goal.invariant-loop-part
 invariant-loop-part g l =
     (l.bytes.items ++ concat l.part-iterator ≡ l.initial.bytes.items ++ l.fn.text.bytes)
     × (vec_len l.bytes + length (concat l.part-iterator) ≤ vec_capacity l.bytes)
+    × (vec_capacity l.initial.bytes ≤ vec_capacity l.bytes)
