@@ -129,7 +129,7 @@ struct Told {
 }
 
 /// How a call ended; a call that found no memory is to be made again.
-fn ended(ended: Result<(), Refused>) -> Result<Option<Refused>, Errno> {
+fn refusal_of(ended: Result<(), Refused>) -> Result<Option<Refused>, Errno> {
     match ended {
         Ok(()) => Ok(None),
         Err(refused) if refused.errno == Errno::ENOMEM => Err(Errno::ENOMEM),
@@ -180,7 +180,7 @@ fn sends<C: Batches>(caller: &mut C, id: Id, types: &[i64]) -> Result<Told, Errn
     drafted?;
     Ok(Told {
         texts: left.min(99) + 100 * sent.first.unwrap_or(99).min(99),
-        ended: ended(sent.ended)?,
+        ended: refusal_of(sent.ended)?,
     })
 }
 
@@ -191,8 +191,8 @@ fn takes<C: Batches>(
     selection: Selection,
     most: usize,
 ) -> Result<Told, Errno> {
-    let received = caller.receive_texts(id, selection, most);
-    let mut texts = received.texts;
+    let BatchReceived { texts, ended } = caller.receive_texts(id, selection, most);
+    let mut texts = texts;
     let mut all = 1u64;
     while let Some(delivered) = texts.pop_front() {
         let parts = [
@@ -210,7 +210,7 @@ fn takes<C: Batches>(
     texts.destroy_empty();
     Ok(Told {
         texts: all,
-        ended: ended(received.ended)?,
+        ended: refusal_of(ended)?,
     })
 }
 

@@ -1,7 +1,7 @@
 use Rattle.std.proofs.Common.{rules, arith, ◌≡◌, ◌+◌, ◌-◌, ◌<◌, length, Ok, Err, ap, ◌∙◌, length-append}
 use Rattle.mq_system.specs.SeenMany.{AreSent}
 use Rattle.mq_system.specs.declared.many.TheConstants.{MAX_BATCH}
-use Rattle.mq.specs.ValueBatches.{AreDrafted}
+use Rattle.mq.specs.ValueBatches.{AreDrafted, AreValuesSent}
 use Rattle.mq.proofs.BatchLemmas.{all_sent, none_sent, some_sent}
 use Rattle.mq.proofs.caller.Caller.send_values_within.Goals as goal
 
@@ -29,9 +29,16 @@ returns-in-Ok-ended-clause-answer g c =
     ap length sent.split ∙ length-append sent.sent left in
     let counted : (c.len-count.result - c.len.result) + length left ≡ length drafts =
     search (rules, arith, long) in
+    let told : AreValuesSent g.P.Value.Wire.bytes_of slots g.N.Names.height c.args.id g.T.Patience.ends moment seat
+    new c.args.letters.now (record {
+      count = c.len-count.result - c.len.result;
+      first = first;
+      ended = c.draft_values-drafted.result;
+    }) =
     all_sent g.P.Value.Wire.bytes_of slots c.args.id g.N.Names.height moment g.T.Patience.ends seat new
     c.args.letters.now drafts left first c.draft_values-drafted.result (c.len-count.result - c.len.result)
-    drafted sent counted
+    drafted sent counted in
+    search (rules, told)
 
 pub returns-in-Err-clause-answer : goal.returns-in-Err-clause-answer
 returns-in-Err-clause-answer g c =
@@ -52,6 +59,13 @@ returns-in-Err-clause-answer g c =
     ap length sent.split ∙ length-append sent.sent left in
     let counted : (c.len-count.result - c.len.result) + length left ≡ length drafts =
     search (rules, arith, long) in
+    let told : AreValuesSent g.P.Value.Wire.bytes_of slots g.N.Names.height c.args.id g.T.Patience.ends moment seat
+    new c.args.letters.now (record {
+      count = c.len-count.result - c.len.result;
+      first = first;
+      ended = Err c.in-Err.refused;
+    }) =
     some_sent g.P.Value.Wire.bytes_of slots c.args.id g.N.Names.height moment g.T.Patience.ends seat new
     c.args.letters.now drafts left first c.draft_values-drafted.result c.in-Err.refused
-    (c.len-count.result - c.len.result) drafted sent counted
+    (c.len-count.result - c.len.result) drafted sent counted in
+    search (rules, told)
