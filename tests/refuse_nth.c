@@ -1,6 +1,7 @@
 /* Preloaded before a program: its allocation number $REFUSE_NTH, from 1, finds no memory, and the
-   file $REFUSE_MARK is made. The allocations of all its threads are counted together, so in a
-   program of several threads the same number may be another's in another run. */
+   file $REFUSE_MARK is made; with $REFUSE_STEP so does each so many behind it. The allocations of all
+   its threads are counted together, so in a program of several threads the same number may be
+   another's in another run. */
 #define _GNU_SOURCE
 #include <dlfcn.h>
 #include <errno.h>
@@ -11,15 +12,24 @@
 #include <unistd.h>
 
 static atomic_long made;
-/* Which one, once it was asked for: to read it at each allocation would take longer than these. */
-static atomic_long nth = -1;
+/* Which one, and how many further each next one is, once it was asked for: to read it at each
+   allocation would take longer than these. */
+static atomic_long nth = -1, step;
+
+static long number(const char *name) {
+    const char *told = getenv(name);
+    return told ? atol(told) : 0;
+}
 
 static int refused(void) {
     if (nth == -1) {
-        const char *told = getenv("REFUSE_NTH");
-        nth = told ? atol(told) : 0;
+        step = number("REFUSE_STEP");
+        nth = number("REFUSE_NTH");
     }
-    if (nth == 0 || atomic_fetch_add(&made, 1) + 1 != nth)
+    if (nth == 0)
+        return 0;
+    long behind = atomic_fetch_add(&made, 1) + 1 - nth;
+    if (behind != 0 && (behind < 0 || step == 0 || behind % step != 0))
         return 0;
     const char *mark = getenv("REFUSE_MARK");
     if (mark)

@@ -15,7 +15,7 @@ import re
 from types import SimpleNamespace
 
 SLOTS, LAST_SEQ, PAGES = 3, 9999, 1024
-MSGMAX, MSGMNB = 65536, 131072
+MSGMAX, MSGMNB, MAX_BATCH = 65536, 131072, 64
 
 # What can be wrong with a reply.
 FAULTS = {
@@ -30,6 +30,9 @@ FAULTS = {
     "other refusal": "what stood before its entry gives another refusal, or none",
     "not early": "it is refused by its arguments alone, which allow it, or the other way round",
     "did not wait": "it is refused where it was to wait",
+    "not in turn": "its texts are not at consecutive entries, or the next is refused at another",
+    "other count": "it did more texts than it was to, or fewer and none was refused",
+    "other rest": "what came back are not the letters behind those that were sent",
     "never shown": "its row or its figures were not to be seen any more, or never",
     "other flags": "its flags allow no such answer of msgget",
     "other key": "its key was there, or was not",
@@ -144,6 +147,19 @@ def selection_of(asked):
     if asked.msgtyp < 0:
         return ["UpTo", -asked.msgtyp]
     return ["Except" if getattr(asked, "except") else "Exact", asked.msgtyp]
+
+
+def msgtyp_of(selection):
+    """The msgtyp that selects so, and whether MSG_EXCEPT does; or None where no message has such a
+    type."""
+    match selection:
+        case "Any":
+            return 0, False
+        case ["Exact" | "Except" as name, mtype] if mtype > 0:
+            return mtype, name == "Except"
+        case ["UpTo", bound] if 0 < bound <= 2 ** 63:
+            return -bound, False
+    return None
 
 
 def pick(waiting, selection):
@@ -371,6 +387,47 @@ class Seen:
             raise Fault("other bytes")
         self.made(slot, handed.entry, call)
 
+    def sent_texts(self, call, first, left, ended):
+        """Letters were sent by one call, as by so many of msgsnd; the others came back."""
+        letters, done = call.asked.letters, done_by(call)
+        if done < 0 or letters[done:] != left:
+            raise Fault("other rest")
+        if (first is None) != (done == 0):
+            raise Fault("not in turn")
+        for place, letter in enumerate(letters[:done]):
+            asked = sending_of(call.asked, letter, place)
+            self.made(slot_of(asked), first + place, changed(call, asked=asked))
+        self.ended(ended, done, min(len(letters), MAX_BATCH), (first or 0) + done,
+                   left and sending_of(call.asked, left[0], done))
+
+    def handed_texts(self, call, handed, ended):
+        """Texts were received by one call, as by so many of msgrcv."""
+        if msgtyp_of(call.asked.selection) is None:
+            if handed or ended != ["Refused", "EINVAL", None]:
+                raise Fault("not early")
+            return
+        # There was no memory to hand texts out, and no queue was asked.
+        if not handed and ended == ["Refused", "ENOMEM", None]:
+            return
+        first = handed[0].entry if handed else 0
+        for place, message in enumerate(handed):
+            if message.entry != first + place:
+                raise Fault("not in turn")
+            self.handed(changed(call, asked=receipt_of(call.asked, place)), message)
+        self.ended(ended, len(handed), min(call.asked.most, MAX_BATCH), first + len(handed),
+                   receipt_of(call.asked, len(handed)))
+
+    def ended(self, ended, done, most, entry, asked):
+        """A call of several texts did so many, up to this entry, and at most so many; then none was
+        left to do, or the next call of one, this, was refused."""
+        if done > most or (done == most) != (ended == "All"):
+            raise Fault("other count")
+        match ended:
+            case ["Refused", errno, at]:
+                if done and at not in (None, entry):
+                    raise Fault("not in turn")
+                self.refused(asked, errno, at)
+
     def refused(self, asked, errno, entry):
         """A call of a queue was refused, after so many entries where that is told."""
         if is_early(asked) != (entry is None) or entry is None and errno != "EINVAL":
@@ -481,6 +538,10 @@ class Seen:
                 self.cut(asked.slot, end)
             case "Receive", ["Handed", handed]:
                 self.handed(call, handed)
+            case "SendTexts", ["SentTexts", first, left, ended]:
+                self.sent_texts(call, first, left, ended)
+            case "ReceiveTexts", ["HandedTexts", handed, ended]:
+                self.handed_texts(call, handed, ended)
             case ("Send" | "Set", ["Done", entry]) | ("Remove", ["Removed", entry]):
                 self.made(slot_of(asked), entry, call)
             case "Send" | "Receive" | "Set" | "Remove" | "Cut", ["Refused", errno, entry]:
@@ -500,6 +561,45 @@ def slot_of(asked):
 def is_early(asked):
     """Whether the arguments alone refuse the call of a queue."""
     return slot_of(asked) >= SLOTS or asked.kind == "Send" and asked.mtype < 1
+
+
+def may_not_wait(asked, place):
+    """Whether a call of several texts does not wait for the one at this place: it waits for the
+    first alone."""
+    return place > 0 or asked.how_long != "Forever"
+
+
+def sending_of(asked, letter, place):
+    """The call of msgsnd for this letter of a call of several."""
+    return record("Send", id=asked.id, mtype=letter.mtype, tag=letter.tag, length=letter.length,
+                  nowait=may_not_wait(asked, place))
+
+
+def receipt_of(asked, place):
+    """The call of msgrcv for the text at this place of a call of several."""
+    msgtyp, is_except = msgtyp_of(asked.selection)
+    return record("Receive", id=asked.id, size=asked.size, msgtyp=msgtyp,
+                  noerror=asked.noerror, nowait=may_not_wait(asked, place), **{"except": is_except})
+
+
+def handed_by(call):
+    """The messages that a call handed out."""
+    match call.answer:
+        case ["Handed", handed]:
+            return [handed]
+        case ["HandedTexts", handed, _]:
+            return handed
+    return []
+
+
+def done_by(call):
+    """How many texts a call of several sent or received, or None for another call."""
+    match call.answer:
+        case ["SentTexts", _, left, _]:
+            return len(call.asked.letters) - len(left)
+        case ["HandedTexts", handed, _]:
+            return len(handed)
+    return None
 
 
 def judge_calls(seat, histories):
@@ -539,8 +639,7 @@ def judge(told):
     cuts = [[cut for seat in told.seats for cut in seat.cuts if cut.slot == slot]
             for slot in range(SLOTS)]
     histories = [History(slot, cuts[slot], end) for slot, (end, _) in enumerate(told.ends)]
-    tags = [call.answer[1].tag for seat in told.seats for call in seat.calls
-            if call.answer[0] == "Handed"]
+    tags = [handed.tag for seat in told.seats for call in seat.calls for handed in handed_by(call)]
     if len(set(tags)) != len(tags):
         raise Flaw("twice")
     changes = [judge_seat(seat, histories) for seat in told.seats]

@@ -1,11 +1,13 @@
 //! Calls of a system, each with the answer that is kept.
 
+use crate::batches::{receive_texts, send_texts};
 use crate::calls::{Answer, Asked, Handed, Kept, KeptCut, KeptLog, SLOTS, byte_of};
 use mq::{
-    BoardRow, Delivered, Figures, GetFlags, Id, Names, Pledge, RecvFlags, Refused, Removal, Seat,
-    SendFlags, System, TextOf,
+    BoardRow, Caller, Delivered, Figures, GetFlags, Id, Moments, Names, Pledge, RecvFlags, Refused,
+    Removal, Seat, SendFlags, System, TextOf,
 };
 use std::sync::Wait;
+use std::time::Clock;
 
 /// Nothing is pledged: what comes is looked at when it came.
 pub(crate) struct Nothing;
@@ -49,7 +51,7 @@ fn get<N: Names, R: Wait>(
 }
 
 /// The text with this tag, or `None` where there are no pages or no memory for it.
-fn drafted<N: Names, R: Wait>(
+pub(crate) fn drafted<N: Names, R: Wait>(
     rt: &R,
     system: &System<Nothing, N>,
     room: &mut [u8],
@@ -90,7 +92,7 @@ fn send<N: Names, R: Wait>(
 }
 
 /// What came, with a look at each byte.
-fn handed<N: Names>(delivered: &Delivered<TextOf<N>>) -> Handed {
+pub(crate) fn handed<N: Names>(delivered: &Delivered<TextOf<N>>) -> Handed {
     let mut came = 0u64;
     let mut as_sent = true;
     for part in delivered.text.parts() {
@@ -221,30 +223,25 @@ pub(crate) fn counts<N: Names>(system: &System<Nothing, N>, seat: &Seat<N>) -> [
     [seat.count(0), seat.count(1), seat.count(2)]
 }
 
-/// The answer to this call; the log of a queue that it removes is kept, and what it cuts off.
-/// `None` where a text was not drafted, and no call was made.
-pub(crate) fn answer<N: Names, R: Wait>(
+/// The answer to a call of one text.
+fn answer_of_text<N: Names, R: Wait>(
     rt: &R,
     system: &System<Nothing, N>,
     seat: &mut Seat<N>,
-    kept: &mut Kept,
-    asked: Asked,
+    room: &mut [u8],
+    asked: &Asked,
     moment: u64,
 ) -> Option<Answer> {
-    match asked {
-        Asked::Get { key, flags } => Some(get(rt, system, seat, key, flags, moment)),
+    match *asked {
         Asked::Send {
             id,
             mtype,
             tag,
             length,
             nowait,
-        } => {
-            let room = kept.text.as_mut_slice();
-            send(
-                rt, system, seat, room, id, mtype, tag, length, nowait, moment,
-            )
-        }
+        } => send(
+            rt, system, seat, room, id, mtype, tag, length, nowait, moment,
+        ),
         Asked::Receive {
             id,
             size,
@@ -260,10 +257,58 @@ pub(crate) fn answer<N: Names, R: Wait>(
             };
             Some(receive(rt, system, seat, id, size, msgtyp, flags, moment))
         }
+        _ => None,
+    }
+}
+
+/// The answer to a call of no text; the log of a queue that it removes is kept, and what it cuts
+/// off.
+fn answer_of_queue<N: Names, R: Wait>(
+    rt: &R,
+    system: &System<Nothing, N>,
+    seat: &mut Seat<N>,
+    kept: &mut Kept,
+    asked: &Asked,
+    moment: u64,
+) -> Option<Answer> {
+    match *asked {
+        Asked::Get { key, flags } => Some(get(rt, system, seat, key, flags, moment)),
         Asked::Set { id, qbytes } => Some(set(rt, system, seat, id, qbytes, moment)),
         Asked::Remove { id } => Some(remove(rt, system, seat, &mut kept.logs, id, moment)),
         Asked::Stat { id } => Some(stat(system, seat, id)),
         Asked::Cut { slot } => cut(rt, system, seat, &mut kept.cuts, slot),
         Asked::Report => Some(Answer::Rows(report(system, seat)?)),
+        _ => None,
+    }
+}
+
+/// The answer to this call. `None` where a text was not drafted, or there was no memory to keep
+/// the answer in, and no call was made.
+pub(crate) fn answer<N: Names, R: Wait + Clock>(
+    caller: &mut Caller<'_, Nothing, N, R>,
+    kept: &mut Kept,
+    asked: &Asked,
+    moment: u64,
+) -> Option<Answer> {
+    let (rt, system, room) = (caller.rt, caller.system, kept.text.as_mut_slice());
+    caller.moments = Moments::at(moment);
+    match asked {
+        Asked::Send { .. } | Asked::Receive { .. } => {
+            answer_of_text(rt, system, &mut caller.seat, room, asked, moment)
+        }
+        Asked::SendTexts {
+            id,
+            how_long,
+            letters,
+        } => send_texts(caller, room, *id, *how_long, letters.as_slice()),
+        Asked::ReceiveTexts {
+            id,
+            selection,
+            size,
+            noerror,
+            most,
+            how_long,
+        } => receive_texts(caller, *id, *selection, *size, *noerror, *most, *how_long),
+        _ => answer_of_queue(rt, system, &mut caller.seat, kept, asked, moment),
     }
 }

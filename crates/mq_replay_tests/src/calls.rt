@@ -1,13 +1,30 @@
 //! What a seat keeps of each of its calls.
 
-use mq::{Base, BoardRow, Cut, Errno, Event, Figures, GetFlags, MSGMAX};
+use mq::{Base, BoardRow, Cut, Errno, Event, Figures, GetFlags, MSGMAX, Selection};
 use std::alloc::{AllocError, Global};
 
 /// How many slots there are.
 pub(crate) const SLOTS: usize = 3;
 
-/// What a call asks for. An id is its number, and a text is told by its length and its tag.
+/// A letter of a call that sends several.
 #[derive(Clone, Copy, Debug)]
+pub(crate) struct KeptLetter {
+    pub(crate) mtype: i64,
+    pub(crate) tag: u64,
+    pub(crate) length: u64,
+}
+
+/// How long a call of several texts waits.
+#[derive(Clone, Copy, Debug)]
+pub(crate) enum HowLong {
+    Forever,
+    NoWait,
+    /// So many microseconds.
+    Within(u64),
+}
+
+/// What a call asks for. An id is its number, and a text is told by its length and its tag.
+#[derive(Debug, Drop)]
 pub(crate) enum Asked {
     Get {
         key: i32,
@@ -27,6 +44,19 @@ pub(crate) enum Asked {
         except: bool,
         noerror: bool,
         nowait: bool,
+    },
+    SendTexts {
+        id: u32,
+        how_long: HowLong,
+        letters: Vec<KeptLetter>,
+    },
+    ReceiveTexts {
+        id: u32,
+        selection: Selection,
+        size: u64,
+        noerror: bool,
+        most: usize,
+        how_long: HowLong,
     },
     Set {
         id: u32,
@@ -59,14 +89,26 @@ pub(crate) struct Handed {
     pub(crate) as_sent: bool,
 }
 
-/// What a call was answered.
+/// Why a call of several texts did no more.
 #[derive(Clone, Copy, Debug)]
+pub(crate) enum BatchEnd {
+    /// It did as many as it was asked for, or as one call does.
+    All,
+    /// Why the next one was refused, and after how many entries, where that is told.
+    Refused(Errno, Option<u64>),
+}
+
+/// What a call was answered.
+#[derive(Debug, Drop)]
 pub(crate) enum Answer {
     /// The id, and the entry of a making.
     Got(u32, Option<u64>),
     /// The entry of a sending or of a new quota.
     Done(u64),
     Handed(Handed),
+    /// The entry of the first letter that was sent, and the letters that came back.
+    SentTexts(Option<u64>, Vec<KeptLetter>, BatchEnd),
+    HandedTexts(Vec<Handed>, BatchEnd),
     /// The entry of a removal.
     Removed(u64),
     Shown(Figures),
@@ -77,7 +119,7 @@ pub(crate) enum Answer {
     Refused(Errno, Option<u64>),
 }
 
-#[derive(Clone, Copy, Debug)]
+#[derive(Debug, Drop)]
 pub(crate) struct Call {
     pub(crate) moment: u64,
     pub(crate) asked: Asked,
@@ -131,6 +173,15 @@ impl Kept {
             cuts,
             text,
         })
+    }
+
+    /// Keeps a call with its answer.
+    pub(crate) fn add(&mut self, moment: u64, asked: Asked, answer: Answer) {
+        let _ = self.calls.push(Call {
+            moment,
+            asked,
+            answer,
+        });
     }
 }
 

@@ -1,8 +1,9 @@
 //! What a seat asks for next: numbers that look random and are the same in each run.
 ghost use Rattle.std.specs.Prelude.{◌<◌};
 
-use crate::calls::{Answer, Asked, SLOTS};
+use crate::calls::{Answer, Asked, BatchEnd, SLOTS};
 use mq::{Errno, GetFlags};
+use std::alloc::Global;
 
 /// How many of each 64 calls are of each kind. Sends and receipts are together so many, by turns
 /// more of the one and more of the other, so that queues fill and empty.
@@ -18,6 +19,9 @@ const STATS: u64 = 6;
 
 /// Of how many calls about one cuts a slot's list.
 const TO_A_CUT: u64 = 200;
+
+/// Of how many calls about one is of several texts.
+const TO_A_BATCH: u64 = 12;
 
 /// After so many calls a seat that mostly sent mostly receives.
 const TURN: u64 = 64;
@@ -57,7 +61,7 @@ impl Chooser {
     }
 
     /// Whether one of so many is chosen.
-    fn one_of(&mut self, count: u64) -> bool
+    pub(crate) fn one_of(&mut self, count: u64) -> bool
         requires { 0 < count }
     {
         self.below(count) == 0
@@ -86,7 +90,7 @@ impl Chooser {
         }
     }
 
-    fn id(&mut self) -> u32 {
+    pub(crate) fn id(&mut self) -> u32 {
         let slot = self.slot();
         self.id_in(u32::from(slot))
     }
@@ -115,15 +119,21 @@ impl Chooser {
         }
     }
 
-    pub(crate) fn send(&mut self, tag: u64, nowait: bool) -> Asked {
-        let mtype = if self.one_of(32) {
+    /// A type, of so many about one that no message has.
+    pub(crate) fn mtype(&mut self, to_none: u64) -> i64
+        requires { 0 < to_none }
+    {
+        if self.one_of(to_none) {
             0
         } else {
             self.below(5) as i64 + 1
-        };
+        }
+    }
+
+    pub(crate) fn send(&mut self, tag: u64, nowait: bool) -> Asked {
         Asked::Send {
             id: self.id(),
-            mtype,
+            mtype: self.mtype(32),
             tag,
             length: self.length(),
             nowait,
@@ -182,20 +192,29 @@ impl Chooser {
         }
     }
 
-    /// What is asked for after so many calls, of which none waits.
-    pub(crate) fn next(&mut self, step: u64, tag: u64) -> Asked {
+    /// What is asked for after so many calls, of which none waits for good. `None` where there is
+    /// no memory for it.
+    pub(crate) fn next(&mut self, alloc: Global, step: u64, tag: u64) -> Option<Asked> {
         if self.lost {
             self.lost = false;
-            return if self.one_of(2) {
+            return Some(if self.one_of(2) {
                 Asked::Report
             } else {
                 self.get()
-            };
+            });
         }
         if self.one_of(TO_A_CUT) {
-            return Asked::Cut { slot: self.slot() };
+            return Some(Asked::Cut { slot: self.slot() });
         }
-        let sends = if step / TURN % 2 == 0 { 30 } else { 14 };
+        if self.one_of(TO_A_BATCH) {
+            return self.batch(alloc, step, tag);
+        }
+        Some(self.next_of_one(step, tag))
+    }
+
+    /// What is asked for after so many calls, which is not of several texts.
+    fn next_of_one(&mut self, step: u64, tag: u64) -> Asked {
+        let sends = if mostly_sends(step) { 30 } else { 14 };
         let kind = self.below(64);
         if kind < GETS {
             self.get()
@@ -224,8 +243,15 @@ impl Chooser {
                 }
             }
             Answer::Rows(rows) => self.made = [rows[0].made, rows[1].made, rows[2].made],
-            Answer::Refused(Errno::EIDRM | Errno::EINVAL, _) => self.lost = true,
+            Answer::Refused(Errno::EIDRM | Errno::EINVAL, _)
+            | Answer::SentTexts(_, _, BatchEnd::Refused(Errno::EIDRM, _))
+            | Answer::HandedTexts(_, BatchEnd::Refused(Errno::EIDRM, _)) => self.lost = true,
             _ => (),
         }
     }
+}
+
+/// Whether a seat sends more than it receives after so many calls.
+pub(crate) fn mostly_sends(step: u64) -> bool {
+    step / TURN % 2 == 0
 }

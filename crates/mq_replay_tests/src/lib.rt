@@ -6,6 +6,10 @@
 #[cfg(test)]
 mod asks;
 #[cfg(test)]
+mod batch_chooser;
+#[cfg(test)]
+mod batches;
+#[cfg(test)]
 mod calls;
 #[cfg(test)]
 mod chooser;

@@ -1,22 +1,23 @@
 //! What each thread does.
 
 use crate::asks::{Nothing, answer, counts, report};
-use crate::calls::{Answer, Asked, Call, Kept, Told};
+use crate::calls::{Answer, Asked, HowLong, Kept, Told};
 use crate::chooser::Chooser;
-use mq::{Caller, Errno, Names, Seat, System, Worker};
+use mq::{Caller, Errno, Names, Worker};
 use std::sync::Wait;
 use std::sync::atomic::{AtomicU32, Ordering};
 use std::thread::yield_now;
 use std::time::Clock;
 
-/// A seat's first calls do not wait, up to this one; the next ones may; and the last ones do not.
+/// A seat's first calls do not wait for good, up to this one; the next ones may; and the last ones
+/// do not.
 const FIRST: u64 = 300;
 
 const WAITING: u64 = 340;
 
 pub(crate) const ALL: u64 = 380;
 
-/// Makes calls that do not wait, then calls that may, and then more that do not.
+/// Makes calls that do not wait for good, then calls that may, and then more that do not.
 ///
 /// It ends in every schedule. Each worker that is through with its first calls adds one to
 /// `through`, and the last one to do so removes each queue that is there, again where there was no
@@ -36,36 +37,17 @@ pub(crate) struct Asker<'a> {
     pub(crate) kept: Kept,
 }
 
-/// Makes a call, and keeps it with its answer. `None` where no call was made.
-fn make<N: Names, R: Wait>(
-    rt: &R,
-    system: &System<Nothing, N>,
-    seat: &mut Seat<N>,
-    kept: &mut Kept,
-    asked: Asked,
-    moment: u64,
-) -> Option<Answer> {
-    let answer = answer(rt, system, seat, kept, asked, moment)?;
-    let _ = kept.calls.push(Call {
-        moment,
-        asked,
-        answer,
-    });
-    Some(answer)
-}
-
-/// Makes a call, of whose answer the chooser learns.
-fn ask<N: Names, R: Wait>(
-    rt: &R,
-    system: &System<Nothing, N>,
-    seat: &mut Seat<N>,
+/// Makes a call, of whose answer the chooser learns, and keeps it.
+fn ask<N: Names, R: Wait + Clock>(
+    caller: &mut Caller<'_, Nothing, N, R>,
     chooser: &mut Chooser,
     kept: &mut Kept,
     asked: Asked,
     moment: u64,
 ) {
-    if let Some(answer) = make(rt, system, seat, kept, asked, moment) {
+    if let Some(answer) = answer(caller, kept, &asked, moment) {
         chooser.learn(&answer);
+        kept.add(moment, asked, answer);
     }
 }
 
@@ -74,20 +56,20 @@ fn stamp(number: u16, step: u64) -> u64 {
     u64::from(number).wrapping_mul(10_000).wrapping_add(step)
 }
 
-/// The calls between these numbers, which do not wait. Now and then others are let go first.
-fn steps<N: Names, R: Wait>(
-    rt: &R,
-    system: &System<Nothing, N>,
-    seat: &mut Seat<N>,
+/// The calls between these numbers, which wait for nobody, or not long. Now and then others are let
+/// go first.
+fn steps<N: Names, R: Wait + Clock>(
+    caller: &mut Caller<'_, Nothing, N, R>,
     chooser: &mut Chooser,
     kept: &mut Kept,
     from: u64,
     to: u64,
 ) {
     for step in from..to {
-        let moment = stamp(seat.number(), step);
-        let asked = chooser.next(step, moment);
-        ask(rt, system, seat, chooser, kept, asked, moment);
+        let moment = stamp(caller.number(), step);
+        if let Some(asked) = chooser.next(caller.alloc, step, moment) {
+            ask(caller, chooser, kept, asked, moment);
+        }
         if chooser.below(4) == 0 {
             yield_now();
         }
@@ -95,62 +77,58 @@ fn steps<N: Names, R: Wait>(
 }
 
 /// The calls that may wait.
-fn waits<N: Names, R: Wait>(
-    rt: &R,
-    system: &System<Nothing, N>,
-    seat: &mut Seat<N>,
+fn waits<N: Names, R: Wait + Clock>(
+    caller: &mut Caller<'_, Nothing, N, R>,
     chooser: &mut Chooser,
     kept: &mut Kept,
 ) {
     for step in FIRST..WAITING {
-        let moment = stamp(seat.number(), step);
-        let asked = match chooser.below(2) {
-            0 => chooser.send(moment, false),
-            _ => chooser.receive(false),
+        let moment = stamp(caller.number(), step);
+        let asked = match chooser.below(8) {
+            0..=2 => Some(chooser.send(moment, false)),
+            3..=5 => Some(chooser.receive(false)),
+            6 => chooser.send_texts(caller.alloc, moment, HowLong::Forever),
+            _ => Some(chooser.receive_texts(HowLong::Forever)),
         };
-        ask(rt, system, seat, chooser, kept, asked, moment);
+        if let Some(asked) = asked {
+            ask(caller, chooser, kept, asked, moment);
+        }
     }
 }
 
 /// Removes this queue; a call for which there was no memory is made again.
-fn remove<N: Names, R: Wait>(
-    rt: &R,
-    system: &System<Nothing, N>,
-    seat: &mut Seat<N>,
+fn remove<N: Names, R: Wait + Clock>(
+    caller: &mut Caller<'_, Nothing, N, R>,
     kept: &mut Kept,
     id: u32,
     moment: u64,
 ) {
-    for _ in rt.forever() {
-        let answer = make(rt, system, seat, kept, Asked::Remove { id }, moment);
-        if !matches!(answer, Some(Answer::Refused(Errno::ENOMEM, _))) {
+    for _ in caller.rt.forever() {
+        let asked = Asked::Remove { id };
+        let Some(answer) = answer(caller, kept, &asked, moment) else {
+            return;
+        };
+        let again = matches!(answer, Answer::Refused(Errno::ENOMEM, _));
+        kept.add(moment, asked, answer);
+        if !again {
             return;
         }
     }
 }
 
 /// Removes each queue that is there.
-fn clear<N: Names, R: Wait>(
-    rt: &R,
-    system: &System<Nothing, N>,
-    seat: &mut Seat<N>,
-    kept: &mut Kept,
-) {
-    let moment = stamp(seat.number(), ALL);
-    let Some(rows) = report(system, seat) else {
+fn clear<N: Names, R: Wait + Clock>(caller: &mut Caller<'_, Nothing, N, R>, kept: &mut Kept) {
+    let moment = stamp(caller.number(), ALL);
+    let Some(rows) = report(caller.system, &mut caller.seat) else {
         return;
     };
-    let _ = kept.calls.push(Call {
-        moment,
-        asked: Asked::Report,
-        answer: Answer::Rows(rows),
-    });
+    kept.add(moment, Asked::Report, Answer::Rows(rows));
     let mut slot = 0u32;
     for row in &rows {
         if row.live {
             let seq = row.made.saturating_sub(1);
             let id = seq.wrapping_mul(64).wrapping_add(slot);
-            remove(rt, system, seat, kept, id, moment);
+            remove(caller, kept, id, moment);
         }
         slot = slot.wrapping_add(1);
     }
@@ -160,26 +138,23 @@ impl<'a> Worker<Nothing> for Asker<'a> {
     type Answer = Told;
 
     fn work<N: Names, R: Wait + Clock>(self, caller: &mut Caller<'_, Nothing, N, R>) -> Told {
-        let (rt, system) = (caller.rt, caller.system);
-        let seat = &mut caller.seat;
         let Asker {
             seed,
             all,
             through,
             mut kept,
         } = self;
-        let number = seat.number();
         let mut chooser = Chooser::new(seed);
-        steps(rt, system, seat, &mut chooser, &mut kept, 0, FIRST);
+        steps(caller, &mut chooser, &mut kept, 0, FIRST);
         if through.fetch_add(1, Ordering::SeqCst).wrapping_add(1) == all {
-            clear(rt, system, seat, &mut kept);
+            clear(caller, &mut kept);
         }
-        waits(rt, system, seat, &mut chooser, &mut kept);
-        steps(rt, system, seat, &mut chooser, &mut kept, WAITING, ALL);
+        waits(caller, &mut chooser, &mut kept);
+        steps(caller, &mut chooser, &mut kept, WAITING, ALL);
         Told {
-            seat: number,
+            seat: caller.number(),
             kept,
-            counts: counts(system, seat),
+            counts: counts(caller.system, &caller.seat),
         }
     }
 }
