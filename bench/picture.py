@@ -11,6 +11,8 @@ set linetype 3 lc rgb "#555555" lw 2
 set linetype 4 lc rgb "#1f5fa8" lw 2
 set linetype 5 lc rgb "#6aa84f" lw 2
 set linetype 6 lc rgb "#9fc5e8" lw 2
+set linetype 7 lc rgb "#674ea7" lw 2
+set datafile missing "None"
 """
 
 
@@ -55,7 +57,8 @@ def steps(path, names, rows, across, up):
 
 
 def bars(path, names, rows, up):
-    """A group of bars for each row, whose first column names it; the heights are logarithmic."""
+    """A group of bars for each row, whose first column names it; the heights are logarithmic. There
+    is no bar where a row has None."""
     settings = (f"set logscale y\nset ylabel '{up}'\nset style data histograms\n"
                 "set style histogram clustered gap 1\nset style fill solid noborder\n"
                 "set xtics rotate by -30 scale 0")

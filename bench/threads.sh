@@ -3,9 +3,10 @@
 # mutex with two condition variables over a ring of heap buffers: `bench/threads.sh [TEXTS] [ROUNDS]
 # [PICTURE]`, at least 9 rounds. Rows: so many that send and so many that receive through one queue;
 # threads each of which sends and receives by turns in a queue of its own; one that sends to four by
-# types of their own; two that pass one text there and back; and 16 threads in one queue. Where they
-# can, `mqsim threads`, a bounded channel of Rust's standard library and crossbeam_channel are timed
-# beside them. A queue has the quota 16,384, or twice a longer text.
+# types of their own; two that pass one text there and back; and 16 threads in one queue. In rows
+# `by 16` one call of the library sends, or receives, up to 16 texts, beside the others' times by calls
+# of one. Where they can, `mqsim threads`, a bounded channel of Rust's standard library and
+# crossbeam_channel are timed beside them. A queue has the quota 16,384, or twice a longer text.
 # Medians of rounds in each of which all programs do all rows; what a run of no texts takes is left
 # out. The library's ratios are printed beside what is wanted of them, with ! where one is missed, and
 # the status is 1 then. Draws the picture by gnuplot; without a name it draws none. Raises the kernel's
@@ -44,13 +45,17 @@ MOST_A_LINE = 100_000
 ONE_QUEUE = {0: 0.9, 1000: 0.9, 8192: 0.8, 65536: 0.6}
 OWN_QUEUES, BACK, MANY_THREADS = 0.8, 0.35, 1.0
 OF_RING = {0: 2.0, 8192: 1.0, 65536: 1.0}
+# How many texts a call of several has, and the most of a peer's time by calls of one: through one
+# queue of the kernel's and of a ring's, and of a ring's by a thread alone.
+EACH = 16
+BY_BATCHES, BY_BATCHES_OF_RING, ALONE_OF_RING = 0.35, {1000: 1.0}, 3.0
 # How many times the texts a second of one own queue four must make.
 FOUR_QUEUES = 3.0
 
 
 class Row(NamedTuple):
     """Threads that do what a word of `bench system` says, with texts of one length, of which a count
-    is so many in all."""
+    is so many in all; by calls of several where `one` is the same row by calls of one."""
     head: str
     word: str
     senders: int
@@ -58,7 +63,9 @@ class Row(NamedTuple):
     length: int
     count: int
     texts: int
-    of_kernel: float
+    of_kernel: float | None
+    of_ring: float | None = None
+    one: "Row | None" = None
 
     def quota(self):
         return max(16384, 2 * self.length)
@@ -71,6 +78,10 @@ def rows():
     def flow(side, length, wanted):
         return Row(f"{side}x{side}", "flow", side, side, length, TEXTS // side, side, wanted)
 
+    def by_batches(one, of_kernel, of_ring):
+        return one._replace(head=f"{one.head} by {EACH}", of_kernel=of_kernel, of_ring=of_ring,
+                            one=one)
+
     made = [flow(side, *it) for side in (1, 2, 4) for it in ONE_QUEUE.items()]
     made += [flow(8, length, MANY_THREADS) for length in (0, 1000)]
     made += [Row("1x4 by types", "types", 1, 4, length, TEXTS // 4, 4, ONE_QUEUE[length])
@@ -79,6 +90,12 @@ def rows():
                  OWN_QUEUES)
              for threads in (1, 2, 4) for length in (0, 1000)]
     made += [Row("back", "two", 1, 1, length, TEXTS // 10, 1, BACK) for length in (0, 1000, 8192)]
+    made = [row._replace(of_ring=OF_RING.get(row.length)) for row in made]
+    short = [row for row in made if row.length in (0, 1000)]
+    made += [by_batches(row, BY_BATCHES, BY_BATCHES_OF_RING.get(row.length))
+             for row in short if row.word == "flow" and row.senders <= 4]
+    made += [by_batches(row, None, ALONE_OF_RING)
+             for row in short if row.word == "own" and row.senders == 1]
     return made
 
 
@@ -109,7 +126,7 @@ def run_of(name, row, count):
     if name == "mqsim":
         return seconds([MQSIM, "threads", "--height", "10"], script=script(row, count))
     command = {
-        "library": [BENCH, "system", *words],
+        "library": [BENCH, "batches", *words, EACH] if row.one else [BENCH, "system", *words],
         "kernel": [f"{FOLDER}/peer_threads", "kernel", *words, MOST],
         "mutex": [f"{FOLDER}/peer_threads", "mutex", *words],
         "channel": [f"{FOLDER}/peer_channel", *words],
@@ -119,7 +136,10 @@ def run_of(name, row, count):
 
 
 def names_of(row):
-    """The programs that can do a row: `mqsim` has at most 15 workers, and a channel no types."""
+    """The programs that do a row: `mqsim` has at most 15 workers, and a channel no types. No other
+    than the library has calls of several."""
+    if row.one:
+        return ["library"]
     return list(PROGRAMS) if row.word in ("flow", "two") and row.senders <= 4 else ["library", *PEERS]
 
 
@@ -128,16 +148,17 @@ def measured(all_rows):
     runs = {(row, name): (row.count, lambda count, row=row, name=name: run_of(name, row, count))
             for row in all_rows for name in names_of(row)}
     found = medians(runs, ROUNDS)
-    return {row: {name: max(1, found[row, name] / row.texts) for name in names_of(row)}
-            for row in all_rows}
+    times = {row: {name: max(1, found[row, name] / row.texts) for name in names_of(row)}
+             for row in all_rows}
+    return {row: {**times.get(row.one, {}), **times[row]} for row in all_rows}
 
 
 def show(row, found):
     """Prints a row; how many of its ratios are missed."""
     head = f"{row.head}, {row.length}"
-    wanted = (row.of_kernel, OF_RING.get(row.length))
+    wanted = (row.of_kernel, row.of_ring)
     cells = [ratio(found["library"] / found[peer], most) for peer, most in zip(PEERS, wanted)]
-    print(f"{head:20}" + "".join(f"{found[name]:10.0f}" if name in found else f"{'-':>10}"
+    print(f"{head:25}" + "".join(f"{found[name]:10.0f}" if name in found else f"{'-':>10}"
                                  for name in PROGRAMS)
           + "".join(f"  {text:13}" for text, _ in cells), flush=True)
     return sum(is_missed for _, is_missed in cells)
@@ -147,7 +168,7 @@ def show_growth(found):
     """Prints how many texts a second four own queues make beside one; how many ratios are missed."""
     missed = 0
     a_second = {(row.senders, row.length): 1e9 / times["library"]
-                for row, times in found.items() if row.word == "own"}
+                for row, times in found.items() if row.word == "own" and not row.one}
     for length in (0, 1000):
         one, four = a_second[1, length], a_second[4, length]
         text, is_missed = ratio(four / one, FOUR_QUEUES, least=True)
@@ -161,13 +182,15 @@ def main():
         sys.exit("at least 9 rounds")
     say_load("nanoseconds a text, and the library's ratios (wanted)")
     found = measured(rows())
-    print(f"{'':20}" + "".join(f"{name:>10}" for name in PROGRAMS)
+    print(f"{'':25}" + "".join(f"{name:>10}" for name in PROGRAMS)
           + "".join(f"  of {name:10}" for name in PEERS))
     missed = sum(show(row, times) for row, times in found.items()) + show_growth(found)
     if PICTURE:
-        picture.bars(PICTURE, list(PROGRAMS.values()),
-                     [(f"{row.head}, {row.length} bytes", *times.values())
-                      for row, times in found.items() if len(times) == len(PROGRAMS)],
+        several = {row.one: times["library"] for row, times in found.items() if row.one}
+        picture.bars(PICTURE, [*PROGRAMS.values(), f"library, {EACH} by a call"],
+                     [(f"{row.head}, {row.length} bytes", *times.values(), several.get(row))
+                      for row, times in found.items() if len(times) == len(PROGRAMS)
+                      and not row.one],
                      "nanoseconds a text")
     sys.exit(f"{missed} missed" if missed else 0)
 

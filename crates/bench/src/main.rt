@@ -1,8 +1,9 @@
-//! What the scripts of bench/ measure, by the first word: `bench tree`, `cycle`, `system`, `stat`,
-//! `channel`, `waiting`, `board` or `start`, each with words of its own. Without words it does a
-//! little of each.
+//! What the scripts of bench/ measure, by the first word: `bench tree`, `cycle`, `system`,
+//! `batches`, `stat`, `channel`, `waiting`, `board` or `start`, each with words of its own. Without
+//! words it does a little of each.
 #![tactic(auto)]
 
+mod batches;
 mod board;
 mod channel;
 mod cycle;
@@ -30,6 +31,7 @@ fn main(rt: HostRuntime) -> Result<()> {
         "tree" => tree::run(&rt, alloc, &words),
         "cycle" => cycle::run(&rt, alloc, &words),
         "system" => system::run(&rt, alloc, &words),
+        "batches" => batches::run(&rt, alloc, &words),
         "stat" => stat::run(&rt, alloc, &words),
         "channel" => channel::run(&rt, alloc, &words),
         "waiting" => waiting::run(&rt, alloc, &words),
@@ -39,6 +41,7 @@ fn main(rt: HostRuntime) -> Result<()> {
             tree::run(&rt, alloc, &words)?;
             cycle::run(&rt, alloc, &words)?;
             system::run(&rt, alloc, &words)?;
+            batches::run(&rt, alloc, &words)?;
             stat::run(&rt, alloc, &words)?;
             channel::run(&rt, alloc, &words)?;
             waiting::run(&rt, alloc, &words)?;
