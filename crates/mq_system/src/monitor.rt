@@ -1,4 +1,4 @@
-ghost use Rattle.std.specs.Prelude.{◌≡◌, ◌<◌, IsTrue, Some, length};
+ghost use Rattle.std.specs.Prelude.{◌≡◌, ◌<◌, IsTrue, MatchOption, Some, length};
 ghost use Rattle.std.specs.Sync.Mutex.{mutex_guard_value};
 ghost use Rattle.mq_calls.specs.declared.errno.Errno.TheVariants.{EAGAIN, ENOMSG};
 ghost use Rattle.mq_table.specs.Ids.{seq_of};
@@ -128,6 +128,25 @@ impl<P: Pledge, N: Names> SlotMonitor<P, N> {
         true
     }
 
+    /// Takes the lock for a seat as `enter` does, if nobody has it.
+    #[inline(always)]
+    fn try_enter<'s>(
+        &'s self,
+        seat: &mut Seat<N>,
+        number: u8,
+    ) -> Option<MutexGuard<'s, SharedSlot<P, N>>>
+        requires within { number < N.slots }
+        ensures { MatchOption result (IsLook seat.old seat.new)
+            (λ held. IsUnderLock seat.old seat.new number (mutex_guard_value held).whole) }
+    {
+        let mut held = self.held.try_lock()?;
+        if self.admit(&mut held, seat, number) {
+            return Some(held);
+        }
+        MutexGuard::unlock(held);
+        None
+    }
+
     /// Takes the lock for a seat, which then knows all that happened in the slot. A slot of another
     /// number, or one of which the seat knew more, would be let go, and looked at again: no run
     /// meets either.
@@ -142,15 +161,15 @@ impl<P: Pledge, N: Names> SlotMonitor<P, N> {
         ensures { IsUnderLock seat.old seat.new number (mutex_guard_value result).whole }
     {
         seat.holds();
+        if let Some(held) = self.try_enter(seat, number) {
+            return held;
+        }
         let pauses = Pauses::of(seat, number);
-        for _try in 0..TRIES {
-            if let Some(mut held) = self.held.try_lock() {
-                if self.admit(&mut held, seat, number) {
-                    return held;
-                }
-                MutexGuard::unlock(held);
-            }
+        for _try in 1..TRIES {
             pauses.pause();
+            if let Some(held) = self.try_enter(seat, number) {
+                return held;
+            }
         }
         for _ in rt.forever() {
             let mut held = self.held.lock(rt);

@@ -72,6 +72,9 @@ impl Worker<NoPledge> for PassesAll {
 /// The entries that one caller makes.
 const ENTRIES: u64 = 1 + 2 * WAITING + 2 * PASSING;
 
+/// Those that are kept after the last cut.
+const KEPT: u64 = ENTRIES % LIMIT;
+
 #[test]
 fn a_log_that_is_limited_keeps_no_more_and_loses_no_message(rt: HostRuntime) {
     let setup = Setup::from(SMALL).cut_logs_after(LIMIT);
@@ -87,6 +90,10 @@ fn a_log_that_is_limited_keeps_no_more_and_loses_no_message(rt: HostRuntime) {
     let kept = left.last.len() as u64;
     holds!(rt; kept <= MOST);
     holds!(rt; left.first.saturating_add(kept) == ENTRIES);
+    // Where no cut wanted memory, each came as soon as so many entries were kept.
+    if kept != KEPT {
+        panic!(rt; "ENOMEM");
+    }
 }
 
 #[test]
