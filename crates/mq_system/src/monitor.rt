@@ -130,6 +130,7 @@ impl<P: Pledge, N: Names> SlotMonitor<P, N> {
 
     /// Takes the lock for a seat as `enter` does, if nobody has it.
     #[inline(always)]
+    #[tactic(auto, using(crate::proofs::LaterLemmas::look_self))]
     fn try_enter<'s>(
         &'s self,
         seat: &mut Seat<N>,
@@ -139,6 +140,7 @@ impl<P: Pledge, N: Names> SlotMonitor<P, N> {
         ensures { MatchOption result (IsLook seat.old seat.new)
             (λ held. IsUnderLock seat.old seat.new number (mutex_guard_value held).whole) }
     {
+        seat.holds();
         let mut held = self.held.try_lock()?;
         if self.admit(&mut held, seat, number) {
             return Some(held);
