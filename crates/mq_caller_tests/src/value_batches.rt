@@ -199,7 +199,10 @@ fn batch<N: Names, R: Wait + Clock>(caller: &mut Caller<'_, Lists, N, R>, id: Id
     if first.0 != MAX_BATCH || first.2.is_some() {
         return Ok(Some("as many as a batch has"));
     }
-    let last = sent(caller.send_values(id, &all[MAX_BATCH..]))?;
+    let Some(behind) = all.get(MAX_BATCH..) else {
+        return Ok(Some("values behind a batch"));
+    };
+    let last = sent(caller.send_values(id, behind))?;
     if last.0 != 1 || last.2.is_some() {
         return Ok(Some("those that were left"));
     }
