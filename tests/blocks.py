@@ -1,5 +1,6 @@
 #!/usr/bin/env python3
-"""Tries each code block of README.md and docs/*.md, so that no page shows what the gate does not.
+"""Tries each code block of README.md, CONTRIBUTING.md and docs/*.md, so that no page shows what the
+gate does not.
 
 - rust: of README a whole crates/*/src/main.rt, which the gate proves and runs; of other pages lines
   of a source of crates/, one after the other, where a line `// ..` stands for lines left out. Those
@@ -181,7 +182,7 @@ def fault_in(page, at, folder):
 
 def main():
     passed = failed = 0
-    for path in [TOP / "README.md", *sorted((TOP / "docs").glob("*.md"))]:
+    for path in [TOP / "README.md", TOP / "CONTRIBUTING.md", *sorted((TOP / "docs").glob("*.md"))]:
         page = blocks(path)
         for at, block in enumerate(page):
             if not is_tried(block):

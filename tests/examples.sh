@@ -2,9 +2,9 @@
 # Runs mqsim over each script of examples/ and wants the answers beside it, with the words of
 # NAME.args where there are some; and wants the README's first script, examples/first and the
 # script that the gate runs the program on to be the same. Then it has tests/blocks.py try each code
-# block of README.md and docs/, and wants the pages to be no longer than they may be.
-# Wants mqsim to be built, and builds face/ where it is not. Prints the cases that fail; the last line
-# counts.
+# block of README.md, CONTRIBUTING.md and docs/, and wants the pages to be no longer than they may
+# be. Wants mqsim to be built, and builds face/ where it is not. Prints the cases that fail; the last
+# line counts.
 source "$(dirname "$0")/cases.sh"
 
 for script in examples/*; do
@@ -51,7 +51,8 @@ at_most() {
 }
 at_most 190 -l README.md < README.md
 at_most 11264 -c README.md < README.md
-at_most 20000 -w 'docs/*.md' < <(cat docs/*.md)
+at_most 22000 -w 'docs/*.md, CALLING.md and CONTRIBUTING.md' \
+    < <(cat docs/*.md crates/mq/CALLING.md CONTRIBUTING.md)
 
 at_least 25
 echo "examples: $passed passed, $failed failed"
