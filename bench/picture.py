@@ -61,6 +61,7 @@ def bars(path, names, rows, up):
     is no bar where a row has None."""
     settings = (f"set logscale y\nset ylabel '{up}'\nset style data histograms\n"
                 "set style histogram clustered gap 1\nset style fill solid noborder\n"
-                "set xtics rotate by -30 scale 0")
+                "set xtics rotate by -30 scale 0\nset rmargin 10\nset key outside top center\n"
+                "set key horizontal maxcols 4")
     drawn(path, settings, rows,
           [f"using {k + 2}:xtic(1) lt {k + 1} title '{name}'" for k, name in enumerate(names)])

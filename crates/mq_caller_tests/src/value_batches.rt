@@ -270,7 +270,7 @@ const ONE_QUEUE: Config = Config {
 };
 
 /// How often the thread that removes the queue looks whether the other has sent, at most.
-const LOOKS: u32 = 200_000;
+const LOOKS: u32 = 2_000;
 
 /// Sends one value, and then waits for values that nobody sends, or for room that nobody makes; or
 /// removes the queue once there is that one.
