@@ -2,16 +2,15 @@
 //! tellers. What is to come are the messages of a queue: the type of a message is the time of the
 //! event, and the next event is the message of the lowest type. So the queue's log is the trace of
 //! the run. The bank is simulated twice, and the traces are compared. The first word says until
-//! when the bank is open; behind it `picture` draws the run, and `trace` writes it for Perfetto.
+//! when the bank is open.
 
 #![tactic(auto)]
 
-use anyhow::{Result, bail, ensure};
+use anyhow::{Result, ensure};
 use mq::{
     Config, DEFAULTS, Errno, Id, Ledger, LocalQueues, Message, QueueProgram, Selection, with_queues,
 };
-use mq_trace::{SlotEntries, TimeScale, write_picture, write_trace};
-use std::{env, io};
+use std::env;
 
 /// The key of the queue of events.
 const EVENTS: i32 = 1;
@@ -160,55 +159,32 @@ impl QueueProgram for Bank {
     }
 }
 
-/// What is written of a run.
-#[derive(Clone, Copy)]
-enum Form {
-    Summary,
-    Picture,
-    Trace,
-}
-
-/// Until when the bank is open, and what is written.
-fn wanted(rt: &HostRuntime) -> Result<(u64, Form)> {
+/// Until when the bank is open.
+fn closing(rt: &HostRuntime) -> Result<u64> {
     let mut words = env::args(rt)?;
     let _program = words.next();
-    let closing = match words.next() {
-        Some(word) => word.parse()?,
-        None => 250_000,
-    };
-    let form = match words.next() {
-        Some(word) if word.as_str() == "picture" => Form::Picture,
-        Some(word) if word.as_str() == "trace" => Form::Trace,
-        _ => Form::Summary,
-    };
-    Ok((closing, form))
+    match words.next() {
+        Some(word) => Ok(word.parse()?),
+        None => Ok(250_000),
+    }
 }
 
 fn main(rt: HostRuntime) -> Result<()> {
-    let (closing, form) = wanted(&rt)?;
+    let closing = closing(&rt)?;
     let one = with_queues(rt.alloc(), SIZE, Bank::new(closing))?;
     let other = with_queues(rt.alloc(), SIZE, Bank::new(closing))?;
-    let (Some(slot), Some(again)) = (one.slots.first(), other.slots.first()) else {
-        bail!("a system without slots");
-    };
-    ensure!(
-        slot.last.as_slice() == again.last.as_slice(),
-        "two runs differ"
-    );
+    for (slot, again) in one.slots.iter().zip(other.slots.iter()) {
+        ensure!(
+            slot.last.as_slice() == again.last.as_slice(),
+            "two runs differ"
+        );
+    }
     let Bank {
         events,
         now,
         longest_line,
         ..
     } = one.answer?;
-    let (alloc, mut writer) = (rt.alloc(), io::writer(&rt));
-    let run = [SlotEntries::of_closed(0, slot)];
-    match form {
-        Form::Summary => println!(rt;
-            "{events} events until {now}, at most {longest_line} in line, 2 runs alike"
-        )?,
-        Form::Picture => write_picture(alloc, &mut writer, &run, &[], TimeScale::Moments)?,
-        Form::Trace => write_trace(alloc, &mut writer, &run, &[], TimeScale::Moments)?,
-    }
+    println!(rt; "{events} events until {now}, at most {longest_line} in line, 2 runs alike")?;
     Ok(())
 }

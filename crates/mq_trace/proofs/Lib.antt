@@ -1,8 +1,0 @@
-pub mod Bytes
-pub mod Ends
-pub mod Events
-pub mod Fields
-pub mod Lists
-pub mod Parts
-pub mod Places
-pub mod Sheets
