@@ -163,6 +163,11 @@ for words in '' 'serial --height 6 --slots 16 --last-seq 32767' 'serial --height
         begin "$script" "$words"
     done
 done
+for words in trace picture; do
+    for script in crates/mqsim/stdin examples/quota; do
+        begin "$script" "$words"
+    done
+done
 # These read no script.
 begin /dev/null '--help'
 begin /dev/null 'serial --height 11'

@@ -31,13 +31,15 @@ has() {
         error) grep -q '^error: ' "$2" ;;
         fault) grep -q '^mqsim: command line: ' "$2" ;;
         file) grep -q '^mqsim: .*: ' "$2" ;;
+        trace) [ "$(head -c 2 "$2")" = '{"' ] ;;
+        picture) head -n 2 "$2" | grep -q '<svg ' ;;
         pages\ *) [ "$(wc -l < "$2")" -eq 1 ] && grep -q "^$1 " "$2" ;;
     esac
 }
 
 run() {
     local left=$seen/script
-    [[ $2 == pages* ]] && left=/dev/null
+    [[ $2 =~ ^(pages|trace|picture) ]] && left=/dev/null
     leaves "$left" "$@"
 }
 
@@ -74,6 +76,10 @@ run 0       'pages 64'   none   serial --
 run 0       'pages 64'   none   -
 run 0       'pages 64'   none   serial -
 run 0       'pages 8'    none   serial --height 3 -
+run 0       trace        none   trace
+run 0       trace        none   trace --height 3 --slots 2 --last-seq 1 -
+run 0       picture      none   picture
+run 0       picture      none   picture --slots 64
 
 # Scripts in files, one with a name that a subcommand has, and one with a name like an option's.
 for name in file serial -file; do
@@ -93,6 +99,15 @@ file 0      'pages 8'    none   serial file --height 3
 file 0      none         none   empty
 file 0      'pages 64'   none   threads empty
 file 0      'pages 8'    none   threads --height 3 empty
+file 0      trace        none   trace file
+file 0      trace        none   trace --threads empty
+file 0      picture      none   picture file
+file 0      picture      none   picture --height 3 empty --threads
+file 2      none         file   trace missing
+file 2      none         file   picture .
+file 2      none         error  picture file extra
+file 2      none         error  serial --threads file
+file 2      none         error  trace -i
 file 2      none         file   missing
 file 2      none         file   Serial
 file 2      none         file   ''
@@ -127,6 +142,10 @@ run 2       none         error  threads --height 11
 run 2       none         error  threads --slots 0
 run 2       none         error  threads --last-seq 32768
 run 2       none         error  threads --height
+run 2       none         error  trace --height 11
+run 2       none         error  picture --slots 0
+run 2       none         error  picture --threads=1
+run 2       none         error  --threads
 run 2       none         error  --height 3 threads
 run 2       none         error  --height 3 serial
 run 2       none         error  --height 3
@@ -143,6 +162,8 @@ run 0       help         none   serial --height 3 --help
 run 0       help         none   help threads
 run 0       help         none   threads --help
 run 0       help         none   threads --slots 3 --help
+run 0       help         none   picture --help
+run 0       help         none   help trace
 
 # What the help has, of the command line and of both kinds of scripts.
 shows() {
@@ -157,11 +178,14 @@ serial=('get KEY' 'snd ID' 'rcv ID' 'stat ID' 'set ID' 'rm ID' 'cut SLOT' ipcs i
 sections=(worker 'put ID' 'take ID' 'rm ID' 'waits for good' 'within MS' Ctrl-D)
 causes=('^  long ' '^  byte ' '^  words ' '^  number ')
 for words in --help -h help; do
-    shows "$words" SCRIPT --height --slots --last-seq serial threads docs/SCRIPT.md "${serial[@]}" \
+    shows "$words" SCRIPT --height --slots --last-seq serial threads '^  picture ' '^  trace ' \
+        docs/SCRIPT.md "${serial[@]}" \
         "${sections[@]}" "${causes[@]}"
 done
 shows 'serial --help' SCRIPT --height --slots --last-seq
 shows 'threads --help' SCRIPT --height --slots --last-seq "${sections[@]}"
+shows 'picture --help' SCRIPT --height --slots --last-seq --threads
+shows 'trace --help' SCRIPT --height --slots --last-seq --threads
 
 # The example that the help has can be pasted.
 example=$("$program" --help | sed -n 's/^ *\(printf .*\) | mqsim$/\1/p')

@@ -1,10 +1,10 @@
 #!/usr/bin/env bash
 # Runs mqsim over each script of examples/ and wants the answers beside it, with the words of
-# NAME.args where there are some; and wants the README's first script, examples/first and the
-# script that the gate runs the program on to be the same. Then it has tests/blocks.py try each code
-# block of README.md, CONTRIBUTING.md and docs/, and wants the pages to be no longer than they may
-# be. Wants mqsim to be built, and builds face/ where it is not. Prints the cases that fail; the last
-# line counts.
+# NAME.args where there are some, and the picture, where there is one; and wants README's first
+# script, examples/first and the script that the gate runs the program on to be the same. Then it has
+# tests/blocks.py try each code block of README.md, CONTRIBUTING.md and docs/, and wants the pages to
+# be no longer than they may be. Wants mqsim to be built, and builds face/ where it is not. Prints
+# the cases that fail; the last line counts.
 source "$(dirname "$0")/cases.sh"
 
 for script in examples/*; do
@@ -14,6 +14,10 @@ for script in examples/*; do
     "$program" "${words[@]}" < "$script" > "$seen/out" 2> "$seen/err"
     [ $? -eq 0 ] && [ ! -s "$seen/err" ] && cmp -s "$seen/out" "$script.stdout"
     count $? "$script has other answers: $(diff "$seen/out" "$script.stdout" | head -3)"
+    # A picture of the run, where there is one: it is of a serial script.
+    [ -e "$script.svg" ] || continue
+    "$program" picture "${words[@]:1}" < "$script" 2>&1 | cmp -s - "$script.svg"
+    count $? "$script.svg is not the picture of $script"
 done
 
 # In the README's block each line has a call, what it does, and its answer, with two spaces at
@@ -54,6 +58,6 @@ at_most 11264 -c README.md < README.md
 at_most 22000 -w 'docs/*.md, CALLING.md and CONTRIBUTING.md' \
     < <(cat docs/*.md crates/mq/CALLING.md CONTRIBUTING.md)
 
-at_least 25
+at_least 30
 echo "examples: $passed passed, $failed failed"
 [ "$failed" -eq 0 ]

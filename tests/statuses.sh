@@ -59,7 +59,7 @@ ended 'no standard input' 3 '' 'mqsim: read failed\n'
 # A script's file: it is run as standard input is, with the same faults, and where it cannot be
 # opened the fault has its name. A second line says which words are subcommands.
 missing="mqsim: $seen/missing: No such file or directory (os error 2)\\n"
-missing+="mqsim: a word that is not serial or threads names a script's file\\n"
+missing+="mqsim: a word that is no command names a script's file\\n"
 for words in '' serial; do
     printf 'get 0 c\nget\n' > "$seen/file"
     "$program" $words "$seen/file" > "$seen/out" 2> "$seen/err"
@@ -120,6 +120,21 @@ ended 'threads to a full device' 4 '' 'mqsim: write failed\n'
 { echo 'get 0 c'; yes worker | head -15; } > "$seen/script"
 (ulimit -v 60000; exec "$program" threads < "$seen/script" > "$seen/out" 2> "$seen/err")
 ended 'no room for threads' 6 'id 0\n' 'mqsim: thread not started\n'
+
+# A picture or a trace: a line that is not well formed, before which nothing is written, a script that
+# is too long, a read and a write that fail, and threads that cannot be made.
+for words in picture trace 'picture --threads' 'trace --threads'; do
+    run 'get 0 c\nget\n' $words; ended "a fault, after $words" 1 '' 'mqsim: line 2: words\n'
+    { yes '#' | head -c 1048577; } | "$program" $words > "$seen/out" 2> "$seen/err"
+    ended "1,048,577 bytes, after $words" 1 '' 'mqsim: script too long\n'
+    "$program" $words < / > "$seen/out" 2> "$seen/err"
+    ended "a directory as standard input, after $words" 3 '' 'mqsim: read failed\n'
+    : > "$seen/out"
+    printf 'get 0 c\n' | "$program" $words > /dev/full 2> "$seen/err"
+    ended "a full device, after $words" 4 '' 'mqsim: write failed\n'
+done
+(ulimit -v 60000; exec "$program" trace --threads < "$seen/script" > "$seen/out" 2> "$seen/err")
+ended 'no room for threads that are traced' 6 '' 'mqsim: thread not started\n'
 
 # Who types a script at a terminal is told how it ends, and of a serial one has a prompt. Prints what the terminal shows of a script
 # that is typed there, of the program with the words of the table, and ends with its status.

@@ -2,15 +2,16 @@
 //! tellers. What is to come are the messages of a queue: the type of a message is the time of the
 //! event, and the next event is the message of the lowest type. So the queue's log is the trace of
 //! the run. The bank is simulated twice, and the traces are compared. The first word says until
-//! when the bank is open.
+//! when the bank is open; behind it `picture` draws the run, and `trace` writes it for Perfetto.
 
 #![tactic(auto)]
 
-use anyhow::{Result, ensure};
+use anyhow::{Result, bail, ensure};
 use mq::{
     Config, DEFAULTS, Errno, Id, Ledger, LocalQueues, Message, QueueProgram, Selection, with_queues,
 };
-use std::env;
+use mq_trace::{SlotEntries, TimeScale, write_picture, write_trace};
+use std::{env, io};
 
 /// The key of the queue of events.
 const EVENTS: i32 = 1;
@@ -159,32 +160,55 @@ impl QueueProgram for Bank {
     }
 }
 
-/// Until when the bank is open.
-fn closing(rt: &HostRuntime) -> Result<u64> {
+/// What is written of a run.
+#[derive(Clone, Copy)]
+enum Form {
+    Summary,
+    Picture,
+    Trace,
+}
+
+/// Until when the bank is open, and what is written.
+fn wanted(rt: &HostRuntime) -> Result<(u64, Form)> {
     let mut words = env::args(rt)?;
     let _program = words.next();
-    match words.next() {
-        Some(word) => Ok(word.parse()?),
-        None => Ok(250_000),
-    }
+    let closing = match words.next() {
+        Some(word) => word.parse()?,
+        None => 250_000,
+    };
+    let form = match words.next() {
+        Some(word) if word.as_str() == "picture" => Form::Picture,
+        Some(word) if word.as_str() == "trace" => Form::Trace,
+        _ => Form::Summary,
+    };
+    Ok((closing, form))
 }
 
 fn main(rt: HostRuntime) -> Result<()> {
-    let closing = closing(&rt)?;
+    let (closing, form) = wanted(&rt)?;
     let one = with_queues(rt.alloc(), SIZE, Bank::new(closing))?;
     let other = with_queues(rt.alloc(), SIZE, Bank::new(closing))?;
-    for (slot, again) in one.slots.iter().zip(other.slots.iter()) {
-        ensure!(
-            slot.last.as_slice() == again.last.as_slice(),
-            "two runs differ"
-        );
-    }
+    let (Some(slot), Some(again)) = (one.slots.first(), other.slots.first()) else {
+        bail!("a system without slots");
+    };
+    ensure!(
+        slot.last.as_slice() == again.last.as_slice(),
+        "two runs differ"
+    );
     let Bank {
         events,
         now,
         longest_line,
         ..
     } = one.answer?;
-    println!(rt; "{events} events until {now}, at most {longest_line} in line, 2 runs alike")?;
+    let (alloc, mut writer) = (rt.alloc(), io::writer(&rt));
+    let run = [SlotEntries::of_closed(0, slot)];
+    match form {
+        Form::Summary => println!(rt;
+            "{events} events until {now}, at most {longest_line} in line, 2 runs alike"
+        )?,
+        Form::Picture => write_picture(alloc, &mut writer, &run, &[], TimeScale::Moments)?,
+        Form::Trace => write_trace(alloc, &mut writer, &run, &[], TimeScale::Moments)?,
+    }
     Ok(())
 }

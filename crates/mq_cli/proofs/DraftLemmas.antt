@@ -1,7 +1,6 @@
-use Rattle.std.proofs.Common.{◌≡◌, ◌≢◌, ℕ, ℤ, ◌<◌, ◌≤◌, List, ◌++◌, length, map, take, Result, Ok, Err, OnOk, IsErrOf, sym, ap, subst, ◌∙◌}
+use Rattle.std.proofs.Common.{◌≡◌, ◌≢◌, ℕ, ℤ, ◌<◌, ◌≤◌, List, ◌++◌, length, map, take, Some, Result, Ok, Err, IsErrOf, sym, ap, subst, ◌∙◌}
 use Rattle.std.specs.List.{range_with_len}
 use Rattle.std.proofs.lemmas.List.FromFn.{length-map-range_with_len, take-map-range_with_len}
-use Rattle.std.specs.declared.alloc.AllocError.{AllocError}
 use Rattle.mq_arena.specs.Text.{PlainText}
 use Rattle.mq_arena.specs.declared.order.TheConstants.{INLINE_LEN}
 use Rattle.mq_queue.specs.declared.limits.TheConstants.{MSGMAX}
@@ -14,13 +13,14 @@ use Rattle.mq_calls.specs.State.{QueuesState}
 use Rattle.mq_calls.specs.Texts.{draft_errno, drafts_of, text_spent}
 use Rattle.mq_calls.specs.declared.draft_error.DraftError.{DraftError}
 use Rattle.mq_calls.specs.declared.draft_error.DraftError.TheVariants.{Memory}
+use Rattle.mq_calls.specs.declared.errno.Errno.{Errno}
 use Rattle.mq_calls.specs.declared.errno.Errno.TheVariants.{ENOMEM}
 use Rattle.mq_calls.specs.declared.results.Refused.{Refused}
 use Rattle.mq_cli.specs.Commands.{AskedText}
 use Rattle.mq_cli.specs.Drafts.{Drafts, by_draft_errno, bytes_of_text, draft, letter}
 use Rattle.mq_cli.specs.Serial.{Answered}
 use Rattle.mq_cli.specs.Session.{by_errno}
-use Rattle.mq_cli.specs.Transcript.{Reply, at, refused, output, replied, send_step}
+use Rattle.mq_cli.specs.Transcript.{Reply, at, refused, refusal_in, output, replied, send_step}
 
 pub letters_length : (count : ℕ) → length (map letter (range_with_len 0 count)) ≡ count
 letters_length count = length-map-range_with_len letter 0 count
@@ -44,16 +44,17 @@ refused_as q text e is known = by_draft (drafts_of q (bytes_of_text text)) is
     by_draft (Err refusal) is = ap (λ r. Err (draft_errno r)) (sym is)
 
 -- so a send without a text writes that refusal, and leaves all
-pub undrafted : (n seat : ℕ) (q : QueuesState) (id : ℕ) (mtype : ℤ) (text : AskedText) (e : DraftError) (last : QueuesState) (old new : List ℕ)
-    (done : Result (Unit {0}) AllocError) → e ≡ or_memory Memory (drafts_of q (bytes_of_text text)) → e ≢ Memory → last ≡ q
-    → OnOk done (new ≡ old ++ output (refused (draft_errno e))) → OnOk done (Answered (send_step n seat q id mtype text) old new last)
-undrafted n seat q id mtype text e last old new (Ok _) is known same line =
+pub undrafted : (n seat : ℕ) (q : QueuesState) (id : ℕ) (mtype : ℤ) (text : AskedText) (e : DraftError) (errno : Errno) (last : QueuesState) (old new : List ℕ)
+    → e ≡ or_memory Memory (drafts_of q (bytes_of_text text)) → e ≢ Memory → errno ≡ draft_errno e → last ≡ q
+    → new ≡ old ++ output (refused errno) → Answered (send_step n seat q id mtype text) old new last (Some errno)
+undrafted n seat q id mtype text e errno last old new is known named same line =
     let answer = ap (replied q (λ d. replied q (λ t. (at t.0, t.1)) (by_errno (msgsnd d.1 seat id mtype n d.0 n)))) (refused_as q text e is known) in
+    let told = answer ∙ ap (λ (x : Errno). (refused x, q)) (sym named) in
     record {
-      line = line ∙ ap (λ (t : Reply × QueuesState). old ++ output t.0) (sym answer);
-      state = same ∙ ap (λ (t : Reply × QueuesState). t.1) (sym answer);
+      line = line ∙ ap (λ (t : Reply × QueuesState). old ++ output t.0) (sym told);
+      state = same ∙ ap (λ (t : Reply × QueuesState). t.1) (sym told);
+      refusal = ap (λ (t : Reply × QueuesState). refusal_in t.0) (sym told);
     }
-undrafted n seat q id mtype text e last old new (Err _) is known same line = tt
 
 -- a text that was drafted and given up leaves the queues as they were
 drafted_home : (q : QueuesState) (text : AskedText) (made : PlainText) (after : QueuesState) → draft q text ≡ Ok (made, after) → text_spent made after ≡ q
@@ -76,17 +77,17 @@ send_refused n seat q id mtype text made after r e is memory =
 
 -- the same of what a refused send writes and leaves
 pub refused_leaves : (n seat : ℕ) (q : QueuesState) (id : ℕ) (mtype : ℤ) (text : AskedText) (made : PlainText) (after : QueuesState) (r : Refused) (body : PlainText) (kept last : QueuesState)
-    (old new : List ℕ) (done : Result (Unit {0}) AllocError) → draft q text ≡ Ok (made, after)
+    (old new : List ℕ) → draft q text ≡ Ok (made, after)
     → r ≡ refused_or_memory after id (msgsnd after seat id mtype n made n) → body ≡ made → kept ≡ after → last ≡ text_spent body kept
-    → OnOk done (new ≡ old ++ output (refused r.errno)) → OnOk done (r.errno ≢ ENOMEM) → OnOk done (Answered (send_step n seat q id mtype text) old new last)
-refused_leaves n seat q id mtype text made after r body kept last old new (Ok _) e is same_text same_state gone line memory =
+    → new ≡ old ++ output (refused r.errno) → r.errno ≢ ENOMEM → Answered (send_step n seat q id mtype text) old new last (Some r.errno)
+refused_leaves n seat q id mtype text made after r body kept last old new e is same_text same_state gone line memory =
     let told = send_refused n seat q id mtype text made after r e is memory in
     record {
       line = line ∙ ap (λ (t : Reply × QueuesState). old ++ output t.0) (sym told);
       state = gone ∙ ap (λ (t : PlainText). text_spent t kept) same_text ∙ ap (λ (k : QueuesState). text_spent made k) same_state
           ∙ drafted_home q text made after e ∙ ap (λ (t : Reply × QueuesState). t.1) (sym told);
+      refusal = ap (λ (t : Reply × QueuesState). refusal_in t.0) (sym told);
     }
-refused_leaves n seat q id mtype text made after r body kept last old new (Err _) e is same_text same_state gone line memory = tt
 
 -- a text of these bytes is drafted as the queues draft them
 pub drafts_are : (q p : QueuesState) (text : AskedText) (bytes : List ℕ) (r : Result PlainText DraftError) → bytes ≡ bytes_of_text text

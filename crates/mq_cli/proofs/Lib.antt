@@ -15,6 +15,9 @@ pub mod NumberLemmas
 pub mod PartsLemmas
 pub mod PortLemmas
 pub mod PromptLemmas
+pub mod RecordLemmas
+pub mod RecordThreadsLemmas
+pub mod RefusedLemmas
 pub mod ReportLemmas
 pub mod Runs
 pub mod Seats

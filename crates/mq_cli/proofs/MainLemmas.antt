@@ -1,18 +1,17 @@
 -- What the main part of a threads script has written.
-use Rattle.std.proofs.Common.{◌≡◌, ◌≢◌, OnOk, Result, Ok, Err, ℕ, ◌+◌, ◌<◌, List, [], ◌∷◌, ◌++◌, length, take, Option, refl, rules, sym, ap, ◌∙◌, subst, append_assoc, append-nil, add-one}
+use Rattle.std.proofs.Common.{◌≡◌, ◌≢◌, Some, ℕ, ◌+◌, ◌<◌, List, [], ◌∷◌, ◌++◌, length, take, Option, refl, rules, sym, ap, ◌∙◌, subst, append_assoc, append-nil, add-one}
 use Rattle.std.proofs.Math.ListN.{get_or}
 use Rattle.std.proofs.Math.Seq.{take-suc}
 use Rattle.std.proofs.lemmas.Grind.{flat_map-append}
 use Rattle.std.specs.Io.KnownBytes.{Appends, Keeps}
 use Rattle.std.proofs.KnownBytes.{Appends-kept, Appends-nil, Appends-trans}
-use Rattle.std.specs.declared.alloc.AllocError.{AllocError}
 use Rattle.mq_calls.specs.declared.errno.Errno.{Errno}
 use Rattle.mq_calls.specs.declared.errno.Errno.TheVariants.{ENOMEM}
 use Rattle.mq_system.specs.Seat.{SeatState}
 use Rattle.mq_cli.specs.declared.threads_script.MainCall.{MainCall}
 use Rattle.mq_cli.specs.MainPart.{AreReplies, IsReply, Replies, WroteAll, WroteSome, lines_replied}
 use Rattle.mq_cli.specs.Serial.{AppendsPrefix}
-use Rattle.mq_cli.specs.Transcript.{Reply, output, refused}
+use Rattle.mq_cli.specs.Transcript.{Reply, output, refused, refusal_in}
 
 -- one reply more
 pub one_more : (slots last_seq : ℕ) (calls : List MainCall) (replies : List Reply) (call : MainCall) (reply : Reply) (old mid new : SeatState)
@@ -32,9 +31,9 @@ lines_more : (replies : List Reply) (reply : Reply) → lines_replied (replies +
 lines_more replies reply = flat_map-append output replies (reply ∷ []) ∙ ap (λ l. lines_replied replies ++ l) (append-nil (output reply))
 
 -- one reply more was written
-pub wrote_more : (slots last_seq : ℕ) (calls : List MainCall) (call : MainCall) (line : List ℕ) (old mid new : SeatState) (had then has : Option (List ℕ))
-    → WroteAll slots last_seq calls old mid had then → Replies slots last_seq call [] line mid new → Appends then has line → WroteAll slots last_seq (calls ++ call ∷ []) old new had has
-wrote_more slots last_seq calls call line old mid new had then has so reply taken = record {
+pub wrote_more : (slots last_seq : ℕ) (calls : List MainCall) (call : MainCall) (line : List ℕ) (told : Option Errno) (old mid new : SeatState) (had then has : Option (List ℕ))
+    → WroteAll slots last_seq calls old mid had then → Replies slots last_seq call [] line mid new told → Appends then has line → WroteAll slots last_seq (calls ++ call ∷ []) old new had has
+wrote_more slots last_seq calls call line told old mid new had then has so reply taken = record {
   replies = so.replies ++ reply.0 ∷ [];
   are = one_more slots last_seq calls so.replies call reply.0 old mid new so.are reply.1;
   wrote = subst (Appends had has) (ap (λ l. lines_replied so.replies ++ l) reply.2 ∙ sym (lines_more so.replies reply.0)) (Appends-trans had then has (lines_replied so.replies) line so.wrote taken);
@@ -64,10 +63,10 @@ wrote_first slots last_seq first rest calls old mid had has is so =
     record { first = first; rest = rest; cut = is; replies = so.replies; mid = mid; are = so.are; wrote = all_prefix had has (lines_replied so.replies) so.wrote }
 
 -- and the last of them a prefix of its own
-pub wrote_part : (slots last_seq : ℕ) (first : List MainCall) (call : MainCall) (rest calls : List MainCall) (line : List ℕ) (old mid new : SeatState) (had then has : Option (List ℕ))
-    → calls ≡ (first ++ call ∷ []) ++ rest → WroteAll slots last_seq first old mid had then → Replies slots last_seq call [] line mid new → AppendsPrefix then has line
+pub wrote_part : (slots last_seq : ℕ) (first : List MainCall) (call : MainCall) (rest calls : List MainCall) (line : List ℕ) (told : Option Errno) (old mid new : SeatState) (had then has : Option (List ℕ))
+    → calls ≡ (first ++ call ∷ []) ++ rest → WroteAll slots last_seq first old mid had then → Replies slots last_seq call [] line mid new told → AppendsPrefix then has line
     → WroteSome slots last_seq calls old had has
-wrote_part slots last_seq first call rest calls line old mid new had then has is so reply part =
+wrote_part slots last_seq first call rest calls line told old mid new had then has is so reply part =
     let are = one_more slots last_seq first so.replies call reply.0 old mid new so.are reply.1 in
     let lines = ap (λ l. lines_replied so.replies ++ l) reply.2 ∙ sym (lines_more so.replies reply.0) in
     let wrote = subst (AppendsPrefix had has) lines (prefix_behind had then has (lines_replied so.replies) line so.wrote part) in
@@ -89,15 +88,13 @@ some_kept slots last_seq calls old had then has so kept =
     let part : AppendsPrefix had has (lines_replied so.replies) = (so.wrote.0, so.wrote.1, Appends-kept had then has so.wrote.0 so.wrote.2 kept) in
     search (rules, so.cut, so.are, part)
 
--- the reply of a call was written, if its line was
-pub replied : (slots last_seq : ℕ) (call : MainCall) (held holds : List ℕ) (old new : SeatState) (reply : Reply) (r : Result (Unit {0}) AllocError)
-    → IsReply slots last_seq call reply old new → OnOk r (holds ≡ held ++ output reply) → OnOk r (Replies slots last_seq call held holds old new)
-replied slots last_seq call held holds old new reply (Ok _) is line = (reply, is, line)
-replied slots last_seq call held holds old new reply (Err _) is line = tt
+-- the reply of a call was written
+pub replied : (slots last_seq : ℕ) (call : MainCall) (held holds : List ℕ) (old new : SeatState) (reply : Reply)
+    → IsReply slots last_seq call reply old new → holds ≡ held ++ output reply → Replies slots last_seq call held holds old new (refusal_in reply)
+replied slots last_seq call held holds old new reply is line = (reply, is, line, refl)
 
 -- the same of a refusal, which is not that memory ran out
-pub refused_so : (slots last_seq : ℕ) (call : MainCall) (held holds : List ℕ) (old new : SeatState) (errno : Errno) (r : Result (Unit {0}) AllocError)
-    → (errno ≢ ENOMEM → IsReply slots last_seq call (refused errno) old new) → OnOk r (holds ≡ held ++ output (refused errno)) → OnOk r (errno ≢ ENOMEM)
-    → OnOk r (Replies slots last_seq call held holds old new)
-refused_so slots last_seq call held holds old new errno (Ok _) is line memory = (refused errno, is memory, line)
-refused_so slots last_seq call held holds old new errno (Err _) is line memory = tt
+pub refused_so : (slots last_seq : ℕ) (call : MainCall) (held holds : List ℕ) (old new : SeatState) (errno : Errno)
+    → (errno ≢ ENOMEM → IsReply slots last_seq call (refused errno) old new) → holds ≡ held ++ output (refused errno) → errno ≢ ENOMEM
+    → Replies slots last_seq call held holds old new (Some errno)
+refused_so slots last_seq call held holds old new errno is line memory = (refused errno, is memory, line, refl)

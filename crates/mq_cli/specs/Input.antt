@@ -41,7 +41,7 @@ ReadsScript old new (Err fault) = IsUnread old new fault
 
 -- how much a run read, by how it ended: all, where it ended well; more than a script may have just
 -- where it ends with that fault
-abbrev pub ReadsBy : Option (List ℕ) → Option (List ℕ) → Result (Unit {0}) RunFault → Type 0
+abbrev pub ReadsBy : {T : Type 0} → Option (List ℕ) → Option (List ℕ) → Result T RunFault → Type 0
 ReadsBy old new (Ok _) = ReadsUpTo SCRIPT_LIMIT old new × IsAtEnd new
 ReadsBy old new (Err Size) = ReadsMoreThan SCRIPT_LIMIT old new
 ReadsBy old new (Err _) = ReadsUpTo SCRIPT_LIMIT old new

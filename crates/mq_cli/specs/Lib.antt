@@ -14,6 +14,9 @@ pub mod Plans
 pub mod Ports
 pub mod Progress
 pub mod Prompt
+pub mod Recorded
+pub mod RecordedThreads
+pub mod Recording
 pub mod Reports
 pub mod Seen
 pub mod Serial

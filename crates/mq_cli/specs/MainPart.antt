@@ -3,6 +3,7 @@ use Rattle.std.specs.Prelude.{◌≡◌, ◌≢◌, ℕ, ℤ, List, [], ◌∷�
 use Rattle.std.specs.List.{flat_map}
 use Rattle.std.specs.Io.KnownBytes.{Appends}
 use Rattle.mq_table.specs.Ids.{seq_of, slot_of}
+use Rattle.mq_calls.specs.declared.errno.Errno.{Errno}
 use Rattle.mq_calls.specs.declared.errno.Errno.TheVariants.{ENOMEM}
 use Rattle.mq_calls.specs.declared.results.GetFlags.{GetFlags}
 use Rattle.mq_calls.specs.declared.results.Got.{Got}
@@ -15,8 +16,18 @@ use Rattle.mq_cli.specs.declared.fault.RunFault.{RunFault}
 use Rattle.mq_cli.specs.declared.fault.RunFault.TheVariants.{Write, Memory}
 use Rattle.mq_cli.specs.declared.threads_script.MainCall.{MainCall}
 use Rattle.mq_cli.specs.declared.threads_script.MainCall.TheVariants.{Get, Set}
+use Rattle.mq_cli.specs.Commands.{AskedCall, get, set}
 use Rattle.mq_cli.specs.Serial.{AppendsPrefix}
-use Rattle.mq_cli.specs.Transcript.{Reply, given, at, refused, output}
+use Rattle.mq_cli.specs.Transcript.{Reply, given, at, refused, output, refusal_in}
+
+-- what a call of the main part asks for, and its moment
+abbrev pub asked_in_main : MainCall → AskedCall
+asked_in_main (Get key flags moment) = get key flags
+asked_in_main (Set id qbytes moment) = set id qbytes
+
+abbrev pub moment_of : MainCall → ℕ
+moment_of (Get key flags moment) = moment
+moment_of (Set id qbytes moment) = moment
 
 -- msgget answered this id: of a queue that it found, or of one that it made
 abbrev pub Gives : ℕ → ℕ → ℤ → GetFlags → ℕ → ℕ → SeatState → SeatState → Type 0
@@ -48,10 +59,12 @@ AreReplies slots last_seq _ _ old new = ⊥
 abbrev pub lines_replied : List Reply → List ℕ
 lines_replied replies = flat_map output replies
 
--- one reply was written behind what the buffer held
-abbrev pub Replies : ℕ → ℕ → MainCall → List ℕ → List ℕ → SeatState → SeatState → Type 0
-Replies slots last_seq call held holds old new =
+-- one reply was written behind what the buffer held, and it is told what refused the call
+abbrev pub Replies : ℕ → ℕ → MainCall → List ℕ → List ℕ → SeatState → SeatState → Option Errno
+    → Type 0
+Replies slots last_seq call held holds old new told =
     (reply : Reply) × IsReply slots last_seq call reply old new × (holds ≡ held ++ output reply)
+    × (told ≡ refusal_in reply)
 
 -- a reply of each call was written
 pub record WroteAll (slots last_seq : ℕ) (calls : List MainCall) (old new : SeatState)

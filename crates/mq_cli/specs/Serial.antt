@@ -2,13 +2,14 @@
 use Rattle.std.specs.Prelude.{◌≡◌, ℕ, List, [], ◌++◌, Option, None, Some, IfSome, Result, Ok, Err}
 use Rattle.std.specs.Io.KnownBytes.{Appends, Keeps}
 use Rattle.mq_calls.specs.declared.config.Config.{Config}
+use Rattle.mq_calls.specs.declared.errno.Errno.{Errno}
 use Rattle.mq_cli.specs.declared.fault.Cause.{Cause}
 use Rattle.mq_cli.specs.declared.fault.RunFault.{RunFault}
 use Rattle.mq_cli.specs.declared.fault.RunFault.TheVariants.{Script, Size, Read, Write, Memory}
 use Rattle.mq_cli.specs.declared.fault.RunFault.TheVariants.{Thread}
 use Rattle.mq_cli.specs.Input.{ReadsBy}
 use Rattle.mq_cli.specs.Session.{SessionState}
-use Rattle.mq_cli.specs.Transcript.{Run, output, Reply, run_of}
+use Rattle.mq_cli.specs.Transcript.{Run, output, refusal_in, Reply, run_of}
 
 -- a text begins with this one
 abbrev pub IsPrefixOf : List ℕ → List ℕ → Type 0
@@ -61,7 +62,10 @@ RunsLine old new number (Err cause) s (Err (Script line named)) =
     (line ≡ number) × (named ≡ cause) × Appends old new []
 RunsLine old new number _ s _ = ⊥
 
--- the reply of a call follows what the buffer held, and the call leaves this state
-pub record Answered {S : Type 0} (turn : Reply × S) (old new : List ℕ) (s : S) : Type 0 where
+-- the reply of a call follows what the buffer held, the call leaves this state, and it is told what
+-- refused it
+pub record Answered {S : Type 0} (turn : Reply × S) (old new : List ℕ) (s : S)
+    (told : Option Errno) : Type 0 where
   pub line : new ≡ old ++ output turn.0
   pub state : s ≡ turn.1
+  pub refusal : told ≡ refusal_in turn.0

@@ -43,6 +43,11 @@ pub data Reply : Type 0 where
   table : (queues : QueuesState) → Reply
   usage : (all : Usage) → Reply
 
+-- what refused the call, where that is what it answers
+abbrev pub refusal_in : Reply → Option Errno
+refusal_in (refused errno) = Some errno
+refusal_in _ = None
+
 -- the answer of msgrcv, up to the text
 unfoldable pub message_head : ℤ → ℕ → ℕ → ℕ → List ℕ
 message_head mtype sender tag n =

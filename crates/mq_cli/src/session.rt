@@ -1,8 +1,9 @@
-ghost use Rattle.std.specs.Prelude.{◌≡◌, IfOk};
+ghost use Rattle.std.specs.Prelude.{◌≡◌, IfOk, map};
+ghost use Rattle.mq_calls.specs.Closed.{ending_of, ends};
 ghost use Rattle.mq_cli.specs.Session.{CanOpen, first_session};
 
 use crate::draft::letters;
-use mq_calls::Config;
+use mq_calls::{Closed, ClosedSlot, Config};
 use mq_one_thread::OneThread;
 use mq_queue::MSGMAX;
 use std::alloc::{AllocError, Global};
@@ -52,13 +53,16 @@ impl<L: Ledger> Session<L> {
         }
     }
 
-    /// Ends the run: each waiting text gives its pages back.
-    pub(crate) fn close(self) {
+    /// Ends the run: each waiting text gives its pages back. What the slots leave.
+    pub(crate) fn close(self) -> Vec<ClosedSlot>
+        ensures { map ending_of result.items ≡ map ends self.queues.slots }
+    {
         let Session {
             queues,
             letters: _,
             seat: _,
         } = self;
-        queues.close();
+        let Closed { slots, arena: _ } = queues.close();
+        slots
     }
 }

@@ -101,7 +101,7 @@ fn run_parts<N: Names + Send + Sync, T: Threads + Wait + Clock + Sync, W: Write>
 }
 
 /// Runs each section at a seat of its own.
-fn run_sections<N: Names + Send + Sync, T: Threads + Wait + Clock + Sync>(
+pub(crate) fn run_sections<N: Names + Send + Sync, T: Threads + Wait + Clock + Sync>(
     rt: &T,
     alloc: Global,
     system: &System<Letters, N>,

@@ -1,4 +1,4 @@
-//! Tests of `run_serial`, `run_prompt` and `run_threads` over readers and writers of their own, and
+//! Tests of runs of scripts, answered and recorded, over readers and writers of their own, and
 //! of what is long.
 
 #![tactic(auto)]
@@ -39,6 +39,8 @@ mod flushes;
 mod long;
 #[cfg(test)]
 mod prompt;
+#[cfg(test)]
+mod record;
 #[cfg(test)]
 mod sizes;
 #[cfg(test)]

@@ -5,6 +5,7 @@ use Rattle.std.specs.Str.{bytes_eq}
 use Rattle.std.specs.Str.Parse.{IsNumeral, digits_value, without_leading_plus}
 use Rattle.mq_calls.specs.declared.config.Config.{Config}
 use Rattle.mqsim.specs.declared.command_line.Kind.TheVariants.{Serial}
+use Rattle.mqsim.specs.declared.command_line.Output.TheVariants.{Answers}
 use Rattle.mqsim.specs.declared.command_line.Request.{Request}
 
 -- the size of a run that is given none
@@ -13,7 +14,11 @@ defaults = record { height = 6; slots = 16; seats = 16; last_seq = 32767 }
 
 -- what no words at all ask for
 abbrev pub bare_request : Request
-bare_request = record { kind = Serial; config = defaults; script = None; prompt = false }
+bare_request = record {
+  task = record { kind = Serial; output = Answers; config = defaults };
+  script = None;
+  prompt = false;
+}
 
 -- the number that a text spells, with or without a plus before it
 abbrev pub number_in : List ℕ → ℕ

@@ -21,14 +21,14 @@ IsFaultless Serial config script = fault_of config script ≡ None
 IsFaultless Threads config script = Unit {0}
 
 -- what the end of a run tells of the script's bytes, where they are known
-abbrev pub Tells : Kind → Config → Option (List ℕ) → Result (Unit {0}) RunFault → Type 0
+abbrev pub Tells : {T : Type 0} → Kind → Config → Option (List ℕ) → Result T RunFault → Type 0
 Tells kind config script (Ok _) = IfSome script (IsFaultless kind config)
 Tells kind config script (Err (Script line cause)) =
     IfSome script (λ s. IsFaultOf kind config s line cause)
 Tells kind config script (Err _) = Unit {0}
 
 -- what a run of this kind did with its reader
-pub record RanKind (kind : Kind) (config : Config) (script left : Option (List ℕ))
-    (result : Result (Unit {0}) RunFault) : Type 0 where
+pub record RanKind {T : Type 0} (kind : Kind) (config : Config) (script left : Option (List ℕ))
+    (result : Result T RunFault) : Type 0 where
   pub reads : ReadsBy script left result
   pub tells : Tells kind config script result

@@ -21,11 +21,29 @@ pub enum Kind {
     Threads,
 }
 
-/// What the words ask for: a run of a script of this kind, over queues of this size.
+/// What is written of a run.
+#[derive(Clone, Copy)]
+pub enum Output {
+    /// What its calls answer.
+    Answers,
+    /// A picture of what happened.
+    Picture,
+    /// A trace of it.
+    Trace,
+}
+
+/// A run of a script of this kind, over queues of this size.
+#[derive(Clone, Copy)]
+pub struct Task {
+    pub kind: Kind,
+    pub output: Output,
+    pub config: Config,
+}
+
+/// What the words ask for.
 #[derive(Clone, Copy)]
 pub struct Request<'a> {
-    pub kind: Kind,
-    pub config: Config,
+    pub task: Task,
     /// The name of the script's file, where it is not standard input.
     pub script: Option<&'a str>,
     /// Whether each line is answered before the next is read.
@@ -36,39 +54,71 @@ pub struct Request<'a> {
 /// for the help, or no memory.
 pub fn request_of<'a>(alloc: Global, words: &'a [String]) -> Result<Request<'a>, Error>
     ensures bare { length words.now ≤ 1 → result ≡ Ok bare_request }
-    ensures size { IfOk result (λ request. IsRunSize request.config) }
+    ensures size { IfOk result (λ request. IsRunSize request.task.config) }
 {
     if words.len() <= 1 {
-        return Ok(Request {
-            kind: Kind::Serial,
-            config: SCRIPT_DEFAULTS,
-            script: None,
-            prompt: false,
-        });
+        return Ok(plain(None, false));
     }
     let matches = command(alloc)?.try_get_matches_from(words)?;
     if let Some(given) = matches.subcommand_matches("threads") {
-        return Ok(Request {
-            kind: Kind::Threads,
-            config: options_of(given),
-            script: script_of(given),
-            prompt: false,
-        });
+        return Ok(optioned(given, Kind::Threads, Output::Answers, false));
     }
     if let Some(given) = matches.subcommand_matches("serial") {
-        return Ok(Request {
-            kind: Kind::Serial,
-            config: options_of(given),
-            script: script_of(given),
-            prompt: asks_for_a_prompt(given),
-        });
+        let prompt = asks_for_a_prompt(given);
+        return Ok(optioned(given, Kind::Serial, Output::Answers, prompt));
     }
-    Ok(Request {
-        kind: Kind::Serial,
-        config: SCRIPT_DEFAULTS,
-        script: script_of(&matches),
-        prompt: asks_for_a_prompt(&matches),
-    })
+    if let Some(given) = matches.subcommand_matches("picture") {
+        return Ok(optioned(given, kind_of(given), Output::Picture, false));
+    }
+    if let Some(given) = matches.subcommand_matches("trace") {
+        return Ok(optioned(given, kind_of(given), Output::Trace, false));
+    }
+    Ok(plain(script_of(&matches), asks_for_a_prompt(&matches)))
+}
+
+/// A run in one thread over queues of the default size, whose answers are written.
+fn plain(script: Option<&str>, prompt: bool) -> Request<'_>
+    ensures bare { (script.entry ≡ None) → (prompt ≡ false) → result ≡ bare_request }
+    ensures size { IsRunSize result.task.config }
+{
+    Request {
+        task: Task {
+            kind: Kind::Serial,
+            output: Output::Answers,
+            config: SCRIPT_DEFAULTS,
+        },
+        script,
+        prompt,
+    }
+}
+
+/// A run by the words after a subcommand.
+fn optioned<'a>(given: &ArgMatches<'a>, kind: Kind, output: Output, prompt: bool) -> Request<'a>
+    ensures size { IsRunSize result.task.config }
+{
+    Request {
+        task: Task {
+            kind,
+            output,
+            config: options_of(given),
+        },
+        script: script_of(given),
+        prompt,
+    }
+}
+
+/// The kind of the script, by whether `--threads` is there.
+fn kind_of(given: &ArgMatches<'_>) -> Kind
+    ensures serial { one_text (found_of given.now) (codes "threads") ≡ None
+        → result ≡ Kind.Serial }
+    ensures threads { one_text (found_of given.now) (codes "threads") ≡ Some (codes "true")
+        → result ≡ Kind.Threads }
+{
+    if given.get_flag("threads") {
+        Kind::Threads
+    } else {
+        Kind::Serial
+    }
 }
 
 /// The name of the script's file; `-` names standard input, as no word does.
@@ -142,7 +192,9 @@ fn command<'a>(alloc: Global) -> Result<Command<'a>, AllocError> {
         .arg(interactive(alloc)?)?
         .arg(script(alloc))?
         .subcommand(serial(alloc)?)?
-        .subcommand(threads(alloc)?)
+        .subcommand(threads(alloc)?)?
+        .subcommand(picture(alloc)?)?
+        .subcommand(trace(alloc)?)
 }
 
 /// The subcommand `serial`.
@@ -160,6 +212,30 @@ fn threads<'a>(alloc: Global) -> Result<Command<'a>, AllocError> {
         .about("Runs each section on a thread of its own; a put or take may wait for good")
         .after_help(THREADS_NOTES);
     with_options(alloc, command)
+}
+
+/// The subcommand `picture`.
+fn picture<'a>(alloc: Global) -> Result<Command<'a>, AllocError> {
+    let command = Command::new(alloc, "picture")
+        .about("Runs a script, and draws what happened in each slot as an SVG picture")
+        .arg(sections(alloc))?;
+    with_options(alloc, command)
+}
+
+/// The subcommand `trace`.
+fn trace<'a>(alloc: Global) -> Result<Command<'a>, AllocError> {
+    let command = Command::new(alloc, "trace")
+        .about("Runs a script, and writes what happened as a trace, for a trace viewer")
+        .arg(sections(alloc))?;
+    with_options(alloc, command)
+}
+
+/// The flag of a threads script.
+fn sections<'a>(alloc: Global) -> Arg<'a> {
+    Arg::new(alloc, "threads")
+        .long("threads")
+        .action(ArgAction::SetTrue)
+        .help("The script is a threads script, and is run as such")
 }
 
 /// The flag of a prompt.

@@ -27,8 +27,8 @@ and one that is not well formed is named and passed over."
 /// The end of the help of `mqsim`.
 pub const NOTES: &str = notes!(
     "\
-Options of serial and threads: --height <H>, --slots <S>, --last-seq <Q>. What each
-means, its range and its default: mqsim serial --help.
+Options of each command: --height <H>, --slots <S>, --last-seq <Q>. What each means,
+its range and its default: mqsim serial --help.
 
 An example, to be pasted:
   printf 'get 7 c\\nsnd 0 1 =hello\\nrcv 0 9 0\\n' | mqsim

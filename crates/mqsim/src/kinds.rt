@@ -1,13 +1,13 @@
-//! A run of either kind.
+//! A run of either kind, and what is written of it.
 
 ghost use Rattle.mq_cli.specs.Input.{IsRunSize};
 ghost use Rattle.mqsim.specs.Runs.{RanKind};
 
-use crate::command_line::Kind;
+use crate::command_line::{Kind, Output, Task};
+use crate::drawn::draw;
 use crate::serial::run;
 use crate::threads::run_in_threads;
 use crate::ticker::Ticker;
-use mq_calls::Config;
 use mq_cli::RunFault;
 use std::io;
 use std::io::Read;
@@ -15,46 +15,50 @@ use std::sync::Wait;
 use std::thread::{Threads, join_mut};
 use std::time::Clock;
 
-/// Runs the reader's script, which is of this kind, and prints what it answers.
-pub fn run_kind<R: Read>(
+/// Runs the reader's script, and prints what the task wants of it.
+pub fn run_task<R: Read>(
     rt: &(impl AllocGlobal + Print + Threads + Wait + Clock + Sync),
-    kind: Kind,
+    task: Task,
     reader: &mut R,
-    config: Config,
 ) -> Result<(), RunFault>
-    requires { IsRunSize config }
-    ensures ran { RanKind kind config (R.remaining reader.old) (R.remaining reader.new) result }
+    requires { IsRunSize task.config }
+    ensures ran { RanKind task.kind task.config (R.remaining reader.old) (R.remaining reader.new)
+        result }
 {
     let writer = io::writer(rt);
-    match kind {
-        Kind::Serial => run(rt.alloc(), reader, writer, config),
-        Kind::Threads => run_in_threads(rt, rt.alloc(), reader, writer, config),
+    let config = task.config;
+    match task.output {
+        Output::Answers => match task.kind {
+            Kind::Serial => run(rt.alloc(), reader, writer, config),
+            Kind::Threads => run_in_threads(rt, rt.alloc(), reader, writer, config),
+        },
+        Output::Picture | Output::Trace => draw(rt, rt.alloc(), task, reader, writer),
     }
 }
 
-/// Runs the reader's script as `run_kind` does; where it asks for threads and standard error is a
+/// Runs the reader's script as `run_task` does; where it asks for threads and standard error is a
 /// terminal, that shows how long they run.
 pub fn run_shown<R: Read>(
     rt: &(impl AllocGlobal + Print + Eprint + Threads + Wait + Clock + Sync),
-    kind: Kind,
+    task: Task,
     reader: &mut R,
-    config: Config,
     is_shown: bool,
 ) -> Result<(), RunFault>
-    requires { IsRunSize config }
-    ensures ran { RanKind kind config (R.remaining reader.old) (R.remaining reader.new) result }
+    requires { IsRunSize task.config }
+    ensures ran { RanKind task.kind task.config (R.remaining reader.old) (R.remaining reader.new)
+        result }
 {
-    if !is_shown || matches!(kind, Kind::Serial) {
-        return run_kind(rt, kind, reader, config);
+    if !is_shown || matches!(task.kind, Kind::Serial) {
+        return run_task(rt, task, reader);
     }
     let ticker = Ticker::new();
     let mut shows = || ticker.shows(rt);
     let mut runs = || -> Result<(), RunFault>
-        requires { IsRunSize config }
-        ensures ran { RanKind kind config (R.remaining reader.entry.now)
+        requires { IsRunSize task.config }
+        ensures ran { RanKind task.kind task.config (R.remaining reader.entry.now)
             (R.remaining reader.exit.now) result }
     {
-        let ended = run_kind(rt, kind, reader, config);
+        let ended = run_task(rt, task, reader);
         ticker.ends(rt);
         ended
     };

@@ -1,5 +1,5 @@
 //! `mqsim` reads a script of message queue calls and writes one answer line for each call,
-//! or runs sections of it on threads and tells at the end what each did.
+//! or runs sections of it on threads and tells at the end what each did, or draws what happened.
 
 #![tactic(auto)]
 
@@ -9,6 +9,7 @@ ghost use Rattle.clap.specs.declared.error.kind.ErrorKind.TheVariants.{DisplayHe
 ghost use Rattle.mqsim.specs.Status.{run_status, status};
 
 mod command_line;
+mod drawn;
 mod help;
 mod kinds;
 mod script_file;
@@ -17,7 +18,7 @@ mod threads;
 mod ticker;
 
 use clap::Error;
-use command_line::{Kind, Request, request_of};
+use command_line::{Kind, Output, Request, request_of};
 use kinds::run_shown;
 use mq_cli::{RunFault, run_prompt};
 use script_file::open_script;
@@ -76,8 +77,7 @@ fn answered(
     prompts: &mut impl Write,
 ) -> u8 {
     let Request {
-        kind,
-        config,
+        task,
         script,
         prompt,
     } = match request_of(rt.alloc(), words) {
@@ -86,24 +86,23 @@ fn answered(
     };
     let Some(name) = script else {
         let mut reader = rt.reader();
-        let is_serial = matches!(kind, Kind::Serial);
+        let is_answered = matches!((task.kind, task.output), (Kind::Serial, Output::Answers));
         if is_typed {
-            let what = if is_serial {
-                "calls"
-            } else {
-                "a threads script"
+            let what = match task.kind {
+                Kind::Serial => "calls",
+                Kind::Threads => "a threads script",
             };
             let _ = eprintln!(rt; "mqsim: type {what}, then Ctrl-D (their lines: mqsim --help)");
         }
-        if prompt || (is_typed && is_serial) {
+        if prompt || (is_typed && is_answered) {
             let mut writer = io::writer(rt);
-            let ended = run_prompt(rt.alloc(), &mut reader, &mut writer, prompts, config);
+            let ended = run_prompt(rt.alloc(), &mut reader, &mut writer, prompts, task.config);
             return told(rt, ended);
         }
-        return told(rt, run_shown(rt, kind, &mut reader, config, is_shown));
+        return told(rt, run_shown(rt, task, &mut reader, is_shown));
     };
     match open_script(rt, name) {
-        Ok(mut file) => told(rt, run_shown(rt, kind, &mut file, config, is_shown)),
+        Ok(mut file) => told(rt, run_shown(rt, task, &mut file, is_shown)),
         Err(fault) => unopened(rt, name, &fault),
     }
 }
@@ -114,7 +113,7 @@ fn unopened(rt: &impl Eprint, name: &str, fault: &io::Error) -> u8
 {
     let _ = eprintln!(rt; "mqsim: {name}: {fault}");
     if fault.kind() == ErrorKind::NotFound {
-        let _ = eprintln!(rt; "mqsim: a word that is not serial or threads names a script's file");
+        let _ = eprintln!(rt; "mqsim: a word that is no command names a script's file");
     }
     COMMAND_LINE
 }

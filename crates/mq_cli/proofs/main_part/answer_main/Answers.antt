@@ -14,8 +14,8 @@ use Rattle.mq_cli.proofs.MainLemmas.{replied, refused_so}
 use Rattle.mq_cli.proofs.PortLemmas.{refused_call}
 use Rattle.mq_cli.proofs.main_part.answer_main.Goals as goal
 
-pub returns-in-Ok : goal.returns-in-Ok
-returns-in-Ok g c =
+pub returns-in_ok-write_id-in-Ok : goal.returns-in_ok-write_id-in-Ok
+returns-in_ok-write_id-in-Ok g c =
     let slots = g.N.Names.slots in
     let last_seq = g.N.Names.last_seq in
     let call = c.in-Get in
@@ -24,11 +24,11 @@ returns-in-Ok g c =
     let fits : FitsSigned w32 call.key = search rules in
     let got : IsGot slots last_seq call.key call.flags call.moment old new c.in-Ok.got = search (rules, simp (to_z-of_z, fits) at c.in-Ok.ensures.answer) in
     let gives : Gives slots last_seq call.key call.flags call.moment c.number.result old new = (c.in-Ok.got, search (rules, c.number.ensures), got) in
-    let told = replied slots last_seq (Get call.key call.flags call.moment) c.args.out.now.items c.write_id.new.out.items old new (given c.number.result) c.write_id.result gives in
-    rw call.is (search (rules, told, c.write_id.ensures))
+    let told = replied slots last_seq (Get call.key call.flags call.moment) c.args.out.now.items c.write_id.new.out.items old new (given c.number.result) gives c.in_ok-write_id-in-Ok.ensures in
+    rw call.is told
 
-pub returns-in-Err : goal.returns-in-Err
-returns-in-Err g c =
+pub returns-in_ok-write_refused-in-Err : goal.returns-in_ok-write_refused-in-Err
+returns-in_ok-write_refused-in-Err g c =
     let slots = g.N.Names.slots in
     let last_seq = g.N.Names.last_seq in
     let call = c.in-Get in
@@ -37,12 +37,12 @@ returns-in-Err g c =
     let new = c.msgget.new.seat in
     let fits : FitsSigned w32 call.key = search rules in
     let none : IsNotGot slots last_seq call.key call.flags old new errno = search (rules, simp (to_z-of_z, fits) at c.in-Err.ensures.answer) in
-    let told = refused_so slots last_seq (Get call.key call.flags call.moment) c.args.out.now.items c.write_refused.new.out.items old new errno c.write_refused.result
-    (λ memory. (memory, none)) in
-    rw call.is (search (rules, told, c.write_refused.ensures.ok, c.write_refused.ensures.memory))
+    let told = refused_so slots last_seq (Get call.key call.flags call.moment) c.args.out.now.items c.write_refused.new.out.items old new errno
+    (λ memory. (memory, none)) c.in_ok-write_refused-in-Err.ensures.ok c.in_ok-write_refused-in-Err.ensures.memory in
+    rw call.is told
 
-pub returns-in-Ok-set : goal.returns-in-Ok-set
-returns-in-Ok-set g c =
+pub returns-in_ok-write_entry-in-Ok-set : goal.returns-in_ok-write_entry-in-Ok-set
+returns-in_ok-write_entry-in-Ok-set g c =
     let slots = g.N.Names.slots in
     let last_seq = g.N.Names.last_seq in
     let call = c.in-Set in
@@ -50,11 +50,11 @@ returns-in-Ok-set g c =
     let old = c.args.seat.now in
     let new = c.set.new.seat in
     let is_set : IsSet slots call.id call.qbytes call.moment old new entry = search (rules, c.in-Ok-set.ensures.answer) in
-    let told = replied slots last_seq (Set call.id call.qbytes call.moment) c.args.out.now.items c.write_entry.new.out.items old new (at entry) c.write_entry.result is_set in
-    rw call.is (search (rules, told, c.write_entry.ensures))
+    let told = replied slots last_seq (Set call.id call.qbytes call.moment) c.args.out.now.items c.write_entry.new.out.items old new (at entry) is_set c.in_ok-write_entry-in-Ok-set.ensures in
+    rw call.is told
 
-pub returns-in-Err-set : goal.returns-in-Err-set
-returns-in-Err-set g c =
+pub returns-in_ok-write_refused-in-Err-set : goal.returns-in_ok-write_refused-in-Err-set
+returns-in_ok-write_refused-in-Err-set g c =
     let slots = g.N.Names.slots in
     let last_seq = g.N.Names.last_seq in
     let call = c.in-Set in
@@ -62,6 +62,6 @@ returns-in-Err-set g c =
     let old = c.args.seat.now in
     let new = c.set.new.seat in
     let call_refused = refused_call (out_of_slots slots call.id) (MaySet call.qbytes) (slot_of call.id) (set_verdict (seq_of call.id) call.qbytes) old new r c.in-Err-set.ensures.answer in
-    let told = refused_so slots last_seq (Set call.id call.qbytes call.moment) c.args.out.now.items c.write_refused-in-Err-set.new.out.items old new r.errno c.write_refused-in-Err-set.result
-    (λ memory. (memory, call_refused)) in
-    rw call.is (search (rules, told, c.write_refused-in-Err-set.ensures.ok, c.write_refused-in-Err-set.ensures.memory))
+    let told = refused_so slots last_seq (Set call.id call.qbytes call.moment) c.args.out.now.items c.write_refused-in-Err-set.new.out.items old new r.errno
+    (λ memory. (memory, call_refused)) c.in_ok-write_refused-in-Err-set.ensures.ok c.in_ok-write_refused-in-Err-set.ensures.memory in
+    rw call.is told

@@ -18,7 +18,7 @@ returns-in_default-write_bytes g c =
     let cut = sym (take-append-drop (k + 1) calls) ∙ ap (λ (l : List MainCall). l ++ drop (k + 1) calls) more in
     let cleared = rw c.clear.ensures.items at c.in-Ok.ensures in
     let reply = rw (sym c.deref.ensures.value) at cleared in
-    wrote_part g.N.Names.slots g.N.Names.last_seq (take k calls) call (drop (k + 1) calls) calls c.deref.result.now _ _ _ _ _ _ cut c.loop-call.invariant reply
+    wrote_part g.N.Names.slots g.N.Names.last_seq (take k calls) call (drop (k + 1) calls) calls c.deref.result.now _ _ _ _ _ _ _ cut c.loop-call.invariant reply
     c.in_default-write_bytes.ensures
 
 pub loop-call-preserved : goal.loop-call-preserved
@@ -30,4 +30,4 @@ loop-call-preserved g c =
     let cleared = rw c.clear.ensures.items at c.in-Ok.ensures in
     let reply = rw (sym c.deref.ensures.value) at cleared in
     rw more
-    (wrote_more g.N.Names.slots g.N.Names.last_seq (take k calls) call c.deref.result.now _ _ _ _ _ _ c.loop-call.invariant reply c.in-Ok-write_bytes.ensures)
+    (wrote_more g.N.Names.slots g.N.Names.last_seq (take k calls) call c.deref.result.now _ _ _ _ _ _ _ c.loop-call.invariant reply c.in-Ok-write_bytes.ensures)

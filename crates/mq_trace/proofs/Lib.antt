@@ -1,0 +1,8 @@
+pub mod Bytes
+pub mod Ends
+pub mod Events
+pub mod Fields
+pub mod Lists
+pub mod Parts
+pub mod Places
+pub mod Sheets

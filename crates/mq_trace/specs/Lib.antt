@@ -1,0 +1,9 @@
+pub mod Bars
+pub mod Calls
+pub mod Found
+pub mod Laws
+pub mod Records
+pub mod Steps
+pub mod Trace
+pub mod Walk
+pub mod Written
