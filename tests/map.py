@@ -4,7 +4,12 @@ writes docs/pictures/crates.svg, and `tests/map.py` wants the file to be what wo
 row of the page for each crate that is no test.
 
 A line goes down from a crate to each that it stands on, but for those that it reaches by way of
-another. The last line counts.
+another.
+
+Each crate of the picture has a README.md of at most 16 lines, the first its name. What `- Public:`
+names is public in its sources, what `- Stands on:` names is in its line of crates.txt, and a block
+of rust stands in a source of it word for word, where `// ..` stands for words without a brace. A
+library has both, names that are public and a block. The last line counts.
 """
 import re
 import sys
@@ -22,13 +27,27 @@ font-family="sans-serif" font-size="13" text-anchor="middle">
 LINE = '<line x1="{}" y1="{}" x2="{}" y2="{}" stroke="#555555"/>\n'
 BOX = ('<rect x="{}" y="{}" width="{}" height="{}" rx="4" fill="#e8eef5" stroke="#1f5fa8"/>\n'
        '<text x="{}" y="{}">{}</text>\n')
+# Of a README: the most lines, and where a name is public.
+MOST_LINES = 16
+PUBLIC = r'\bpub (?:extern "C" )?(?:const|enum|fn|mod|struct|trait|type) %s\b'
+
+
+def libraries():
+    """Each crate, with all that it stands on."""
+    lines = re.findall(r"(?m)^(\w+)[^:#\n]*:(.*)", (TOP / "crates.txt").read_text())
+    return {name: used.split() for name, used in lines}
 
 
 def crates():
     """Each crate, with those of the repository that it stands on."""
-    lines = re.findall(r"(?m)^(\w+)[^:#\n]*:(.*)", (TOP / "crates.txt").read_text())
-    names = {name for name, _ in lines}
-    return {name: [it for it in used.split() if it in names] for name, used in lines}
+    uses = libraries()
+    return {name: [it for it in used if it in uses] for name, used in uses.items()}
+
+
+def products():
+    """The same crates, without tests and programs that measure."""
+    return {name: used for name, used in crates().items()
+            if not fnmatch(name, "*_tests") and not fnmatch(name, "bench*")}
 
 
 def reached(uses, name):
@@ -84,8 +103,7 @@ def places(uses):
 
 def drawn():
     """The picture."""
-    shown = {name: used for name, used in crates().items()
-             if not fnmatch(name, "*_tests") and not fnmatch(name, "bench*")}
+    shown = products()
     uses = with_bends(direct(shown))
     place = places(uses)
     text = HEAD.format(max(x for x, _ in place.values()) + ACROSS // 2,
@@ -100,21 +118,57 @@ def drawn():
     return text + "</svg>\n"
 
 
+def stands_in(quote, sources):
+    """Whether the words of a quote stand in one of these sources."""
+    parts = [re.escape(" ".join(it.split())) for it in quote.split("// ..")]
+    return any(re.search("[^{}]*?".join(parts), it) for it in sources)
+
+
+def named(text, label):
+    """What the line of a README with this label names."""
+    return re.findall(r"`([\w:]+)`", "".join(re.findall(rf"(?m)^- {label}: .*", text)))
+
+
+def faults_of(name, used):
+    """What is wrong with the README of a crate, which stands on these."""
+    folder = TOP / "crates" / name
+    page = folder / "README.md"
+    if not page.is_file():
+        return ["is not there"]
+    text = page.read_text()
+    sources = [" ".join(it.read_text().split()) for it in folder.glob("src/**/*.rt")]
+    public = [part for it in named(text, "Public") for part in it.split("::")]
+    quotes = re.findall(r"(?ms)^```rust\n(.*?)^```$", text)
+    faults = [] if text.startswith(f"# {name}\n") else ["does not begin with its name"]
+    if text.count("\n") > MOST_LINES:
+        faults.append(f"has more than {MOST_LINES} lines")
+    if (folder / "src" / "lib.rt").is_file() and not (public and quotes):
+        faults.append("names nothing that is public, or quotes nothing")
+    faults += [f"names `{it}`, which is not public" for it in public
+               if not any(re.search(PUBLIC % it, source) for source in sources)]
+    faults += [f"names `{it}`, which crates.txt does not" for it in named(text, "Stands on")
+               if it not in used]
+    faults += [f"quotes what stands in no source: {it.strip().splitlines()[0]}" for it in quotes
+               if not stands_in(it, sources)]
+    return faults
+
+
 def main():
     if sys.argv[1:] == ["--draw"]:
         PICTURE.write_text(drawn())
         return 0
     rows = re.findall(r"(?m)^\| (`.*?) \|", PAGE.read_text())
     patterns = [it for row in rows for it in re.findall(r"`([\w*]+)`", row)]
-    wrong = [name for name in crates() if not any(fnmatch(name, it) for it in patterns)]
-    passed = len(crates()) - len(wrong)
-    for name in wrong:
-        print(f"FAILED: docs/MAP.md has no row of {name}")
-    if PICTURE.is_file() and PICTURE.read_text() == drawn():
-        passed += 1
-    else:
-        wrong.append(PICTURE.name)
-        print("FAILED: docs/pictures/crates.svg is not what crates.txt says: tests/map.py --draw")
+    wrong = [f"docs/MAP.md has no row of {name}" for name in crates()
+             if not any(fnmatch(name, it) for it in patterns)]
+    if not PICTURE.is_file() or PICTURE.read_text() != drawn():
+        wrong.append("docs/pictures/crates.svg is not what crates.txt says: tests/map.py --draw")
+    for name in products():
+        if faults := faults_of(name, libraries()[name]):
+            wrong.append(f"crates/{name}/README.md {'; '.join(faults)}")
+    for fault in wrong:
+        print(f"FAILED: {fault}")
+    passed = len(crates()) + 1 + len(products()) - len(wrong)
     print(f"map: {passed} passed, {len(wrong)} failed")
     return len(wrong)
 
