@@ -10,7 +10,8 @@ wanted of each:
 - a message ends to wait under the id with which it began to, at the line that its receipt tells;
 - of a script that is not well formed nothing is written, and the fault and the status are those of
   `mqsim serial`;
-- of a threads script the trace has, slot by slot, what `mqsim threads` tells of it.
+- of a threads script the trace has, slot by slot, what `mqsim threads` tells of it;
+- a script of 10,000 lines is drawn within 2 s of a processor and 64 MiB, to at most 1 MB.
 Wants mqsim to be built. Prints the scripts that fail; the last line counts.
 """
 import collections
@@ -21,6 +22,7 @@ import random
 import re
 import subprocess
 import sys
+import tempfile
 import xml.etree.ElementTree
 
 sys.dont_write_bytecode = True
@@ -32,6 +34,9 @@ PROGRAM = f"{TOP}/crates/mqsim/out/mqsim"
 SECONDS = 60
 RANDOM_SCRIPTS = 1000
 THREADS_SCRIPTS = 40
+# Of a long script: its lines, and what a picture may take, in seconds of a processor and in KiB, and
+# have, in bytes.
+LONG_LINES, LONG_SECONDS, LONG_MEMORY, LONG_PICTURE = 10_000, 2, 65_536, 1_000_000
 CALLS = {b"get": "msgget", b"snd": "msgsnd", b"rcv": "msgrcv", b"set": "IPC_SET", b"rm": "IPC_RMID",
          b"stat": "IPC_STAT", b"cut": "cut"}
 INSTANTS = {b"get": "made", b"set": "quota", b"rm": "removed"}
@@ -143,6 +148,33 @@ def check_serial(script):
             check_picture(drawn)
 
 
+def check_long(script):
+    with tempfile.TemporaryFile() as lines, tempfile.TemporaryFile() as drawn:
+        lines.write(script)
+        lines.seek(0)
+        process = subprocess.Popen([PROGRAM, "picture"], stdin=lines, stdout=drawn)
+        _, status, used = os.wait4(process.pid, 0)
+        process.returncode = os.waitstatus_to_exitcode(status)
+        drawn.seek(0)
+        picture = drawn.read()
+    seconds = used.ru_utime + used.ru_stime
+    print(f"{LONG_LINES:,} lines: {seconds:.2f} s, {used.ru_maxrss // 1024} MiB, "
+          f"{len(picture) // 1000} kB")
+    check_picture(picture)
+    if (process.returncode or seconds > LONG_SECONDS or used.ru_maxrss > LONG_MEMORY
+            or len(picture) > LONG_PICTURE):
+        raise Wrong(f"{process.returncode}, {seconds} s, {used.ru_maxrss} KiB, {len(picture)}")
+
+
+def long_script(dice):
+    """So many lines: messages come and go in four queues, and are refused where a queue is full."""
+    lines = [f"get {key} c" for key in range(1, 5)] + ["set 3 200"]
+    for queue in dice.choices(range(4), k=LONG_LINES - len(lines)):
+        lines.append(dice.choice((f"snd {queue} {dice.randrange(1, 9)} *{dice.randrange(60)}",
+                                  f"rcv {queue} 100 {dice.randrange(-4, 3)}")))
+    return "".join(f"{line}\n" for line in lines).encode()
+
+
 def counts_told(answers):
     """The events, sendings and receipts of each slot, as `mqsim threads` tells them."""
     return {int(slot): tuple(map(int, counts)) for slot, *counts in SLOT.findall(answers)}
@@ -211,8 +243,10 @@ def is_right(case):
 
 def main():
     dice = random.Random(20261130)
-    cases = [(check_serial, b""), (check_serial, b"arena"), (check_serial, b"nothing")]
-    for place in range(RANDOM_SCRIPTS - len(cases)):
+    # Before all others: the memory of who begins a program counts as that program's.
+    cases = [(check_long, long_script(dice))]
+    cases += [(check_serial, b""), (check_serial, b"arena"), (check_serial, b"nothing")]
+    for place in range(RANDOM_SCRIPTS - 3):
         script, _ = cuts.with_cuts(dice, cuts.random_script(dice), script_model.SLOTS)
         cases.append((check_serial, damaged(dice, script) if place % 8 == 0 else script))
     cases += [(check_threads, threads_script(dice)) for _ in range(THREADS_SCRIPTS)]
