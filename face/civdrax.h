@@ -10,6 +10,8 @@
 #include <sys/types.h>
 #include <time.h>
 
+#define CIVDRAX_VERSION "0.1.0"
+
 struct timespec; /* which strict C89 and C99 hide, and then know in a list of parameters alone */
 
 #ifdef __cplusplus

@@ -17,17 +17,21 @@ ran() {
 }
 
 # The table of the words, on a script of the one line `arena`: the status; what is on standard
-# output, `none`, `help`, or `pages N`, the arena that the script saw; what is on standard error,
-# `none`, `error` (the parser's), `fault` (the program's own) or `file` (of a script's file that
-# cannot be opened); and the words. Where no script is run, or the words name its file, standard
-# input must not have been read.
+# output, `none`, `help`, `version`, or `pages N`, the arena that the script saw; what is on
+# standard error, `none`, `error` (the parser's), `fault` (the program's own) or `file` (of a
+# script's file that cannot be opened); and the words. Where no script is run, or the words name its
+# file, standard input must not have been read.
 echo arena > "$seen/script"
+
+# The version, which the program, its page, the C part and the packages have.
+version=$(sed -n 's/^## \([0-9.]*\).*/\1/p' CHANGELOG.md | head -n 1)
 
 # Whether the file $2 has what $1 says.
 has() {
     case $1 in
         none) [ ! -s "$2" ] ;;
         help) grep -q '^Usage: mqsim' "$2" ;;
+        version) [ "$(cat "$2")" = "mqsim $version" ] ;;
         error) grep -q '^error: ' "$2" ;;
         fault) grep -q '^mqsim: command line: ' "$2" ;;
         file) grep -q '^mqsim: .*: ' "$2" ;;
@@ -164,6 +168,15 @@ run 0       help         none   threads --help
 run 0       help         none   threads --slots 3 --help
 run 0       help         none   picture --help
 run 0       help         none   help trace
+run 0       version      none   --version
+run 0       version      none   -V
+for it in 'crates/mqsim/mqsim.1:.Os Civdrax %s' 'face/civdrax.3:.Os Civdrax %s' \
+    'face/civdrax.h:#define CIVDRAX_VERSION "%s"' 'face/Makefile:version := %s' \
+    'debian/changelog:civdrax (%s) '; do
+    printf -v line "${it#*:}" "$version"
+    grep -q -F -e "$line" "${it%%:*}"
+    count $? "${it%%:*} has no line $line"
+done
 
 # What the help has, of the command line and of both kinds of scripts.
 shows() {

@@ -112,6 +112,24 @@ for type in {1..7}; do
 done
 slot 0 702 350 350 0
 pages 64
+# Texts of no bytes, of which ten have room, so that a few are received by one call; and texts of
+# which some have bytes, of which sixteen may wait, be drafted behind these, and be received at once.
+case_of threads
+main 'get 0 c' 'id 0' 'set 0 10' 'at 1'
+for type in 1 2 3; do
+    worker 2000 0 done "put 0 $type 2000 0"
+    worker 0 2000 done "take 0 $type 1000" "take 0 $type 1000"
+done
+slot 0 12002 6000 6000 0
+pages 64
+case_of threads
+queues 1 16384
+for type in 1 2; do
+    worker 300 0 done "put 0 $type 100 0" "put 0 $type 100 1000" "put 0 $type 100 0"
+    worker 0 300 done "take 0 $type 300"
+done
+slot 0 1202 600 600 0
+pages 64
 
 table workers_in_a_row_and_in_a_ring
 # A row of 15 over 14 queues, with a step for each message.

@@ -1,21 +1,25 @@
 -- How far a worker is in its plan, and what it has noted.
-use Rattle.std.proofs.Common.{◌≡◌, ℕ, ℤ, ◌+◌, ◌&&◌, Bool, replicate, Ok, List, [], ◌∷◌, ◌++◌, length, Option, None, Some, refl, rules, sym, ap, ◌∙◌, subst, append_assoc, append-nil, length-append, arith}
-use Rattle.std.proofs.lemmas.List.{reverse-append}
+use Rattle.std.proofs.Common.{◌≡◌, inl, inr, ℕ, ℤ, ◌+◌, ◌-◌, ◌<◌, ◌≤◌, ◌&&◌, Bool, replicate, Result, Ok, Err, List, [], ◌∷◌, ◌++◌, length, Option, None, Some, refl, rules, sym, ap, ◌∙◌, subst, append_assoc, append-nil, length-append, take, arith}
+use Rattle.std.proofs.Math.ListN.{get_or}
+use Rattle.std.proofs.lemmas.List.{length-map, map-append, replicate-append-replicate, reverse-append}
 use Rattle.std.specs.HashMap.{Updates, get}
 use Rattle.std.specs.Prelude.{reverse}
 use Rattle.mq_calls.specs.declared.errno.Errno.{Errno}
+use Rattle.mq_calls.specs.declared.errno.Errno.TheVariants.{ENOMEM}
 use Rattle.mq_cli.specs.declared.notes.Notes.{Notes}
 use Rattle.mq_cli.specs.declared.notes.Stream.{Stream}
 use Rattle.mq_cli.specs.declared.outcome.Outcome.{Outcome}
 use Rattle.mq_cli.specs.declared.plan.Progress.{Progress}
 use Rattle.mq_cli.specs.declared.step.Step.{Step}
 use Rattle.mq_cli.specs.declared.taken.Taken.{Taken}
-use Rattle.mq_cli.specs.Calls.{PortCall, TakenMessage, calls_in, calls_of, receive, same_stream}
+use Rattle.mq_cli.specs.Batches.{TakesMany}
+use Rattle.mq_cli.specs.Calls.{PortCall, TakenMessage, calls_in, calls_of, message_of, messages_of, receive, same_stream}
 use Rattle.mq_cli.specs.Calls.{stream_of}
 use Rattle.mq_cli.specs.Plans.{puts_in, puts_of, rises}
-use Rattle.mq_cli.specs.Progress.{AreNotes, ComesFurther, outcome_of}
+use Rattle.mq_cli.specs.Progress.{AreNotes, ComesBy, ComesFurther, HoldSame, NotesAll, NotesTag, outcome_of}
 use Rattle.mq_cli.specs.Works.{AreCalled, HasWorked, Puts, Removals, Takes}
-use Rattle.mq_cli.proofs.WorkLemmas.{called_then, called_within, calls_in_two, received_more}
+use Rattle.mq_cli.proofs.MainLemmas.{taken_from}
+use Rattle.mq_cli.proofs.WorkLemmas.{called_then, called_within, calls_in_two, none_called, received_all, received_until}
 
 -- what is told of a worker is how far it is
 module _ (outcome : Outcome) (progress : Progress) (stop : Option Errno) (told : outcome ≡ outcome_of progress stop) where
@@ -46,18 +50,29 @@ noted_more eq same so_far one old new notes ordered updates =
           rw back (rw (← all, ← last) ordered);
     }
 
+-- the next of the messages that came is noted
+pub noted_next : (eq : Stream → Stream → Bool) → ((a b : Stream) → eq a b ≡ same_stream a b) → (id : ℕ) (came : List Taken) (k : ℕ) (d : Taken) (start old new : Notes)
+    → k < length came → NotesTag eq old new (stream_of (record { id = id; taken = get_or came k d })) (get_or came k d).tag
+    → NotesAll eq start old (messages_of id (take k came)) → NotesAll eq start new (messages_of id (take (k + 1) came))
+noted_next eq same id came k d start old new within tag noted =
+    let one : TakenMessage = record { id = id; taken = get_or came k d } in
+    let before : List TakenMessage = messages_of id (take k came) in
+    let more : messages_of id (take (k + 1) came) ≡ before ++ one ∷ [] =
+    ap (messages_of id) (taken_from came k d within) ∙ map-append (message_of id) (take k came) (get_or came k d ∷ []) in
+    λ so_far had.
+    rw more
+    (subst (λ (l : List TakenMessage). AreNotes eq l new) (append_assoc so_far before (one ∷ []))
+    (noted_more eq same (so_far ++ before) one old new (noted so_far had) tag.ordered tag.last))
+
 -- notes that hold the same
 pub noted_same : (eq : Stream → Stream → Bool) (so_far : List TakenMessage) (old new : Notes) → ((stream : Stream) → get eq new.last stream ≡ get eq old.last stream)
     → new.ordered ≡ old.ordered → AreNotes eq so_far old → AreNotes eq so_far new
 noted_same eq so_far old new last ordered notes = record { last = λ q. last q ∙ notes.last q; ordered = ordered ∙ notes.ordered }
 
--- so many messages were received by these calls, and each is noted
-pub record HaveCome {Q : Type 0} (eq : Stream → Stream → Bool) (puts : Puts Q) (takes : Takes Q) (removes : Removals Q) (calls : List PortCall) (old : Q) (count : ℕ)
-    (before after : Notes) (new : Q) : Type 0 where
-  pub received : List TakenMessage
-  pub called : AreCalled puts takes removes calls old 0 received None new
-  pub count_is : count ≡ length received
-  pub noted : (so_far : List TakenMessage) → AreNotes eq so_far before → AreNotes eq (so_far ++ received) after
+-- and then noted more
+pub noted_all : (eq : Stream → Stream → Bool) (old mid new : Notes) (received : List TakenMessage) → HoldSame eq old mid → NotesAll eq mid new received → NotesAll eq old new received
+noted_all eq old mid new received same noted =
+    λ so_far had. noted so_far (noted_same eq so_far old mid same.last same.ordered had)
 
 -- what a worker has done, where it has done these steps
 pub record IsFar {Q : Type 0} (eq : Stream → Stream → Bool) (puts : Puts Q) (takes : Takes Q) (removes : Removals Q) (plan : List Step) (old : Q) (progress : Progress)
@@ -101,25 +116,99 @@ module _ {Q : Type 0} (eq : Stream → Stream → Bool) (puts : Puts Q) (takes :
     noted = noted;
   }
 
-  -- one message more was received, and is noted
-  pub come_more : ((a b : Stream) → eq a b ≡ same_stream a b) → (id : ℕ) (msgtyp : ℤ) (k : ℕ) (ends : Bool) (moment : ℕ) (taken : Taken) (old mid new : Q) (start before roomy after : Notes)
-      (stream : Stream) → HaveCome eq puts takes removes (replicate k (receive id msgtyp ends moment)) old k start before mid
-      → ((q : Stream) → get eq roomy.last q ≡ get eq before.last q) → roomy.ordered ≡ before.ordered
-      → takes mid id msgtyp ends moment (Ok taken) new → stream ≡ stream_of (record { id = id; taken = taken })
-      → after.ordered ≡ (roomy.ordered && rises (get eq roomy.last stream) taken.tag) → Updates eq roomy.last after.last stream (Some taken.tag)
-      → HaveCome eq puts takes removes (replicate (k + 1) (receive id msgtyp ends moment)) old (k + 1) start after new
-  come_more same id msgtyp k ends moment taken old mid new start before roomy after stream has last ordered done is rose noted =
-      let one : TakenMessage = record { id = id; taken = taken } in
-      let rose_one = rw is at rose in
-      let noted_one = rw is at noted in
+  -- more calls behind others
+  pub further_then : (a b : List PortCall) (old mid new : Q) (before between after : Progress) (end : Option Errno) → ComesFurther eq puts takes removes a old mid before between None
+      → ComesFurther eq puts takes removes b mid new between after end → ComesFurther eq puts takes removes (a ++ b) old new before after end
+  further_then a b old mid new before between after end one two = record {
+    sent = one.sent + two.sent;
+    received = one.received ++ two.received;
+    called = called_then puts takes removes a b old mid new one.sent two.sent one.received two.received end one.called two.called;
+    sent_is = omega (arith, one.sent_is, two.sent_is);
+    received_is = omega (arith, one.received_is, two.received_is, length-append one.received two.received);
+    noted = λ so_far had.
+        subst (λ (l : List TakenMessage). AreNotes eq l after.notes) (append_assoc so_far one.received two.received)
+        (two.noted (so_far ++ one.received) (one.noted so_far had));
+  }
+
+  -- calls of which one was refused, before more calls
+  further_within : (calls more : List PortCall) (old new : Q) (before after : Progress) (errno : Errno) → ComesFurther eq puts takes removes calls old new before after (Some errno)
+      → ComesFurther eq puts takes removes (calls ++ more) old new before after (Some errno)
+  further_within calls more old new before after errno it = record {
+    sent = it.sent;
+    received = it.received;
+    called = called_within puts takes removes calls more old new it.sent it.received errno it.called;
+    sent_is = it.sent_is;
+    received_is = it.received_is;
+    noted = it.noted;
+  }
+
+  -- so many calls more, all of them or up to a refusal
+  pub further_more : (call : PortCall) (k n : ℕ) (old mid new : Q) (before between after : Progress) → ComesFurther eq puts takes removes (replicate k call) old mid before between None
+      → ComesFurther eq puts takes removes (replicate n call) mid new between after None → ComesFurther eq puts takes removes (replicate (k + n) call) old new before after None
+  further_more call k n old mid new before between after one two =
+      subst (λ (calls : List PortCall). ComesFurther eq puts takes removes calls old new before after None) (replicate-append-replicate k n call)
+      (further_then (replicate k call) (replicate n call) old mid new before between after None one two)
+
+  pub further_until : (call : PortCall) (k n count : ℕ) (old mid new : Q) (before between after : Progress) (errno : Errno) → k + n ≤ count
+      → ComesFurther eq puts takes removes (replicate k call) old mid before between None → ComesFurther eq puts takes removes (replicate n call) mid new between after (Some errno)
+      → ComesFurther eq puts takes removes (replicate count call) old new before after (Some errno)
+  further_until call k n count old mid new before between after errno within one two =
+      let rest : List PortCall = replicate (count - (k + n)) call in
+      let here = further_then (replicate k call) (replicate n call) old mid new before between after (Some errno) one two in
+      let number : k + n + (count - (k + n)) ≡ count = omega arith in
+      subst (λ (calls : List PortCall). ComesFurther eq puts takes removes calls old new before after (Some errno))
+      (ap (λ (calls : List PortCall). calls ++ rest) (replicate-append-replicate k n call) ∙ replicate-append-replicate (k + n) (count - (k + n)) call
+      ∙ ap (λ (c : ℕ). replicate c call) number)
+      (further_within (replicate k call ++ replicate n call) rest old new before after errno here)
+
+  -- no call was made, since there was no memory for what it receives
+  pub comes_not : (id : ℕ) (msgtyp : ℤ) (ends : Bool) (moment n : ℕ) (old : Q) (before after : Progress) (errno : Errno) → errno ≡ ENOMEM → 0 < n → after.came.items ≡ []
+      → after.sent ≡ before.sent → after.received ≡ before.received → HoldSame eq before.notes after.notes
+      → ComesBy eq puts takes removes (receive id msgtyp ends moment) n old old before after (Err errno)
+  comes_not id msgtyp ends moment n old before after errno is some none sent received same =
+      let call = receive id msgtyp ends moment in
+      let length_is : length after.came.items ≡ 0 = rw none refl in
+      let count : after.received ≡ before.received + length after.came.items = omega (arith, received, length_is) in
       record {
-        received = has.received ++ one ∷ [];
-        called = received_more puts takes removes id msgtyp k ends moment taken has.received old mid new has.called done;
-        count_is = omega (arith, has.count_is, length-append has.received (one ∷ []));
-        noted = λ so_far had.
-            let far = noted_same eq (so_far ++ has.received) before roomy last ordered (has.noted so_far had) in
-            subst (λ (l : List TakenMessage). AreNotes eq l after) (append_assoc so_far has.received (one ∷ []))
-            (noted_more eq same (so_far ++ has.received) one roomy after far rose_one noted_one);
+        count = omega (arith, length_is, some);
+        sent = sent;
+        received = count;
+        called =
+            goes_receiving (replicate n call) old old before after [] (Some errno) sent (omega (arith, received))
+            (received_until puts takes removes id msgtyp 0 n ends moment errno [] old old old some (none_called puts takes removes old) (inr (is, refl)))
+            (λ so_far had. rw (append-nil so_far) (noted_same eq so_far before.notes after.notes same.last same.ordered had));
+      }
+
+  -- a call was made that received these
+  pub comes_by : (id : ℕ) (msgtyp : ℤ) (ends : Bool) (moment n : ℕ) (old new : Q) (before after : Progress) (result : Result (Unit {0}) Errno)
+      → TakesMany takes id msgtyp ends moment n old after.came.items result new → after.sent ≡ before.sent → after.received ≡ before.received + length after.came.items
+      → NotesAll eq before.notes after.notes (messages_of id after.came.items)
+      → ComesBy eq puts takes removes (receive id msgtyp ends moment) n old new before after result
+  comes_by id msgtyp ends moment n old new before after (Ok _) did sent received noted =
+      let call = receive id msgtyp ends moment in
+      let came = after.came.items in
+      let count : after.received ≡ before.received + length (messages_of id came) = received ∙ ap (λ (n : ℕ). before.received + n) (sym (length-map came (message_of id))) in
+      let called = received_all puts takes removes id msgtyp ends moment came old did.mid did.turns in
+      record {
+        count = did.count;
+        sent = sent;
+        received = received;
+        called =
+            goes_receiving (replicate (length came) call) old new before after (messages_of id came) None sent count
+            (subst (λ (q : Q). AreCalled puts takes removes (replicate (length came) call) old 0 (messages_of id came) None q) (sym did.ended) called) noted;
+      }
+  comes_by id msgtyp ends moment n old new before after (Err errno) did sent received noted =
+      let call = receive id msgtyp ends moment in
+      let came = after.came.items in
+      let count : after.received ≡ before.received + length (messages_of id came) = received ∙ ap (λ (n : ℕ). before.received + n) (sym (length-map came (message_of id))) in
+      let called = received_all puts takes removes id msgtyp ends moment came old did.mid did.turns in
+      record {
+        count = did.count;
+        sent = sent;
+        received = received;
+        called =
+            goes_receiving (replicate n call) old new before after (messages_of id came) (Some errno) sent count
+            (received_until puts takes removes id msgtyp (length came) n ends moment errno (messages_of id came) old did.mid new did.count called (inl did.ended)) noted;
       }
 
   -- the calls of some steps and of one more

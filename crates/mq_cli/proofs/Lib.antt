@@ -2,6 +2,7 @@ pub mod AlikeQueues
 pub mod AlikeRuns
 pub mod AlikeSlots
 pub mod AlikeSteps
+pub mod BatchLemmas
 pub mod ClosingLemmas
 pub mod DraftLemmas
 pub mod EndLemmas

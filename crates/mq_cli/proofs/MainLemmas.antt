@@ -76,6 +76,10 @@ wrote_part slots last_seq first call rest calls line told old mid new had then h
 pub taken_more : {A : Type 0} (xs : List A) (k : ℕ) (x : A) → k < length xs → x ≡ get_or xs k x → take (k + 1) xs ≡ take k xs ++ x ∷ []
 taken_more xs k x within is = rw add-one (take-suc xs k x within ∙ ap (λ y. take k xs ++ y ∷ []) (sym is))
 
+-- the same by what a read past the end would find
+pub taken_from : {A : Type 0} (xs : List A) (k : ℕ) (d : A) → k < length xs → take (k + 1) xs ≡ take k xs ++ get_or xs k d ∷ []
+taken_from xs k d within = rw add-one (take-suc xs k d within)
+
 -- what is written stays where nothing more is
 pub all_kept : (slots last_seq : ℕ) (calls : List MainCall) (old new : SeatState) (had then has : Option (List ℕ)) → WroteAll slots last_seq calls old new had then → Keeps then has
     → WroteAll slots last_seq calls old new had has

@@ -1,14 +1,15 @@
 -- The calls of a plan, one after the other.
-use Rattle.std.proofs.Common.{◌≡◌, ℕ, ℤ, Bool, ◌+◌, ◌-◌, ◌<◌, suc, List, [], ◌∷◌, ◌++◌, map, replicate, cond, Option, None, Some, Ok, Err, refl, rules, sym, ap, ◌∙◌, subst, append_assoc, append-nil, arith}
+use Rattle.std.proofs.Common.{◌≡◌, ℕ, ℤ, Bool, ◌+◌, ◌-◌, ◌<◌, zero, suc, List, [], ◌∷◌, ◌++◌, length, map, replicate, cond, Option, None, Some, Ok, Err, refl, rules, sym, ap, ◌∙◌, subst, append_assoc, append-nil, arith}
 use Rattle.std.proofs.lemmas.List.{replicate-append-replicate}
 use Rattle.std.proofs.lemmas.List.FromFn.{map-range_with_len_more}
 use Rattle.std.proofs.lemmas.List.Sums.{sum_by-append}
-use Rattle.std.specs.List.{range_with_len}
+use Rattle.std.specs.List.{FoldsTo, range_with_len}
 use Rattle.std.specs.Prelude.{count_by}
 use Rattle.mq_calls.specs.declared.errno.Errno.{Errno}
 use Rattle.mq_cli.specs.declared.step.Step.{Step}
 use Rattle.mq_cli.specs.declared.taken.Taken.{Taken}
-use Rattle.mq_cli.specs.Calls.{PortCall, TakenMessage, send, receive, calls_in, calls_of, is_send, sends_after}
+use Rattle.mq_cli.specs.Batches.{TakesNext}
+use Rattle.mq_cli.specs.Calls.{PortCall, TakenMessage, send, receive, calls_in, calls_of, is_send, messages_of, sends_after}
 use Rattle.mq_cli.specs.Plans.{puts_in, puts_of}
 use Rattle.mq_cli.specs.Works.{AllSucceed, AreCalled, Ends, Fails, Puts, Removals, Succeeds, Takes}
 use Rattle.mq_cli.proofs.LettersLemmas.{in_two}
@@ -130,16 +131,33 @@ module _ {Q : Type 0} (puts : Puts Q) (takes : Takes Q) (removes : Removals Q) w
       ∙ ap (λ (t : ℕ). sends_after before id mtype k n ends moment ++ f t ∷ rest) (sym next) ∙ first in
       rw (← same) (rw none at all)
 
-  -- one message more was received
-  pub received_more : (id : ℕ) (msgtyp : ℤ) (k : ℕ) (ends : Bool) (moment : ℕ) (taken : Taken) (received : List TakenMessage) (old mid new : Q)
-      → AreCalled puts takes removes (replicate k (receive id msgtyp ends moment)) old 0 received None mid → takes mid id msgtyp ends moment (Ok taken) new
-      → AreCalled puts takes removes (replicate (k + 1) (receive id msgtyp ends moment)) old 0 (received ++ record { id = id; taken = taken } ∷ []) None new
-  received_more id msgtyp k ends moment taken received old mid new so done =
+  none_sends : (id : ℕ) (msgtyp : ℤ) (ends : Bool) (moment k : ℕ) → count_by is_send (replicate k (receive id msgtyp ends moment)) ≡ 0
+  none_sends id msgtyp ends moment zero = refl
+  none_sends id msgtyp ends moment (suc k) =
+      let rest = none_sends id msgtyp ends moment k in
+      omega (arith, rest)
+
+  -- messages that were received one after another
+  all_taken : (id : ℕ) (msgtyp : ℤ) (ends : Bool) (moment : ℕ) (taken : List Taken) (old new : Q) → FoldsTo (TakesNext takes id msgtyp ends moment) old taken new
+      → AllSucceed puts takes removes (replicate (length taken) (receive id msgtyp ends moment)) old (messages_of id taken) new
+  all_taken id msgtyp ends moment [] old new is = (refl, sym is)
+  all_taken id msgtyp ends moment (one ∷ taken) old new turns =
+      let first : TakenMessage = record { id = id; taken = one } in
+      (first ∷ [], messages_of id taken, turns.0, refl, (one, refl, turns.1), all_taken id msgtyp ends moment taken turns.0 new turns.2)
+
+  pub received_all : (id : ℕ) (msgtyp : ℤ) (ends : Bool) (moment : ℕ) (taken : List Taken) (old new : Q) → FoldsTo (TakesNext takes id msgtyp ends moment) old taken new
+      → AreCalled puts takes removes (replicate (length taken) (receive id msgtyp ends moment)) old 0 (messages_of id taken) None new
+  received_all id msgtyp ends moment taken old new turns =
       let call = receive id msgtyp ends moment in
-      let one : List TakenMessage = record { id = id; taken = taken } ∷ [] in
-      let behind = called_then (replicate k call) (call ∷ []) old mid new 0 0 received one None so
-      (called_one call mid new 0 one refl (taken, refl, done)) in
-      subst (λ (calls : List PortCall). AreCalled puts takes removes calls old 0 (received ++ one) None new) (replicate-append-replicate k 1 call) behind
+      record {
+        first = replicate (length taken) call;
+        rest = [];
+        mid = new;
+        cut = sym (append-nil (replicate (length taken) call));
+        made = all_taken id msgtyp ends moment taken old new turns;
+        sent_is = sym (none_sends id msgtyp ends moment (length taken));
+        ended = refl;
+      }
 
   -- the next message was not
   pub received_until : (id : ℕ) (msgtyp : ℤ) (k count : ℕ) (ends : Bool) (moment : ℕ) (errno : Errno) (received : List TakenMessage) (old mid new : Q) → k < count

@@ -44,6 +44,13 @@ pub record TakenMessage : Type 0 where
   pub id : ℕ
   pub taken : Taken
 
+-- what was received of one queue, as messages
+abbrev pub message_of : ℕ → Taken → TakenMessage
+message_of id taken = record { id = id; taken = taken }
+
+abbrev pub messages_of : ℕ → List Taken → List TakenMessage
+messages_of id taken = map (message_of id) taken
+
 -- its queue, sender and type
 abbrev pub stream_of : TakenMessage → Stream
 stream_of one = record { id = one.id; sender = one.taken.sender; mtype = one.taken.mtype }

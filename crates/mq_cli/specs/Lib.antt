@@ -1,3 +1,4 @@
+pub mod Batches
 pub mod Calls
 pub mod Closing
 pub mod Commands

@@ -1,6 +1,6 @@
 -- How far a worker is, and what its notes say of what it received.
 use Rattle.std.specs.Prelude.{◌≡◌, ℕ, ◌+◌, ◌^◌, ◌<◌, ◌≤◌, Bool, ◌&&◌, List, ◌++◌, length, reverse}
-use Rattle.std.specs.Prelude.{Option, Some, Result, OnOk, OnErr}
+use Rattle.std.specs.Prelude.{replicate, Option, None, Some, Result, MatchResult, OnOk, OnErr}
 use Rattle.std.specs.HashMap.{Updates, get}
 use Rattle.mq_calls.specs.declared.errno.Errno.{Errno}
 use Rattle.mq_cli.specs.declared.notes.Notes.{Notes}
@@ -27,6 +27,11 @@ pub record NotesTag (eq : Stream → Stream → Bool) (old new : Notes) (stream 
     : Type 0 where
   pub ordered : new.ordered ≡ (old.ordered && rises (get eq old.last stream) tag)
   pub last : Updates eq old.last new.last stream (Some tag)
+
+-- messages were noted, one after another
+abbrev pub NotesAll : (Stream → Stream → Bool) → Notes → Notes → List TakenMessage → Type 0
+NotesAll eq old new received =
+    (so_far : List TakenMessage) → AreNotes eq so_far old → AreNotes eq (so_far ++ received) new
 
 -- what is told of a worker that ended so
 abbrev pub outcome_of : Progress → Option Errno → Outcome
@@ -65,3 +70,18 @@ pub record ComesFurther {Q : Type 0} (eq : Stream → Stream → Bool) (puts : P
   pub received_is : after.received ≡ before.received + length received
   pub noted : (so_far : List TakenMessage) → AreNotes eq so_far before.notes
       → AreNotes eq (so_far ++ received) after.notes
+
+-- a worker came further by one call that stands for up to n of these: it received one at least, and
+-- as many as have come, or it was refused
+pub record ComesBy {Q : Type 0} (eq : Stream → Stream → Bool) (puts : Puts Q) (takes : Takes Q)
+    (removes : Removals Q) (call : PortCall) (n : ℕ) (old new : Q) (before after : Progress)
+    (result : Result (Unit {0}) Errno) : Type 0 where
+  pub count : MatchResult result (λ _. (0 < length after.came.items) × (length after.came.items ≤ n))
+      (λ _. length after.came.items < n)
+  pub sent : after.sent ≡ before.sent
+  pub received : after.received ≡ before.received + length after.came.items
+  pub called : MatchResult result
+      (λ _. ComesFurther eq puts takes removes (replicate (length after.came.items) call) old new
+      before after None)
+      (λ errno. ComesFurther eq puts takes removes (replicate n call) old new before after
+      (Some errno))

@@ -1,3 +1,5 @@
+//! The evaluator of a serial script: the call of a line, and its answer.
+
 ghost use Rattle.std.specs.Prelude.{◌≡◌, ◌+◌, ◌++◌, IfOk, OnOk, length, map};
 ghost use Rattle.std.specs.List.{range_with_len};
 ghost use Rattle.mq_queue.specs.declared.limits.TheConstants.{MSGMAX};
@@ -243,7 +245,7 @@ fn cut<L: Ledger>(
     }
 }
 
-/// How many entries the slot's list had: as many as a u64 can tell may be cut off before.
+/// How many entries the slot's list had: up to `u64::MAX` were drained before.
 fn end_of(cut: &Cut) -> u128
     ensures { result ≡ cut.now.first + length (cut.now.past.items ++ cut.now.last.items) }
 {

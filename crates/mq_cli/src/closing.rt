@@ -1,4 +1,4 @@
-//! What a run of workers tells at its end.
+//! The summary of a run of workers.
 
 ghost use Rattle.std.specs.Prelude.{◌≡◌, ◌++◌, IfOk, OnOk};
 ghost use Rattle.mq_calls.specs.Closed.{entries_at_end};
@@ -132,7 +132,7 @@ fn write_told(
     write_last(out, b" left ", left)
 }
 
-/// How many entries a slot had: as many as a u64 can tell may be cut off, and others are left.
+/// How many entries a slot had: up to `u64::MAX` were drained, and others are left.
 fn count_events(slot: &ClosedSlot) -> u128
     ensures { result ≡ entries_at_end slot.now }
 {

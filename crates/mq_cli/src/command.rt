@@ -1,3 +1,5 @@
+//! The parser of a line of a serial script.
+
 ghost use Rattle.std.specs.Prelude.{◌≡◌, ◌+◌, ◌^◌, ◌==◌, length};
 ghost use Rattle.std.specs.List.{list_any};
 ghost use Rattle.std.specs.Option.{option_map};
@@ -75,7 +77,7 @@ pub enum Command<'a> {
     Remove { id: u32 },
     /// IPC_STAT.
     Stat { id: u32 },
-    /// The log of a slot is cut off where it ends.
+    /// The log of a slot is drained.
     Cut { slot: u8 },
     /// A row for each live queue.
     Report,
@@ -116,7 +118,7 @@ fn read_command(line: &[u8]) -> Result<Command<'_>, Cause>
     if name == b"snd".as_slice() {
         return read_send(words);
     }
-    // The words of a command that is read are filled: they are looked at again only for the cause.
+    // The words of a command that is read are filled: they are checked again only for the cause.
     match read_named(name, words) {
         Ok(command) => Ok(command),
         Err(cause) if are_filled(line) => Err(cause),

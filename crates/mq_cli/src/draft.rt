@@ -1,3 +1,5 @@
+//! The texts of scripts: their letters, and how a text is drafted.
+
 ghost use Rattle.std.specs.Prelude.{◌≡◌, ◌≤◌, IfOk, map, length};
 ghost use Rattle.std.specs.List.{range_with_len};
 ghost use Rattle.mq_queue.specs.declared.limits.TheConstants.{MSGMAX};

@@ -1,6 +1,8 @@
+//! The errors of a line and of a run.
+
 use thiserror::Error;
 
-/// Why a line is not well formed, in the order in which the causes are looked at.
+/// Why a line is not well formed, in the order in which the causes are checked.
 #[derive(Clone, Copy, Debug, PartialEq, Eq, Error)]
 pub enum Cause {
     /// The line has more than [`LINE_LIMIT`](crate::LINE_LIMIT) bytes.

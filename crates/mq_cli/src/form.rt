@@ -1,4 +1,4 @@
-//! What is looked at in a line before its words are read.
+//! What is checked of a line before its words are parsed.
 
 ghost use Rattle.std.specs.Prelude.{◌≡◌};
 ghost use Rattle.std.specs.List.{list_all};

@@ -1,3 +1,5 @@
+//! Theorems about scripts.
+
 ghost use Rattle.mq_cli.specs.Laws.{CutChangesNoOtherLine, ReadsBack, SpelledOneWay};
 ghost use Rattle.mq_cli.specs.ThreadsLaws.{ThreadsReadBack, ThreadsSpelledOneWay};
 
@@ -11,7 +13,7 @@ pub fn a_command_is_spelled_one_way()
     ensures { SpelledOneWay }
 {}
 
-/// Over each system and for all lines: with a comment in the place of each cut, every other line
+/// Over each system and for all lines: with a comment in the place of each `cut`, every other line
 /// writes word for word the same, and the run ends at the same fault.
 pub fn a_cut_changes_no_other_line()
     ensures { CutChangesNoOtherLine }

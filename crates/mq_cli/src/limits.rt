@@ -1,3 +1,5 @@
+//! The limits of scripts, and the default sizes of their queues.
+
 ghost use Rattle.std.specs.Prelude.{◌≡◌};
 
 use mq_calls::{Config, DEFAULTS};

@@ -1,3 +1,5 @@
+//! An iterator over the lines of a script.
+
 ghost use Rattle.std.specs.Prelude.{◌≡◌};
 ghost use Rattle.std.specs.Iterator.{YieldsFirstRef, item_count};
 ghost use Rattle.mq_cli.specs.Lines.{lines_of, without_return};

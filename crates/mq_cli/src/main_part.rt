@@ -1,3 +1,5 @@
+//! The main part of a threads script.
+
 ghost use Rattle.std.specs.Prelude.{IfOk};
 ghost use Rattle.mq_cli.specs.MainPart.{RanMain, Replies};
 ghost use Rattle.mq_cli.specs.RecordedThreads.{RecordedMain};

@@ -1,8 +1,10 @@
-ghost use Rattle.std.specs.Prelude.{◌≡◌, ◌<◌, [], MatchResult};
+//! A worker's record of what it received: the last tag of each stream, and if tags always rose.
+
+ghost use Rattle.std.specs.Prelude.{◌≡◌, ◌<◌, ◌≤◌, ◌+◌, [], MatchResult, length};
 ghost use Rattle.std.specs.HashMap.{spare};
 ghost use Rattle.mq_calls.specs.declared.errno.Errno.TheVariants.{ENOMEM};
-ghost use Rattle.mq_cli.specs.Calls.{stream_of};
-ghost use Rattle.mq_cli.specs.Progress.{AreNotes, NotesTag, HoldSame};
+ghost use Rattle.mq_cli.specs.Calls.{messages_of, stream_of};
+ghost use Rattle.mq_cli.specs.Progress.{AreNotes, HoldSame, NotesAll, NotesTag};
 
 use crate::Taken;
 use mq_calls::Errno;
@@ -55,12 +57,13 @@ impl Notes {
         self.ordered
     }
 
-    /// Makes room for one more note. ENOMEM alone.
-    pub(crate) fn reserve(&mut self) -> Result<(), Errno>
+    /// Makes room for so many more notes. ENOMEM alone.
+    pub(crate) fn reserve(&mut self, count: usize) -> Result<(), Errno>
         ensures same { HoldSame ⟦<Stream as PartialEq>⟧.eq self.old self.new }
-        ensures room { MatchResult result (λ _. 0 < spare self.new.last) (λ errno. errno ≡ ENOMEM) }
+        ensures room { MatchResult result (λ _. count ≤ spare self.new.last)
+            (λ errno. errno ≡ ENOMEM) }
     {
-        match self.last.reserve(1) {
+        match self.last.reserve(count) {
             Ok(()) => Ok(()),
             Err(_) => Err(Errno::ENOMEM),
         }
@@ -68,9 +71,10 @@ impl Notes {
 
     /// Notes the tag of a message for which there is room. They are in order as long as each tag
     /// is above that of the message before in its stream.
-    pub(crate) fn note(&mut self, stream: Stream, tag: u64)
+    fn note(&mut self, stream: Stream, tag: u64)
         requires { 0 < spare self.old.last }
         ensures noted { NotesTag ⟦<Stream as PartialEq>⟧.eq self.old self.new stream tag }
+        ensures room { spare self.old.last ≤ spare self.new.last + 1 }
     {
         let Ok(before) = self.last.insert(stream, tag) else {
             unreachable!()
@@ -79,6 +83,25 @@ impl Notes {
             if last >= tag {
                 self.ordered = false;
             }
+        }
+    }
+    /// Notes a message of a queue for which there is room.
+    fn note_one(&mut self, id: Id, taken: Taken)
+        requires { 0 < spare self.old.last }
+        ensures noted { NotesTag ⟦<Stream as PartialEq>⟧.eq self.old self.new
+            (stream_of (record { id = id; taken = taken })) taken.tag }
+        ensures room { spare self.old.last ≤ spare self.new.last + 1 }
+    {
+        self.note(Stream::of(id, taken), taken.tag);
+    }
+
+    /// Notes messages of a queue for which there is room, one after another.
+    pub(crate) fn note_all(&mut self, id: Id, came: &[Taken])
+        requires { length came.now ≤ spare self.old.last }
+        ensures { NotesAll ⟦<Stream as PartialEq>⟧.eq self.old self.new (messages_of id came.now) }
+    {
+        for taken in came {
+            self.note_one(id, *taken);
         }
     }
 }

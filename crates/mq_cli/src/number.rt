@@ -1,3 +1,5 @@
+//! The parser of numbers.
+
 ghost use Rattle.std.specs.Prelude.{◌≡◌, ◌≤◌, ◌+◌, ◌-◌, ◌*◌, ◌^◌, ◌==◌, ◌&&◌};
 ghost use Rattle.std.specs.Prelude.{MatchOption, nat_lt, not, length, slice_index};
 ghost use Rattle.std.specs.Int.{IsInRange};

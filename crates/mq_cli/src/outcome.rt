@@ -1,3 +1,5 @@
+//! The outcome of a worker's plan.
+
 use mq_calls::Errno;
 
 /// What became of a worker's plan.

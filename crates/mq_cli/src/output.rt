@@ -1,3 +1,5 @@
+//! Writing of bytes to a writer that may take some of them, or fail.
+
 ghost use Rattle.std.specs.Prelude.{MatchResult};
 ghost use Rattle.std.specs.Io.KnownBytes.{Appends};
 ghost use Rattle.mq_cli.specs.Serial.{AppendsPrefix};

@@ -1,3 +1,5 @@
+//! Splitting of bytes at a separator.
+
 ghost use Rattle.std.specs.Prelude.{◌≡◌, ◌==◌, ◌∷◌, ◌<◌, ℕ, length, IfSome};
 ghost use Rattle.std.specs.List.{position};
 ghost use Rattle.mq_cli.specs.Lines.{parts_of};

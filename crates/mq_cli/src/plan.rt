@@ -1,15 +1,22 @@
-ghost use Rattle.std.specs.Prelude.{◌≡◌, ◌+◌, ◌<◌, ◌^◌, replicate};
+//! The evaluator of a worker's plan.
+
+ghost use Rattle.std.specs.Prelude.{◌≡◌, ◌+◌, ◌<◌, ◌≤◌, ◌^◌, [], MatchResult, replicate};
+ghost use Rattle.std.specs.Prelude.{vec_capacity};
+ghost use Rattle.std.specs.HashMap.{spare};
 ghost use Rattle.std.specs.Result.{result_err};
+ghost use Rattle.mq_calls.specs.declared.errno.Errno.TheVariants.{ENOMEM};
+ghost use Rattle.mq_cli.specs.Batches.{most_behind};
 ghost use Rattle.mq_cli.specs.Calls.{calls_of, receive, sends_after};
 ghost use Rattle.mq_cli.specs.Plans.{IsCountable, IsCarriedOut, HasGrown, puts_of, takes_of};
 ghost use Rattle.mq_cli.specs.Plans.{removes_of};
-ghost use Rattle.mq_cli.specs.Progress.{CanCount, ComesFurther, HasCounted, outcome_of};
+ghost use Rattle.mq_cli.specs.Progress.{CanCount, ComesBy, ComesFurther, HasCounted, HoldSame};
+ghost use Rattle.mq_cli.specs.Progress.{outcome_of};
 ghost use Rattle.mq_cli.specs.Works.{HasWorked};
 
 use crate::notes::{Notes, Stream};
-use crate::{Outcome, Port, Step};
+use crate::{Outcome, Port, Step, Taken};
 use mq_calls::Errno;
-use mq_system::{Forever, Patience, Until};
+use mq_system::{Forever, MAX_BATCH, Patience, Until};
 use mq_table::Id;
 use std::alloc::Global;
 use std::sync::Wait;
@@ -35,6 +42,7 @@ pub fn work<Q: Port, R: Wait, C: Clock>(
         sent: 0,
         received: 0,
         notes: Notes::new(alloc),
+        came: Vec::new(alloc),
     };
     for step in plan {
         if let Err(errno) = progress.step(rt, clock, shared, port, *step) {
@@ -55,6 +63,8 @@ struct Progress {
     sent: u64,
     received: u64,
     notes: Notes,
+    /// What its last call received that receives several.
+    came: Vec<Taken>,
 }
 
 impl Progress {
@@ -189,18 +199,90 @@ impl Progress {
             (replicate count (receive id msgtyp T.ends moment))
             port.old port.new self.old self.new (result_err result) }
     {
-        for _ in 0..count {
-            match self.notes.reserve() {
+        let all = count as usize;
+        let mut most = 1;
+        let mut done = 0;
+        while done < all {
+            let n = no_more_than(all - done, most);
+            match self.take_some(rt, shared, port, id, msgtyp, patience, n, moment) {
                 Ok(()) => (),
                 Err(errno) => return Err(errno),
             }
-            let taken = match port.take(rt, shared, id, msgtyp, patience, moment) {
-                Ok(taken) => taken,
-                Err(errno) => return Err(errno),
-            };
-            self.notes.note(Stream::of(id, taken), taken.tag);
-            self.received += 1;
+            done += self.came.len();
+            most = most_behind(&self.came);
         }
         Ok(())
     }
+
+    /// Receives up to `n` messages by one call, for each of which a note can be made before it
+    /// comes.
+    fn take_some<Q: Port, R: Wait, T: Patience>(
+        &mut self,
+        rt: &R,
+        shared: &Q::Shared,
+        port: &mut Q,
+        id: Id,
+        msgtyp: i64,
+        patience: &mut T,
+        n: usize,
+        moment: u64,
+    ) -> Result<(), Errno>
+        requires some { 0 < n }
+        requires count { self.old.received + n < 2 ^ 64 }
+        ensures calls { Q.calls port.new + self.old.received
+            ≡ Q.calls port.old + self.new.received }
+        ensures called { ComesBy ⟦<Stream as PartialEq>⟧.eq Q.puts Q.takes Q.removes
+            (receive id msgtyp T.ends moment) n port.old port.new self.old self.new result }
+    {
+        self.came.clear();
+        match self.reserve(n) {
+            Ok(()) => (),
+            Err(errno) => return Err(errno),
+        }
+        let came = &mut self.came;
+        let answer = port.take_many(rt, shared, id, msgtyp, patience, n, moment, came);
+        self.notes.note_all(id, &self.came);
+        self.received += self.came.len() as u64;
+        answer
+    }
+
+    /// Makes room for what so many calls receive, and for its notes. ENOMEM alone.
+    fn reserve(&mut self, count: usize) -> Result<(), Errno>
+        requires empty { self.old.came.items ≡ [] }
+        ensures sent { self.new.sent ≡ self.old.sent }
+        ensures received { self.new.received ≡ self.old.received }
+        ensures notes { HoldSame ⟦<Stream as PartialEq>⟧.eq self.old.notes self.new.notes }
+        ensures empty { self.new.came.items ≡ [] }
+        ensures room { MatchResult result
+            (λ _. (count ≤ spare self.new.notes.last) × (count ≤ vec_capacity self.new.came))
+            (λ errno. errno ≡ ENOMEM) }
+    {
+        match self.came.reserve(count) {
+            Ok(()) => self.notes.reserve(count),
+            Err(_) => Err(Errno::ENOMEM),
+        }
+    }
+}
+
+/// How many messages the next call receives at most, behind these.
+fn most_behind(came: &[Taken]) -> usize
+    ensures { result ≡ most_behind came.now }
+{
+    for taken in came {
+        if taken.length > 0 {
+            return 1;
+        }
+    }
+    MAX_BATCH
+}
+
+/// So many, or all that are left.
+fn no_more_than(left: usize, most: usize) -> usize
+    requires left { 0 < left }
+    requires most { 0 < most }
+    ensures some { 0 < result }
+    ensures left { result ≤ left }
+    ensures most { result ≤ most }
+{
+    if most < left { most } else { left }
 }

@@ -1,4 +1,8 @@
-ghost use Rattle.std.specs.Prelude.{◌≡◌, ◌+◌, ℕ, ℤ, MatchResult};
+//! The queue interface of a worker.
+
+ghost use Rattle.std.specs.Prelude.{◌≡◌, ◌+◌, ◌<◌, ◌≤◌, ℕ, ℤ, [], MatchResult, length};
+ghost use Rattle.std.specs.Prelude.{vec_capacity};
+ghost use Rattle.mq_cli.specs.Batches.{TakesMany};
 
 use crate::Taken;
 use mq_calls::Errno;
@@ -7,8 +11,9 @@ use mq_table::Id;
 use std::sync::Wait;
 
 /// What a worker makes its calls through, each of which may wait. `calls` is the number of those
-/// that succeeded; `puts`, `takes` and `removes` are what a call of each kind does: the port before
-/// it, what it was told, its answer, and the port after it.
+/// that succeeded; `puts`, `takes` and `removes` are what a call of each kind does that sends or
+/// receives one message, or removes a queue: the port before it, its arguments, its answer, and the
+/// port after it.
 pub trait Port {
     ghost use Rattle.std.specs.Prelude.{Bool, Result};
     ghost use Rattle.mq_calls.specs.declared.errno.Errno.{Errno};
@@ -46,19 +51,25 @@ pub trait Port {
             (λ _. calls self.new ≡ calls self.old) }
         ensures done { puts self.old id mtype tag length T.ends moment result self.new };
 
-    /// Receives a message, whose text is spent. It waits for one until the patience ends.
-    fn take<R: Wait, T: Patience>(
+    /// Receives up to `most` messages, whose texts are spent, as so many calls for one. It waits for
+    /// the first alone until the patience ends, and takes what is there.
+    fn take_many<R: Wait, T: Patience>(
         &mut self,
         rt: &R,
         shared: &Self::Shared,
         id: Id,
         msgtyp: i64,
         patience: &mut T,
+        most: usize,
         moment: u64,
-    ) -> Result<Taken, Errno>
-        ensures calls { MatchResult result (λ _. calls self.new ≡ calls self.old + 1)
-            (λ _. calls self.new ≡ calls self.old) }
-        ensures done { takes self.old id msgtyp T.ends moment result self.new };
+        out: &mut Vec<Taken>,
+    ) -> Result<(), Errno>
+        requires some { 0 < most }
+        requires empty { out.old.items ≡ [] }
+        requires room { most ≤ vec_capacity out.old }
+        ensures calls { calls self.new ≡ calls self.old + length out.new.items }
+        ensures done { TakesMany takes id msgtyp T.ends moment most self.old out.new.items result
+            self.new };
 
     /// Removes a queue, and answers the entry.
     fn remove<R: Wait>(

@@ -1,3 +1,5 @@
+//! The read-eval-print loop of a serial script.
+
 ghost use Rattle.std.specs.Prelude.{◌≡◌, ◌++◌, OnOk};
 ghost use Rattle.mq_cli.specs.Input.{IsRunSize};
 ghost use Rattle.mq_cli.specs.Lines.{lines_of};

@@ -108,7 +108,7 @@ fn record_line<L: Ledger>(
     }
 }
 
-/// Makes one call, and keeps its refusal, if it is refused.
+/// Makes one call, and records its refusal, if it is refused.
 #[tactic(auto, using(crate::proofs::RecordLemmas::call_recorded))]
 fn record_call<L: Ledger>(
     session: &mut Session<L>,
@@ -130,7 +130,7 @@ fn record_call<L: Ledger>(
     Ok(())
 }
 
-/// Whether a line is passed over, since it cuts a slot that is there.
+/// Whether a line is skipped, since it drains the log of a slot that is there.
 fn is_passed<L: Ledger>(queues: &OneThread<L>, command: Command<'_>) -> bool
     ensures { result ≡ passes queues.now (asked_by command.entry) }
 {

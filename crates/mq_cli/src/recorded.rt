@@ -1,3 +1,5 @@
+//! What is recorded of a run, for traces and pictures.
+
 ghost use Rattle.mq_cli.specs.Recorded.{Leaves};
 
 use crate::RunFault;

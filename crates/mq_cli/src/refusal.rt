@@ -1,4 +1,4 @@
-//! The calls that were refused, as a run that is recorded keeps them.
+//! The calls that were refused, as a run records them.
 
 ghost use Rattle.std.specs.Prelude.{◌≡◌, OnOk};
 ghost use Rattle.mq_cli.specs.MainPart.{asked_in_main, moment_of};

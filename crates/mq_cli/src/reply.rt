@@ -1,3 +1,5 @@
+//! The formatting of answers.
+
 ghost use Rattle.std.specs.Prelude.{◌≡◌, ◌≢◌, ◌++◌, ◌∷◌, [], OnOk};
 ghost use Rattle.mq_cli.specs.Seen.{arena_shown};
 ghost use Rattle.mq_cli.specs.Transcript.{callers_of, counts_of, message_head, moments_of};

@@ -1,3 +1,5 @@
+//! The formatting of the table of queues.
+
 ghost use Rattle.std.specs.Prelude.{◌≡◌, ◌++◌, OnOk, length, replicate};
 ghost use Rattle.mq_cli.specs.Reports.{IsRow, filled_of, header, line_of_row, lines_to, named_of};
 ghost use Rattle.mq_cli.specs.Reports.{right_aligned};

@@ -1,3 +1,5 @@
+//! Reading of a script to its end.
+
 ghost use Rattle.mq_cli.specs.Input.{ReadsScript};
 
 use crate::limits::READ_CALLS;

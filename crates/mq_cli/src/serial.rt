@@ -1,3 +1,5 @@
+//! The run of a serial script.
+
 ghost use Rattle.std.specs.Prelude.{◌≤◌, Some, Ok, length};
 ghost use Rattle.mq_cli.specs.Commands.{reading};
 ghost use Rattle.mq_cli.specs.Input.{IsRunSize};

@@ -1,3 +1,5 @@
+//! The state of a serial run.
+
 ghost use Rattle.std.specs.Prelude.{◌≡◌, IfOk, map};
 ghost use Rattle.mq_calls.specs.Closed.{ending_of, ends};
 ghost use Rattle.mq_cli.specs.Session.{CanOpen, first_session};
@@ -10,7 +12,7 @@ use std::alloc::{AllocError, Global};
 use std::marker::Model;
 use std::sync::ledger::{Blank, Ledger};
 
-/// What a run keeps: the queues, the letters that texts are made of, and the seat that makes the
+/// What a run has: the queues, the letters that texts are made of, and the seat that makes the
 /// calls. `close` ends it.
 pub struct Session<L: Ledger> {
     pub(crate) queues: OneThread<L>,

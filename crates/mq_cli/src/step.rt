@@ -1,3 +1,5 @@
+//! A step of a worker's plan.
+
 use mq_table::Id;
 
 /// A line of a worker's section. The moment of each of its calls is the number of the line. They

@@ -1,16 +1,22 @@
-ghost use Rattle.std.specs.Prelude.{◌≡◌, ◌+◌, ◌≤◌, length, map, IfOk};
+//! A worker's queue interface at a seat of several threads, and its message invariant.
+
+ghost use Rattle.std.specs.Prelude.{◌≡◌, ◌+◌, ◌<◌, ◌≤◌, [], length, map, IfOk, MatchResult};
+ghost use Rattle.std.specs.Prelude.{vec_capacity};
 ghost use Rattle.std.specs.List.{range_with_len, sum};
 ghost use Rattle.mq_queue.specs.declared.limits.TheConstants.{MSGMAX};
+ghost use Rattle.mq_cli.specs.Batches.{TakesMany};
 ghost use Rattle.mq_cli.specs.Drafts.{DraftsBytes, letter};
 ghost use Rattle.mq_cli.specs.Letters.{AreLetters, letters_from};
-ghost use Rattle.mq_cli.specs.Ports.{Receives, Removes, Sends};
+ghost use Rattle.mq_cli.specs.Ports.{Receives, Removes, Sends, taken_of};
 ghost use Rattle.mq_cli.specs.declared.system_port.TheConstants.{LETTERS};
+
+mod receive;
 
 use crate::draft::letters;
 use crate::{Port, Taken};
-use mq_calls::{Delivered, DraftError, Errno, Removal, SendRefused};
+use mq_calls::{DraftError, Errno, Removal, SendRefused};
 use mq_queue::MSGMAX;
-use mq_system::{Names, Patience, Pledge, RecvFlags, Seat, SendFlags, System, TextOf};
+use mq_system::{MAX_BATCH, Names, Patience, Pledge, Seat, SendFlags, System, TextOf};
 use mq_table::Id;
 use std::alloc::{AllocError, Global};
 use std::sync::Wait;
@@ -23,26 +29,32 @@ impl Pledge for Letters {
     ghost kept = { AreLetters };
 }
 
-/// The number of letters from which each text is cut: the longest one may begin with any.
+/// The number of letters of which each text is a slice: the longest one may begin with any.
 pub(crate) const LETTERS: u64 = MSGMAX + 26;
 
 /// The calls of a worker at its seat, each of which waits where it has to, until its patience ends.
 #[derive(Drop)]
 pub struct SystemPort<'a, N: Names> {
     seat: &'a mut Seat<N>,
+    /// Of the messages of a batch until their texts are spent.
+    alloc: Global,
     letters: &'a [u8],
     ghost letters_are: { letters.now ≡ map letter (range_with_len 0 LETTERS) },
 }
 
 impl<'a, N: Names> SystemPort<'a, N> {
-    pub fn new(seat: &'a mut Seat<N>, letters: &'a [u8]) -> SystemPort<'a, N>
+    pub fn new(alloc: Global, seat: &'a mut Seat<N>, letters: &'a [u8]) -> SystemPort<'a, N>
         requires { letters.now ≡ map letter (range_with_len 0 LETTERS) }
     {
-        SystemPort { seat, letters }
+        SystemPort {
+            seat,
+            alloc,
+            letters,
+        }
     }
 }
 
-/// The letters of which ports cut their texts.
+/// The letters of which the texts of ports are slices.
 pub fn letters_of_ports(alloc: Global) -> Result<Vec<u8>, AllocError>
     ensures { IfOk result (λ all. all.items ≡ map letter (range_with_len 0 LETTERS)) }
 {
@@ -61,7 +73,11 @@ pub(crate) fn ports_of<'a, N: Names>(
 {
     let mut ports = Vec::with_capacity(alloc, seats.len())?;
     for seat in seats.iter_mut() {
-        ports.push_reserved(SystemPort { seat, letters });
+        ports.push_reserved(SystemPort {
+            seat,
+            alloc,
+            letters,
+        });
     }
     Ok(ports)
 }
@@ -140,39 +156,28 @@ impl<'a, N: Names> Port for SystemPort<'a, N> {
         }
     }
 
-    fn take<R: Wait, T: Patience>(
+    fn take_many<R: Wait, T: Patience>(
         &mut self,
         rt: &R,
         system: &System<Letters, N>,
         id: Id,
         msgtyp: i64,
         patience: &mut T,
+        most: usize,
         moment: u64,
-    ) -> Result<Taken, Errno> {
-        let flags = RecvFlags {
-            nowait: false,
-            noerror: false,
-            except: false,
-        };
-        match system.msgrcv_within(rt, self.seat, id, MSGMAX, msgtyp, flags, patience, moment) {
-            Ok(delivered) => {
-                let Delivered {
-                    entry: _,
-                    mtype,
-                    sender,
-                    tag,
-                    length,
-                    text,
-                } = delivered;
-                system.spend_by(rt, self.seat, text);
-                Ok(Taken {
-                    sender,
-                    tag,
-                    mtype,
-                    length,
-                })
+        out: &mut Vec<Taken>,
+    ) -> Result<(), Errno> {
+        if most > 1 {
+            if let Ok(batch) = Vec::with_capacity(self.alloc, most.min(MAX_BATCH)) {
+                return self.take_batch(rt, system, id, msgtyp, patience, moment, batch, out);
             }
-            Err(refused) => Err(refused.errno),
+        }
+        match self.take_one(rt, system, id, msgtyp, patience, moment) {
+            Ok(taken) => {
+                out.push_reserved(taken);
+                Ok(())
+            }
+            Err(errno) => Err(errno),
         }
     }
 

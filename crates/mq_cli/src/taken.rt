@@ -1,4 +1,6 @@
-/// What a worker is told of a message that it took: not its text, which is spent.
+//! A received message, as a worker records it.
+
+/// A message without its text, which is spent.
 #[derive(Clone, Copy, Debug, PartialEq, Eq)]
 pub struct Taken {
     /// The number of the sender's seat.

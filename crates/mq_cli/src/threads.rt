@@ -1,3 +1,5 @@
+//! The run of a threads script: its main part, its workers, and the summary.
+
 ghost use Rattle.std.specs.Prelude.{◌≡◌, length, vec_len};
 ghost use Rattle.mq_system.specs.Sizes.{AreNames};
 ghost use Rattle.mq_cli.specs.Input.{IsRunSize};
@@ -22,8 +24,8 @@ use std::thread::Threads;
 use std::time::Clock;
 
 /// Reads a threads script whole and makes the calls of its main part, whose answers it writes. Then
-/// it runs each section on a thread of its own, and tells at the end what each of them did, what is
-/// in each slot and how many pages are free. A line that is not well formed is found before
+/// it runs each section on a thread of its own, and writes at the end what each of them did, what
+/// is in each slot and how many pages are free. A line that is not well formed is found before
 /// anything is run.
 pub fn run_threads<T: Threads + Wait + Clock + Sync, R: Read, W: Write>(
     rt: &T,
@@ -121,7 +123,7 @@ pub(crate) fn run_sections<N: Names + Send + Sync, T: Threads + Wait + Clock + S
     run_workers(rt, alloc, system, sections, ports.as_mut_slice())
 }
 
-/// Writes what is told at the end, where the workers were run.
+/// Writes the summary, where the workers were run.
 fn tell<W: Write>(
     alloc: Global,
     ran: Result<Vec<Outcome>, RunFault>,

@@ -1,3 +1,5 @@
+//! The parser of a line of a threads script.
+
 ghost use Rattle.std.specs.Prelude.{◌≡◌, ◌+◌};
 ghost use Rattle.mq_cli.specs.Lines.{words_of};
 ghost use Rattle.mq_cli.specs.Numbers.{number_of, under};

@@ -1,3 +1,5 @@
+//! A threads script, parsed.
+
 ghost use Rattle.std.specs.Prelude.{◌≡◌, ◌≤◌, OnOk, length};
 ghost use Rattle.mq_cli.specs.ThreadsParsed.{Parses, wanted_seen};
 ghost use Rattle.mq_cli.specs.ThreadsScript.{nothing, wanted_of, with_line};

@@ -27,7 +27,7 @@ pub fn lines_of_another_part()
         ≡ Ok (record { calls = []; sections = replicate 15 [] }) }
 {}
 
-/// Words are looked at before numbers, and a count is at most 100,000.
+/// Words are checked before numbers, and a count is at most 100,000.
 pub fn causes_in_a_section()
     ensures words { wanted_from 1 nothing (codes "worker" ∷ codes "rm x 0" ∷ []) ≡ Err (2, Words) }
     ensures number { wanted_from 1 nothing (codes "worker" ∷ codes "rm 00" ∷ []) ≡ Err (2, Number) }

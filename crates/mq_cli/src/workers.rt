@@ -1,3 +1,5 @@
+//! The threads of a threads script.
+
 ghost use Rattle.std.specs.Prelude.{◌≡◌, length, map, IfOk};
 ghost use Rattle.mq_cli.specs.Plans.{AreCountable, IsCountable, IsCarriedOut};
 ghost use Rattle.mq_cli.specs.Threads.{RanWorkers};

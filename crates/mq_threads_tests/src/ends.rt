@@ -3,7 +3,7 @@
 ghost use Rattle.std.specs.Prelude.{◌≡◌};
 ghost use Rattle.mq_cli.specs.Plans.{puts_of, takes_of};
 
-use crate::plans::{Call, FOREVER, REMOVE, Wanting, put, put_call, remove, take};
+use crate::plans::{Call, REMOVE, Wanting, put, put_call, remove, take};
 use mq_calls::Errno;
 use mq_cli::{Outcome, Step, work};
 use mq_table::Id;
@@ -65,11 +65,12 @@ fn take_within(count: u32, span: u64) -> Step
     }
 }
 
-fn take_call(left: Option<Duration>) -> Call {
+fn take_call(left: Option<Duration>, most: usize) -> Call {
     Call::Take {
         id: 129,
         msgtyp: -7,
         left,
+        most,
         moment: 6,
     }
 }
@@ -83,17 +84,17 @@ fn wanted() -> [Call; 9] {
     [
         put_call_within(1, millis(100)),
         put_call_within(2, millis(99)),
-        take_call(millis(1_000_000)),
-        take_call(millis(999_999)),
-        take_call(millis(999_998)),
+        take_call(millis(1_000_000), 1),
+        take_call(millis(999_999), 2),
+        take_call(millis(999_998), 1),
         put_call(3),
-        take_call(FOREVER),
+        crate::plans::take_call(1),
         put_call_within(4, None),
         REMOVE,
     ]
 }
 
-/// The same where the calls succeed: steps with an end, without one, and with one that has come.
+/// The same where the calls succeed, and one message waits at a time: steps with an end, without one, and with one that has come.
 fn outcome<R: Wait>(rt: &R, alloc: Global) -> (Outcome, u64) {
     let wanted = wanted();
     let plan = [
@@ -105,11 +106,7 @@ fn outcome<R: Wait>(rt: &R, alloc: Global) -> (Outcome, u64) {
         remove(),
     ];
     let clock = Ticking(AtomicU64::new(77));
-    let mut port = Wanting {
-        wanted: &wanted,
-        calls: 0,
-        lets: 9,
-    };
+    let mut port = Wanting::new(&wanted, 9, 1);
     let outcome = work(rt, &clock, alloc, &(), &mut port, &plan);
     (outcome, port.calls)
 }

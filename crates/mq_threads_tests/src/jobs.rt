@@ -90,11 +90,7 @@ fn ports<'a>(alloc: Global, wanted: &'a [Call], count: u32) -> Result<Vec<Wantin
 {
     let mut ports = Vec::new(alloc);
     for _ in 0..count {
-        ports.push(Wanting {
-            wanted,
-            calls: 0,
-            lets: 100,
-        })?;
+        ports.push(Wanting::new(wanted, 100, 9))?;
     }
     Ok(ports)
 }

@@ -30,6 +30,8 @@ macro_rules! holds {
 }
 
 #[cfg(test)]
+mod batches;
+#[cfg(test)]
 mod ends;
 #[cfg(test)]
 mod jobs;

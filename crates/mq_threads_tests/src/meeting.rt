@@ -1,7 +1,7 @@
 ghost use Rattle.std.specs.Prelude.{◌≡◌, ◌+◌, length, All, IfOk};
 ghost use Rattle.mq_cli.specs.Plans.{IsCountable};
 
-use crate::plans::{Call, TAKE, one_take};
+use crate::plans::{Call, one_take, take_call};
 use mq_calls::Errno;
 use mq_cli::{Outcome, Port, RunFault, Step, Taken, run_workers};
 use mq_system::Patience;
@@ -49,34 +49,39 @@ impl<'a> Port for Meeting<'a> {
         Err(Errno::EPERM)
     }
 
-    fn take<R: Wait, T: Patience>(
+    #[tactic(auto, using(crate::proofs::ManyLemmas::takes_any))]
+    fn take_many<R: Wait, T: Patience>(
         &mut self,
         _rt: &R,
         _shared: &(),
         id: Id,
         msgtyp: i64,
         patience: &mut T,
+        most: usize,
         moment: u64,
-    ) -> Result<Taken, Errno> {
+        out: &mut Vec<Taken>,
+    ) -> Result<(), Errno> {
         let call = Call::Take {
             id: id.number(),
             msgtyp,
             left: patience.left(),
+            most,
             moment,
         };
-        if call != TAKE {
+        if call != take_call(1) {
             return Err(Errno::EEXIST);
         }
         if self.calls > 0 || !meets(self.mine, self.other) {
             return Err(Errno::EAGAIN);
         }
         self.calls += 1;
-        Ok(Taken {
+        out.push_reserved(Taken {
             sender: 2,
             tag: 1,
             mtype: msgtyp,
             length: 0,
-        })
+        });
+        Ok(())
     }
 
     fn remove<R: Wait>(

@@ -1,6 +1,6 @@
 ghost use Rattle.std.specs.Prelude.{◌≡◌, ◌+◌};
 
-use crate::plans::{Call, Stopped, TAKE, take};
+use crate::plans::{Call, Stopped, take, take_call};
 use mq_calls::Errno;
 use mq_cli::{Port, Taken, work};
 use mq_system::Patience;
@@ -41,27 +41,36 @@ impl<'a> Port for Told<'a> {
         Err(Errno::EPERM)
     }
 
-    fn take<R: Wait, T: Patience>(
+    #[tactic(auto, using(crate::proofs::ManyLemmas::takes_any))]
+    fn take_many<R: Wait, T: Patience>(
         &mut self,
         _rt: &R,
         _shared: &(),
         id: Id,
         msgtyp: i64,
         patience: &mut T,
+        most: usize,
         moment: u64,
-    ) -> Result<Taken, Errno> {
+        out: &mut Vec<Taken>,
+    ) -> Result<(), Errno> {
         let call = Call::Take {
             id: id.number(),
             msgtyp,
             left: patience.left(),
+            most,
             moment,
         };
-        if call != TAKE || self.calls >= self.taken.len() as u64 {
+        if call != take_call(most) {
             return Err(Errno::ENOMSG);
         }
-        let taken = self.taken[self.calls as usize];
-        self.calls += 1;
-        Ok(taken)
+        for _ in 0..most {
+            if self.calls >= self.taken.len() as u64 {
+                return Err(Errno::ENOMSG);
+            }
+            out.push_reserved(self.taken[self.calls as usize]);
+            self.calls += 1;
+        }
+        Ok(())
     }
 
     fn remove<R: Wait>(

@@ -40,10 +40,12 @@ pub(crate) enum Call {
         left: Option<Duration>,
         moment: u64,
     },
+    /// For up to so many messages.
     Take {
         id: u32,
         msgtyp: i64,
         left: Option<Duration>,
+        most: usize,
         moment: u64,
     },
     Remove {
@@ -52,24 +54,59 @@ pub(crate) enum Call {
     },
 }
 
-/// Wants these calls, one after the other. It lets so many succeed and refuses the next with EPERM;
-/// a call that is not the one that is wanted it refuses with EEXIST.
+/// Wants these calls, one after the other. It lets so many messages and removals succeed and
+/// refuses the next with EPERM; a call that is not the one that is wanted it refuses with EEXIST.
 #[derive(Drop)]
 pub(crate) struct Wanting<'a> {
     pub wanted: &'a [Call],
+    /// How many calls were made that were wanted.
+    pub made: usize,
+    /// How many messages were sent or received, and queues removed.
     pub calls: u64,
     pub lets: u64,
+    /// How many messages wait at most where a call receives.
+    pub waiting: usize,
 }
 
 impl<'a> Wanting<'a> {
+    /// Of which nothing was asked yet.
+    pub(crate) fn new(wanted: &'a [Call], lets: u64, waiting: usize) -> Wanting<'a> {
+        Wanting {
+            wanted,
+            made: 0,
+            calls: 0,
+            lets,
+            waiting,
+        }
+    }
+
+    /// Whether this call is the next that is wanted.
+    fn wants(&mut self, call: Call) -> bool
+        ensures { self.new.calls ≡ self.old.calls }
+    {
+        match self.wanted.get(self.made) {
+            Some(wanted) if *wanted == call => (),
+            _ => return false,
+        }
+        self.made += 1;
+        true
+    }
+
     fn call(&mut self, call: Call) -> Result<u64, Errno>
         ensures { MatchResult result (λ _. self.new.calls ≡ self.old.calls + 1)
             (λ _. self.new.calls ≡ self.old.calls) }
     {
-        match self.wanted.get(self.calls as usize) {
-            Some(wanted) if *wanted == call => (),
-            _ => return Err(Errno::EEXIST),
+        if !self.wants(call) {
+            return Err(Errno::EEXIST);
         }
+        self.one()
+    }
+
+    /// One that is let succeed, or not.
+    fn one(&mut self) -> Result<u64, Errno>
+        ensures { MatchResult result (λ _. self.new.calls ≡ self.old.calls + 1)
+            (λ _. self.new.calls ≡ self.old.calls) }
+    {
         if self.calls >= self.lets {
             return Err(Errno::EPERM);
         }
@@ -112,30 +149,40 @@ impl<'a> Port for Wanting<'a> {
         })
     }
 
-    fn take<R: Wait, T: Patience>(
+    #[tactic(auto, using(crate::proofs::ManyLemmas::takes_any))]
+    fn take_many<R: Wait, T: Patience>(
         &mut self,
         _rt: &R,
         _shared: &(),
         id: Id,
         msgtyp: i64,
         patience: &mut T,
+        most: usize,
         moment: u64,
-    ) -> Result<Taken, Errno> {
+        out: &mut Vec<Taken>,
+    ) -> Result<(), Errno> {
         let call = Call::Take {
             id: id.number(),
             msgtyp,
             left: patience.left(),
+            most,
             moment,
         };
-        match self.call(call) {
-            Ok(tag) => Ok(Taken {
-                sender: 2,
-                tag,
-                mtype: 3,
-                length: 0,
-            }),
-            Err(errno) => Err(errno),
+        if !self.wants(call) {
+            return Err(Errno::EEXIST);
         }
+        for _ in 0..most.min(self.waiting.max(1)) {
+            match self.one() {
+                Ok(tag) => out.push_reserved(Taken {
+                    sender: 2,
+                    tag,
+                    mtype: 3,
+                    length: 0,
+                }),
+                Err(errno) => return Err(errno),
+            }
+        }
+        Ok(())
     }
 
     fn remove<R: Wait>(
@@ -216,12 +263,16 @@ pub(crate) fn take(count: u32) -> Step
     }
 }
 
-pub(crate) const TAKE: Call = Call::Take {
-    id: 129,
-    msgtyp: -7,
-    left: FOREVER,
-    moment: 6,
-};
+/// The call that receives up to so many of them.
+pub(crate) fn take_call(most: usize) -> Call {
+    Call::Take {
+        id: 129,
+        msgtyp: -7,
+        left: FOREVER,
+        most,
+        moment: 6,
+    }
+}
 
 pub(crate) fn remove() -> Step
     ensures { (puts_of result ≡ 0) × (takes_of result ≡ 0) }

@@ -1,20 +1,20 @@
 use crate::plans::{
-    Call, REMOVE, Stopped, TAKE, Wanting, long_put, long_put_call, put, put_call, remove, take,
+    Call, REMOVE, Stopped, Wanting, long_put, long_put_call, put, put_call, remove, take, take_call,
 };
 use mq_calls::Errno;
 use mq_cli::{Outcome, work};
 use std::alloc::Global;
 use std::sync::Wait;
 
-/// The calls of the plan below, in their order: the tags rise from 1 over all that is sent.
-fn wanted() -> [Call; 7] {
+/// The calls of the plan below, in their order: the tags rise from 1 over all that is sent. Behind a
+/// message without bytes as many are asked for as are left.
+fn wanted() -> [Call; 6] {
     [
         put_call(1),
         put_call(2),
         long_put_call(3),
-        TAKE,
-        TAKE,
-        TAKE,
+        take_call(1),
+        take_call(2),
         REMOVE,
     ]
 }
@@ -24,20 +24,12 @@ fn wanted() -> [Call; 7] {
 fn outcome<R: Wait>(rt: &R, alloc: Global, lets: u64) -> (Outcome, u64) {
     let wanted = wanted();
     let plan = [put(2), long_put(1), take(3), remove()];
-    let mut port = Wanting {
-        wanted: &wanted,
-        calls: 0,
-        lets,
-    };
+    let mut port = Wanting::new(&wanted, lets, 9);
     let first = work(rt, &Stopped, alloc, &(), &mut port, &plan);
     if first.end != Some(Errno::ENOMEM) {
         return (first, port.calls);
     }
-    let mut port = Wanting {
-        wanted: &wanted,
-        calls: 0,
-        lets,
-    };
+    let mut port = Wanting::new(&wanted, lets, 9);
     let second = work(rt, &Stopped, alloc, &(), &mut port, &plan);
     (second, port.calls)
 }
@@ -73,11 +65,7 @@ fn a_plan_that_is_not_refused_is_done(rt: HostRuntime) {
 
 #[test]
 fn an_empty_plan_makes_no_call(rt: HostRuntime) {
-    let mut port = Wanting {
-        wanted: &[],
-        calls: 0,
-        lets: 9,
-    };
+    let mut port = Wanting::new(&[], 9, 9);
     let outcome = work(&rt, &Stopped, rt.alloc(), &(), &mut port, &[]);
     holds!(rt; outcome.end == None && outcome.ordered, "done");
     holds!(rt;

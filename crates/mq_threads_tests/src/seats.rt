@@ -12,8 +12,8 @@ use mq_cli::{Letters, Port, SystemPort, Taken, letters_of_ports};
 use mq_message::Selection;
 use mq_queue::{Event, MSGMAX};
 use mq_system::{
-    Blanks, Closed, ClosedSlot, Config, Errno, Forever, GetFlags, Names, NoWait, Seat, SysError,
-    System,
+    Blanks, Closed, ClosedSlot, Config, Errno, Forever, GetFlags, Names, NoWait, Patience, Seat,
+    SysError, System,
 };
 use mq_table::Id;
 use std::alloc::Global;
@@ -26,7 +26,8 @@ use std::sync::Wait;
 enum Answer {
     /// The entry of what was sent or removed.
     At(u64),
-    Got(Taken),
+    /// What was received, in its order.
+    Got([Option<Taken>; 3]),
     Refused(Errno),
 }
 
@@ -37,14 +38,18 @@ fn at(seat: usize, call: Call, entry: u64) -> Turn {
     (seat, call, Answer::At(entry))
 }
 
-fn got(seat: usize, call: Call, sender: u16, tag: u64, mtype: i64, length: u64) -> Turn {
-    let taken = Taken {
+fn taken(sender: u16, tag: u64, mtype: i64, length: u64) -> Option<Taken> {
+    Some(Taken {
         sender,
         tag,
         mtype,
         length,
-    };
-    (seat, call, Answer::Got(taken))
+    })
+}
+
+fn got(seat: usize, call: Call, sender: u16, tag: u64, mtype: i64, length: u64) -> Turn {
+    let one = taken(sender, tag, mtype, length);
+    (seat, call, Answer::Got([one, None, None]))
 }
 
 fn refused(seat: usize, call: Call, errno: Errno) -> Turn {
@@ -64,10 +69,15 @@ fn put(id: u32, mtype: i64, tag: u64, length: u64, moment: u64) -> Call {
 }
 
 fn take(id: u32, msgtyp: i64, moment: u64) -> Call {
+    take_some(id, msgtyp, 1, moment)
+}
+
+fn take_some(id: u32, msgtyp: i64, most: usize, moment: u64) -> Call {
     Call::Take {
         id,
         msgtyp,
         left: FOREVER,
+        most,
         moment,
     }
 }
@@ -85,11 +95,12 @@ fn put_at_once(id: u32, mtype: i64, tag: u64, length: u64, moment: u64) -> Call 
     }
 }
 
-fn take_at_once(id: u32, msgtyp: i64, moment: u64) -> Call {
+fn take_at_once(id: u32, msgtyp: i64, most: usize, moment: u64) -> Call {
     Call::Take {
         id,
         msgtyp,
         left: None,
+        most,
         moment,
     }
 }
@@ -111,25 +122,44 @@ fn traffic() -> [Turn; 9] {
         at(2, put(65, 7, 1, 3, 23), 3),
         got(2, take(2, i64::MAX, 24), 3, 12, i64::MAX, 0),
         got(2, take(2, -7, 25), 2, TAG, 5, 5000),
-        got(1, take_at_once(2, 0, 26), 2, 11, 7, 30),
+        got(1, take_at_once(2, 0, 1, 26), 2, 11, 7, 30),
         got(0, take(65, 7, 27), 3, 1, 7, 3),
         at(1, put_at_once(2, 9, 14, 1, 28), 7),
     ]
 }
 
+/// Several by one call: as many as were asked for, and as many as wait.
+fn batches() -> [Turn; 7] {
+    let (first, second) = (taken(2, 31, 4, 0), taken(3, 32, 4, 40));
+    [
+        at(1, put(2, 4, 31, 0, 41), 8),
+        at(2, put(2, 4, 32, 40, 42), 9),
+        at(1, put(2, 6, 33, 0, 43), 10),
+        at(1, put(2, 4, 34, 2, 44), 11),
+        (
+            2,
+            take_some(2, 4, 2, 45),
+            Answer::Got([first, second, None]),
+        ),
+        got(0, take_at_once(2, 4, 3, 46), 2, 34, 4, 2),
+        got(0, take_some(2, -7, 3, 47), 2, 33, 6, 0),
+    ]
+}
+
 /// Calls that are refused, and a removal between them. Queue 0 has room for nothing.
-fn ends() -> [Turn; 11] {
+fn ends() -> [Turn; 12] {
     [
         refused(1, put_at_once(0, 1, 15, 0, 29), Errno::EAGAIN),
-        refused(1, take_at_once(0, 0, 29), Errno::ENOMSG),
+        refused(1, take_at_once(0, 0, 1, 29), Errno::ENOMSG),
+        refused(1, take_at_once(0, 0, 3, 29), Errno::ENOMSG),
         refused(1, put(2, 0, 15, 1, 29), Errno::EINVAL),
         refused(1, put(2, 1, 15, 65_537, 29), Errno::EINVAL),
         refused(1, put(1, 1, 15, 1, 29), Errno::EIDRM),
         refused(1, take(1, 0, 29), Errno::EIDRM),
         refused(1, take(3, 0, 29), Errno::EINVAL),
-        refused(1, take(4, 0, 29), Errno::EINVAL),
+        refused(1, take_some(4, 0, 3, 29), Errno::EINVAL),
         refused(1, remove(1, 29), Errno::EIDRM),
-        at(2, remove(2, 30), 8),
+        at(2, remove(2, 48), 16),
         refused(1, remove(2, 31), Errno::EIDRM),
     ]
 }
@@ -164,7 +194,7 @@ fn received(seat: u16, moment: u64, place: u64, selection: Selection) -> Event {
 }
 
 /// All that happened in slot 2, whose queue was removed.
-fn slot_two() -> [Event; 9] {
+fn slot_two() -> [Event; 17] {
     [
         made(1, 3),
         sent(2, 21, 11, 7, 30),
@@ -174,9 +204,17 @@ fn slot_two() -> [Event; 9] {
         received(3, 25, 3, Selection::UpTo(7)),
         received(2, 26, 1, Selection::Any),
         sent(2, 28, 14, 9, 1),
+        sent(2, 41, 31, 4, 0),
+        sent(3, 42, 32, 4, 40),
+        sent(2, 43, 33, 6, 0),
+        sent(2, 44, 34, 4, 2),
+        received(3, 45, 8, Selection::Exact(4)),
+        received(3, 45, 9, Selection::Exact(4)),
+        received(1, 46, 11, Selection::Exact(4)),
+        received(1, 47, 10, Selection::UpTo(7)),
         Event::Removed {
             seat: 3,
-            moment: 30,
+            moment: 48,
         },
     ]
 }
@@ -247,7 +285,13 @@ fn narrowed<N: Names, R: Abort + Wait>(
 }
 
 /// What a port answers.
-fn called<P: Port, R: Wait>(rt: &R, port: &mut P, shared: &P::Shared, call: Call) -> Answer {
+fn called<P: Port, R: Wait>(
+    rt: &R,
+    alloc: Global,
+    port: &mut P,
+    shared: &P::Shared,
+    call: Call,
+) -> Answer {
     match call {
         Call::Put {
             id,
@@ -274,21 +318,64 @@ fn called<P: Port, R: Wait>(rt: &R, port: &mut P, shared: &P::Shared, call: Call
             id,
             msgtyp,
             left,
+            most,
             moment,
         } => {
             let id = Id::from_number(id);
-            let taken = match left {
-                Some(_) => port.take(rt, shared, id, msgtyp, &mut Forever, moment),
-                None => port.take(rt, shared, id, msgtyp, &mut NoWait, moment),
-            };
-            match taken {
-                Ok(taken) => Answer::Got(taken),
-                Err(errno) => Answer::Refused(errno),
+            match left {
+                Some(_) => takes(
+                    rt,
+                    alloc,
+                    port,
+                    shared,
+                    id,
+                    msgtyp,
+                    &mut Forever,
+                    most,
+                    moment,
+                ),
+                None => takes(
+                    rt,
+                    alloc,
+                    port,
+                    shared,
+                    id,
+                    msgtyp,
+                    &mut NoWait,
+                    most,
+                    moment,
+                ),
             }
         }
         Call::Remove { id, moment } => {
             entry(port.remove(rt, shared, Id::from_number(id), moment))
         }
+    }
+}
+
+/// What it answers that receives, or ENOMEM where there is no room for what comes.
+fn takes<P: Port, R: Wait, T: Patience>(
+    rt: &R,
+    alloc: Global,
+    port: &mut P,
+    shared: &P::Shared,
+    id: Id,
+    msgtyp: i64,
+    patience: &mut T,
+    most: usize,
+    moment: u64,
+) -> Answer {
+    let most = most.max(1);
+    let Ok(mut out) = Vec::with_capacity(alloc, most) else {
+        return Answer::Refused(Errno::ENOMEM);
+    };
+    match port.take_many(rt, shared, id, msgtyp, patience, most, moment, &mut out) {
+        Ok(()) => Answer::Got([
+            out.get(0).copied(),
+            out.get(1).copied(),
+            out.get(2).copied(),
+        ]),
+        Err(errno) => Answer::Refused(errno),
     }
 }
 
@@ -299,10 +386,31 @@ fn entry(answer: Result<u64, Errno>) -> Answer {
     }
 }
 
+/// The answer of a call that was made once more, where it was for several and there was no memory
+/// for more than the first.
+fn with_first(first: Answer, second: Answer) -> Answer {
+    match (first, second) {
+        (Answer::Got([one, None, None]), Answer::Got([two, three, None])) => {
+            Answer::Got([one, two, three])
+        }
+        _ => second,
+    }
+}
+
+/// Whether less came than is wanted.
+fn is_less(told: Answer, wanted: Answer) -> bool {
+    match (told, wanted) {
+        (Answer::Got([Some(_), None, None]), Answer::Got([Some(_), Some(_), _])) => true,
+        (Answer::Refused(Errno::ENOMEM), _) => true,
+        _ => false,
+    }
+}
+
 /// Makes a call by the port of the seat at its place, once more where there was no memory, and
 /// compares the answer.
 fn takes_turn<N: Names, R: Abort + Wait>(
     rt: &R,
+    alloc: Global,
     system: &System<Letters, N>,
     seats: &mut [Seat<N>],
     letters: &[u8],
@@ -312,11 +420,12 @@ fn takes_turn<N: Names, R: Abort + Wait>(
 {
     let (place, call, wanted) = turn;
     let seat = seat_at(rt, seats, place);
-    let mut port = SystemPort::new(seat, letters);
-    let first = called(rt, &mut port, system, call);
-    let told = match first {
-        Answer::Refused(Errno::ENOMEM) => called(rt, &mut port, system, call),
-        first => first,
+    let mut port = SystemPort::new(alloc, seat, letters);
+    let first = called(rt, alloc, &mut port, system, call);
+    let told = if is_less(first, wanted) {
+        with_first(first, called(rt, alloc, &mut port, system, call))
+    } else {
+        first
     };
     assert!(rt; told == wanted, "at moment {}", moment_of(call));
 }
@@ -333,6 +442,7 @@ fn moment_of(call: Call) -> u64 {
 /// room; then the traffic.
 fn turns<N: Names, R: Abort + Wait>(
     rt: &R,
+    alloc: Global,
     system: &System<Letters, N>,
     seats: &mut [Seat<N>],
     letters: &[u8],
@@ -343,15 +453,18 @@ fn turns<N: Names, R: Abort + Wait>(
         let id = queue(rt, system, seats, u64::from(number) + 1);
         holds!(rt; id == number, "a queue in each slot");
     }
-    takes_turn(rt, system, seats, letters, at(0, remove(1, 4), 1));
+    takes_turn(rt, alloc, system, seats, letters, at(0, remove(1, 4), 1));
     let id = queue(rt, system, seats, 5);
     holds!(rt; id == 65, "the second queue of slot 1");
     narrowed(rt, system, seats, 6);
     for one in traffic() {
-        takes_turn(rt, system, seats, letters, one);
+        takes_turn(rt, alloc, system, seats, letters, one);
+    }
+    for one in batches() {
+        takes_turn(rt, alloc, system, seats, letters, one);
     }
     for one in ends() {
-        takes_turn(rt, system, seats, letters, one);
+        takes_turn(rt, alloc, system, seats, letters, one);
     }
 }
 
@@ -364,7 +477,7 @@ fn day<N: Names, R: Abort + Wait>(
     let Ok(letters) = letters_of_ports(alloc) else {
         panic!(rt; "out of memory");
     };
-    turns(rt, system, seats, &letters);
+    turns(rt, alloc, system, seats, &letters);
 }
 
 /// What a system leaves at its end.

@@ -186,6 +186,7 @@ fn last_seq_of(given: &ArgMatches<'_>) -> u32
 /// The whole command line.
 fn command<'a>(alloc: Global) -> Result<Command<'a>, AllocError> {
     Command::new(alloc, "mqsim")
+        .version("0.1.0")
         .about("Runs a script of message queue calls, one answer line a call")
         .after_help(NOTES)
         .args_conflicts_with_subcommands(true)

@@ -6,7 +6,7 @@ use Rattle.mq_table.specs.Ids.{seq_of, slot_of}
 use Rattle.mq_system.specs.Refusals.{MayReceive, out_of_slots}
 use Rattle.mq_system.specs.Seen.{receive_verdict}
 use Rattle.mq_cli.proofs.PortLemmas.{or_none, refused_call}
-use Rattle.mq_cli.proofs.system_port.SystemPortPort.take.Goals as goal
+use Rattle.mq_cli.proofs.system_port.SystemPort.take_one.Goals as goal
 
 pub returns-in-Err-clause-done : goal.returns-in-Err-clause-done
 returns-in-Err-clause-done g c =
