@@ -44,9 +44,9 @@ def write(top):
     """Writes the crate and its mistakes below this folder."""
     texts = {"crates.txt": "trial:\n", "crates/trial/src/lib.rt": SOURCE,
              "crates/trial/proofs/after_next/Answers.antt": ANSWERS}
-    for name, (_, head, old, new) in MISTAKES.items():
-        text = f"{head}\nfile: src/lib.rt\nold: {old}\nnew: {new}\n"
-        texts[f"crates/trial/planted/{name}.edit"] = text
+    mistakes = (f"== {name}\n{head}\nfile: src/lib.rt\nold: {old}\nnew: {new}\n"
+                for name, (_, head, old, new) in sorted(MISTAKES.items()))
+    texts["crates/trial/planted.edits"] = "\n".join(mistakes)
     for path, text in texts.items():
         (top / path).parent.mkdir(parents=True, exist_ok=True)
         (top / path).write_text(text)

@@ -1,8 +1,8 @@
 #!/usr/bin/env python3
 """Compares docs/PROMISES.md with the sources. Each function, clause and test that it names must be
-there, and each planted mistake must be in a function, or seen by a test, that a row names, and have
-a name of its own. Each public function that a clause tells what to answer or to leave must have a
-mistake planted in it.
+there, and each planted mistake must be in a function, or seen by a test, that a row names, and be
+written as .ci/edits.py says. Each public function that a clause tells what to answer or to leave
+must have a mistake planted in it.
 
 A row has three columns: the promise, the functions with their clauses, and the tests. In the
 second, each part up to a `;` names crates, or means those of the part before; then functions, where
@@ -22,16 +22,14 @@ mistakes.
 import re
 import sys
 import tempfile
-from collections import Counter
 from pathlib import Path
 
 TOP = Path(__file__).parent.parent
 sys.dont_write_bytecode = True
 sys.path.insert(0, str(TOP / ".ci"))
-from edits import FUNCTION as BODY, Edit, changed_body, edits_below  # noqa: E402
+from edits import FUNCTION as BODY, all_edits, changed_body  # noqa: E402
 from promises_cases import CASES, write  # noqa: E402
 
-FOLDERS = ("planted", "must-not-compile")
 ONLY_TESTED = "What only tests see"
 NAME = re.compile(r"`([^`]+)`")
 BLOCK = re.compile(r"(?m)^ *(?:pub(?:\(\w+\))? )?(impl|trait)\b((?:\[[^]]*\]|[^{;])*)\{")
@@ -238,10 +236,19 @@ def refused_in(edits, functions):
             if by.file == it.file and by.is_printed(it.head["function"])}
 
 
-def public_bodies(top, crates):
+def fault_of(edit):
+    """What is wrong with the texts of an edit, or None."""
+    try:
+        edit.texts()
+    except ValueError as wrong:
+        return f"{edit.label}: {wrong}"
+    return None
+
+
+def public_bodies(crates, edits):
     """The public functions whose clauses say what they answer or leave, by crate and module, and
     whether a mistake is planted in each."""
-    planted = [Edit(path) for path in edits_below(top, "planted")]
+    planted = [it for it in edits if it.kind == "planted"]
     changed = {(it.crate, it.file, (changed_body(*it.texts()) or [None])[0]) for it in planted}
     for crate, folder in crates.items():
         for path in sorted(folder.glob("src/**/*.rt")):
@@ -260,9 +267,15 @@ def compared(top, one_body):
     functions, defined = all_functions(crates), definitions(top)
     there = {it for path in top.glob("crates/*/src/**/*.rt") for it in TEST.findall(path.read_text())}
     there |= {it for path in top.glob("tests/*.sh") for it in TABLE.findall(path.read_text())}
-    edits = [Edit(path) for folder in FOLDERS for path in edits_below(top, folder)]
+    try:
+        edits = all_edits(top)
+    except ValueError as refused:
+        return 0, str(refused).splitlines()
+    wrong = [it for it in map(fault_of, edits) if it]
+    if wrong:
+        return 0, wrong
     refused = refused_in(edits, functions)
-    named, tests, names, wrong = set(), set(), 0, []
+    named, tests, names = set(), set(), 0
     for section, row in rows(top):
         if len(row) != 3:
             wrong.append(f"a row has {len(row)} columns: {row[0]}")
@@ -278,9 +291,7 @@ def compared(top, one_body):
         wrong += faults_of_row(section, promise, found, of_tests, refused)
     without = [it for it in edits if not is_promised(it, functions, named, tests)]
     wrong += [f"no row names what {it.label} is planted in" for it in without]
-    often = Counter(it.label.partition("/")[2] for it in edits)
-    wrong += [f"{count} mistakes are called {name}" for name, count in often.items() if count > 1]
-    bodies = [*public_bodies(top, crates)]
+    bodies = [*public_bodies(crates, edits)]
     bare = {label for label, is_planted in bodies if not is_planted}
     wrong += [f"no mistake is planted in {it}" for it in sorted(bare - one_body)]
     wrong += [f"{it} is not a function without a planted mistake" for it in sorted(one_body - bare)]

@@ -42,12 +42,24 @@ fn a_count_grows(rt: HostRuntime) {}
 #[test]
 fn who_waits_is_woken(rt: HostRuntime) {}
 """,
-    "crates/one/planted/a_count_stays.edit":
-        "function: Count::next\nfile: src/lib.rt\nold: self.0 + 1\nnew: self.0 + 0\n",
-    "crates/one/planted/a_count_is_kept_at_the_end.edit":
-        "function: Count::end\nfile: src/lib.rt\nold: self.give_back()\nnew: {}\n",
-    "crates/two/planted/nobody_is_woken.edit":
-        "test: one waits::who_waits_is_woken\nfile: src/lib.rt\nold: wakes();\nnew: \n",
+    "crates/one/planted.edits": """== a_count_is_kept_at_the_end
+function: Count::end
+file: src/lib.rt
+old: self.give_back()
+new: {}
+
+== a_count_stays
+function: Count::next
+file: src/lib.rt
+old: self.0 + 1
+new: self.0 + 0
+""",
+    "crates/two/planted.edits": """== nobody_is_woken
+test: one waits::who_waits_is_woken
+file: src/lib.rt
+old: wakes();
+new:
+""",
     "crates/two/src/lib.rt": "//! Wakes.\nfn wake_all() {\n    wakes();\n}\n",
     "docs/PROMISES.md": """# Promises
 
@@ -65,6 +77,8 @@ fn who_waits_is_woken(rt: HostRuntime) {}
 | Who waits is woken | `one` `wake`; `two` `wake_all` | `who_waits_is_woken` |
 """,
 }
+ONE, TWO = "crates/one/planted.edits", "crates/two/planted.edits"
+KEPT, STAYS = FILES[ONE].split("\n\n")
 PAGE, WAKE = "docs/PROMISES.md", "| Who waits is woken | `one` `wake`; `two` `wake_all` |"
 ROW = "| A count grows by one | `one` `Count::next`: `answer`; `grow` | `a_count_grows` |\n"
 
@@ -76,7 +90,7 @@ CASES = {
         [(PAGE, ROW, f"{ROW}| A wake is one | `one` `wake` | `who_waits_is_woken` |\n")],
         "no clause of one wake carries: A wake is one"),
     "a mistake at the end shows nothing": (
-        [("crates/one/planted/a_count_is_kept_at_the_end.edit", None, None)],
+        [(ONE, None, STAYS)],
         "no clause of one Count::end carries: Nothing is kept"),
     "a promise has no function": (
         [(PAGE, ROW, f"{ROW}| All is well | all | `a_count_grows` |\n")],
@@ -86,17 +100,36 @@ CASES = {
         "this is only tested, and does not stand there: A count grows"),
     "no test sees it": (
         [(PAGE, WAKE, f"| All wake | `one` `wake` | |\n{WAKE}")], "no test sees: All wake"),
-    "two mistakes have one name": (
-        [("crates/two/planted/a_count_stays.edit", None,
-          "test: one waits::who_waits_is_woken\nfile: src/lib.rt\nold: wakes();\nnew: wakes(1);\n")],
-        "2 mistakes are called a_count_stays"),
+    "two mistakes of a file have one name": (
+        [(ONE, None, f"{FILES[ONE]}\n{STAYS}")], "a_count_stays: 2 edits have this name"),
+    "a mistake of another crate has its name": (
+        [(ONE, "== a_count_stays", "== nobody_is_woken")],
+        "nobody_is_woken: 2 edits have this name"),
+    "a mistake is empty": (
+        [(ONE, "== a_count_s", "== a_count\n\n== a_count_s")], "one/a_count: it is empty"),
+    "a mistake lacks a line": (
+        [(TWO, "new:\n", "")], "two/nobody_is_woken: it is not written as an edit is"),
+    "a mistake's place is not by its name": (
+        [(ONE, "== a_count_stays", "== a_clock_stays")],
+        "one/a_clock_stays: it stands behind a_count_is_kept_at_the_end"),
+    "a mistake has a file of its own": (
+        [("crates/two/planted/one.edit", None, "file: src/lib.rt\n")],
+        "crates/two/planted/one.edit: it belongs in planted.edits"),
+    "a mistake's text is gone": (
+        [(TWO, "old: wakes();", "old: sleeps();")],
+        "two/nobody_is_woken: its text stands 0 times in src/lib.rt: sleeps();"),
+    "a mistake's text is there twice": (
+        [(TWO, "old: wakes();", "old: ake")],
+        "two/nobody_is_woken: its text stands 3 times in src/lib.rt: ake"),
+    "a mistake's file is gone": (
+        [(TWO, "src/lib.rt", "src/wake.rt")], "two/nobody_is_woken: there is no file src/wake.rt"),
     "a clause is gone": (
         [(PAGE, ": `answer`", ": `answers`")], "there is no one answers, of which a row speaks"),
     "a test is gone": (
         [(PAGE, "| `a_count_grows` |\n| N", "| `a_count_shrinks` |\n| N")],
         "there is no a_count_shrinks, of which a row speaks"),
     "a public function has no mistake": (
-        [("crates/one/planted/a_count_stays.edit", None, None)],
+        [(ONE, None, KEPT)],
         "no mistake is planted in one lib::next"),
     "no row names a mistake's test": (
         [(PAGE, "`who_waits_is_woken`", "`a_count_grows`")],
