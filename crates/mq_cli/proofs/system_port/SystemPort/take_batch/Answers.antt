@@ -16,7 +16,7 @@ returns-in-Ok-clause-calls g c =
 pub returns-in-Ok-clause-done : goal.returns-in-Ok-clause-done
 returns-in-Ok-clause-done g c =
     let told = rw (or_none g.T.Patience.ends) at (simp (to_z-of_z, c.ranges.msgtyp) at c.in-Ok.ensures.answer) in
-    took_some (λ p. p.seat.now) (λ p s. record p { seat = record p.seat { now = s } }) (λ p s. refl) g.N.Names.slots c.args.id c.args.msgtyp g.T.Patience.ends c.args.moment _ _
+    took_some (λ p. p.seat.now) (λ p s. record p { seat = record p.seat { now = s } }) (λ p s. refl {a = s}) g.N.Names.slots c.args.id c.args.msgtyp g.T.Patience.ends c.args.moment _ _
     c.args.self.now _ c.msgrcv_many_within-ended.new.out.items c.spend_all.new.out.items _ c.spend_all.ensures (omega (arith, told.all)) (omega (arith, told.all)) told
 
 pub returns-then-ne-clause-calls : goal.returns-then-ne-clause-calls
@@ -32,7 +32,7 @@ returns-then-ne-clause-done g c =
     ap length c.spend_all.ensures ∙ length-map c.msgrcv_many_within-ended.new.out.items taken_of in
     let none : c.in-Err.refused.errno ≡ ENOMSG → length c.msgrcv_many_within-ended.new.out.items ≡ 0 =
     λ same. sym count ∙ search (rules, same) in
-    took_until (λ p. p.seat.now) (λ p s. record p { seat = record p.seat { now = s } }) (λ p s. refl) g.N.Names.slots c.args.id c.args.msgtyp g.T.Patience.ends c.args.moment _ _
+    took_until (λ p. p.seat.now) (λ p s. record p { seat = record p.seat { now = s } }) (λ p s. refl {a = s}) g.N.Names.slots c.args.id c.args.msgtyp g.T.Patience.ends c.args.moment _ _
     c.args.self.now _ c.msgrcv_many_within-ended.new.out.items c.spend_all.new.out.items c.in-Err.refused c.spend_all.ensures (omega arith) none told
 
 pub returns-else-is_empty-clause-calls : goal.returns-else-is_empty-clause-calls
@@ -47,5 +47,5 @@ returns-else-is_empty-clause-done g c =
     let count : length c.spend_all.new.out.items ≡ length c.msgrcv_many_within-ended.new.out.items =
     ap length c.spend_all.ensures ∙ length-map c.msgrcv_many_within-ended.new.out.items taken_of in
     let some : 0 < length c.spend_all.new.out.items = search rules in
-    took_some (λ p. p.seat.now) (λ p s. record p { seat = record p.seat { now = s } }) (λ p s. refl) g.N.Names.slots c.args.id c.args.msgtyp g.T.Patience.ends c.args.moment _ _
+    took_some (λ p. p.seat.now) (λ p s. record p { seat = record p.seat { now = s } }) (λ p s. refl {a = s}) g.N.Names.slots c.args.id c.args.msgtyp g.T.Patience.ends c.args.moment _ _
     c.args.self.now _ c.msgrcv_many_within-ended.new.out.items c.spend_all.new.out.items _ c.spend_all.ensures (omega (arith, count, some)) (omega (arith, told.all)) told

@@ -13,11 +13,11 @@ pub returns-in-Ok-take_one-clause-done : goal.returns-in-Ok-take_one-clause-done
 returns-in-Ok-take_one-clause-done g c =
     let told = simp (to_z-of_z, c.ranges.msgtyp) at c.in-Ok-take_one.ensures.done in
     let one : c.push_reserved.new.self.items ≡ c.in-Ok-take_one.taken ∷ [] = rw c.requires.empty at c.push_reserved.ensures.items in
-    took_one (λ p. p.seat.now) (λ p s. record p { seat = record p.seat { now = s } }) (λ p s. refl) g.N.Names.slots c.args.id c.args.msgtyp g.T.Patience.ends c.args.moment c.args.most c.args.self.now
+    took_one (λ p. p.seat.now) (λ p s. record p { seat = record p.seat { now = s } }) (λ p s. refl {a = s}) g.N.Names.slots c.args.id c.args.msgtyp g.T.Patience.ends c.args.moment c.args.most c.args.self.now
     c.take_one.new.self c.in-Ok-take_one.taken c.push_reserved.new.self.items one c.requires.some told
 
 pub returns-in-Err-clause-done : goal.returns-in-Err-clause-done
 returns-in-Err-clause-done g c =
     let told = simp (to_z-of_z, c.ranges.msgtyp) at c.in-Err.ensures.done in
-    took_none (λ p. p.seat.now) (λ p s. record p { seat = record p.seat { now = s } }) (λ p s. refl) g.N.Names.slots c.args.id c.args.msgtyp g.T.Patience.ends c.args.moment c.args.most c.args.self.now
+    took_none (λ p. p.seat.now) (λ p s. record p { seat = record p.seat { now = s } }) (λ p s. refl {a = s}) g.N.Names.slots c.args.id c.args.msgtyp g.T.Patience.ends c.args.moment c.args.most c.args.self.now
     c.take_one.new.self c.args.out.now.items c.in-Err.errno c.requires.empty c.requires.some told
