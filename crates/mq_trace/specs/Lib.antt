@@ -1,9 +1,11 @@
 pub mod Bars
 pub mod Calls
 pub mod Found
+pub mod Ipcs
 pub mod Laws
 pub mod Records
 pub mod Steps
 pub mod Trace
 pub mod Walk
+pub mod Worked
 pub mod Written

@@ -6,6 +6,7 @@
 mod added;
 mod counts;
 mod entries;
+pub mod ipcs;
 mod kept;
 pub mod laws;
 mod output;
@@ -21,6 +22,7 @@ mod steps;
 mod trace;
 mod trace_error;
 mod trail;
+pub mod worked;
 
 pub use entries::SlotEntries;
 pub use picture::write_picture;

@@ -31,6 +31,8 @@ macro_rules! holds {
 #[cfg(test)]
 mod fakes;
 #[cfg(test)]
+mod ipcs;
+#[cfg(test)]
 mod lists;
 #[cfg(test)]
 mod steps;
