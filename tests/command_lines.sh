@@ -187,7 +187,8 @@ shows() {
         ran $? "$1" "($name)"
     done
 }
-serial=('get KEY' 'snd ID' 'rcv ID' 'stat ID' 'set ID' 'rm ID' 'cut SLOT' ipcs info arena 'seat S')
+serial=('get KEY' 'snd ID' 'rcv ID' 'stat ID' 'set ID' 'rm ID' 'cut SLOT' '^  ipcs  ' \
+    'ipcs -q \[x\]' 'ipcs -l' info arena 'seat S')
 sections=(worker 'put ID' 'take ID' 'rm ID' 'waits for good' 'within MS' Ctrl-D)
 causes=('^  long ' '^  byte ' '^  words ' '^  number ')
 for words in --help -h help; do

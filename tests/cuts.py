@@ -63,7 +63,7 @@ def random_line(dice):
         f"snd {ident} {abs(mtype) + 1} *{dice.randrange(3000)}",
         f"snd {ident} {abs(mtype) + 1} =text", f"rcv {ident} 9 {mtype}", f"rcv {ident} 9 0 n",
         f"rcv {ident} 5000 {mtype} e", f"set {ident} {dice.randrange(20000)}",
-        f"seat {dice.randrange(1, 17)}", "ipcs", "info", "arena",
+        f"seat {dice.randrange(1, 17)}", "ipcs", "ipcs -q", "ipcs -q x", "ipcs -l", "info", "arena",
         "# nothing said"))
 
 

@@ -45,6 +45,9 @@ REMOVAL = b"""get 0 c
 snd 0 1 *3000
 snd 0 1 *3000
 snd 0 2 =x
+ipcs -q
+ipcs -q x
+ipcs -l
 rm 0
 arena
 snd 0 1 =a

@@ -56,13 +56,13 @@ def text_of(word):
     return length if length > MSGMAX else (LETTERS * (MSGMAX // 26 + 1))[:length]
 
 
-# Each command: the readings of its words, and the flags that may follow.
+# Each command: the readings of its words, and what may follow: flags, or options.
 FORMS = {
     b"seat": ((seat_of,), ()), b"get": ((key_of,), (b"c", b"x", b"cx")),
     b"snd": ((id_of, type_of, text_of), ()),
     b"rcv": ((id_of, size_of, type_of), (b"e", b"n", b"en")),
     b"set": ((id_of, size_of), ()), b"rm": ((id_of,), ()), b"stat": ((id_of,), ()),
-    b"cut": ((slot_of,), ()), b"ipcs": ((), ()), b"info": ((), ()),
+    b"cut": ((slot_of,), ()), b"ipcs": ((), (b"-q", b"-q x", b"-l")), b"info": ((), ()),
     b"arena": ((), ()),
 }
 
@@ -81,13 +81,13 @@ def command_of(line):
     readings, flags = FORMS.get(words[0], (None, None))
     if b"" in words or readings is None:
         raise IllFormed("words")
-    more = words[1 + len(readings):]
-    if len(words) < 1 + len(readings) or len(more) > 1 or not set(more) <= set(flags):
+    more = b" ".join(words[1 + len(readings):])
+    if len(words) < 1 + len(readings) or more and more not in flags:
         raise IllFormed("words")
     if words[0] == b"snd" and words[3][:1] not in (b"=", b"*"):
         raise IllFormed("words")
     values = [reading(word) for reading, word in zip(readings, words[1:])]
-    return words[0].decode(), values, (more[0] if more else b"").decode()
+    return words[0].decode(), values, more.decode()
 
 
 class Queue:
@@ -222,7 +222,13 @@ class Run:
         self.cut_off[slot] = self.entries[slot] if queue is None else queue.entry + queue.events
         return f"cut from {first} to {self.cut_off[slot]}"
 
-    def do_ipcs(self, _moment, _flags):
+    def do_ipcs(self, _moment, options):
+        if options == "-l":
+            return ("\n------ Messages Limits --------\n"
+                    f"max queues system wide = {SLOTS}\nmax size of message (bytes) = {MSGMAX}\n"
+                    f"default max size of queue (bytes) = {MSGMNB}\n")
+        if options != "":
+            return self.queues_table("%-10d" if options == "-q" else "0x%08x")
         rows = [[name for name, _ in COLUMNS]]
         for slot, queue in enumerate(self.live):
             if queue is not None:
@@ -231,6 +237,19 @@ class Run:
                              queue.lrpid])
         return "\n".join("".join(str(value).rjust(width) for value, (_, width)
                                  in zip(row, COLUMNS)) for row in rows)
+
+    def queues_table(self, key_form):
+        """The table of ipcs(1), with keys in this form, but for the end of its last line."""
+        lines = ["", "------ Message Queues --------",
+                 "%-10s %-10s %-10s %-10s %-12s %-12s"
+                 % ("key", "msqid", "owner", "perms", "used-bytes", "messages")]
+        for slot, queue in enumerate(self.live):
+            if queue is not None:
+                key = queue.key if key_form == "%-10d" else queue.key % 2**32
+                lines.append(f"{key_form} %-10d %-10s %-10o %-12d %-12d"
+                             % (key, (self.made[slot] - 1) * 64 + slot, "-", 0o666,
+                                queue.cbytes(), len(queue.waiting)))
+        return "\n".join(lines) + "\n"
 
     def do_info(self, _moment, _flags):
         there = [queue for queue in self.live if queue is not None]

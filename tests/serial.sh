@@ -1,8 +1,8 @@
 #!/usr/bin/env bash
 # Runs mqsim over each script of serial_tables.sh, over texts that just fit and just do not fit a
 # block, and over a script that uses a slot up, and wants its answers: all that both outputs have,
-# and status 1 where a line is not well formed, else 0. Wants mqsim to be built. Prints the cases
-# that fail; the last line counts.
+# and status 1 where a line is not well formed, else 0. The tables of ipcs(1) are beside those of
+# the installed one. Wants mqsim to be built. Prints the cases that fail; the last line counts.
 source "$(dirname "$0")/cases.sh"
 
 table() {
@@ -39,6 +39,23 @@ case_of 'serial --slots 1' \
     "$(awk 'BEGIN { for (k = 0; k < 32768; k++) printf "get 0 c\\nrm %d\\n", 64 * k }')get 0 c\n" \
     "$(awk 'BEGIN { for (k = 0; k < 32768; k++) \
         printf "id %d\\nat %d events 2\\n", 64 * k, 2 * k + 1 }')ENOSPC\n"
-at_least 185
+# The titles, the names of the columns and the labels are those of the installed ipcs of util-linux.
+table tables_have_the_words_of_ipcs
+words_of() {
+    head -n 3 "$1"
+    sed -n '/Messages Limits/,/^$/s/[0-9]*$//p' "$2"
+}
+if ipcs --version 2> /dev/null | grep -q util-linux; then
+    LC_ALL=C ipcs -q > "$seen/queues"
+    LC_ALL=C ipcs -l > "$seen/limits"
+    words_of "$seen/queues" "$seen/limits" > "$seen/wanted"
+    printf 'ipcs -q x\nipcs -l\n' | "$program" > "$seen/tables"
+    words_of "$seen/tables" "$seen/tables" > "$seen/out"
+    [ "$(wc -l < "$seen/out")" -eq 8 ] && cmp -s "$seen/out" "$seen/wanted"
+    count $? "$property: $(diff "$seen/wanted" "$seen/out" | head -3)"
+else
+    echo "serial: LEFT OUT: the tables beside those of ipcs of util-linux, which is not here"
+fi
+at_least 203
 echo "serial: $passed passed, $failed failed"
 [ "$failed" -eq 0 ]

@@ -316,6 +316,20 @@ case_of 'serial --slots 2 --last-seq 0' \
     'get 0 c\nget 0 c\nsnd 0 1 =a\nsnd 1 1 =b\nrcv 1 9 0\nrcv 1 9 0\nrcv 0 9 0\nrm 0\nget 0 c\n' \
     'id 0\nid 1\nat 1\nat 1\nmsg 1 seat 1 tag 4 len 1 =b\nENOMSG\nmsg 1 seat 1 tag 3 len 1 =a\nat 3 events 4\nENOSPC\n'
 
+table tables_are_those_of_ipcs
+# No queue, a removed one, and the limits by the slots of the run.
+case_of 'serial --slots 2 --last-seq 32767' \
+    'ipcs -q\nipcs -l\nget 7 c\nrm 0\nipcs -q x\nipcs -q\n' \
+    '\n------ Message Queues --------\nkey        msqid      owner      perms      used-bytes   messages    \n\n\n------ Messages Limits --------\nmax queues system wide = 2\nmax size of message (bytes) = 65536\ndefault max size of queue (bytes) = 131072\n\nid 0\nat 1 events 2\n\n------ Message Queues --------\nkey        msqid      owner      perms      used-bytes   messages    \n\n\n------ Message Queues --------\nkey        msqid      owner      perms      used-bytes   messages    \n\n'
+# Negative keys, key 0, the bounds of a key, and what is pending; the ids of queues that were made later.
+case_of 'serial --slots 16' \
+    'get 7 c\nget 0 c\nget 5 c\nrm 2\nget -2147483648 c\nget 2147483647 c\nget -1 c\nseat 3\nsnd 1 5 =hello\nsnd 1 5 =worlds\nipcs -q\nipcs -q x\n' \
+    'id 0\nid 1\nid 2\nat 1 events 2\nid 66\nid 3\nid 4\nat 1\nat 2\n\n------ Message Queues --------\nkey        msqid      owner      perms      used-bytes   messages    \n7          0          -          666        0            0           \n0          1          -          666        11           2           \n-2147483648 66         -          666        0            0           \n2147483647 3          -          666        0            0           \n-1         4          -          666        0            0           \n\n\n------ Message Queues --------\nkey        msqid      owner      perms      used-bytes   messages    \n0x00000007 0          -          666        0            0           \n0x00000000 1          -          666        11           2           \n0x80000000 66         -          666        0            0           \n0x7fffffff 3          -          666        0            0           \n0xffffffff 4          -          666        0            0           \n\n'
+# All slots are in use; a cut changes no table, a receipt does.
+case_of 'serial --slots 4' \
+    'get 1 c\nget 2 c\nget 3 c\nget 4 c\nget 5 c\nsnd 3 1 *4096\ncut 3\nipcs -q x\nrcv 3 0 0 n\nrm 1\nipcs -q\nipcs\nipcs -l\n' \
+    'id 0\nid 1\nid 2\nid 3\nENOSPC\nat 1\ncut from 0 to 2\n\n------ Message Queues --------\nkey        msqid      owner      perms      used-bytes   messages    \n0x00000001 0          -          666        0            0           \n0x00000002 1          -          666        0            0           \n0x00000003 2          -          666        0            0           \n0x00000004 3          -          666        4096         1           \n\nmsg 1 seat 1 tag 6 len 4096 =\nat 1 events 2\n\n------ Message Queues --------\nkey        msqid      owner      perms      used-bytes   messages    \n1          0          -          666        0            0           \n3          2          -          666        0            0           \n4          3          -          666        0            0           \n\nslot      id         key   qnum  cbytes  qbytes lspid lrpid\n   0       0           1      0       0  131072     0     0\n   2       2           3      0       0  131072     0     0\n   3       3           4      0       0  131072     1     1\n\n------ Messages Limits --------\nmax queues system wide = 4\nmax size of message (bytes) = 65536\ndefault max size of queue (bytes) = 131072\n\n'
+
 table an_id_is_never_given_then_live_then_removed
 # Each removal's entry tells at which entry its queue was made.
 case_of 'serial --height 0 --slots 2' \
@@ -480,6 +494,21 @@ case_of 'serial --height 0' 'get -2147483649 c' '' 'mqsim: line 1: number\n'
 case_of 'serial --height 0' 'get +5' '' 'mqsim: line 1: number\n'
 case_of 'serial --height 0' 'ipcs 0' '' 'mqsim: line 1: words\n'
 case_of 'serial --height 0' 'ipcs ' '' 'mqsim: line 1: words\n'
+case_of 'serial --height 0' 'ipcs x' '' 'mqsim: line 1: words\n'
+case_of 'serial --height 0' 'ipcs q' '' 'mqsim: line 1: words\n'
+case_of 'serial --height 0' 'ipcs -x' '' 'mqsim: line 1: words\n'
+case_of 'serial --height 0' 'ipcs -Q' '' 'mqsim: line 1: words\n'
+case_of 'serial --height 0' 'ipcs -lq' '' 'mqsim: line 1: words\n'
+case_of 'serial --height 0' 'ipcs -qx' '' 'mqsim: line 1: words\n'
+case_of 'serial --height 0' 'ipcs -q c' '' 'mqsim: line 1: words\n'
+case_of 'serial --height 0' 'ipcs -q X' '' 'mqsim: line 1: words\n'
+case_of 'serial --height 0' 'ipcs -q x x' '' 'mqsim: line 1: words\n'
+case_of 'serial --height 0' 'ipcs -q ' '' 'mqsim: line 1: words\n'
+case_of 'serial --height 0' 'ipcs -q  x' '' 'mqsim: line 1: words\n'
+case_of 'serial --height 0' 'ipcs -q x ' '' 'mqsim: line 1: words\n'
+case_of 'serial --height 0' 'ipcs -l x' '' 'mqsim: line 1: words\n'
+case_of 'serial --height 0' 'ipcs -l -q' '' 'mqsim: line 1: words\n'
+case_of 'serial --height 0' 'ipcs -l ' '' 'mqsim: line 1: words\n'
 case_of 'serial --height 0' 'get -0 c' '' 'mqsim: line 1: number\n'
 case_of 'serial --height 0' 'get 00 c' '' 'mqsim: line 1: number\n'
 case_of 'serial --height 0' 'snd' '' 'mqsim: line 1: words\n'

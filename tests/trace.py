@@ -67,8 +67,11 @@ def answered(script, answers):
             seat = int(words[1])
             continue
         answer = left.popleft()
-        while words[0] == b"ipcs" and left and left[0].startswith(" "):
+        # A table: of `ipcs` the lines behind its first, with an option those up to the empty one.
+        while words == [b"ipcs"] and left and left[0].startswith(" "):
             left.popleft()
+        while words[0] == b"ipcs" and words[1:] and left.popleft():
+            pass
         yield number, words, seat, answer
     if left:
         raise Wrong(f"answers that no line has: {list(left)}")

@@ -12,6 +12,7 @@ use Rattle.mq_message.specs.declared.header.Header.{Header}
 use Rattle.mq_message.specs.declared.message.Message.{Message}
 use Rattle.mq_queue.specs.declared.limits.TheConstants.{MSGMAX}
 use Rattle.mq_queue.specs.declared.event.Event.{Event}
+use Rattle.mq_queue.specs.declared.figures.BoardRow.{BoardRow}
 use Rattle.mq_queue.specs.declared.event.Event.TheVariants as event
 use Rattle.mq_message.specs.Selection.{selection_of}
 use Rattle.mq_table.specs.Cut.{kept_cuts}
@@ -34,8 +35,11 @@ use Rattle.mq_cli.specs.Commands.{AskedText}
 use Rattle.mq_cli.specs.Drafts.{by_draft_errno, bytes_of_text, draft}
 use Rattle.mq_cli.specs.Cuts.{is_cut}
 use Rattle.mq_calls.specs.Look.{look, once}
-use Rattle.mq_cli.specs.Reports.{line_of_row, table_of}
+use Rattle.mq_cli.specs.Reports.{line_of_row, listing_text}
 use Rattle.mq_cli.specs.Session.{SessionState, by_errno}
+use Rattle.mq_cli.specs.declared.listing.Listing.{Listing}
+use Rattle.mq_cli.specs.declared.listing.Listing.TheVariants.{Limits, Queues, Table}
+use Rattle.mq_trace.specs.Ipcs.{queue_row}
 use Rattle.mq_calls.specs.State.{QueuesState, slot_at}
 use Rattle.mq_calls.specs.Texts.{bytes_of, drafts, in_block, spends, spends_all, filled_with}
 use Rattle.mq_calls.specs.Usages.{no_usage, usage_of}
@@ -190,16 +194,23 @@ module _ (last_seq : ℕ) (s t : QueuesState) (k : AreLike last_seq s t) where
       by (Err refusal) is = record { line = refl; left = k }
 
   -- what a report shows
-  rows_like : (counts : List ℕ) → flat_map (λ i. line_of_row i (row_now (slot_at s i))) counts
-      ≡ flat_map (λ i. line_of_row i (row_now (slot_at t i))) counts
-  rows_like [] = refl
-  rows_like (i ∷ counts) =
+  rows_like : (line : ℕ → BoardRow → List ℕ) (counts : List ℕ)
+      → flat_map (λ i. line i (row_now (slot_at s i))) counts
+      ≡ flat_map (λ i. line i (row_now (slot_at t i))) counts
+  rows_like line [] = refl
+  rows_like line (i ∷ counts) =
       let row = row_alike last_seq _ _ (slot_like last_seq s t k i) in
-      ap (λ r. line_of_row i r ++ flat_map (λ i. line_of_row i (row_now (slot_at s i))) counts) row
-      ∙ ap (λ rest. line_of_row i (row_now (slot_at t i)) ++ rest) (rows_like counts)
+      ap (λ r. line i r ++ flat_map (λ i. line i (row_now (slot_at s i))) counts) row
+      ∙ ap (λ rest. line i (row_now (slot_at t i)) ++ rest) (rows_like line counts)
 
-  table_like : table_of s ≡ table_of t
-  table_like = rw (slots_like last_seq s t k, rows_like (range_with_len 0 (length t.slots))) refl
+  listing_like : (listing : Listing) → listing_text listing s ≡ listing_text listing t
+  listing_like Table =
+      rw (slots_like last_seq s t k, rows_like line_of_row (range_with_len 0 (length t.slots)))
+      refl
+  listing_like (Queues keys) =
+      rw (slots_like last_seq s t k, rows_like (queue_row keys) (range_with_len 0 (length t.slots)))
+      refl
+  listing_like Limits = rw (slots_like last_seq s t k) refl
 
   -- what is in use
   usage_like : usage_of s ≡ usage_of t
@@ -333,9 +344,10 @@ module _ (last_seq n : ℕ) (s t : SessionState) (k : RunsAlike last_seq s t) wh
         left = k;
       }
   step_like (cut slot) e = absurd (cc e)
-  step_like ipcs e =
+  step_like (ipcs listing) e =
       record {
-        line = ap (λ text. text ++ 10 ∷ []) (table_like last_seq s.queues t.queues k.queues);
+        line = ap (λ text. text ++ 10 ∷ [])
+            (listing_like last_seq s.queues t.queues k.queues listing);
         left = k;
       }
   step_like info e =

@@ -5,11 +5,14 @@ use Rattle.mq_table.specs.declared.limits.TheConstants.{MAX_SLOTS}
 use Rattle.mq_calls.specs.declared.limits.TheConstants.{MAX_SEATS}
 use Rattle.mq_cli.specs.declared.fault.Cause.{Cause}
 use Rattle.mq_cli.specs.declared.fault.Cause.TheVariants.{Words}
-use Rattle.mq_cli.specs.Commands.{AskedCall, sit, get, rcv, set, rm, stat, cut, is_filled, flags_asked, seat_asked, arena_asked, get_flags_asked, get_asked, set_asked, remove_asked, stat_asked, cutting_asked, ipcs_asked, info_asked, receive_asked, command_asked, command_named}
-use Rattle.mq_cli.specs.Laws.{flag_words, get_flag_words}
+use Rattle.mq_cli.specs.Commands.{AskedCall, sit, get, rcv, set, rm, stat, cut, ipcs, is_filled, flags_asked, seat_asked, arena_asked, get_flags_asked, get_asked, set_asked, remove_asked, stat_asked, cutting_asked, ipcs_asked, listing_asked, info_asked, receive_asked, command_asked, command_named}
+use Rattle.mq_cli.specs.declared.listing.Listing.{Listing}
+use Rattle.mq_cli.specs.declared.listing.Listing.TheVariants.{Limits, Queues, Table}
+use Rattle.mq_cli.specs.Laws.{flag_words, get_flag_words, listing_words}
 use Rattle.mq_cli.specs.Numbers.{number_of, integer_of, key_of, under, above_zero}
+use Rattle.mq_trace.specs.declared.ipcs.Keys.TheVariants.{Decimal, Hexadecimal}
 use Rattle.mq_cli.proofs.NumberLemmas.{number_of-Some}
-use Rattle.mq_cli.proofs.SpellingLemmas.{above_zero-Some, all_filled, bind_ok, decimal_word, flags_again, flags_of-Some, get_flags_again, get_flags_of-Some, integer_of-Some, key_fits, key_of-Some, signed_word, under-Some, worded_ok}
+use Rattle.mq_cli.proofs.SpellingLemmas.{above_zero-Some, all_filled, bind_ok, decimal_word, flags_again, flags_of-Some, get_flags_again, get_flags_of-Some, integer_of-Some, key_fits, key_of-Some, listing_of-Some, signed_word, under-Some, worded_ok}
 
 -- a word that spells a number is filled
 number_filled : (word : List ℕ) (n : ℕ) → number_of word ≡ Some n → is_filled word ≡ true
@@ -71,9 +74,16 @@ cut_filled : (words : List (List ℕ)) (call : AskedCall) → cutting_asked word
 cut_filled (slot ∷ []) call e = bind_ok (under MAX_SLOTS (number_of slot)) (λ k. Ok (cut k)) call e (λ k read done. rw (below_filled MAX_SLOTS slot k (lit≤ tt) read) refl)
 cut_filled _ call e = absurd (cc e)
 
+options_filled : (listing : Listing) → list_all is_filled (listing_words listing) ≡ true
+options_filled Table = refl
+options_filled (Queues Decimal) = refl
+options_filled (Queues Hexadecimal) = refl
+options_filled Limits = refl
+
 ipcs_filled : (words : List (List ℕ)) (call : AskedCall) → ipcs_asked words ≡ Ok call → list_all is_filled words ≡ true
-ipcs_filled [] call e = refl
-ipcs_filled (word ∷ words) call e = absurd (cc e)
+ipcs_filled words call e =
+    worded_ok (listing_asked words) (λ listing. Ok (ipcs listing)) call e (λ listing read done.
+    rw (listing_of-Some words listing read) (options_filled listing))
 
 info_filled : (words : List (List ℕ)) (call : AskedCall) → info_asked words ≡ Ok call → list_all is_filled words ≡ true
 info_filled [] call e = refl

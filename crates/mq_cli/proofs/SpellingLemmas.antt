@@ -20,10 +20,13 @@ use Rattle.mq_calls.specs.declared.results.GetFlags.{GetFlags}
 use Rattle.mq_cli.specs.declared.limits.TheConstants.{LINE_LIMIT}
 use Rattle.mq_cli.specs.declared.fault.Cause.{Cause}
 use Rattle.mq_cli.specs.declared.fault.Cause.TheVariants.{Words}
-use Rattle.mq_cli.specs.Commands.{AskedCall, sit, show, get, snd, rcv, set, rm, stat, cut, ipcs, info, AskedText, plain, letters, Flags, ok_map, ◌>>=◌, worded, is_filled, is_plain, is_text, text_asked, flags_asked, seat_asked, arena_asked, get_flags_asked, get_asked, set_asked, remove_asked, stat_asked, cutting_asked, ipcs_asked, info_asked, send_asked, receive_asked, command_asked, is_skipped, speaks, spoken, reading_by}
-use Rattle.mq_cli.specs.Laws.{flag_words, get_flag_words, spelling, text_spelling, CanBeSpelled, Spells, ReadsBack, SpelledOneWay}
+use Rattle.mq_cli.specs.Commands.{AskedCall, sit, show, get, snd, rcv, set, rm, stat, cut, ipcs, info, AskedText, plain, letters, Flags, ok_map, ◌>>=◌, worded, is_filled, is_plain, is_text, text_asked, flags_asked, seat_asked, arena_asked, get_flags_asked, get_asked, set_asked, remove_asked, stat_asked, cutting_asked, ipcs_asked, listing_asked, info_asked, send_asked, receive_asked, command_asked, is_skipped, speaks, spoken, reading_by}
+use Rattle.mq_cli.specs.declared.listing.Listing.{Listing}
+use Rattle.mq_cli.specs.declared.listing.Listing.TheVariants.{Limits, Queues, Table}
+use Rattle.mq_cli.specs.Laws.{flag_words, get_flag_words, listing_words, spelling, text_spelling, CanBeSpelled, Spells, ReadsBack, SpelledOneWay}
 use Rattle.mq_cli.specs.Lines.{is_printable, line_of, words_of}
 use Rattle.mq_cli.specs.Numbers.{number_of, integer_of, is_key, key_of, under, above_zero, below_zero}
+use Rattle.mq_trace.specs.declared.ipcs.Keys.TheVariants.{Decimal, Hexadecimal}
 use Rattle.mq_cli.proofs.NumberLemmas.{number_of-decimal, number_of-Some, numerals}
 
 -- a byte of a word: printable, and no space
@@ -371,10 +374,32 @@ got line (key ∷ words) call is e =
     (cc (is, spelled.0, get_flags_of-Some words flags read_flags), spelled.1)))
 got line [] call is e = absurd (cc e)
 
+-- a listing is read from its options alone
+pub listing_of-Some : (words : List (List ℕ)) (listing : Listing) → listing_asked words ≡ Some listing → words ≡ listing_words listing
+listing_of-Some [] listing e = subst (λ (l : Listing). [] ≡ listing_words l) (some_is Table listing e) refl
+listing_of-Some (option ∷ []) listing e =
+    chosen _ _ _ _ e
+    (λ (is : bytes_eq option (codes "-q") ≡ true) (found : Some (Queues Decimal) ≡ Some listing).
+    subst (λ (l : Listing). option ∷ [] ≡ listing_words l) (some_is (Queues Decimal) listing found) (ap (λ word. word ∷ []) ((bytes_eq-Decides option (codes "-q")).0 is)))
+    (λ not_q others. chosen _ _ _ _ others
+    (λ (is : bytes_eq option (codes "-l") ≡ true) (found : Some Limits ≡ Some listing).
+    subst (λ (l : Listing). option ∷ [] ≡ listing_words l) (some_is Limits listing found) (ap (λ word. word ∷ []) ((bytes_eq-Decides option (codes "-l")).0 is)))
+    (λ not_l none. absurd (cc none)))
+listing_of-Some (option ∷ keys ∷ []) listing e =
+    chosen _ _ _ _ e
+    (λ (is : (bytes_eq option (codes "-q") && bytes_eq keys (codes "x")) ≡ true) (found : Some (Queues Hexadecimal) ≡ Some listing).
+    let both = and_parts (bytes_eq option (codes "-q")) (bytes_eq keys (codes "x")) is in
+    let first : option ≡ codes "-q" = (bytes_eq-Decides option (codes "-q")).0 both.0 in
+    let second : keys ≡ codes "x" = (bytes_eq-Decides keys (codes "x")).0 both.1 in
+    subst (λ (l : Listing). option ∷ keys ∷ [] ≡ listing_words l) (some_is (Queues Hexadecimal) listing found) (rw (first, second) refl))
+    (λ others none. absurd (cc none))
+listing_of-Some (option ∷ keys ∷ more ∷ words) listing e = absurd (cc e)
+
 -- and ipcs
 reported : (line : List ℕ) (words : List (List ℕ)) (call : AskedCall) → line ≡ line_of (codes "ipcs" ∷ words) → ipcs_asked words ≡ Ok call → Spells line call
-reported line [] call is e = from_ok (Spells line) ipcs call e (is, tt)
-reported line (word ∷ words) call is e = absurd (cc e)
+reported line words call is e =
+    worded_ok (listing_asked words) (λ listing. Ok (ipcs listing)) call e (λ listing read told.
+    from_ok (Spells line) (ipcs listing) call told (is ∙ ap (λ options. line_of (codes "ipcs" ∷ options)) (listing_of-Some words listing read), tt))
 
 -- and info
 informed : (line : List ℕ) (words : List (List ℕ)) (call : AskedCall) → line ≡ line_of (codes "info" ∷ words) → info_asked words ≡ Ok call → Spells line call
@@ -611,5 +636,8 @@ reads_back (stat id) can =
 reads_back (cut slot) can =
     reads_line command_asked (codes "cut") (decimal slot ∷ []) (cut slot) (name_word (codes "cut") refl, (decimal_word slot (omega (arith, can)), tt)) (lit≤ tt) refl
     (λ filled. rw (filled, under-decimal MAX_SLOTS slot (lit≤ tt) can) refl)
-reads_back ipcs can = refl
+reads_back (ipcs Table) can = refl
+reads_back (ipcs (Queues Decimal)) can = refl
+reads_back (ipcs (Queues Hexadecimal)) can = refl
+reads_back (ipcs Limits) can = refl
 reads_back info can = refl

@@ -11,8 +11,11 @@ use Rattle.mq_calls.specs.declared.results.GetFlags.{GetFlags}
 use Rattle.mq_cli.specs.declared.limits.TheConstants.{LINE_LIMIT}
 use Rattle.mq_cli.specs.declared.fault.Cause.{Cause}
 use Rattle.mq_cli.specs.declared.fault.Cause.TheVariants.{Long, Byte, Words, Number}
+use Rattle.mq_cli.specs.declared.listing.Listing.{Listing}
+use Rattle.mq_cli.specs.declared.listing.Listing.TheVariants.{Limits, Queues, Table}
 use Rattle.mq_cli.specs.Lines.{line_of, words_of, is_printable}
 use Rattle.mq_cli.specs.Numbers.{number_of, integer_of, key_of, under, above_zero}
+use Rattle.mq_trace.specs.declared.ipcs.Keys.TheVariants.{Decimal, Hexadecimal}
 
 -- the text of a message: these bytes, or that many letters
 pub data AskedText : Type 0 where
@@ -30,7 +33,7 @@ pub data AskedCall : Type 0 where
   rm : (id : ℕ) → AskedCall
   stat : (id : ℕ) → AskedCall
   cut : (slot : ℕ) → AskedCall
-  ipcs : AskedCall
+  ipcs : (listing : Listing) → AskedCall
   info : AskedCall
 
 -- what was read, seen by f
@@ -78,10 +81,20 @@ get_asked (key ∷ flags) =
     worded (get_flags_asked flags) (λ f. key_of key >>= λ k. Ok (get k f))
 get_asked _ = Err Words
 
--- a row for each live queue
+-- the table of all figures, or what the options of ipcs(1) show of queues
+abbrev pub listing_asked : List (List ℕ) → Option Listing
+listing_asked [] = Some Table
+listing_asked (option ∷ []) =
+    if bytes_eq option (codes "-q") then Some (Queues Decimal)
+    else (if bytes_eq option (codes "-l") then Some Limits else None)
+listing_asked (option ∷ keys ∷ []) =
+    if bytes_eq option (codes "-q") && bytes_eq keys (codes "x")
+    then Some (Queues Hexadecimal)
+    else None
+listing_asked _ = None
+
 abbrev pub ipcs_asked : List (List ℕ) → Result AskedCall Cause
-ipcs_asked [] = Ok ipcs
-ipcs_asked _ = Err Words
+ipcs_asked words = worded (listing_asked words) (λ listing. Ok (ipcs listing))
 
 -- what is in use, and the limits
 abbrev pub info_asked : List (List ℕ) → Result AskedCall Cause

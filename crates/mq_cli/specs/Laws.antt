@@ -8,12 +8,15 @@ use Rattle.mq_table.specs.declared.limits.TheConstants.{MAX_SLOTS}
 use Rattle.mq_calls.specs.declared.config.Config.{Config}
 use Rattle.mq_calls.specs.declared.limits.TheConstants.{MAX_SEATS}
 use Rattle.mq_cli.specs.declared.limits.TheConstants.{LINE_LIMIT}
+use Rattle.mq_cli.specs.declared.listing.Listing.{Listing}
+use Rattle.mq_cli.specs.declared.listing.Listing.TheVariants.{Limits, Queues, Table}
 use Rattle.mq_cli.specs.Commands.{AskedCall, sit, show, get, snd, rcv, set, rm, stat, cut, ipcs, info}
 use Rattle.mq_cli.specs.Commands.{AskedText, plain, letters, reading}
 use Rattle.mq_cli.specs.Cuts.{texts_from, texts_of_others, without_cuts}
 use Rattle.mq_cli.specs.Lines.{line_of, is_printable}
 use Rattle.mq_cli.specs.Session.{first_session}
 use Rattle.mq_cli.specs.Transcript.{run_from}
+use Rattle.mq_trace.specs.declared.ipcs.Keys.TheVariants.{Decimal, Hexadecimal}
 
 -- a text has `=` before it, a number of letters `*`
 abbrev pub text_spelling : AskedText → List ℕ
@@ -33,6 +36,13 @@ get_flag_words true false = codes "c" ∷ []
 get_flag_words false true = codes "x" ∷ []
 get_flag_words true true = codes "cx" ∷ []
 
+-- the options of a listing
+abbrev pub listing_words : Listing → List (List ℕ)
+listing_words Table = []
+listing_words (Queues Decimal) = codes "-q" ∷ []
+listing_words (Queues Hexadecimal) = codes "-q" ∷ codes "x" ∷ []
+listing_words Limits = codes "-l" ∷ []
+
 -- the one line that asks for a call
 abbrev pub spelling : AskedCall → List ℕ
 spelling (sit number) = line_of (codes "seat" ∷ decimal number ∷ [])
@@ -48,7 +58,7 @@ spelling (set id qbytes) = line_of (codes "set" ∷ decimal id ∷ decimal qbyte
 spelling (rm id) = line_of (codes "rm" ∷ decimal id ∷ [])
 spelling (stat id) = line_of (codes "stat" ∷ decimal id ∷ [])
 spelling (cut slot) = line_of (codes "cut" ∷ decimal slot ∷ [])
-spelling ipcs = codes "ipcs"
+spelling (ipcs listing) = line_of (codes "ipcs" ∷ listing_words listing)
 spelling info = codes "info"
 
 -- the calls that a line can ask for: each number is in its range, and a text is printable and
@@ -68,7 +78,7 @@ CanBeSpelled (set id qbytes) = (id < 2 ^ 32) × (qbytes < 2 ^ 64)
 CanBeSpelled (rm id) = id < 2 ^ 32
 CanBeSpelled (stat id) = id < 2 ^ 32
 CanBeSpelled (cut slot) = slot < MAX_SLOTS
-CanBeSpelled ipcs = Unit {0}
+CanBeSpelled (ipcs listing) = Unit {0}
 CanBeSpelled info = Unit {0}
 
 -- the line asks for the call, in the one way

@@ -1,5 +1,6 @@
--- The table of the live queues.
-use Rattle.std.specs.Prelude.{ℕ, ◌+◌, ◌-◌, ◌<◌, ◌≤◌, if◌then◌else◌, List, [], ◌∷◌, ◌++◌, length, replicate, codes}
+-- What `ipcs` shows: the table of the live queues, and the tables of ipcs(1).
+use Rattle.std.specs.Prelude.{ℕ, ◌+◌, ◌-◌, ◌<◌, ◌≤◌, if◌then◌else◌, List, [], ◌∷◌, ◌++◌, length}
+use Rattle.std.specs.Prelude.{replicate, codes}
 use Rattle.std.specs.Fmt.{decimal, signed_decimal}
 use Rattle.std.specs.List.{flat_map, range_with_len}
 use Rattle.mq_queue.specs.declared.figures.BoardRow.{BoardRow}
@@ -7,6 +8,9 @@ use Rattle.mq_table.specs.Ids.{id_of}
 use Rattle.mq_table.specs.KeptShown.{row_now}
 use Rattle.mq_table.specs.declared.limits.TheConstants.{MAX_SEQ, MAX_SLOTS}
 use Rattle.mq_calls.specs.State.{QueuesState, slot_at}
+use Rattle.mq_trace.specs.Ipcs.{limit_lines, queue_row, queues_head}
+use Rattle.mq_cli.specs.declared.listing.Listing.{Listing}
+use Rattle.mq_cli.specs.declared.listing.Listing.TheVariants.{Limits, Queues, Table}
 
 -- a text at the right end of its column
 abbrev pub right_aligned : ℕ → List ℕ → List ℕ
@@ -41,10 +45,12 @@ filled_of r =
 abbrev pub line_of_row : ℕ → BoardRow → List ℕ
 line_of_row slot r = if r.live then 10 ∷ named_of slot r ++ filled_of r else []
 
--- the lines of the first slots
-abbrev pub lines_to : QueuesState → ℕ → List ℕ
-lines_to s count = flat_map (λ k. line_of_row k (row_now (slot_at s k))) (range_with_len 0 count)
+-- what is written of the first slots, of each by its number and its row
+abbrev pub rows_to : (ℕ → BoardRow → List ℕ) → QueuesState → ℕ → List ℕ
+rows_to line s count = flat_map (λ k. line k (row_now (slot_at s k))) (range_with_len 0 count)
 
--- the whole table, but for the end of its last line
-abbrev pub table_of : QueuesState → List ℕ
-table_of s = header ++ lines_to s (length s.slots)
+-- all that is listed, but for the end of its last line
+abbrev pub listing_text : Listing → QueuesState → List ℕ
+listing_text Table s = header ++ rows_to line_of_row s (length s.slots)
+listing_text (Queues keys) s = queues_head ++ rows_to (queue_row keys) s (length s.slots)
+listing_text Limits s = limit_lines (length s.slots) ++ 10 ∷ []

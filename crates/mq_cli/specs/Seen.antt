@@ -31,7 +31,7 @@ asked_by (Set id qbytes) = set id qbytes
 asked_by (Remove id) = rm id
 asked_by (Stat id) = stat id
 asked_by (Cut slot) = cut slot
-asked_by Report = ipcs
+asked_by (Report listing) = ipcs listing
 asked_by Info = info
 
 abbrev pub seen : Result Command Cause → Result AskedCall Cause

@@ -22,11 +22,12 @@ use Rattle.mq_calls.specs.declared.results.Delivered.{Delivered}
 use Rattle.mq_calls.specs.declared.results.GetFlags.{GetFlags}
 use Rattle.mq_calls.specs.declared.usage.Usage.{Usage}
 use Rattle.mq_cli.specs.declared.fault.Cause.{Cause}
+use Rattle.mq_cli.specs.declared.listing.Listing.{Listing}
 use Rattle.mq_cli.specs.Lines.{lines_of}
 use Rattle.mq_cli.specs.Commands.{AskedCall, sit, show, get, snd, rcv, set, rm, stat, cut, ipcs, info}
 use Rattle.mq_cli.specs.Commands.{AskedText, reading}
 use Rattle.mq_cli.specs.Drafts.{draft}
-use Rattle.mq_cli.specs.Reports.{table_of}
+use Rattle.mq_cli.specs.Reports.{listing_text}
 use Rattle.mq_cli.specs.Session.{SessionState, by_errno, first_session}
 
 -- what a command answers, if it does
@@ -40,7 +41,7 @@ pub data Reply : Type 0 where
   gone : (entry events : ℕ) → Reply
   figures : (queue : Figures) → Reply
   cut_off : (first end : ℕ) → Reply
-  table : (queues : QueuesState) → Reply
+  table : (listing : Listing) (queues : QueuesState) → Reply
   usage : (all : Usage) → Reply
 
 -- what refused the call, where that is what it answers
@@ -98,7 +99,7 @@ reply_text (arena pages free most) = arena_head pages free ++ order_name most
 reply_text (gone entry events) = codes "at " ++ decimal entry ++ codes " events " ++ decimal events
 reply_text (figures queue) = counts_of queue ++ callers_of queue ++ moments_of queue
 reply_text (cut_off first end) = codes "cut from " ++ decimal first ++ codes " to " ++ decimal end
-reply_text (table queues) = table_of queues
+reply_text (table listing queues) = listing_text listing queues
 reply_text (usage all) = in_use all ++ limits_of all
 reply_text (message m) = message_head m.mtype m.sender m.tag m.length ++ m.text.bytes
 
@@ -173,7 +174,7 @@ step n s (set id qbytes) = by_seat s (set_step n s.seat s.queues id qbytes)
 step n s (rm id) = by_seat s (remove_step n s.seat s.queues id)
 step n s (stat id) = (figures_reply (stat_answer s.queues id), s)
 step n s (cut slot) = by_seat s (cut_step s.queues slot)
-step n s ipcs = (table s.queues, s)
+step n s (ipcs listing) = (table listing s.queues, s)
 step n s info = (usage (usage_of s.queues), s)
 
 -- what a line writes and the state after it, or why it is not well formed

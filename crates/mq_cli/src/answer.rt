@@ -17,7 +17,7 @@ use crate::reply::{
     ArenaFigures, write_arena, write_cut, write_entry, write_errno, write_figures, write_id,
     write_message, write_refused, write_removal, write_usage,
 };
-use crate::report::write_report;
+use crate::report::write_listing;
 use crate::session::Session;
 use mq_arena::Text;
 use mq_calls::{Cut, Delivered, DraftError, Errno, Removal, SendRefused};
@@ -54,8 +54,8 @@ pub(crate) fn answer<L: Ledger>(
         Command::Remove { id } => remove(&mut session.queues, seat, line, id, out),
         Command::Stat { id } => stat(&session.queues, id, out),
         Command::Cut { slot } => cut(&mut session.queues, slot, out),
-        Command::Report => {
-            write_report(out, &session.queues)?;
+        Command::Report(listing) => {
+            write_listing(out, listing, &session.queues)?;
             Ok(None)
         }
         Command::Info => {

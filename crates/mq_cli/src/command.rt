@@ -16,6 +16,7 @@ ghost use Rattle.mq_cli.specs.Seen.{flags_seen, seen, seen_line, text_seen};
 
 use crate::Cause;
 use crate::form::{are_filled, says_something};
+use crate::listing::{Listing, read_listing};
 use crate::number::{integer, key, number};
 use crate::words::Words;
 use mq_calls::{GetFlags, MAX_SEATS, MAX_SLOTS};
@@ -79,8 +80,8 @@ pub enum Command<'a> {
     Stat { id: u32 },
     /// The log of a slot is drained.
     Cut { slot: u8 },
-    /// A row for each live queue.
-    Report,
+    /// A table of the live queues, or the limits.
+    Report(Listing),
     /// IPC_INFO.
     Info,
 }
@@ -191,12 +192,12 @@ fn read_get_flags(mut words: Words<'_>) -> Option<GetFlags>
     Some(GetFlags { create, exclusive })
 }
 
-fn read_report(mut words: Words<'_>) -> Result<Command<'_>, Cause>
+fn read_report(words: Words<'_>) -> Result<Command<'_>, Cause>
     ensures { seen result ≡ ipcs_asked (parts_left 32 words.entry.rest) }
 {
-    match words.next() {
-        None => Ok(Command::Report),
-        Some(_) => Err(Cause::Words),
+    match read_listing(words) {
+        Some(listing) => Ok(Command::Report(listing)),
+        None => Err(Cause::Words),
     }
 }
 

@@ -11,6 +11,7 @@ mod form;
 mod laws;
 mod limits;
 mod lines;
+mod listing;
 mod main_part;
 mod notes;
 mod number;

@@ -30,7 +30,7 @@ pub(crate) fn refusal_of(
         Command::Remove { id } => (CallName::Remove, Some(id)),
         Command::Stat { id } => (CallName::Stat, Some(id)),
         Command::Cut { .. } => (CallName::Cut, None),
-        Command::Seat(_) | Command::Arena | Command::Report | Command::Info => return None,
+        Command::Seat(_) | Command::Arena | Command::Report(_) | Command::Info => return None,
     };
     Some(Refusal {
         moment: line,

@@ -1,27 +1,72 @@
 //! The formatting of the table of queues.
 
 ghost use Rattle.std.specs.Prelude.{◌≡◌, ◌++◌, OnOk, length, replicate};
-ghost use Rattle.mq_cli.specs.Reports.{IsRow, filled_of, header, line_of_row, lines_to, named_of};
+ghost use Rattle.mq_cli.specs.Reports.{IsRow, filled_of, header, line_of_row, named_of, rows_to};
 ghost use Rattle.mq_cli.specs.Reports.{right_aligned};
 ghost use Rattle.mq_cli.specs.Transcript.{output, table};
+ghost use Rattle.mq_cli.specs.declared.listing.Listing.TheVariants.{Queues, Table};
+ghost use Rattle.mq_trace.specs.Ipcs.{queue_row};
 
+use crate::listing::Listing;
 use itoa::{Buffer, Integer};
 use mq_one_thread::OneThread;
 use mq_queue::BoardRow;
 use mq_table::Id;
+use mq_trace::ipcs::{Keys, write_limits, write_queue, write_queues_head};
 use std::alloc::AllocError;
 use std::sync::ledger::Ledger;
 
-/// Writes the table of the live queues.
-pub(crate) fn write_report<L: Ledger>(
+/// Writes what is listed, and the end of its last line.
+pub(crate) fn write_listing<L: Ledger>(
     out: &mut Vec<u8>,
+    listing: Listing,
     queues: &OneThread<L>,
 ) -> Result<(), AllocError>
-    ensures { OnOk result (out.new.items ≡ out.old.items ++ output (table queues.now)) }
+    ensures { OnOk result (out.new.items ≡ out.old.items ++ output (table listing queues.now)) }
+{
+    match listing {
+        Listing::Table => write_table(out, queues),
+        Listing::Queues(keys) => write_queues(out, keys, queues),
+        Listing::Limits => write_limits(out, queues.slots()),
+    }
+}
+
+/// The table of all figures.
+fn write_table<L: Ledger>(out: &mut Vec<u8>, queues: &OneThread<L>) -> Result<(), AllocError>
+    ensures { OnOk result (out.new.items ≡ out.old.items ++ output (table Table queues.now)) }
 {
     write_header(out)?;
     write_rows(out, queues)?;
     out.push(b'\n')?;
+    Ok(())
+}
+
+/// The table of ipcs(1).
+fn write_queues<L: Ledger>(
+    out: &mut Vec<u8>,
+    keys: Keys,
+    queues: &OneThread<L>,
+) -> Result<(), AllocError>
+    ensures { OnOk result
+        (out.new.items ≡ out.old.items ++ output (table (Queues keys) queues.now)) }
+{
+    write_queues_head(out)?;
+    write_queue_rows(out, keys, queues)?;
+    out.push(b'\n')?;
+    Ok(())
+}
+
+fn write_queue_rows<L: Ledger>(
+    out: &mut Vec<u8>,
+    keys: Keys,
+    queues: &OneThread<L>,
+) -> Result<(), AllocError>
+    ensures { OnOk result (out.new.items
+        ≡ out.old.items ++ rows_to (queue_row keys) queues.now (length queues.now.slots)) }
+{
+    for slot in 0..queues.slots() {
+        write_queue(out, keys, usize::from(slot), queues.row(slot))?;
+    }
     Ok(())
 }
 
@@ -36,7 +81,8 @@ fn write_header(out: &mut Vec<u8>) -> Result<(), AllocError>
 
 fn write_rows<L: Ledger>(out: &mut Vec<u8>, queues: &OneThread<L>) -> Result<(), AllocError>
     ensures { OnOk result
-        (out.new.items ≡ out.old.items ++ lines_to queues.now (length queues.now.slots)) }
+        (out.new.items
+        ≡ out.old.items ++ rows_to line_of_row queues.now (length queues.now.slots)) }
 {
     for slot in 0..queues.slots() {
         write_row(out, slot, queues.row(slot))?;

@@ -36,7 +36,8 @@ fn each_line_is_answered_and_a_wrong_one_is_named(
 fn lines_without_a_fault_are_answered_as_a_script_is(
     rt: HostRuntime,
 ) -> std::result::Result<(), Fail> {
-    let script = "get 7 cx\nseat 2\nsnd 0 3 *9\nipcs\nrcv 0 4 3 n\nstat 0\nrm 0\ncut 0\narena\n#\n";
+    let script = "get 7 cx\nseat 2\nsnd 0 3 *9\nipcs\nipcs -q\nipcs -q x\nipcs -l\n\
+                  rcv 0 4 3 n\nstat 0\nrm 0\ncut 0\narena\n#\n";
     let mut expected = Vec::with_capacity(rt.alloc(), 4000)?;
     let ran = run_serial(rt.alloc(), &mut script.as_bytes(), &mut expected, ONE_PAGE);
     holds!(rt; ran != Err(RunFault::Memory), "out of memory");

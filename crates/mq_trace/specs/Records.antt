@@ -14,7 +14,7 @@ use Rattle.mq_calls.specs.Names.{errno_name}
 use Rattle.mq_trace.specs.Calls.{call_name}
 use Rattle.mq_trace.specs.declared.refusal.Refusal.{Refusal}
 use Rattle.mq_trace.specs.declared.scale.TimeScale.{TimeScale}
-use Rattle.mq_trace.specs.declared.scale.TimeScale.TheVariants.{Moments, Entries}
+use Rattle.mq_trace.specs.declared.scale.TimeScale.TheVariants.{Moments, Lines, Entries}
 use Rattle.mq_trace.specs.declared.step.Step.{Step}
 
 -- the seat that called
@@ -36,6 +36,7 @@ moment_of (Removed seat moment) = moment
 -- the time of a step
 abbrev pub time_of : TimeScale → Step → ℕ
 time_of Moments step = moment_of step.event
+time_of Lines step = moment_of step.event
 time_of Entries step = step.entry
 
 -- the queue as a process, the seat as a thread, and the time

@@ -1,3 +1,5 @@
+//! How many messages and bytes are pending, as a trace counts them.
+
 ghost use Rattle.std.specs.Prelude.{◌≡◌};
 ghost use Rattle.mq_trace.specs.Steps.{counts_after};
 

@@ -1,3 +1,5 @@
+//! The entries of a slot, of which a trace is made.
+
 ghost use Rattle.std.specs.Prelude.{◌≡◌, ◌++◌, option_copied};
 ghost use Rattle.mq_trace.specs.Steps.{first_point};
 

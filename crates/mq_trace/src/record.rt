@@ -74,7 +74,7 @@ fn time_of(scale: TimeScale, step: Step) -> u64
     ensures { result ≡ time_told scale step }
 {
     match scale {
-        TimeScale::Moments => moment_of(step.event),
+        TimeScale::Moments | TimeScale::Lines => moment_of(step.event),
         TimeScale::Entries => step.entry,
     }
 }

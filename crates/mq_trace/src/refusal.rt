@@ -1,3 +1,5 @@
+//! A call that failed, as a trace shows it.
+
 ghost use Rattle.std.specs.Prelude.{◌≡◌};
 ghost use Rattle.mq_trace.specs.Calls.{call_name};
 

@@ -1,3 +1,5 @@
+//! An entry of a slot's list, with what it says of its queue.
+
 use mq_message::Header;
 use mq_queue::Event;
 

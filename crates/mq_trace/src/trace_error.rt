@@ -1,3 +1,5 @@
+//! The error of a trace or a picture.
+
 use thiserror::Error;
 
 /// Why a trace was not written to its end.

@@ -73,7 +73,7 @@ fn written<W: Write>(
         return Err(TraceError::Memory);
     };
     let scale = match task.kind {
-        Kind::Serial => TimeScale::Moments,
+        Kind::Serial => TimeScale::Lines,
         Kind::Threads => TimeScale::Entries,
     };
     match task.output {

@@ -42,6 +42,8 @@ A line of a serial script is one call, with one space between its words:
   rm ID                      removes it, as IPC_RMID does
   cut SLOT                   cuts the log of a slot off where it ends
   ipcs                       shows all queues
+  ipcs -q [x]                the same as ipcs(1) does, x with keys in hexadecimal
+  ipcs -l                    shows the limits, as ipcs(1) does
   info                       shows what is in use, and the limits, as IPC_INFO does
   arena                      shows how many pages there are, and are free
   seat S                     has seat S, 1 to 16, make the calls from here on

@@ -7,7 +7,8 @@ use mq_queue::Event;
 /// What the times of a scale are called.
 pub(crate) fn scale_word(scale: TimeScale) -> &'static str {
     match scale {
-        TimeScale::Moments => "line",
+        TimeScale::Moments => "moment",
+        TimeScale::Lines => "line",
         TimeScale::Entries => "entry",
     }
 }
@@ -15,7 +16,7 @@ pub(crate) fn scale_word(scale: TimeScale) -> &'static str {
 /// Which of a stamp's numbers is its time.
 pub(crate) fn time_of(scale: TimeScale, stamp: Stamp) -> u64 {
     match scale {
-        TimeScale::Moments => stamp.moment,
+        TimeScale::Moments | TimeScale::Lines => stamp.moment,
         TimeScale::Entries => stamp.entry,
     }
 }

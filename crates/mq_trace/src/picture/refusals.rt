@@ -44,7 +44,7 @@ impl Row {
     fn column(&mut self, refusal: &Refusal) -> u64 {
         self.now = self.now.max(refusal.moment);
         match self.scale {
-            TimeScale::Moments => self.axis.column(self.now),
+            TimeScale::Moments | TimeScale::Lines => self.axis.column(self.now),
             TimeScale::Entries => LEFT + 4,
         }
     }

@@ -1,3 +1,5 @@
+//! The style sheet of a picture.
+
 /// How a picture looks in light and dark. Messages have the eight colours of Okabe and Ito, which
 /// people who see colours in other ways can tell apart too, with grey for black.
 pub(crate) const STYLE: &str = "<style>\n\

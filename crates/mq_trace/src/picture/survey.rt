@@ -121,7 +121,7 @@ impl Survey {
     }
 
     fn note_refusal(&mut self, refusal: &Refusal) {
-        if self.scale == TimeScale::Moments {
+        if self.scale != TimeScale::Entries {
             self.note_time(refusal.moment);
         }
         let mut found = false;

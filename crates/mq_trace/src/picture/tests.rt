@@ -1,3 +1,5 @@
+//! Tests of pictures: which marks there are, and writers that fail.
+
 use super::write_picture;
 use crate::{CallName, Refusal, SlotEntries, TimeScale, TraceError};
 use mq_calls::Errno;
@@ -155,7 +157,7 @@ fn refusals_are_marked_in_the_band_of_their_queue(rt: HostRuntime) -> Result<(),
 fn an_empty_run_has_an_axis(rt: HostRuntime) -> Result<(), Fail> {
     let text = drawn(rt.alloc(), &[], &[], TimeScale::Moments)?;
     assert_eq!(rt; count(&text, "0 queues, 0 messages, 0 refusals"), 2);
-    assert_eq!(rt; count(&text, ">line<"), 2);
+    assert_eq!(rt; count(&text, ">moment<"), 2);
     assert!(rt; text.starts_with("<svg "));
     assert!(rt; text.ends_with("</svg>\n"));
     Ok(())
