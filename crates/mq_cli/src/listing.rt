@@ -1,3 +1,5 @@
+//! What `ipcs` of a script shows.
+
 ghost use Rattle.std.specs.Prelude.{◌≡◌};
 ghost use Rattle.mq_cli.specs.Commands.{listing_asked};
 ghost use Rattle.mq_cli.specs.Parts.{parts_left};
