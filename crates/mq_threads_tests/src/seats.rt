@@ -386,22 +386,33 @@ fn entry(answer: Result<u64, Errno>) -> Answer {
     }
 }
 
-/// The answer of a call that was made once more, where it was for several and there was no memory
-/// for more than the first.
-fn with_first(first: Answer, second: Answer) -> Answer {
-    match (first, second) {
-        (Answer::Got([one, None, None]), Answer::Got([two, three, None])) => {
-            Answer::Got([one, two, three])
-        }
-        _ => second,
+/// What came, where something did.
+fn texts_of(answer: Answer) -> Option<[Option<Taken>; 3]> {
+    match answer {
+        Answer::Got(came) => Some(came),
+        _ => None,
     }
 }
 
+/// The answer of a call that was made once more, where it was for several and there was no memory
+/// for more than the first.
+fn with_first(first: Answer, second: Answer) -> Answer {
+    let (Some(one), Some(more)) = (texts_of(first), texts_of(second)) else {
+        return second;
+    };
+    if one[1].is_some() || more[2].is_some() {
+        return second;
+    }
+    Answer::Got([one[0], more[0], more[1]])
+}
+
 /// Whether less came than is wanted.
-fn is_less(told: Answer, wanted: Answer) -> bool {
-    match (told, wanted) {
-        (Answer::Got([Some(_), None, None]), Answer::Got([Some(_), Some(_), _])) => true,
-        (Answer::Refused(Errno::ENOMEM), _) => true,
+fn is_less(came: Answer, wanted: Answer) -> bool {
+    if let Answer::Refused(errno) = came {
+        return errno == Errno::ENOMEM;
+    }
+    match (texts_of(came), texts_of(wanted)) {
+        (Some(one), Some(all)) => one[0].is_some() && one[1].is_none() && all[1].is_some(),
         _ => false,
     }
 }
