@@ -154,7 +154,6 @@ run 2       none         error  --height 3 threads
 run 2       none         error  --height 3 serial
 run 2       none         error  --height 3
 run 2       none         fault  serial $'\xff'
-run 2       none         error  --version
 run 2       none         error  help nonsense
 
 run 0       help         none   --help
