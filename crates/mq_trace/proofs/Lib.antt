@@ -1,7 +1,6 @@
 pub mod Bytes
 pub mod Ends
 pub mod Events
-pub mod Fields
 pub mod Lists
 pub mod Parts
 pub mod Places

@@ -1,5 +1,5 @@
-//! What happened in the queues of a run: the entries of its slots' lists as steps, one after
-//! another, and a trace of them in the Trace Event Format, which trace viewers open.
+//! What happened in the queues of a run: the entries of its slots' logs as steps; a trace of them in
+//! the Trace Event Format; a picture of them; and the tables of ipcs(1).
 
 #![tactic(auto)]
 

@@ -15,8 +15,6 @@ mod scenes;
 mod step_line;
 mod style;
 mod survey;
-#[cfg(test)]
-mod tests;
 
 use crate::output::{WriteFailed, write_bytes};
 use crate::{Refusal, SlotEntries, TimeScale, TraceError};

@@ -1,4 +1,5 @@
-//! Tests of steps and traces: worked lists with all that they say, and writers that fail.
+//! Tests of steps, traces, pictures and tables: worked lists with all that they say, and writers
+//! that fail.
 
 #![tactic(auto)]
 
@@ -34,6 +35,8 @@ mod fakes;
 mod ipcs;
 #[cfg(test)]
 mod lists;
+#[cfg(test)]
+mod pictures;
 #[cfg(test)]
 mod steps;
 #[cfg(test)]

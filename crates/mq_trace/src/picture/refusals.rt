@@ -4,8 +4,23 @@ use super::axis::{Axis, LEFT, RIGHT};
 use crate::{Refusal, TimeScale};
 use std::alloc::AllocError;
 
-/// How near one another refusals have one mark, so that no label meets the next.
+/// As wide as a label is at most: refusals that are nearer have one mark.
 const NEAR: u64 = 96;
+
+/// Whether a mark's label stands before it, since there is no room behind it.
+fn is_labelled_before(column: u64) -> bool {
+    column.saturating_add(NEAR) > RIGHT
+}
+
+/// Whether a mark in this column would have its label meet that of the mark before.
+fn is_near(before: u64, column: u64) -> bool {
+    let room = if is_labelled_before(column) {
+        2 * NEAR
+    } else {
+        NEAR
+    };
+    column < before.saturating_add(room)
+}
 
 /// Refusals with one mark: the column of the first, how many they are, and whether all have the
 /// same errno.
@@ -53,7 +68,7 @@ impl Row {
     pub(crate) fn put(&mut self, out: &mut String, refusal: &Refusal) -> Result<(), AllocError> {
         let column = self.column(refusal);
         match self.held {
-            Some(held) if column < held.column.saturating_add(NEAR) => {
+            Some(held) if is_near(held.column, column) => {
                 self.held = Some(Refused {
                     count: held.count.saturating_add(1),
                     is_alike: held.is_alike && held.first.errno == refusal.errno,
@@ -84,7 +99,7 @@ impl Row {
         write_title(out, held)?;
         out.push_str("</title></path>\n")?;
         let y = self.y;
-        if held.column.saturating_add(NEAR) > RIGHT {
+        if is_labelled_before(held.column) {
             let x = held.column.saturating_sub(6);
             write!(out, "<text class='x e' x='{x}' y='{y}'>")?;
         } else {

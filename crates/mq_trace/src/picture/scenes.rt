@@ -62,7 +62,8 @@ impl<'a> Iterator for Scenes<'a> {
     ghost next_gives = { YieldsFirstBy sight_of
         (λ s. sights_from (steps_from s.steps.at s.steps.rest) (to_come s.ahead)) };
 
-    ghost remaining = { item_count (λ s. sights_from (steps_from s.steps.at s.steps.rest) (to_come s.ahead)) };
+    ghost remaining = { item_count
+        (λ s. sights_from (steps_from s.steps.at s.steps.rest) (to_come s.ahead)) };
 
     fn next(&mut self) -> Option<Scene<'a>> {
         let step = self.steps.next()?;

@@ -1,10 +1,9 @@
-//! Tests of pictures: which marks there are, and writers that fail.
+//! Which marks a picture has, and writers that fail.
 
-use super::write_picture;
-use crate::{CallName, Refusal, SlotEntries, TimeScale, TraceError};
 use mq_calls::Errno;
 use mq_message::Selection;
 use mq_queue::Event;
+use mq_trace::{CallName, Refusal, SlotEntries, TimeScale, TraceError, write_picture};
 use std::alloc::Global;
 use std::io::{ErrorKind, Write};
 use std::test::Fail;
@@ -150,6 +149,21 @@ fn refusals_are_marked_in_the_band_of_their_queue(rt: HostRuntime) -> Result<(),
     assert_eq!(rt; count(&text, ">EAGAIN ×2<"), 1);
     assert_eq!(rt; count(&text, ">EAGAIN of msgsnd, by seat 2 at 5<"), 1);
     assert_eq!(rt; count(&text, "other refusals"), 1);
+    Ok(())
+}
+
+#[test]
+fn labels_of_refusals_do_not_meet(rt: HostRuntime) -> Result<(), Fail> {
+    let past = [making(1, 7), sending(100, 5)];
+    let slots = [slot_of(&past, &[])];
+    let mut refusals = [refusal(None), refusal(None)];
+    refusals[0].moment = 85;
+    refusals[1].moment = 96;
+    let text = drawn(rt.alloc(), &slots, &refusals, TimeScale::Moments)?;
+    assert_eq!(rt; count(&text, ">EAGAIN ×2<"), 1);
+    refusals[0].moment = 75;
+    let text = drawn(rt.alloc(), &slots, &refusals, TimeScale::Moments)?;
+    assert_eq!(rt; count(&text, ">EAGAIN<"), 2);
     Ok(())
 }
 
