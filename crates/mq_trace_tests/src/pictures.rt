@@ -161,6 +161,7 @@ fn labels_of_refusals_do_not_meet(rt: HostRuntime) -> Result<(), Fail> {
     refusals[1].moment = 96;
     let text = drawn(rt.alloc(), &slots, &refusals, TimeScale::Moments)?;
     assert_eq!(rt; count(&text, ">EAGAIN ×2<"), 1);
+    assert_eq!(rt; count(&text, "<path class='x'"), 2);
     refusals[0].moment = 75;
     let text = drawn(rt.alloc(), &slots, &refusals, TimeScale::Moments)?;
     assert_eq!(rt; count(&text, ">EAGAIN<"), 2);

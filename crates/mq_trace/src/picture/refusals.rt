@@ -4,17 +4,20 @@ use super::axis::{Axis, LEFT, RIGHT};
 use crate::{Refusal, TimeScale};
 use std::alloc::AllocError;
 
-/// As wide as a label is at most: refusals that are nearer have one mark.
+/// As wide as a label is at most: refusals that are nearer have one.
 const NEAR: u64 = 96;
 
-/// Whether a mark's label stands before it, since there is no room behind it.
-fn is_labelled_before(column: u64) -> bool {
+/// As wide as a mark and a space: refusals that are nearer have one.
+const TOUCHING: u64 = 9;
+
+/// Whether a label in this column ends there, since there is no room behind it.
+fn is_at_the_end(column: u64) -> bool {
     column.saturating_add(NEAR) > RIGHT
 }
 
-/// Whether a mark in this column would have its label meet that of the mark before.
+/// Whether a label in this column would meet the one before.
 fn is_near(before: u64, column: u64) -> bool {
-    let room = if is_labelled_before(column) {
+    let room = if is_at_the_end(column) {
         2 * NEAR
     } else {
         NEAR
@@ -22,8 +25,8 @@ fn is_near(before: u64, column: u64) -> bool {
     column < before.saturating_add(room)
 }
 
-/// Refusals with one mark: the column of the first, how many they are, and whether all have the
-/// same errno.
+/// Refusals that are shown as one: the column of the first, how many they are, and whether all have
+/// the same errno.
 #[derive(Clone, Copy)]
 struct Refused {
     column: u64,
@@ -32,7 +35,27 @@ struct Refused {
     is_alike: bool,
 }
 
-/// The marks of a row, from left to right.
+impl Refused {
+    fn of(column: u64, refusal: &Refusal) -> Refused {
+        Refused {
+            column,
+            count: 1,
+            first: *refusal,
+            is_alike: true,
+        }
+    }
+
+    /// The same with one more.
+    fn with(self, refusal: &Refusal) -> Refused {
+        Refused {
+            count: self.count.saturating_add(1),
+            is_alike: self.is_alike && self.first.errno == refusal.errno,
+            ..self
+        }
+    }
+}
+
+/// A row of marks with their labels above, from left to right.
 #[derive(Clone, Copy)]
 pub(crate) struct Row {
     axis: Axis,
@@ -40,7 +63,8 @@ pub(crate) struct Row {
     y: u64,
     /// The greatest moment so far.
     now: u64,
-    held: Option<Refused>,
+    mark: Option<Refused>,
+    label: Option<Refused>,
 }
 
 impl Row {
@@ -50,7 +74,8 @@ impl Row {
             scale,
             y,
             now: 0,
-            held: None,
+            mark: None,
+            label: None,
         }
     }
 
@@ -64,49 +89,55 @@ impl Row {
         }
     }
 
-    /// Marks a refusal, or counts it where its mark would be near the one before.
+    /// Shows a refusal by a mark and a label, each of which it may have in common with those before.
     pub(crate) fn put(&mut self, out: &mut String, refusal: &Refusal) -> Result<(), AllocError> {
         let column = self.column(refusal);
-        match self.held {
-            Some(held) if is_near(held.column, column) => {
-                self.held = Some(Refused {
-                    count: held.count.saturating_add(1),
-                    is_alike: held.is_alike && held.first.errno == refusal.errno,
-                    ..held
-                });
-                Ok(())
-            }
+        self.mark = match self.mark {
+            Some(mark) if column < mark.column.saturating_add(TOUCHING) => Some(mark.with(refusal)),
             _ => {
-                self.finish(out)?;
-                self.held = Some(Refused {
-                    column,
-                    count: 1,
-                    first: *refusal,
-                    is_alike: true,
-                });
-                Ok(())
+                self.draw_mark(out)?;
+                Some(Refused::of(column, refusal))
             }
-        }
+        };
+        self.label = match self.label {
+            Some(label) if is_near(label.column, column) => Some(label.with(refusal)),
+            _ => {
+                self.draw_label(out)?;
+                Some(Refused::of(column, refusal))
+            }
+        };
+        Ok(())
     }
 
-    /// Draws the mark that is still held.
+    /// Draws the mark and the label that are still held.
     pub(crate) fn finish(&self, out: &mut String) -> Result<(), AllocError> {
-        let Some(held) = self.held else {
+        self.draw_mark(out)?;
+        self.draw_label(out)
+    }
+
+    fn draw_mark(&self, out: &mut String) -> Result<(), AllocError> {
+        let Some(mark) = self.mark else {
             return Ok(());
         };
-        let (x, y) = (held.column.saturating_sub(4), self.y.saturating_sub(8));
+        let (x, y) = (mark.column.saturating_sub(4), self.y.saturating_sub(3));
         write!(out, "<path class='x' d='M{x} {y}h8l-4 8z'><title>")?;
-        write_title(out, held)?;
-        out.push_str("</title></path>\n")?;
-        let y = self.y;
-        if is_labelled_before(held.column) {
-            let x = held.column.saturating_sub(6);
+        write_title(out, mark)?;
+        out.push_str("</title></path>\n")
+    }
+
+    fn draw_label(&self, out: &mut String) -> Result<(), AllocError> {
+        let Some(label) = self.label else {
+            return Ok(());
+        };
+        let y = self.y.saturating_sub(6);
+        if is_at_the_end(label.column) {
+            let x = label.column.saturating_add(4);
             write!(out, "<text class='x e' x='{x}' y='{y}'>")?;
         } else {
-            let x = held.column.saturating_add(6);
+            let x = label.column.saturating_sub(4);
             write!(out, "<text class='x' x='{x}' y='{y}'>")?;
         }
-        write_label(out, held)?;
+        write_label(out, label)?;
         out.push_str("</text>\n")
     }
 }
