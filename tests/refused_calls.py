@@ -33,6 +33,9 @@ NO_MEMORY = re.compile(
 )
 # The lines that a test says where what wanted memory does not tell it so: a thread that was not made.
 UNTOLD = {
+    "mq_cli_tests record::a_recorded_threads_script_keeps_the_refusals_of_its_main_part": (
+        r"an entry is missing, or a worker found no memory"
+    ),
     "mq_tests values::a_thread_adds_the_numbers_that_another_sends": r"a thread cannot be made",
     "mq_text_tests threads::each_half_is_filled_by_a_thread_of_its_own": (
         r"no memory for the count of threads"

@@ -406,6 +406,29 @@ fn with_first(first: Answer, second: Answer) -> Answer {
     Answer::Got([one[0], more[0], more[1]])
 }
 
+/// The call for what did not come, of which no more than one did.
+fn rest_of(call: Call, first: Answer) -> Call {
+    if texts_of(first).is_none() {
+        return call;
+    }
+    match call {
+        Call::Take {
+            id,
+            msgtyp,
+            left,
+            most,
+            moment,
+        } => Call::Take {
+            id,
+            msgtyp,
+            left,
+            most: most.saturating_sub(1),
+            moment,
+        },
+        _ => call,
+    }
+}
+
 /// Whether less came than is wanted.
 fn is_less(came: Answer, wanted: Answer) -> bool {
     if let Answer::Refused(errno) = came {
@@ -434,7 +457,8 @@ fn takes_turn<N: Names, R: Abort + Wait>(
     let mut port = SystemPort::new(alloc, seat, letters);
     let first = called(rt, alloc, &mut port, system, call);
     let told = if is_less(first, wanted) {
-        with_first(first, called(rt, alloc, &mut port, system, call))
+        let rest = rest_of(call, first);
+        with_first(first, called(rt, alloc, &mut port, system, rest))
     } else {
         first
     };

@@ -100,7 +100,8 @@ fn drawn(
     refusals: &[Refusal],
     scale: TimeScale,
 ) -> Result<String, Fail> {
-    let mut bytes = Vec::new(alloc);
+    // It has room, so that no write fails for want of memory.
+    let mut bytes = Vec::with_capacity(alloc, 65536)?;
     write_picture(alloc, &mut bytes, slots, refusals, scale)?;
     Ok(String::from_str(alloc, str::from_utf8(&bytes)?)?)
 }

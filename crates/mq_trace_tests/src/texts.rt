@@ -111,7 +111,7 @@ fn entries(past: &[Event]) -> SlotEntries<'_> {
 
 #[test]
 fn a_trace_is_written_byte_by_byte(rt: HostRuntime) -> Result<(), Fail> {
-    let mut written = Vec::new(rt.alloc());
+    let mut written = Vec::with_capacity(rt.alloc(), TRACE.len())?;
     let all = events();
     let slots = [entries(&all)];
     let ended = write_trace(
@@ -139,7 +139,7 @@ fn a_cut_log_is_named_at_its_first_step(rt: HostRuntime) -> Result<(), Fail> {
         past: &[],
         last: &entries,
     };
-    let mut written = Vec::new(rt.alloc());
+    let mut written = Vec::with_capacity(rt.alloc(), CUT.len())?;
     let ended = write_trace(rt.alloc(), &mut written, &[slot], &[], TimeScale::Entries);
     holds!(rt; ended != Err(TraceError::Memory), "out of memory");
     holds!(rt; ended == Ok(()));
@@ -149,7 +149,7 @@ fn a_cut_log_is_named_at_its_first_step(rt: HostRuntime) -> Result<(), Fail> {
 
 #[test]
 fn nothing_is_an_empty_list(rt: HostRuntime) -> Result<(), Fail> {
-    let mut written = Vec::new(rt.alloc());
+    let mut written = Vec::with_capacity(rt.alloc(), EMPTY.len())?;
     let slots = [entries(&[]), entries(&[])];
     let ended = write_trace(rt.alloc(), &mut written, &slots, &[], TimeScale::Moments);
     holds!(rt; ended != Err(TraceError::Memory), "out of memory");
