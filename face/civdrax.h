@@ -11,7 +11,6 @@
 #include <time.h>
 
 #define CIVDRAX_VERSION "0.1.0"
-
 struct timespec; /* which strict C89 and C99 hide, and then know in a list of parameters alone */
 
 #ifdef __cplusplus
