@@ -1,4 +1,4 @@
-"""The edits of the crates' files: crates/NAME/planted.edits has a crate's planted mistakes, and
+"""The edits of the crates' files: crates/NAME/planted.edits has a crate's mutants, and
 must-not-compile.edits those that the compiler must refuse, in each file by name:
 
     == set_keeps_the_larger_quota
@@ -68,7 +68,7 @@ def edits_in(path):
 
 
 def all_edits(top):
-    """The edits of all crates, by crate, kind and name. A ValueError tells what is wrong with any,
+    """The edits of all crates, by crate, kind and name. A ValueError says what is wrong with any,
     but for the texts of its file."""
     edits = [it for path in sorted(top.glob("crates/*/*.edits")) for it in edits_in(path)]
     often = Counter(it.name for it in edits)

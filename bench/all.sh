@@ -7,7 +7,7 @@
 #     bench/all.sh --list               prints the calls, and makes none
 #
 # The pictures and cycle.txt belong in docs/pictures. Where one fails, the others run none the less,
-# and the status is 1. Wants what each wants, and a machine with nothing else to do.
+# and the status is 1. Requires what each requires, and an idle machine.
 set -uo pipefail
 [ $# -gt 0 ] || { echo "usage: bench/all.sh --list | FOLDER [NAME ..]" >&2 && exit 2; }
 folder=$(realpath -m -- "$1") failed=0

@@ -4,9 +4,9 @@
 # more than without a board; a read that finds something new, and one that does not, beside IPC_STAT
 # of a queue of the kernel. Times are medians of rounds in which the programs take turns; what a run
 # of no events or reads takes is left out, and of a read that finds something new its two events. The
-# times are printed beside those that are wanted, and fail nothing.
+# times are printed beside their targets, and fail nothing.
 # Fails where the memory of a board grows with the events: ten times as many may take 256 kB more.
-# Wants cc and GNU time.
+# Requires cc and GNU time.
 set -euo pipefail
 cd "$(dirname "$0")/.."
 (cd crates/bench && rt run > /dev/null)
@@ -23,7 +23,7 @@ import time
 COUNT, ROUNDS, FOLDER = int(sys.argv[1]), int(sys.argv[2]), sys.argv[3]
 OURS = ["crates/bench/out/bench", "board"]
 KERNELS = [f"{FOLDER}/kernel_stat"]
-# The most nanoseconds that are wanted of an event, by the number of readers.
+# The target of an event, in nanoseconds at most, by the number of readers.
 EVENTS = {1: 85, 2: 85, 16: 85}
 READ, NEWS, RATIO = 6, 85, 0.1
 # The most kilobytes that ten times as many events may take more.

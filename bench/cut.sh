@@ -1,10 +1,10 @@
 #!/bin/bash
-# What a cut of a log takes, by the entries since the cut before and by the messages that wait, and
+# The cost of a cut of a log, by the entries since the cut before and by the pending messages, and
 # whether a long run with cuts stays in its memory: `bench/cut.sh [ROUNDS]`. Time of a cut is that of
 # a run with cuts less that of the same run without, where the entries are few, as a median of rounds
 # in which both take turns; instructions by callgrind. The long run sends and receives 10 million
 # texts and cuts after each 100,000 entries.
-# Fails nothing. Wants valgrind, and for the times a machine with nothing else to do.
+# Fails nothing. Requires valgrind, and for the times an idle machine.
 set -euo pipefail
 cd "$(dirname "$0")/.."
 (cd crates/bench && rt run > /dev/null)

@@ -1,14 +1,14 @@
 #!/bin/bash
 # Counts and times one text that is drafted with its bytes, sent, received and spent, at height 10
-# with nothing else lent: `bench/cycle.sh [CYCLES] [ROUNDS] [PICTURE]`, at least 15 rounds.
+# with nothing else allocated: `bench/cycle.sh [CYCLES] [ROUNDS] [PICTURE]`, at least 15 rounds.
 # Instructions by callgrind, as the difference of two runs. Times as medians of rounds in which it
 # and kernel_cycle, which sends and receives on a queue of the kernel, take turns; what a run of no
-# cycles takes is left out. Fails where a length takes more instructions than are wanted, and where
+# cycles takes is left out. Fails where a length takes more instructions than its target, and where
 # one of 65,536 bytes takes more than 0.35 of the kernel's time; the other times are printed beside
-# the ratio that is wanted, and fail nothing.
+# the target ratio, and fail nothing.
 # Raises the kernel's limits while it runs, where it may. With a PICTURE it writes what it found to
 # the file of that name with .txt in place of .svg, and draws that by gnuplot.
-# Wants valgrind and cc.
+# Requires valgrind and cc.
 set -euo pipefail
 cd "$(dirname "$0")/.."
 (cd crates/bench && rt run > /dev/null)
@@ -32,8 +32,8 @@ CYCLES, ROUNDS, FOLDER, PICTURE = int(sys.argv[1]), int(sys.argv[2]), sys.argv[3
 OURS = ("crates/bench/out/bench", "cycle")
 KERNELS = (f"{FOLDER}/kernel_cycle",)
 LENGTHS = (0, *(2**k for k in range(4, 17)))
-# The instructions of a cycle that are wanted, within 2 of a hundred; and the most of the kernel's
-# time, of which the last one must be kept.
+# The target instructions of a cycle, within 2 percent; and the greatest ratio to the kernel's time,
+# of which the last one must be met.
 COUNTED = {0: 347, 16: 1049, 1024: 1080, 8192: 2415}
 WANTED = {0: 0.25, 16: 0.25, 1024: 0.25, 8192: 0.25, 65536: 0.35}
 COLUMNS = ("bytes", "instructions", "ns", "kernel_ns", "kernel_calls")

@@ -1,7 +1,7 @@
 #!/bin/bash
 # Times a pair of calls, msgsnd and msgrcv, through the C library of face/ and on a queue of the
 # kernel, one thread, at 0 and at 1,000 bytes: `bench/face.sh [ROUNDS] [PAIRS]`, at least 15 rounds,
-# in which they take turns. Fails where a median is over 0.6 of the kernel's. Wants `rt` and cc.
+# in which they take turns. Fails where a median is over 0.6 of the kernel's. Requires `rt` and cc.
 set -euo pipefail
 cd "$(dirname "$0")/.."
 make -s -C face > /dev/null

@@ -65,7 +65,7 @@ static double median(double *times, int count)
     return times[count / 2];
 }
 
-/* Whether the ratio of the medians is as wanted. */
+/* Whether the ratio of the medians is on target. */
 static int compared(int kernels, int ours, size_t size, int rounds, long pairs)
 {
     static double theirs[MOST_ROUNDS], own[MOST_ROUNDS];

@@ -2,14 +2,14 @@
 # Times threads that pass texts through the queues of the C library of face/, beside the kernel's:
 # `bench/face_threads.sh [TEXTS] [ROUNDS] [PICTURE] [OTHER]`, at least 5 rounds. Rows: so many that
 # send and so many that receive through one queue; four threads each of which sends and receives by
-# turns in a queue of its own; two that pass one text there and back; one thread alone; and a
-# thousand that wait in one queue, each for a type of its own, to whom another sends. A queue has
+# turns in a queue of its own; two with one text in a round trip; one thread alone; and a
+# thousand waiters in one queue, each for a type of its own, to which another sends. A queue has
 # the quota 131,072, or as much as the kernel gives. OTHER is a libcivdrax.a of another commit,
 # timed beside them. Medians of rounds in which they take turns; what a run of no texts takes is
-# left out. The library's ratios are printed beside what is wanted, with ! where one is missed, and
+# left out. The library's ratios are printed beside their targets, with ! where one is missed, and
 # the status is 1 then. Draws the picture by gnuplot; without a name it draws none. Raises the
 # kernel's limits while it runs, where it may. Times the library as it lies in face/out, and builds
-# it where it is not there. Wants cc, and a machine with nothing else to do.
+# it where it is not there. Requires cc, and an idle machine.
 set -euo pipefail
 cd "$(dirname "$0")/.."
 [ -e face/out/libcivdrax.a ] || make -s -C face > /dev/null

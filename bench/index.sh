@@ -1,11 +1,11 @@
 #!/bin/bash
-# Counts the instructions of one message that is sent and one that is received behind others that
-# wait, in the waiting list of a queue: `bench/index.sh`. By callgrind, as the difference of two runs.
-# Few messages wait in a list: fails where the pair behind 8 or fewer takes more than 1.1 times the
-# plain list's. Many wait in layers: fails where the pair behind 16,000 messages of 1, of 100 and of
-# 16,000 types takes more than three times the one behind 33 messages, the first number of which none
-# is kept in a small list, and where that behind 16,000 of 1 type takes more than twice the plain
-# list's behind none. Beside them it prints how many times that is. Wants valgrind.
+# Counts the instructions of one message that is sent and one that is received behind other pending
+# messages, in the waiting list of a queue: `bench/index.sh`. By callgrind, as the difference of two
+# runs. Few messages are in a list: fails where the pair behind 8 or fewer takes more than 1.1 times
+# the plain list's. Many are in layers: fails where the pair behind 16,000 messages of 1, of 100 and
+# of 16,000 types takes more than three times the one behind 33 messages, the first number of which
+# none is kept in a small list, and where that behind 16,000 of 1 type takes more than twice the
+# plain list's behind none. Beside them it prints how many times that is. Requires valgrind.
 set -euo pipefail
 cd "$(dirname "$0")/.."
 (cd crates/bench && rt run > /dev/null)

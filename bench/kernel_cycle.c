@@ -1,5 +1,5 @@
 /* Sends a text of that many bytes to one of the kernel's System V message queues and receives it,
-   that many times, and counts the bytes that came: `kernel_cycle BYTES CYCLES [MOST]`, where a text
+   that many times, and counts the bytes received: `kernel_cycle BYTES CYCLES [MOST]`, where a text
    of more than MOST bytes goes in pieces, each received before the next is sent. The program that
    bench/cycle.sh times a cycle of one thread against. */
 #define _GNU_SOURCE

@@ -1,6 +1,6 @@
 # The kernel's limits of its message queues, to be sourced: `raise_limits` raises them to those of
 # the project where they are less and the machine allows it, and says whether a text of 65,536 bytes
-# is one call of the kernel then; `restore_limits`, for a trap, gives back what was there.
+# is one call of the kernel then; `restore_limits`, for a trap, restores what was there.
 limits=/proc/sys/kernel
 msgmax=$(cat "$limits/msgmax")
 msgmnb=$(cat "$limits/msgmnb")

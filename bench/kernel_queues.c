@@ -303,7 +303,7 @@ static void get(struct line *line)
     put_word("\n");
 }
 
-/* Points `from` at the text's bytes and answers their number. Letters are there for the first
+/* Points `from` at the text's bytes and returns their number. Letters are there for the first
    65,536 bytes alone. */
 static uint64_t read_text(struct line *line, const char **from)
 {

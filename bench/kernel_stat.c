@@ -1,5 +1,5 @@
 /* Asks the kernel for the figures of one of its System V message queues, that many times, and adds
-   up the counts of messages: `kernel_stat COUNT`. The program that bench/board.sh times the looks
+   up the counts of messages: `kernel_stat COUNT`. The program that bench/board.sh times the reads
    of a board's reader against. */
 #define _GNU_SOURCE
 #include <stdio.h>

@@ -30,7 +30,7 @@ static inline int send_whole(int queue, const struct text *text, long size, long
 }
 
 /* Receives as many messages of that type, or of any where it is 0, as a text of that size has pieces,
-   and waits for them. How many bytes came, or -1. */
+   and waits for them. How many bytes were received, or -1. */
 static inline long receive_whole(int queue, struct text *text, long type, long size, long most)
 {
     long left = size, came = 0;

@@ -1,5 +1,5 @@
-/* Two threads pass a text of that many bytes there and back on two of the kernel's System V message
-   queues, that many times, and the first counts the bytes that came: `kernel_two BYTES CYCLES
+/* Two threads pass a text of that many bytes in round trips on two of the kernel's System V message
+   queues, that many times, and the first counts the bytes received: `kernel_two BYTES CYCLES
    [MOST]`, where a text of more than MOST bytes goes in pieces. The program that bench/system.sh
    times two threads of a system against. */
 #define _GNU_SOURCE

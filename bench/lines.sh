@@ -5,9 +5,9 @@
 # receives, where that list is mostly long. A PROGRAM, as a peer, is counted in place of these; a word {}
 # stands for the number of texts. A figure is the difference of two runs, by the texts that one makes
 # more. An operation is atomic that locks its line; a load is a plain one, and a store that no load
-# may pass is an exchange. Wants valgrind and objdump.
-# Which lines go from one processor to another `perf c2c` would tell. Mostly a virtual machine counts
-# no memory events, as those where this was written, so it is left out.
+# may pass is an exchange. Requires valgrind and objdump.
+# Which cache lines bounce between processors `perf c2c` would report. Mostly a virtual machine
+# counts no memory events, as those where this was written, so it is left out.
 set -euo pipefail
 cd "$(dirname "$0")/.."
 [ $# -gt 1 ] || (cd crates/bench && rt run > /dev/null)

@@ -1,9 +1,9 @@
-/* Threads of one process pass texts of one length through queues, and count the bytes that came, by
+/* Threads of one process pass texts of one length through queues, and count the bytes received, by
    the words of `bench system`: `peer_threads QUEUE WORD BYTES COUNT SENDERS RECEIVERS QUOTA [MOST]`.
    WORD is `flow`, where each sender sends COUNT texts through one queue and each receiver takes its
    share; `types`, where each sender sends COUNT texts to each receiver by turns, which takes those of
    a type of its own; `own`, where each of SENDERS sends and receives by turns, COUNT times, in a
-   queue of its own; or `two`, where two pass one text there and back, on two queues. QUEUE is
+   queue of its own; or `two`, where two pass one text in round trips, on two queues. QUEUE is
    `kernel`, a System V message queue of the kernel, or `mutex`, a mutex with two condition variables
    over a ring of heap buffers with the same quota, and for each further type a ring with a condition
    variable more. The kernel gives no greater quota than its msgmnb, and takes a text of more than
@@ -25,7 +25,7 @@ struct letter {
     size_t length;
 };
 
-/* What waits in a queue of this program, of one type. */
+/* The pending messages of a queue of this program, of one type. */
 struct ring {
     pthread_cond_t arrived;
     struct letter *waiting;
@@ -85,7 +85,7 @@ static void make(struct queue *queue, long types)
         fail("msgctl");
 }
 
-/* The ring of a type. Who selects any type finds the first one: all is of type 1 then. */
+/* The ring of a type. A selection of any type finds the first one: all is of type 1 then. */
 static struct ring *ring_of(struct queue *queue, long type)
 {
     return &queue->rings[type > 1 ? type - 1 : 0];

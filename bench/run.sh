@@ -2,11 +2,11 @@
 # Times mqsim against the kernel's System V message queues on the same scripts:
 # `bench/run.sh [MQSIM] [ROUNDS]`, at least 7 rounds.
 # The two programs take turns within a round; the table has the medians, and the ratio of mqsim's
-# lines a second to the kernel's. Wanted is a ratio of 1.6 with one queue, by sends and receives
+# lines a second to the kernel's. The target is a ratio of 1.6 with one queue, by sends and receives
 # alone and by all calls, and of 1.4 with 8 queues in an arena of height 10. Fails, with status 1,
 # where a ratio is less, and where the answers differ in more than process ids and times. A script
-# that MQSIM does not take yet is left out, and so is the one with texts to 65,536 bytes where the
-# kernel's limits, which are raised while it runs, cannot be.
+# that MQSIM does not support yet is left out, and so is the one with texts to 65,536 bytes where
+# the kernel's limits, which are raised while it runs, cannot be.
 set -euo pipefail
 top=$(realpath "$(dirname "$0")/..")
 mqsim=$(realpath -m "${1:-$top/crates/mqsim/out/mqsim}")
@@ -31,7 +31,7 @@ import time
 MQSIM, ROUNDS, FOLDER = sys.argv[1], int(sys.argv[2]), sys.argv[3]
 KERNEL = [f"{FOLDER}/kernel_queues"]
 SEED = "1"
-# Name, arguments of script.py, options of mqsim, the least ratio that is wanted, the longest text.
+# Name, arguments of script.py, options of mqsim, the target (at least), the longest text.
 SCRIPTS = [
     ("1 queue, snd and rcv", ["--calls", "snd,rcv"], [], 1.6, 8192),
     ("1 queue, all calls", [], [], 1.6, 8192),

@@ -21,7 +21,7 @@ TYPES = [1, 2, 3, 4, 5, 6, 7, 8, 2**31, 2**63 - 1]
 
 
 class Arena:
-    """The pages that are lent: a block is the least aligned run that is free."""
+    """The allocated pages: a block is the least aligned run that is free."""
 
     def __init__(self, height):
         self.pages = 2**height
@@ -46,7 +46,7 @@ class Arena:
 
 
 class Queue:
-    """What waits, as (type, length, block), and the quota."""
+    """The pending messages, as (type, length, block), and the quota."""
 
     def __init__(self, number, quota):
         self.number = number
@@ -56,13 +56,14 @@ class Queue:
         self.wanted = 0
 
     def fits(self, length):
-        """Whether a text fits, and whether it does with its header and those that wait."""
+        """Whether a text fits, and whether it does with its header and those of pending
+        messages."""
         count = len(self.waiting) + 1
         total = self.bytes + length
         return total <= self.quota, total + HEADER * count <= self.quota
 
     def selected(self, msgtyp, except_type):
-        """The place of the message that a receive names, or None."""
+        """The place of the message that a receive selects, or None."""
         types = [message[0] for message in self.waiting]
         if msgtyp < 0:
             low = min(types, default=0)
@@ -140,7 +141,7 @@ class Writer:
         return f"snd {queue.number} {a_type} {word}"
 
     def message_type(self, queue):
-        """The type of a message, mostly of one that waits."""
+        """The type of a message, mostly of a pending one."""
         if queue.waiting and not self.chance(16):
             return self.random.choice(queue.waiting)[0]
         return self.random.choice(TYPES)

@@ -4,7 +4,7 @@
 # callgrind; the time of the first one that a program makes, and of one more, as medians of rounds in
 # which the sizes take turns; and the memory of the process while it is there, less what it has
 # without one.
-# Fails nothing. Wants valgrind, and for the times a machine with nothing else to do.
+# Fails nothing. Requires valgrind, and for the times an idle machine.
 set -euo pipefail
 cd "$(dirname "$0")/.."
 (cd crates/bench && rt run > /dev/null)

@@ -1,13 +1,12 @@
 #!/bin/bash
 # Times System: one text that a seat drafts, sends, receives and spends, among 2 seats and among 16,
-# beside the same cycle of OneThread and of the kernel's queues; one that two threads pass there and
-# back, each waiting for the other, beside two threads on the kernel's queues; and the figures that a
-# seat asks for while 0, 2 and 8 others send and receive, beside IPC_STAT of a queue of the kernel:
-# `bench/system.sh [CYCLES] [ROUNDS]`, at least 15 rounds. Medians of rounds in which the programs
-# take turns; what a run of no cycles takes is left out. Each time is printed beside what is wanted;
-# the status is 1 where one is missed.
-# Raises the kernel's limits while it runs, where it may.
-# Wants cc, and a machine with nothing else to do.
+# beside the same cycle of OneThread and of the kernel's queues; a round trip of one between two
+# threads, each waiting for the other, beside two threads on the kernel's queues; and the figures
+# that a seat asks for while 0, 2 and 8 others send and receive, beside IPC_STAT of a queue of the
+# kernel: `bench/system.sh [CYCLES] [ROUNDS]`, at least 15 rounds. Medians of rounds in which the
+# programs take turns; what a run of no cycles takes is left out. Each time is printed beside its
+# target; the status is 1 where one is missed. Raises the kernel's limits while it runs, where it
+# may. Requires cc, and an idle machine.
 set -euo pipefail
 cd "$(dirname "$0")/.."
 (cd crates/bench && rt run > /dev/null)
@@ -25,8 +24,8 @@ from timing import medians, most_of_a_call, say_load, seconds
 
 CYCLES, ROUNDS, FOLDER = int(sys.argv[1]), int(sys.argv[2]), sys.argv[3]
 BENCH = "crates/bench/out/bench"
-# The most of the kernel's time: of a text of 1,024 bytes by the number of seats, there and back,
-# and of the figures.
+# The greatest ratio to the kernel's time: of a text of 1,024 bytes by the number of seats, of a
+# round trip, and of the figures.
 OF_CYCLE, BACK, STAT = {2: 0.75, 16: 1.0}, 0.4, 0.1
 MOST = most_of_a_call()
 

@@ -3,16 +3,16 @@
 # mutex with two condition variables over a ring of heap buffers: `bench/threads.sh [TEXTS] [ROUNDS]
 # [PICTURE]`, at least 9 rounds. Rows: so many that send and so many that receive through one queue;
 # threads each of which sends and receives by turns in a queue of its own; one that sends to four by
-# types of their own; two that pass one text there and back; and 16 threads in one queue. In rows
+# types of their own; two with one text in a round trip; and 16 threads in one queue. In rows
 # `by 16` one call of the library sends, or receives, up to 16 texts, beside the others' times by calls
 # of one. Where they can, `mqsim threads`, a bounded channel of Rust's standard library and
 # crossbeam_channel are timed beside them. A queue has the quota 16,384, or twice a longer text.
 # Medians of rounds in each of which all programs do all rows; what a run of no texts takes is left
-# out. The library's ratios are printed beside what is wanted of them, with ! where one is missed, and
+# out. The library's ratios are printed beside their targets, with ! where one is missed, and
 # the status is 1 then. Draws the picture by gnuplot; without a name it draws none. Raises the kernel's
 # limits while it runs, where it may.
-# Times mqsim and bench as they lie in crates/*/out, and builds one that does not. Wants cc, rustc, and
-# a machine with nothing else to do.
+# Times mqsim and bench as they lie in crates/*/out, and builds one that does not. Requires cc,
+# rustc, and an idle machine.
 set -euo pipefail
 cd "$(dirname "$0")/.."
 for program in mqsim bench; do

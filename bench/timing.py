@@ -17,7 +17,8 @@ def most_of_a_call():
 
 
 def seconds(command, cycles=0, script=""):
-    """The time of one run. Where it makes some cycles, the first number that it prints is looked at."""
+    """The time of one run. Where it makes some cycles, the first number that it prints is
+    checked."""
     start = time.perf_counter()
     said = subprocess.run([*map(str, command)], input=script, check=True, text=True,
                           stdout=subprocess.PIPE).stdout
@@ -40,7 +41,7 @@ def medians(runs, rounds):
 
 
 def ratio(found, wanted, least=False):
-    """A ratio beside what is wanted, to be printed, and whether it is missed: it is to be at most
-    that, or at least. None where nothing is wanted."""
+    """A ratio beside its target, to be printed, and whether it is missed: it is to be at most
+    that, or at least. None where there is no target."""
     missed = wanted is not None and (found < wanted if least else found > wanted)
     return f"{found:6.2f}{'!' if missed else ' '}({wanted or '-'})", missed

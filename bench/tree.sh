@@ -1,5 +1,5 @@
 #!/bin/bash
-# Times lend and give of one page in a half full arena, at heights 2 to 10:
+# Times lend and give (allocate and free) of one page in a half full arena, at heights 2 to 10:
 # `bench/tree.sh [PAIRS] [ROUNDS]`.
 # The heights take turns within a round; the table has the median of the rounds. Fails if a pair at
 # height 10 takes more than 2.5 times as long as one at height 5.

@@ -1,8 +1,8 @@
 #!/bin/bash
-# Counts the instructions of one page lent and given back, at heights 5 and 10, in an arena that is
-# empty, half full, or full but for its last page: `bench/tree_instructions.sh`. Wants valgrind.
+# Counts the instructions of one page allocated and freed, at heights 5 and 10, in an arena that is
+# empty, half full, or full but for its last page: `bench/tree_instructions.sh`. Requires valgrind.
 # A figure is the difference of two runs of the program, by the pairs that one makes more. Fails if
-# a pair at height 10 takes more instructions than is wanted of its arena, or more than 2.5 times
+# a pair at height 10 takes more instructions than the target of its arena, or more than 2.5 times
 # those at height 5.
 set -euo pipefail
 cd "$(dirname "$0")/.."

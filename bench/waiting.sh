@@ -3,7 +3,7 @@
 # `bench/waiting.sh [ROUNDS] [PICTURE]`, in the plain list, in the waiting list of a queue, and in one
 # of the kernel's queues. Times are medians of rounds in which the three take turns; what a run of no
 # pairs takes is left out. Fails where behind 15,999 messages the queue's list takes more than 0.02 of
-# the kernel's time. Draws the picture by gnuplot; without a name it draws none. Wants cc.
+# the kernel's time. Draws the picture by gnuplot; without a name it draws none. Requires cc.
 set -euo pipefail
 cd "$(dirname "$0")/.."
 (cd crates/bench && rt run > /dev/null)

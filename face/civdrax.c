@@ -1,18 +1,18 @@
-/* The C side of the queues, which lie in parts. In each part `civdrax_serve`, which is proved, runs
-   on a stack of its own as long as the process does. Under the part's lock a call writes its
-   numbers into `call` and goes over to that stack, where `read` takes them and the bytes of a text,
-   and `write` fills `answer`, `shown` and the caller's buffer; where the next call is read it comes
-   back. A part's number is the descriptor that it reads, and in each id of its queues, so queues of
-   two parts share nothing. What concerns all parts is done with all locks, taken in their order.
+/* The C side of the queues, which are sharded into parts. In each part `civdrax_serve`, which is
+   proved, runs as a coroutine, on a stack of its own, as long as the process does. Under the part's
+   lock a call writes its numbers into `call` and switches to that stack, where `read` takes them
+   and the bytes of a text, and `write` fills `answer`, `shown` and the caller's buffer; where the
+   next call is read it switches back. A part's number is the descriptor that it reads, and in each
+   id of its queues, so queues of two parts share nothing. What concerns all parts locks all.
 
-   Each wait is here, outside of the proved part: a call that is told to wait enters its thread's
-   record into a list, lets the lock go, sleeps on the record's futex, and is then made again. Each
-   slot has lists of those that wait for a message, by types, and one of those that wait for room,
-   each part one for pages. A message rouses those whose selection has its type, a receipt
-   those that wait for room there and for pages, a new quota those that wait for room, a removal all
-   of the slot and those that wait for pages: of each all, so that none has to hand on what it does
-   not take, where its text is too long, it is cancelled, or a handler jumps out of its wait. From
-   the answer to the entry the lock is held, so no wake is lost. A handler ends the sleep.
+   Each wait is here, outside of the proved part: a call whose answer is to wait enters its thread's
+   waiter into a list, releases the lock, sleeps on the waiter's futex, and is then retried. Each
+   slot has lists of waiters for a message, by types, and one of waiters for room, each part one of
+   waiters for pages. A message rouses those whose selection has its type, a receipt the waiters for
+   room there and for pages, a new quota those for room, a removal all of the slot and those for
+   pages: of each all, so that none has to pass on a wake that it does not use, where its text is
+   too long, it is cancelled, or a handler jumps out of its wait. The lock is held from the answer
+   until the waiter is in its list, so no wake is lost. A handler ends the sleep.
 
    Each call is decided in the proved part. Kept here are the figures that it has no place for: the
    owner, the mode and the two process ids of each slot's queue. */
@@ -34,10 +34,10 @@
 
 enum { MAX_HEIGHT = 10, MAX_SLOTS = 64, PARTS = 8, PART_SLOTS = MAX_SLOTS / PARTS };
 #define WOKEN_LATER 16 /* once the lock is free; others before */
-/* No handler's frame is nearer to the one below which it runs: there are the registers. */
+/* A handler's frame is no nearer to the one that it interrupts: between are the saved registers. */
 #define SIGNAL_FRAME 1024
-/* The stack of the proved part, on which a signal handler that comes meanwhile runs too: it is as
-   long as a thread's is by default. Below it lies what cannot be touched. */
+/* The stack of the proved part, on which a signal handler that interrupts it runs too: it is as
+   long as a thread's is by default. Below it lies a guard, which cannot be touched. */
 enum { STACK = 8 << 20, GUARD = 1 << 20 };
 
 /* The numbers of the proved part. */
@@ -63,7 +63,7 @@ _Static_assert(sizeof(struct call) == 64 && sizeof(struct answer) == 64
 
 extern int32_t civdrax_serve(int32_t calls, uint8_t height, uint8_t slots);
 
-/* Who waits: a thread's own, since a handler may leave the wait by siglongjmp, and it stays in its
+/* A waiter: thread-local, since a handler may leave the wait by siglongjmp, and it stays in its
    list then. It is changed under its part's lock alone; `part` by its thread. */
 enum { WAITS, ROUSED };
 struct waiter {
@@ -76,15 +76,15 @@ struct waiter {
 };
 TAILQ_HEAD(waiters, waiter);
 
-/* Lists of who waits in a slot: for a message, of any type or more than one, and of one type by its
-   remainder; for room; and, in a part, for pages. */
+/* Lists of waiters of a slot: for a message, of any type or more than one, and of one type, hashed
+   by its remainder; for room; and, of a part, for pages. */
 enum { TYPES = 256, KINDS, SENDERS = PART_SLOTS * KINDS, PAGERS = SENDERS + PART_SLOTS, LISTS };
 static int receivers(int slot, long type) { return slot * KINDS + (type > 0) * (1 + type % TYPES); }
 
-/* No two have a line of the processor's memory in common, nor one that it fetches with another. */
+/* No two share a cache line, nor a pair of lines that the processor fetches together. */
 struct part {
   pthread_mutex_t lock;
-  enum { NEW, RUNS, LOST } state; /* LOST where a step was left in its midst: nobody can end it */
+  enum { NEW, RUNS, LOST } state; /* LOST where a step was left in its midst: it cannot end */
   int slots, queues;              /* how many */
   int has_old_lists;              /* none, or in a child its parent's */
   /* The two stacks, and where that of the proved part lies, above its guard. */
@@ -116,25 +116,25 @@ static int bit_of(const struct part *part) { return 1 << (part - parts); }
 struct thread {
   char *volatile began; /* where on the stack it is in a call; null in none, and in a sleep */
   volatile int holds;   /* the parts whose locks it has */
-  volatile int forks;   /* those of them whose it has taken to fork */
-  volatile int sleeps;  /* where it may be cancelled at once, and else by `cancel_type` */
+  volatile int forks;   /* those of them that it has taken to fork */
+  volatile int sleeps;  /* where its cancellation is asynchronous, and else `cancel_type` */
   int cancel_type;
-  int roused_count; /* whom it has roused, and not woken yet */
+  int roused_count; /* waiters that it has roused, and not woken yet */
   uint32_t *roused[WOKEN_LATER];
   struct part *begins; /* the part whose loop is to begin */
 };
 
-/* Always in reach: what is made at its first use wants memory, which a handler may not ask for. */
+/* Not lazy: thread-locals that are made at their first use call malloc, which no handler may do. */
 #define OF_THREAD static __thread __attribute__((tls_model("initial-exec")))
 OF_THREAD struct waiter mine;
 OF_THREAD struct thread thread;
-static pthread_key_t ends; /* by it a thread that ends leaves its list */
-static pid_t self;         /* this process, which a system call would tell each time */
+static pthread_key_t ends; /* its destructor takes a thread that ends off its list */
+static pid_t self;         /* this process, for which getpid makes a system call each time */
 
 /* The size, once it is read: which parts have slots. And why no call is answered, where none is. */
 static int is_read, height, sized, no_call;
 
-/* Saves what a call has to keep on the stack that is left, and goes on where the other stopped. */
+/* Saves the callee-saved registers on this stack, and continues on the other, where it stopped. */
 void civdrax_switch(void **from, void *to) __attribute__((visibility("hidden")));
 __asm__(".text\n.globl civdrax_switch\n.hidden civdrax_switch\n"
         ".type civdrax_switch,@function\ncivdrax_switch:\npushq %rbp\npushq %rbx\n"
@@ -152,7 +152,7 @@ static void come_out(struct part *part) { civdrax_switch(&part->inside, part->ou
 static size_t least(size_t a, size_t b) { return a < b ? a : b; }
 
 /* Gives the bytes of the text that is sent, once the call is given and before it is answered; else
-   those of the next call, for which it comes out. */
+   those of the next call, for which it switches out. */
 ssize_t __wrap_read(int fd, void *to, size_t n) {
   struct part *part = &parts[fd];
   const size_t all = sizeof part->call;
@@ -228,7 +228,7 @@ static int configured(const char *name, int low, int high, int otherwise) {
   return -1;
 }
 
-/* Whose wait is over, whether or not it sleeps, is in no list and looks again. */
+/* A waiter whose wait is over, whether or not it sleeps, is in no list and retries. */
 static void unlist(struct waiter *its) {
   struct waiters *list = its->in;
   its->in = NULL;
@@ -245,14 +245,14 @@ static void rouse_one(struct waiter *its) {
   if (!is_later) wake(&its->word);
 }
 
-/* Whether a receipt selects messages of this type, or 0: the proved part has the last word. */
+/* Whether a receipt selects messages of this type, or 0, any: the proved part decides. */
 static int selects(const struct waiter *its, int64_t type) {
   if (its->type == 0 || type == 0) return 1;
   if (its->type < 0) return -type >= its->type;
   return its->flags & MSG_EXCEPT ? type != its->type : type == its->type;
 }
 
-/* Those in a list whom a message of this type may serve; with 0 all. */
+/* Rouses those in a list that a message of this type may serve; with 0 all. */
 static void rouse(struct part *part, int list, int64_t type) {
   struct waiter *its, *next = TAILQ_FIRST(&part->lists[list]);
   while ((its = next)) {
@@ -261,7 +261,7 @@ static void rouse(struct part *part, int list, int64_t type) {
   }
 }
 
-/* Who has a lock does not wait meanwhile, so whoever wants it tries 200 times before it sleeps. */
+/* A lock is not held over a wait, so this spins 200 times before it blocks. */
 static void acquire(struct part *part) {
   for (int tries = 0; pthread_mutex_trylock(&part->lock); tries++)
     if (tries < 200) __builtin_ia32_pause();
@@ -278,15 +278,15 @@ static int acquire_within(struct part *part, int milliseconds) {
   return !pthread_mutex_timedlock(&part->lock, &end) && (thread.holds |= bit_of(part));
 }
 
-/* Makes the lists, in which nobody waits any more. */
+/* Makes the lists, without waiters. */
 static void forget_waiters(struct part *part) {
   part->has_old_lists = 0;
   for (int list = 0; list < LISTS; list++) TAILQ_INIT(&part->lists[list]);
   if (mine.part == part) mine.in = NULL, unlist(&mine);
 }
 
-/* Lets the lock go, and only then wakes those roused: else they would sleep once more, for it. One
-   that has ended meanwhile is not there to wake, and its word not looked at. */
+/* Releases the lock, and only then wakes those roused: else they would block once more, on it. For
+   one that has ended meanwhile there is no thread to wake, and its word is not read. */
 static void release(struct part *part) {
   if (part->has_old_lists) forget_waiters(part);
   thread.holds &= ~bit_of(part);
@@ -297,8 +297,8 @@ static void release(struct part *part) {
 
 static void release_these(int set) { FOR_PARTS(part, set) release(part); }
 
-/* Whoever has one that is long in coming may be a fork within a call, and wait for the others; or
-   there are more threads than processors, so the next try has more time. */
+/* A lock that times out may be held by a fork within a call, which waits for the others; or there
+   are more threads than processors, so the next timeout is longer. */
 static void acquire_all(void) {
   for (int i = 0, milliseconds = 20; i < PARTS; i++) {
     if (acquire_within(&parts[i], milliseconds)) continue;
@@ -310,9 +310,9 @@ static void acquire_all(void) {
   }
 }
 
-/* A child has a copy of the queues of its own, in which nobody waits. A handler may fork within a
-   call: the child has its locks then, and goes on with it. Of two that do so in two parts each may
-   not get the other's, which its child is without. */
+/* A child has a copy of the queues of its own, without waiters. A handler may fork within a call:
+   the child has its locks then, and continues it. Of two that do so in two parts each may not get
+   the other's, which is lost in its child. */
 static void before_fork(void) {
   int had = thread.holds;
   if (!had) acquire_all();
@@ -332,7 +332,7 @@ static void in_child(void) {
   in_parent();
 }
 
-/* Who is cancelled while it waits, or has left its wait by siglongjmp, holds nobody up. */
+/* A thread that is cancelled in its wait, or has left it by siglongjmp, leaves its list. */
 static void leave(void *its) {
   struct waiter *waiter = its;
   struct part *part = waiter->part;
@@ -349,8 +349,8 @@ __attribute__((constructor)) static void is_loaded(void) {
   if (pthread_atfork(before_fork, in_parent, in_child)) no_call = ENOMEM;
 }
 
-/* Makes the stack of the proved part above its guard, and what is called first on it. These are
-   addresses: of memory there is what was touched. */
+/* Makes the stack of the proved part above its guard, and what is called first on it. It reserves
+   addresses: memory is taken by the pages that are touched. */
 static int make_stack(struct part *part) {
   int flags = MAP_PRIVATE | MAP_ANONYMOUS | MAP_NORESERVE | MAP_STACK;
   void *at = part->guard;
@@ -379,9 +379,8 @@ static void read_size(void) {
   release_these(ALL);
 }
 
-/* Under the lock: begins the loop, which comes out where it reads its first call; `call` has that
-   call already. 0, or why no call is answered: where there was no memory the next call tries
-   again. */
+/* Under the lock: begins the loop, which switches out where it reads its first call; `call` has
+   that call already. 0, or why no call is answered: after ENOMEM the next call tries again. */
 static int begin(struct part *part) {
   if (part->state != NEW) return part->state == LOST ? ENOTRECOVERABLE : 0;
   int error = make_stack(part);
@@ -409,7 +408,7 @@ static int ask(struct part *part, const void *in, void *out) {
 }
 
 /* Whether a handler makes this call, within another that the thread is in: then it is on the stack
-   of a proved part, on one of its own, or further down. */
+   of a proved part, on the alternate signal stack, or further down. */
 static int is_nested(const char *here) {
   stack_t own;
   FOR_PARTS(part, thread.holds)
@@ -418,8 +417,8 @@ static int is_nested(const char *here) {
   return here < thread.began - SIGNAL_FRAME;
 }
 
-/* The thread has left a call by siglongjmp, with its locks. Whoever waits looks again, since it may
-   have stopped before it roused some; the lists are whole when read forward, and then made anew. */
+/* The thread has left a call by siglongjmp, with its locks. All waiters retry, since it may have
+   stopped before it roused some; the lists are whole when read forward, and then made anew. */
 static void recover(void) {
   FOR_PARTS(part, thread.holds) {
     if (part->is_inside) part->state = LOST;
@@ -436,8 +435,8 @@ static ssize_t end_call(int error, ssize_t value) {
 }
 
 /* Begins a call; or answers 0, and errno says why not. In a handler that ran in a sleep, or after a
-   jump out of one, the thread may not be cancelled at once any more, and is no longer in its list:
-   so the sleep, if it is still to come, ends. */
+   jump out of one, cancellation is no longer asynchronous, and the thread is no longer in its list:
+   so the sleep, if it has not begun yet, ends. */
 static int begin_call(void) {
   char *here = __builtin_frame_address(0);
   if (thread.forks || (thread.began && is_nested(here))) return errno = EDEADLK, 0;
@@ -467,14 +466,14 @@ static struct part *enter(int *id) {
   return part;
 }
 
-/* Sleeps until it is roused, until the end, or until a handler has run: 0, or why. With an end, if
-   one that never comes, the kernel does not take a sleep up again after a handler, whatever
+/* Sleeps until it is roused, until the deadline, or until a handler has run: 0, or why. With a
+   deadline, if one that never passes, the kernel does not restart a sleep after a handler, whatever
    SA_RESTART says. */
 static int sleep_until(const struct timespec *end) {
   static const struct timespec never = {.tv_sec = 1L << 32};
   struct timespec at = end ? *end : never;
   int kept = errno, error = 0;
-  /* The kernel takes no time before its clock began. */
+  /* The kernel refuses a negative time. */
   if (at.tv_sec < 0) at.tv_sec = 0;
   while (!error && __atomic_load_n(&mine.word, __ATOMIC_ACQUIRE) == WAITS)
     if (syscall(SYS_futex, &mine.word, FUTEX_WAIT_BITSET_PRIVATE, WAITS, &at, NULL,
@@ -484,7 +483,7 @@ static int sleep_until(const struct timespec *end) {
   return error;
 }
 
-/* Enters a list as the call says that was told to wait. */
+/* Enters the list of the call, whose answer is to wait. */
 static void enlist(struct part *part) {
   int slot = part->answer.slot, list = SENDERS + slot;
   mine.part = part;
@@ -496,8 +495,8 @@ static void enlist(struct part *part) {
   TAILQ_INSERT_TAIL(mine.in, &mine, link);
 }
 
-/* Under the lock, which others take meanwhile: waits in a list. A thread is cancelled in its sleep
-   alone, where it has nothing to give back but its place in the list. */
+/* Under the lock, which is released meanwhile: waits in a list. A thread is cancelled in its sleep
+   alone, where it has nothing to release but its place in the list. */
 static int wait_in(struct part *part, const struct timespec *end) {
   struct call kept = part->call;
   char *began = thread.began;
@@ -521,7 +520,7 @@ static int wait_in(struct part *part, const struct timespec *end) {
   return error;
 }
 
-/* Under the lock: makes a call, again after each wait, also after one whose time came or in which a
+/* Under the lock: makes a call, again after each wait, also after one that timed out or in which a
    handler ran: others may have changed what it waits for before it had the lock. 0, or why it is
    refused. */
 static int make(struct part *part, const void *in, void *out, const struct timespec *end) {
@@ -549,7 +548,7 @@ static int get_in(struct part *part, key_t key, int flags, int *id) {
   return 0;
 }
 
-/* Under all locks: looks for the key's queue, of which a part that has not begun has none; else
+/* Under all locks: searches for the key's queue, of which a part that has not begun has none; else
    makes one, in the first part of those that have the fewest. */
 static int get(key_t key, int flags, int *id) {
   int error = ENOENT;

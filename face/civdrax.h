@@ -1,5 +1,5 @@
 /* System V message queues for the threads of one process, by the calls of the manual (msgget(2),
-   msgop(2), msgctl(2)). Each answers as its namesake: where it is refused, -1 and errno. */
+   msgop(2), msgctl(2)). Each returns what its namesake does: on error -1, with errno set. */
 #ifndef CIVDRAX_H
 #define CIVDRAX_H
 
@@ -19,20 +19,20 @@ extern "C" {
 
 /* The environment gives the size, which is read at the first call: CIVDRAX_SLOTS, 1 to 64, for as
    many queues (64), and CIVDRAX_HEIGHT, 0 to 10, for 2 ^ height pages of 1,024 bytes (10), which
-   those queues share whose ids are the same modulo 8. With another value each call answers ENOSYS,
-   and a line on standard error says so.
+   those queues share whose ids are the same modulo 8. With another value each call fails with
+   ENOSYS, and a line on standard error says so.
 
    A call fails with EINTR where a signal handler ran while it waited, whatever SA_RESTART says.
    Such a handler may make calls, fork, and leave the wait by siglongjmp. One that runs while its
-   thread is in a call that does not wait has EDEADLK of each call. It should not leave by
-   siglongjmp: its thread's next call may then answer EDEADLK, or that and each later one on those
-   queues, and those of all, ENOTRECOVERABLE. A thread may be cancelled while it waits. */
+   thread is in a call that does not wait gets EDEADLK from each call. It should not leave by
+   siglongjmp: its thread's next call may then fail with EDEADLK, or that and each later one on
+   those queues, and those of all, ENOTRECOVERABLE. A thread may be cancelled while it waits. */
 int civdrax_msgget(key_t key, int msgflg);
 int civdrax_msgsnd(int msqid, const void *msgp, size_t msgsz, int msgflg);
 ssize_t civdrax_msgrcv(int msqid, void *msgp, size_t msgsz, long msgtyp, int msgflg);
 int civdrax_msgctl(int msqid, int cmd, struct msqid_ds *buf);
 
-/* As msgsnd and msgrcv, and wait no longer than until this time of CLOCK_MONOTONIC: ETIMEDOUT. */
+/* As msgsnd and msgrcv, with a deadline of CLOCK_MONOTONIC, after which they fail: ETIMEDOUT. */
 int civdrax_timedsnd(int msqid, const void *msgp, size_t msgsz, int msgflg,
                      const struct timespec *end);
 ssize_t civdrax_timedrcv(int msqid, void *msgp, size_t msgsz, long msgtyp, int msgflg,

@@ -31,8 +31,8 @@ void *dlopen(const char *name, int flags) {
   return next(name, flags & ~RTLD_DEEPBIND);
 }
 
-/* With CIVDRAX_COUNT a process that ends adds a line to that file: how many of its calls came here.
-   A program may have changed its environment by then, and a child counts its own. */
+/* With CIVDRAX_COUNT a process that ends adds a line to that file: how many of its calls were made
+   here. A program may have changed its environment by then, and a child counts its own. */
 static const char *count_name;
 
 static void count_anew(void) { calls = 0; }

@@ -7,7 +7,7 @@
 #include <stdlib.h>
 
 /* A row, with the name of the owner by the file itself, since the C library's own lookup may not
-   come back where memory is refused; else with the number. */
+   return when out of memory; else with the number. */
 static void print_row(FILE *to, int id, const struct msqid_ds *its) {
   char line[4096], owner[16];
   struct passwd user, *found;

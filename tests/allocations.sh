@@ -5,23 +5,23 @@
 # ways:
 #   status 2, `out of memory` on standard error and nothing written: the words were not read;
 #   status 5, `mqsim: out of memory` and a prefix of the answers written;
-#   as where none is refused, all written, where a growth had another way.
-# Scripts of workers, each of whom takes only what it has put itself, are tried so too. Their runs
-# may end as above, or in one of these ways; what is written never depends on a worker's time:
+#   as where none is refused, all written, where a growth had a fallback.
+# Scripts of workers, each of which receives only what it has sent itself, are tried so too. Their
+# runs may end as above, or in one of these ways; what is written never depends on a worker's time:
 #   status 6, `mqsim: thread not started` and the answers of the main part written;
-#   status 0, and of just one worker it is told that it ended with ENOMEM: it has then sent and
+#   status 0, and of just one worker it is reported that it ended with ENOMEM: it has then sent and
 #   received no more than it should, the others have done all, the slots have as many entries as
 #   that, and all pages are free.
 # A run that does not end within a minute, where workers may wait, or else within a minute of a
 # processor's time, is stopped, and fails. So does a script of which no allocation is refused, or whose
-# answers are others where none is. Wants mqsim to be built, and `cc`. Prints the runs that fail; the
-# last line counts.
+# answers are others where none is. Requires mqsim to be built, and `cc`. Prints the runs that
+# fail; the last line counts.
 set -uo pipefail
 cd "$(dirname "$0")/.."
 program=crates/mqsim/out/mqsim
 
-# Whether just one of the workers that `out` tells of lacked memory, and all the rest is as it must
-# be: of each slot the entries but those that are sent or received are as in `whole`.
+# Whether just one of the workers that `out` reports ran out of memory, and all the rest is as it
+# must be: of each slot the entries but those that are sent or received are as in `whole`.
 one_worker_lacked() {
     awk '
         $1 == "worker" && FNR == NR { sent[$2] = $4; received[$2] = $6; next }
@@ -46,8 +46,8 @@ one_worker_lacked() {
         && [ "$(wc -l < "$seen/out")" -eq "$(wc -l < "$seen/whole")" ]
 }
 
-# Whether what was written is a prefix of the answers. No more than one program is begun, since this
-# is asked for each run.
+# Whether what was written is a prefix of the answers. It starts no more than one program, since
+# this is checked for each run.
 is_prefix() {
     local said
     cmp "$seen/out" "$seen/whole" > "$seen/differ" 2> "$seen/end" && return
@@ -141,7 +141,8 @@ case_of() {
     begin "$folder/script-$jobs" "$1" "$folder/answers-$jobs"
 }
 
-# Workers that each take what they have put: a type each, a queue each, and more than one type each.
+# Workers that each receive what they have sent: a type each, a queue each, and more than one type
+# each.
 printf 'get 0 c\n' > "$folder/types"
 printf 'get 9 c\nset 0 3000\nget 0 c\nget 0\n' > "$folder/queues"
 printf 'worker\nput 0 1 5 1000\ntake 0 1 5\nworker\nput 0 2 5 1000\ntake 0 2 5\n' >> "$folder/types"

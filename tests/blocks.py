@@ -15,7 +15,8 @@ gate does not.
   in the block behind it. All other such blocks, and those of `text`, are pictures and forms.
 
 Comments `prints ..` of a block say, line by line, all that its run may print. A block whose package
-is not here is left out, in a line of its own. Wants mqsim and face/ to be built. The last line counts.
+is not here is left out, in a line of its own. Requires mqsim and face/ to be built. The last line
+counts.
 """
 import os
 import re
@@ -30,7 +31,7 @@ FACE = TOP / "face"
 MQSIM = TOP / "crates" / "mqsim" / "out" / "mqsim"
 SECONDS = 60
 PYTHON = "/usr/bin/python3"
-# What asks whether the package of a client is here.
+# What checks whether the package of a client is here.
 CLIENTS = {"perl": ["perl", "-MIPC::SysV", "-MIPC::Msg", "-e", "1"],
            "php": ["php", "-r", "exit(function_exists('msg_get_queue') ? 0 : 1);"],
            "python3": [PYTHON, "-c", "import sysv_ipc"]}
@@ -61,7 +62,7 @@ def blocks(page):
 
 
 def fault_of(words, wanted=None, text="", **more):
-    """What is wrong with a run, of which these lines are wanted."""
+    """What is wrong with a run, of which these lines are expected."""
     try:
         done = subprocess.run(words, input=text, capture_output=True, text=True, timeout=SECONDS,
                               check=False, **more)
@@ -81,7 +82,7 @@ def fault_over_preload(words, wanted, folder, **env):
 
 
 def prints(block):
-    """The lines that a block's comments want of its run, if there are such."""
+    """The lines that a block's comments expect of its run, if there are such."""
     return re.findall(r"(?://|#) prints (.*)", "\n".join(block.lines)) or None
 
 

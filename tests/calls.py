@@ -1,10 +1,10 @@
 #!/usr/bin/env python3
-"""Compares the pages that tell the public calls, docs/CALLS.md and the CALLING.md of `mq`, with the
+"""Compares the pages that list the public calls, docs/CALLS.md and the CALLING.md of `mq`, with the
 sources.
 
 Each line of their ```rust blocks is a signature of the sources, in the form that the head of CALLS.md
-says, and the crate `mq` hands on the types that it names. Each public call of the types below, and
-each name that `mq` hands on, has a place on a page; a call that refuses, in such a block. The
+says, and the crate `mq` re-exports the types that it names. Each public call of the types below,
+and each name that `mq` re-exports, has a place on a page; a call that refuses, in such a block. The
 refusals of a table of CALLS.md are those that the comment of each function of its section names, or
 the variants of its error, in that order; a call that is another one with more around it need not
 name them again. Each clause of a sentence 'Proved' is one of the section's functions. The last line
@@ -34,7 +34,7 @@ PLAIN = {"rt: &R": "rt", "alloc: Global": "alloc", "system: &System<P, N>": "sys
 
 
 def handed_on():
-    """The names that `mq` hands on, and the sources of the crates that they are from."""
+    """The names that `mq` re-exports, and the sources of the crates that they are from."""
     text = (CRATES / "mq" / "src" / "lib.rt").read_text()
     uses = re.findall(r"pub use ([\w:]+)::(?:(\w+)|\{([^}]*)\});", text)
     names = {it.strip() for _, one, more in uses for it in (one or more).split(",") if it.strip()}

@@ -16,7 +16,7 @@ at_least() {
     [ $((passed + failed)) -ge "$1" ] || count 1 "of at least $1 cases only $((passed + failed)) were tried"
 }
 
-# Counts a case, which passed if $1 is 0, and else is told by the words from $2 on.
+# Counts a case, which passed if $1 is 0, and else is printed with the words from $2 on.
 count() {
     if [ "$1" -eq 0 ]; then
         passed=$((passed + 1))

@@ -1,10 +1,10 @@
 #!/usr/bin/env bash
 # The command lines of mqsim: what each is answered, and what each option does.
-# Wants mqsim to be built. Prints the cases that fail; the last line counts.
+# Requires mqsim to be built. Prints the cases that fail; the last line counts.
 #
 # Of the wrong bodies that the proofs let through it finds these, each of which was tried:
 #   the parser's error is not printed;
-#   an option that was read is passed over
+#   an option that was read is ignored
 #     (`Config { height: SCRIPT_DEFAULTS.height, ..options_of(given) }`);
 #   the parser's range of an option is narrower (`.range(1..=63)`);
 #   words without a subcommand have another default.
@@ -188,7 +188,7 @@ shows() {
 }
 serial=('get KEY' 'snd ID' 'rcv ID' 'stat ID' 'set ID' 'rm ID' 'cut SLOT' '^  ipcs  ' \
     'ipcs -q \[x\]' 'ipcs -l' info arena 'seat S')
-sections=(worker 'put ID' 'take ID' 'rm ID' 'waits for good' 'within MS' Ctrl-D)
+sections=(worker 'put ID' 'take ID' 'rm ID' 'or forever' 'within MS' Ctrl-D)
 causes=('^  long ' '^  byte ' '^  words ' '^  number ')
 for words in --help -h help; do
     shows "$words" SCRIPT --height --slots --last-seq serial threads '^  picture ' '^  trace ' \

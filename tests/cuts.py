@@ -2,12 +2,12 @@
 """Runs mqsim over serial scripts with `cut` lines at random places, and with a comment in the place
 of each.
 
-The scripts are all of serial_tables.sh and of tests/scripts, and 500 random ones. What is wanted
+The scripts are all of serial_tables.sh and of tests/scripts, and 500 random ones. What is expected
 of the two runs of each:
 - every line that is no cut has the same answer, word for word, and both end in the same way;
 - each cut of a slot begins where the cut of that slot before it ended, the first at entry 0;
 - of a random script, all that script_model.py says that it writes.
-Wants mqsim to be built. Prints the scripts that fail; the last line counts.
+Requires mqsim to be built. Prints the scripts that fail; the last line counts.
 """
 import base64
 import concurrent.futures
@@ -98,7 +98,7 @@ def slots_cut(script, fault):
 
 
 def is_right(case):
-    """Whether both runs of a case end as wanted, and what is to be said of it if not."""
+    """Whether both runs of a case end as expected, and what is to be printed of it if not."""
     words, script, plain, of_model = case
     (told, fault, status), (wanted, *ended) = run(words, script), run(words, plain)
     lines = told.split(b"\n")

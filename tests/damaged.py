@@ -1,19 +1,20 @@
 #!/usr/bin/env python3
 """Runs mqsim over damaged scripts, and over readers and writers that fail.
 
-What is wanted of each run:
+What is expected of each run:
 - of a serial script, damaged or not, all that script_model.py says that it writes: the answers of
   the lines before the first that is not well formed, that line's number and cause, the status. The
   scripts are two whole ones; each prefix of them; and each of them with each byte in turn replaced
   by each of six others;
 - of a threads script with one byte that no line may have: that line's number, `byte`, status 1,
-  and nothing written. (With another byte it may be a script that waits for good.)
+  and nothing written. (With another byte it may be a script that blocks forever.)
 - where the reader fails at its kth call, for every k, with one byte or more a call: status 3,
   `mqsim: read failed`, and nothing written; where it fails later than the last call, all as ever;
-- where the writer takes k bytes and then fails, or takes nothing, for every k: status 4, `mqsim:
-  write failed`, and the first k bytes of what is written else; where it has room for all, status 0.
-The readers and writers are those of failing_io.c, preloaded before the program. Wants mqsim to be
-built, and `cc`. Prints the runs that fail; the last line counts.
+- where the writer accepts k bytes and then fails, or accepts nothing, for every k: status 4,
+  `mqsim: write failed`, and the first k bytes of what is written else; where it has room for all,
+  status 0.
+The readers and writers are those of failing_io.c, preloaded before the program. Requires mqsim to
+be built, and `cc`. Prints the runs that fail; the last line counts.
 """
 import collections
 import concurrent.futures
@@ -83,7 +84,7 @@ LONGEST = (b"#" * 4095 + b"\n") * 256
 READ_FAILED = (b"", b"mqsim: read failed\n", 3)
 
 # A run: the set that it is counted in, the program's words, its input, what its reader and writer
-# do, and what is wanted: both outputs and the status.
+# do, and what is expected: both outputs and the status.
 Case = collections.namedtuple("Case", "table words script faults wanted")
 
 
@@ -150,7 +151,7 @@ def scripts_at_their_edges():
 
 
 def is_right(case, shim):
-    """Whether a run ends as wanted, and what is to be said of it if not."""
+    """Whether a run ends as expected, and what is to be printed of it if not."""
     environment = dict(os.environ)
     if case.faults:
         environment |= {name: str(value) for name, value in case.faults.items()}

@@ -1,10 +1,10 @@
 #!/usr/bin/env bash
-# Runs mqsim over each script of examples/ and wants the answers beside it, with the words of
-# NAME.args where there are some, and the picture, where there is one; and wants README's first
-# script, examples/first and the script that the gate runs the program on to be the same. Then it has
-# tests/blocks.py try each code block of README.md, CONTRIBUTING.md and docs/, and wants the pages to
-# be no longer than they may be. Wants mqsim to be built, and builds face/ where it is not. Prints
-# the cases that fail; the last line counts.
+# Runs mqsim over each script of examples/ and compares its output with the answers beside it, with
+# the words of NAME.args where there are some, and with the picture, where there is one; and checks
+# that README's first script, examples/first and the script that the gate runs the program on are
+# the same. Then it has tests/blocks.py try each code block of README.md, CONTRIBUTING.md and docs/,
+# and checks that the pages are no longer than they may be. Requires mqsim to be built, and builds
+# face/ where it is not. Prints the cases that fail; the last line counts.
 source "$(dirname "$0")/cases.sh"
 
 for script in examples/*; do
@@ -46,7 +46,7 @@ else
     count 1 "tests/blocks.py did not come to its end"
 fi
 
-# Wants that what stands on standard input has at most $1 lines, words or bytes, as $2 counts them.
+# Checks that standard input has at most $1 lines, words or bytes, as $2 counts them.
 at_most() {
     local length
     length=$(wc "$2")

@@ -4,9 +4,9 @@
 # calls of each client, in C, Perl, PHP and Python, over the kernel and over these queues by the
 # preloaded library: the answers must be the same, each client must fail where the preloaded calls
 # answer ENOSYS, and each must have made its calls here; and of each a program whose waits signals
-# end, which must wait for ever where none comes. A client whose package is not there is left out,
+# end, which must wait for ever where none is sent. A client whose package is not there is left out,
 # and said to be, in a line of its own and in the last but one; tests/face_clients.sh installs them.
-# Wants the crates to be proved by `rt ci`, and `cc`. Prints the runs that fail; the last line
+# Requires the crates to be proved by `rt ci`, and `cc`. Prints the runs that fail; the last line
 # counts.
 set -uo pipefail
 cd "$(dirname "$0")/.."
@@ -31,7 +31,7 @@ tests=(calls parts stack waits signals midst turns late forks wakes threads memo
 warnings=(-std=gnu11 -Wall -Wextra -Werror -Wno-nonnull)
 preload=$PWD/face/out/libcivdrax_preload.so
 
-# Counts a case, which passed if $1 is 0, and else is told by the words from $2 on.
+# Counts a case, which passed if $1 is 0, and else is printed with the words from $2 on.
 count() {
     if [ "$1" -eq 0 ]; then
         passed=$((passed + 1))
@@ -71,7 +71,7 @@ build() {
     count $? "the C part has $lines lines"
 }
 
-# Wants that just these names are seen of the library $1.
+# Checks that the library $1 exports just these names.
 names() {
     local seen
     seen=$(nm "${@:2}" --defined-only "$1" | grep ' T ' | cut -d ' ' -f 3 | sed 's/@.*//' | sort \
@@ -106,10 +106,11 @@ programs() {
     checks "$folder/many" "$messages"
     checks "$folder/stress" "$texts"
     checks "$folder/stress" "$texts" "$cancels"
-    # A program finds the library in any folder, though its path was told from here.
+    # A program finds the library in any folder, though its path was given relative to this one.
     compile calls "$folder/shared" face/out/libcivdrax.so "-Wl,-rpath,$PWD/face/out"
     checks env -C / "$folder/shared"
-    # The test of several threads is right over the kernel too; 80,000 messages come and go.
+    # The test of several threads is right over the kernel too; 80,000 messages are sent and
+    # received.
     compile threads "$folder/kernel_threads" -Dcivdrax_msgget=msgget -Dcivdrax_msgsnd=msgsnd \
         -Dcivdrax_msgrcv=msgrcv -Dcivdrax_msgctl=msgctl
     checks "$folder/kernel_threads"
@@ -224,7 +225,7 @@ allocations() {
     count $? "only $n allocations were refused"
 }
 
-# Wants that with the size $1=$2 no call is answered, and a line says why.
+# Checks that with the size $1=$2 no call is answered, and a line says why.
 refuses_size() {
     env "$1=$2" "$folder/calls" > "$folder/out" 2> "$folder/err"
     [ $? -eq 1 ] && grep -q "^civdrax: $1 is '$2': a number from" "$folder/err" \
@@ -306,7 +307,7 @@ clients() {
 }
 
 # The client $1 by the words from $2 on, whose waits signals end, beside others: over the kernel,
-# over these queues, and where no signal comes, which the watchdog has to end.
+# over these queues, and where no signal is sent, which the watchdog has to end.
 start_to_end() {
     local it=$folder/ends/$1
     { timeout 30 "${@:2}"; echo "status $?"; } > "$it.kernel" 2>&1 &
@@ -326,7 +327,7 @@ has_ended() {
     count $? "$1 has made too few calls here"
 }
 
-# Programs that signals end. A client whose package is not there was told of by then.
+# Programs that signals end. A client whose package is not there was reported by then.
 ends() {
     local names=(C) name
     mkdir "$folder/ends"

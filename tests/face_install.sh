@@ -4,8 +4,9 @@
 # names, their versions, and that the library stays once it is opened; a packager's flags, with
 # which the library is as it has to be; Debian's packages; its processor; the manual page under each
 # call's name; the header in each edition of C and C++ that the compilers here know. All of it in a
-# folder that goes afterwards. Wants face/out to be built, as tests/face.sh has it. What a missing
-# program leaves out is said in a line of its own. Prints the cases that fail; the last line counts.
+# folder that is removed afterwards. Requires face/out to be built, as tests/face.sh has it. What a
+# missing program leaves out is said in a line of its own. Prints the cases that fail; the last line
+# counts.
 source "$(dirname "$0")/cases.sh"
 tree=$seen/tree
 version=$(sed -n 's/^version := //p' face/Makefile)
@@ -20,7 +21,7 @@ is_here() {
     return 1
 }
 
-# Whether what comes in has a line like $1. It is read to its end: who writes it would fail.
+# Whether standard input has a line like $1. It is read to its end: else its writer would fail.
 has() { grep "$@" > "$seen/found"; }
 
 # Makes what the words say in face/, without a proof.
@@ -44,7 +45,7 @@ expected() {
     } | sort
 }
 
-# Wants that these files are below the folder $1, and no others.
+# Checks that these files are below the folder $1, and no others.
 files() {
     [ "$(listed "$1")" = "$(expected "${@:2}")" ]
     count $? "other files are installed: $(diff <(listed "$1") <(expected "${@:2}"))"
@@ -56,7 +57,7 @@ words() {
 }
 
 install_and_link() {
-    # Who installs has no `rt`, and nothing is built once more.
+    # The installing user has no `rt`, and nothing is built once more.
     mkdir "$seen/without"
     printf '#!/bin/sh\necho "%s is run"\nexit 1\n' rt > "$seen/without/rt"
     chmod +x "$seen/without/rt"
@@ -111,7 +112,7 @@ uninstall() {
 }
 
 # The linked library's calls have a version; the preloaded library has none, as long as the programs
-# that it is for want those of the C library.
+# that it is for need those of the C library.
 versions() {
     local it
     for it in $calls; do
@@ -124,7 +125,7 @@ versions() {
     count $? 'libcivdrax_preload.so has versions: no call of a program comes to it'
 }
 
-# The library stays once it is opened; another, which does not say so, is seen to go.
+# The library stays mapped once it is opened; another, not linked so, is found to be unmapped.
 unload() {
     cc -std=gnu11 -Wall -Wextra -Werror -O1 -o "$seen/unload" face/tests/unload.c -pthread -ldl \
         && cc -shared -o "$seen/unloaded.so" -Wl,--whole-archive face/out/libcivdrax.a \
@@ -162,7 +163,7 @@ flags() {
     count $? 'CFLAGS of the environment are not kept'
 }
 
-# Each library says which processor it wants, and has no instruction that this one may not have.
+# Each library says which processor it needs, and has no instruction that this one may not have.
 processor() {
     local it later='v[a-z0-9]+|andn|bextr|bls[ir]|blsmsk|bzhi|lzcnt|movbe|mulx|pdep|pext|rorx'
     for it in libcivdrax.a libcivdrax.so libcivdrax_preload.so; do
@@ -175,7 +176,7 @@ processor() {
     done
 }
 
-# Debian's packages, of the sources that they want, and a program that is built over them.
+# Debian's packages, of the sources that they need, and a program that is built over them.
 packages() {
     local it source=$seen/packages/source root=$seen/packages/root lib pair
     [ "$(sed -n '1s/.*(\(.*\)).*/\1/p' debian/changelog)" = "$version" ]

@@ -1,6 +1,6 @@
 /* Preloaded before a program: its standard input gives at most $READ_BYTES bytes a call, and fails
-   at call number $READ_FAILS, from 1. Its standard output takes $WRITE_TAKES bytes in all; after
-   that a call fails, or takes nothing where $WRITE_ENDS is `nothing`. What is not set changes
+   at call number $READ_FAILS, from 1. Its standard output accepts $WRITE_TAKES bytes in all; after
+   that a call fails, or accepts nothing where $WRITE_ENDS is `nothing`. What is not set changes
    nothing. */
 #define _GNU_SOURCE
 #include <dlfcn.h>

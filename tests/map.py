@@ -1,7 +1,7 @@
 #!/usr/bin/env python3
 """Draws the picture of docs/MAP.md out of crates.txt, or compares it with that: `tests/map.py --draw`
-writes docs/pictures/crates.svg, and `tests/map.py` wants the file to be what would be written, and a
-row of the page for each crate that is no test.
+writes docs/pictures/crates.svg, and `tests/map.py` checks that the file is what would be written,
+and that the page has a row for each crate that is no test.
 
 A line goes down from a crate to each that it stands on, but for those that it reaches by way of
 another.

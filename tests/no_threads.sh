@@ -1,9 +1,9 @@
 #!/usr/bin/env bash
 # Runs programs that work on several threads as a process that may make no thread, or fewer than
-# they want, and with each allocation refused in turn. Where a thread cannot be made the program
+# they need, and with each allocation refused in turn. Where a thread cannot be made the program
 # must say so, end by itself, and have written nothing of what its workers do. Only root may run a
-# program as another user, for whom the bound holds; another user tries the allocations alone. Wants
-# the programs to be built, and `cc`. Prints the runs that fail; the last line counts.
+# program as another user, for whom the bound holds; another user tries the allocations alone.
+# Requires the programs to be built, and `cc`. Prints the runs that fail; the last line counts.
 set -uo pipefail
 cd "$(dirname "$0")/.."
 folder=$(mktemp -d)
@@ -16,7 +16,7 @@ nobody=61234
 # The seconds after which a run counts as one that hangs.
 seconds=20
 
-# Counts a case, which passed if $1 is 0, and else is told by the words from $2 on.
+# Counts a case, which passed if $1 is 0, and else is printed with the words from $2 on.
 count() {
     if [ "$1" -eq 0 ]; then
         passed=$((passed + 1))
@@ -38,7 +38,7 @@ bounded() {
         < "$2" > "$folder/out" 2> "$folder/err"
 }
 
-# Wants that a run with at most $1 threads ends with status $2, the line $3 on standard error and
+# Checks that a run with at most $1 threads ends with status $2, the line $3 on standard error and
 # just the file $4 on standard output; its input is the file $5, and then come its words.
 refuses() {
     local status=0
@@ -47,7 +47,7 @@ refuses() {
     count $? "at most $1 threads: ${*:6}: status $status, $(head -c 200 "$folder/err")"
 }
 
-# Wants that a run with at most $1 threads ends well, and writes the file $2.
+# Checks that a run with at most $1 threads ends well, and writes the file $2.
 runs() {
     local status=0
     bounded "$1" "$3" "${@:4}" || status=$?
@@ -79,8 +79,8 @@ allocations() {
 }
 
 # A server and two clients, of ten requests, each of whose logs is cut after five entries.
-place hello_server || exit 1
-hello=("$folder/hello_server" 10 5)
+place example_server || exit 1
+hello=("$folder/example_server" 10 5)
 stored=$folder/stored
 echo '10 requests, 45 entries' > "$stored"
 cc -shared -fPIC -O1 -o "$folder/refuse.so" tests/refuse_nth.c -ldl || exit 1

@@ -1,11 +1,11 @@
 #!/usr/bin/env -S python3 -B
-"""Reads pictures of runs, SVG files or standard input, and tells what is wrong with them.
+"""Reads pictures of runs, SVG files or standard input, and prints what is wrong with them.
 
     tests/picture.py [FILE ..]
 
 Each is well-formed XML, 1,200 pixels wide, with a title, styles for light and dark, and no script,
 link or font from outside; all is drawn within its edges, no text is smaller than 10 pixels, each
-mark tells what it is, and the bars of a lane do not overlap."""
+mark has a title, and the bars of a lane do not overlap."""
 import re
 import sys
 import xml.etree.ElementTree as tree

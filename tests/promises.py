@@ -1,7 +1,7 @@
 #!/usr/bin/env python3
 """Compares docs/PROMISES.md with the sources. Each function, clause and test that it names must be
-there, and each planted mistake must be in a function, or seen by a test, that a row names, and be
-written as .ci/edits.py says. Each public function that a clause tells what to answer or to leave
+there, and each mutant must be in a function, or seen by a test, that a row names, and be
+written as .ci/edits.py says. Each public function of which a clause says what it returns or leaves
 must have a mistake planted in it.
 
 A row has three columns: the promise, the functions with their clauses, and the tests. In the
@@ -48,7 +48,7 @@ NOTHING = re.compile(r"\{\s*(?:let _ = [^;]*;\s*)?\}")
 # Public functions with no wrong body that compiles, by crate and module: they begin with nothing, take
 # apart or hand on what there is one of, or only call what their proof names.
 ONE_BODY = {"mq caller::into_seat", "mq_arena locked::into_state", "mq_arena parts::empty",
-            "mq_arena text::into_block", "mq_index queue::new", "mq_index room::new", "mq_message message::into_body",
+            "mq_arena text::into_block", "mq_select queue::new", "mq_select room::new", "mq_message message::into_body",
             "mq_queue state::base", "mq_system slot::holds", "mq_system tally::close",
             "mq_table keys::new"}
 # Comments, strings and characters, which may hold braces.

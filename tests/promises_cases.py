@@ -1,7 +1,7 @@
 """A small repository whose page of promises is right, and the faults that promises.py must find."""
 
 FILES = {
-    "crates/one/src/lib.rt": """//! A count, and who waits for it.
+    "crates/one/src/lib.rt": """//! A count, and its waiters.
 pub trait Grows {
     /// By one.
     fn grow(&mut self) -> u64
@@ -40,7 +40,7 @@ impl Grows for Count {
 fn a_count_grows(rt: HostRuntime) {}
 
 #[test]
-fn who_waits_is_woken(rt: HostRuntime) {}
+fn a_waiter_is_woken(rt: HostRuntime) {}
 """,
     "crates/one/planted.edits": """== a_count_is_kept_at_the_end
 function: Count::end
@@ -55,7 +55,7 @@ old: self.0 + 1
 new: self.0 + 0
 """,
     "crates/two/planted.edits": """== nobody_is_woken
-test: one waits::who_waits_is_woken
+test: one waits::a_waiter_is_woken
 file: src/lib.rt
 old: wakes();
 new:
@@ -74,20 +74,21 @@ new:
 
 | Promise | Function: clause | Test |
 |---|---|---|
-| Who waits is woken | `one` `wake`; `two` `wake_all` | `who_waits_is_woken` |
+| A waiter is woken | `one` `wake`; `two` `wake_all` | `a_waiter_is_woken` |
 """,
 }
 ONE, TWO = "crates/one/planted.edits", "crates/two/planted.edits"
 KEPT, STAYS = FILES[ONE].split("\n\n")
-PAGE, WAKE = "docs/PROMISES.md", "| Who waits is woken | `one` `wake`; `two` `wake_all` |"
+PAGE, WAKE = "docs/PROMISES.md", "| A waiter is woken | `one` `wake`; `two` `wake_all` |"
 ROW = "| A count grows by one | `one` `Count::next`: `answer`; `grow` | `a_count_grows` |\n"
 
-# The changes, each a file, a text of it and what stands in its place; and how all that is told of
-# the fault begins, where it is one. With no text the file gets this one, or where it is None goes.
+# The changes, each a file, a text of it and what stands in its place; and how all that is printed
+# of the fault begins, where it is one. With no text the file gets this one, or where it is None
+# goes.
 CASES = {
     "all is right": ([], None),
     "a function has no clause": (
-        [(PAGE, ROW, f"{ROW}| A wake is one | `one` `wake` | `who_waits_is_woken` |\n")],
+        [(PAGE, ROW, f"{ROW}| A wake is one | `one` `wake` | `a_waiter_is_woken` |\n")],
         "no clause of one wake carries: A wake is one"),
     "a mistake at the end shows nothing": (
         [(ONE, None, STAYS)],
@@ -132,7 +133,7 @@ CASES = {
         [(ONE, None, KEPT)],
         "no mistake is planted in one lib::next"),
     "no row names a mistake's test": (
-        [(PAGE, "`who_waits_is_woken`", "`a_count_grows`")],
+        [(PAGE, "`a_waiter_is_woken`", "`a_count_grows`")],
         "no row names what two/nobody_is_woken is planted in"),
 }
 

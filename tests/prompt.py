@@ -2,8 +2,8 @@
 """Types scripts line by line at `mqsim`, over pipes and at a terminal of the system's own.
 
 Each line must be answered before the next is typed, a line that is not well formed must be named and
-passed over, answers must stand on standard output and prompts on standard error. Wants
-crates/mqsim/out/mqsim. Prints what fails; the last line counts what was looked at.
+skipped, answers must be on standard output and prompts on standard error. Requires
+crates/mqsim/out/mqsim. Prints what fails; the last line counts the checks.
 """
 import os
 import pty
@@ -25,13 +25,13 @@ LINES = [
     ("rcv 0 9 0", "msg 1 seat 1 tag 2 len 5 =hello\n"),
     ("rcv 0 9 0", "ENOMSG\n"),
 ]
-# The seconds in which an answer must come, and a run end.
+# The timeouts, in seconds, of an answer and of a run.
 PATIENCE = 20
 passed = failed = 0
 
 
 def check(right, what):
-    """Counts one look."""
+    """Counts one check."""
     global passed, failed
     passed, failed = passed + bool(right), failed + (not right)
     if not right:
@@ -39,7 +39,7 @@ def check(right, what):
 
 
 def read_until(source, end):
-    """What comes from a file until it ends so, or until nothing comes for a while."""
+    """What is read from a file until it ends so, or until a timeout without input."""
     seen = b""
     begun = time.monotonic()
     while not seen.endswith(end) and time.monotonic() - begun < PATIENCE:
@@ -82,7 +82,7 @@ def over_pipes(words):
 
 
 def at_a_terminal(words):
-    """Types at a terminal, which shows the prompts as well, and the answers come through a pipe."""
+    """Types at a terminal, which shows the prompts as well; the answers go through a pipe."""
     ours, theirs = pty.openpty()
     run = start(words, theirs, theirs)
     os.close(theirs)
@@ -100,7 +100,7 @@ def at_a_terminal(words):
 
 
 def threads_at_a_terminal():
-    """A threads script is read whole, and whoever types it is told so."""
+    """A threads script is read whole, and a terminal at which it is typed shows so."""
     ours, theirs = pty.openpty()
     run = start(["threads"], theirs, theirs)
     os.close(theirs)
@@ -133,7 +133,7 @@ def progress():
 
 
 def ends():
-    """How runs end that do not come to the end of what is typed."""
+    """How runs end that do not reach the end of what is typed."""
     file = ended(["-i", "script"], capture_output=True, text=True)
     check(file.returncode == 2 and "SCRIPT" in file.stderr, f"-i and a file: {file}")
     threads = ended(["threads", "-i"], capture_output=True, text=True)

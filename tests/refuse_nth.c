@@ -1,4 +1,4 @@
-/* Preloaded before a program: its allocation number $REFUSE_NTH, from 1, finds no memory, and the
+/* Preloaded before a program: its allocation number $REFUSE_NTH, from 1, is out of memory, and the
    file $REFUSE_MARK is made; with $REFUSE_STEP so does each so many behind it. The allocations of all
    its threads are counted together, so in a program of several threads the same number may be
    another's in another run. */
@@ -12,7 +12,7 @@
 #include <unistd.h>
 
 static atomic_long made;
-/* Which one, and how many further each next one is, once it was asked for: to read it at each
+/* Which one, and how many further each next one is, once it was read: to read it at each
    allocation would take longer than these. */
 static atomic_long nth = -1, step;
 

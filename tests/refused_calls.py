@@ -3,13 +3,13 @@
 makes more than 600, or takes long, and so repeats what it does, some of the later ones.
 
 `tests/refused_calls.py [CRATE ..]`, or without a name for every crate that has tests. A test makes
-a call that found no memory once more, so each run must end in one of these ways: all its checks
+a call that is out of memory once more, so each run must end in one of these ways: all its checks
 passed, which says that the call made again answered as if nothing had happened; or, where it does
 not make the call twice, the test says in a line of its own that memory ran out, which it does only
 where a call has answered so. A run that does not end fails, and so does a test that fails where
 nothing is refused, and one that makes no allocation and is not listed here as such. Tests whose
-threads wait for what another thread does are left out where that thread may end for want of memory
-without having done it: they wait for good then, as they must. Wants the tests to be built, as
+threads wait for what another thread does are left out where that thread may end out of memory
+without having done it: they wait for good then, as they must. Requires the tests to be built, as
 crates/CRATE/out/CRATE_tests, and `cc`. Prints the runs that fail, and which tests took longest; the
 last line counts.
 """
@@ -25,13 +25,14 @@ import tempfile
 import time
 
 TOP = os.path.dirname(os.path.dirname(os.path.abspath(__file__)))
-# The lines of which a test that found no memory has one: what the error of such a call prints, by
+# The lines of which a test that is out of memory has one: what the error of such a call prints, by
 # itself, behind the words of an `expect`, or as the test's result.
 NO_MEMORY = re.compile(
     r"(?m)^(?:out of memory|ENOMEM|(?:[\w ]+: )?(?:Err\()?"
     r"(?:AllocError|Memory|Kind\(OutOfMemory\)|(?:AllocFailed|SpawnError) \{ \.\. \})\)?)$"
 )
-# The lines that a test says where what wanted memory does not tell it so: a thread that was not made.
+# The lines that a test prints where what is out of memory returns no such error: a thread that was
+# not made.
 UNTOLD = {
     "mq_cli_tests record::a_recorded_threads_script_keeps_the_refusals_of_its_main_part": (
         r"an entry is missing, or a worker found no memory"
@@ -44,9 +45,9 @@ UNTOLD = {
         r"one half is written after the other, or there is no memory for a thread"
     ),
 }
-# The failures of a test that are told; the others are only counted.
+# The failures of a test that are printed; the others are only counted.
 TOLD = 3
-# The allocations that are refused one by one, as far as a lane comes in so many seconds; beyond
+# The allocations that are refused one by one, as far as a lane gets in so many seconds; beyond
 # them the steps grow.
 EACH = 600
 PATIENCE = 10
@@ -65,28 +66,28 @@ HANGS = 124
 WAIT_FOR_OTHERS = {
     "mq_board reader::tests::the_next_but_one_change_waits_for_a_reader_inside",
     "mq_cli_tests threads::worked::two_pairs_of_workers_hand_on_all",
-    "mq_cli_tests threads::worked::a_removal_ends_who_waits",
-    "mq_cli_tests threads::worked::a_removal_ends_who_waits_within_an_end",
+    "mq_cli_tests threads::worked::a_removal_ends_a_wait",
+    "mq_cli_tests threads::worked::a_removal_ends_a_wait_with_a_timeout",
     "mq_cli_tests threads::worked::a_step_that_is_served_before_its_end_is_done",
 }
 # The tests that may make no allocation.
 MAKE_NONE = {
     "mq_caller_tests seats::a_system_out_of_its_limits_is_not_made",
     "mq_memory_tests programs::a_size_out_of_its_limits_is_refused_before_the_program_runs",
-    "mq_one_thread_tests face::layout::a_call_has_the_numbers_of_the_struct",
-    "mq_one_thread_tests face::layout::an_answer_has_the_numbers_of_the_struct",
-    "mq_one_thread_tests face::layout::the_flags_and_commands_are_those_of_linux",
-    "mq_one_thread_tests limits::a_configuration_past_a_bound_is_refused",
-    "mq_one_thread_tests names::a_refusal_is_named_as_in_the_manual",
-    "mq_one_thread_tests names::each_layers_refusal_has_its_errno",
+    "mq_local_tests face::layout::a_call_has_the_numbers_of_the_struct",
+    "mq_local_tests face::layout::an_answer_has_the_numbers_of_the_struct",
+    "mq_local_tests face::layout::the_flags_and_commands_are_those_of_linux",
+    "mq_local_tests limits::a_configuration_past_a_bound_is_refused",
+    "mq_local_tests names::a_refusal_is_named_as_in_the_manual",
+    "mq_local_tests names::each_layers_refusal_has_its_errno",
     "mq_queue_tests lists::a_msgtyp_is_read_as_the_manual_says",
-    "mq_slot_tests keys::an_id_is_told_by_slot_and_seq_up_to_the_bounds",
+    "mq_table_tests keys::an_id_is_its_slot_and_seq_up_to_the_bounds",
     "mq_system_tests shared::no_parts_are_opened_for_no_slot",
     "mq_system_tests waiters::a_patience_says_how_long_it_waits",
     "mq_system_tests waiters::a_wait_does_not_take_twice_its_time",
     "mq_system_tests waiters::a_wait_has_left_what_its_clock_says",
-    "mq_system_tests waiters::who_is_woken_before_it_sleeps_does_not_sleep",
-    "mq_system_tests waiters::who_waited_until_its_time_is_not_woken_twice",
+    "mq_system_tests waiters::a_waiter_woken_before_it_parks_does_not_park",
+    "mq_system_tests waiters::a_wait_that_timed_out_is_not_woken_twice",
     "mq_system_tests worked::a_size_out_of_its_limits_is_refused",
     "mq_tests printed::each_refusal_becomes_an_errno_with_the_words_of_strerror",
     "mq_tests two::two_workers_at_one_seat_are_refused",
@@ -138,7 +139,7 @@ def allocations(lane, begun):
 
 
 def is_untold(test, run):
-    """Whether a test that can't tell says what it says then."""
+    """Whether a test that gets no such error prints what it prints then."""
     said = UNTOLD.get(test)
     return said is not None and any(re.fullmatch(said, it) for it in run.stderr.splitlines())
 
@@ -156,7 +157,8 @@ def flaw(test, run, nth, was_refused):
 
 
 def judge(crate, test, lane, shim, mark):
-    """How many of the runs of a lane ended well, what is to be said of the others, and the time."""
+    """How many of the runs of a lane ended well, what is to be printed of the others, and the
+    time."""
     begun = time.monotonic()
     passed = 0
     wrong = []

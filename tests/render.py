@@ -1,13 +1,13 @@
 #!/usr/bin/env python3
-"""Has a browser render what mqsim picture draws, and looks for the marks in the rendered picture.
+"""Has a browser render what mqsim picture draws, and checks the marks in the rendered picture.
 
-Five random scripts of one queue, in which one message waits at a time. Chromium renders the picture
-of each, 1,200 pixels wide. What is wanted: the colour of a message's type stands from the column of
-the line that sends it up to that of the line that receives it, or to the removal, and in no column
-in between two messages; the colour of a refusal at the column of each line that is refused, and
-nowhere else. Time goes from the first line to the last as the axis has it.
-Installs Chromium from Debian's packages where it is not there and that can be done; where it cannot
-be had each picture is left out, in a line of its own. Wants mqsim to be built. The last line counts.
+Five random scripts of one queue, in which one message is pending at a time. Chromium renders the
+picture of each, 1,200 pixels wide. What is expected: the colour of a message's type stands from the
+column of the line that sends it up to that of the line that receives it, or to the removal, and in
+no column in between two messages; the colour of a refusal at the column of each line that is
+refused, and nowhere else. Time runs from the first line to the last as the axis has it. Installs
+Chromium from Debian's packages where it is not there and that can be done; where it cannot be had
+each picture is left out, in a line of its own. Requires mqsim to be built. The last line counts.
 """
 import os
 import random

@@ -1,14 +1,14 @@
 #!/usr/bin/env python3
-"""Runs the test of mq_replay_tests in which sixteen threads call at once in three slots, and looks
+"""Runs the test of mq_replay_tests in which sixteen threads call at once in three slots, and checks
 that each reply is what the lists say that the slots leave.
 
 The judge is replay_model.py. First it must find each made-up mistake of replay_cases.py and
 replay_batch_cases.py, and nothing wrong in what is right there. Then each round of the test is run
-8 times in whatever schedules come, and 4 times with all its threads on one processor; and some
+8 times in whatever schedules, and 4 times with all its threads on one processor; and some
 rounds with an allocation refused, another each time, or with one of each few. Each run must end
 within a minute, and each of its replies must be right; where an allocation is refused, it may say
 instead that memory ran out. In each way in which a call of several texts may end one must have
-ended in some run. Wants the test to be built, and `cc`. Prints the cases and the runs that fail;
+ended in some run. Requires the test to be built, and `cc`. Prints the cases and the runs that fail;
 the last line counts them.
 """
 import gc

@@ -1,5 +1,5 @@
-"""Made-up mistakes in calls of several texts, which the judge of replay_model.py must find, told as
-in replay_cases.py."""
+"""Made-up mistakes in calls of several texts, which the judge of replay_model.py must find, written
+as in replay_cases.py."""
 from replay_cases import MADE, REPLIES, SENT_TOO, call, part
 
 
@@ -25,7 +25,7 @@ def receive_texts(selection, most, how_long="NoWait"):
 
 
 def handed_texts(messages, ended):
-    """The messages are told by entry, type and tag."""
+    """The messages are printed by entry, type and tag."""
     return "HandedTexts({}, {})".format(listed(
         f"Handed {{ entry: {entry}, mtype: {mtype}, sender: 1, tag: {tag}, length: 3, came: 3, "
         "as_sent: true }" for entry, mtype, tag in messages), ended)
@@ -76,14 +76,14 @@ def receiving(messages, ended, asked=RECEIVING_NINE):
 
 
 def receiving_none(ended, asked=RECEIVING_NINE):
-    """What is told where the second seat receives nothing, but asks once."""
+    """What is printed where the second seat receives nothing, but calls once."""
     return {**receiving([], ended, asked), "receiving one": "", "seat 2": "Seat(2, [0, 0, 0])",
             "end": part("End", 0, 0, [], [MADE, *map(sent_by_1, (1, 2, 1), (31, 32, 33))], 3)}
 
 
 BATCH_CASES = (
     (BATCHES, {}, None),
-    # There is no memory for the fourth letter; nor for a list of what comes.
+    # The fourth letter is out of memory; so is a list of what is received.
     (BATCHES, sending(sent_texts("Some(1)", [letter(1, 35)], "Refused(ENOMEM, Some(4))"),
                       send_texts([*LETTERS[:3], letter(1, 35)])), None),
     (BATCHES, receiving_none("Refused(ENOMEM, None)"), None),
@@ -106,7 +106,7 @@ BATCH_CASES = (
     # It counts one too many, or one too few.
     (BATCHES, {"seat 1": "Seat(1, [5, 0, 0])"}, "seat 1, slot 0: counts"),
     (BATCHES, {"seat 2": "Seat(2, [2, 0, 0])"}, "seat 2, slot 0: counts"),
-    # It loses the rest of a list, some of it, or its order; or hands back what it sent.
+    # It loses the rest of a list, some of it, or its order; or returns what it sent.
     (BATCHES, sending(sent_texts("Some(1)", [], OF_NO_TYPE)), "seat 1, call 1: was refused"),
     (BATCHES, sending(sent_texts("Some(1)", LETTERS[4:], OF_NO_TYPE)),
      "seat 1, call 1: was refused"),
@@ -116,7 +116,7 @@ BATCH_CASES = (
      "seat 1, call 1: other rest"),
     (BATCHES, sending(sent_texts("Some(1)", LETTERS[2:], OF_NO_TYPE)),
      "seat 1, call 1: not early"),
-    # It answers the first refusal as success, another one, or one where there was none.
+    # It returns the first refusal as success, another one, or one where there was none.
     (BATCHES, sending(sent_texts("Some(1)", LETTERS[3:], "All")), "seat 1, call 1: other count"),
     (BATCHES, receiving(FIRST_AND_THIRD, "All"), "seat 2, call 0: other count"),
     (BATCHES, sending(sent_texts("Some(1)", LETTERS[3:], "Refused(EAGAIN, Some(4))")),

@@ -1,5 +1,5 @@
 """Made-up mistakes that the judge of replay_model.py must find: rounds as they would be printed, in
-named pieces, and pieces that are told otherwise."""
+named pieces, and pieces that are changed."""
 
 MADE = "Made { seat: 1, moment: 10, key: 5 }"
 SENT = "Sent { seat: 1, moment: 11, tag: 11, mtype: 2, length: 3 }"
@@ -9,7 +9,7 @@ RECEIVED = ("Received { seat: 2, moment: 23, place: 2, selection: UpTo(2), size:
 CHANGED = "Changed { seat: 1, moment: 12, qbytes: 100 }"
 REMOVED = "Removed { seat: 2, moment: 26 }"
 
-# The messages where a log is cut: that which waits after the receipt, and that which was received.
+# The messages where a log is cut: the one pending after the receipt, and the one received.
 FIRST = "Header { place: 1, seat: 1, tag: 11, mtype: 2, length: 3 }"
 SECOND = "Header { place: 2, seat: 2, tag: 21, mtype: 1, length: 4 }"
 
@@ -46,7 +46,7 @@ def call(moment, asked, answer):
 
 
 def part(line, first, made, past, last, *more):
-    """What a cut, or the end, of slot 0 tells."""
+    """What a cut, or the end, of slot 0 prints."""
     lists = (f"[{', '.join(events)}]" for events in (past, last))
     return f"{line}(0, {', '.join(map(str, (first, made, *lists, *more)))})"
 
@@ -116,7 +116,7 @@ CUTS = {
     "end 2": "End(2, 0, 0, [], [], 0)",
 }
 
-# What is told, which pieces are told otherwise, and what is wrong then, if anything is.
+# What is printed, which pieces are changed, and what is wrong then, if anything is.
 CASES = (
     (REPLIES, {}, None),
     (REPLIES, {"receiving none": call(24, RECEIVE, "Refused(ENOMEM, Some(5))")}, None),
@@ -163,8 +163,8 @@ CASES = (
     (REPLIES, {"reporting": call(13, OLD, "Refused(ENOENT, None)")}, "seat 1, call 3: other key"),
     # A call has the answer to another.
     (REPLIES, {"setting": call(12, SET, "Got(0, None)")}, "seat 1, call 2: other call"),
-    # All replies together: a message comes twice, an event is of no call or of no seat, a page is
-    # lost, or a slot.
+    # All replies together: a message is received twice, an event is of no call or of no seat, a
+    # page is lost, or a slot.
     (REPLIES, {"receiving none": call(24, RECEIVE, handed())}, "twice"),
     (REPLIES, {"setting": call(12, "Stat { id: 1 }", "Refused(EINVAL, None)")},
      "seat 1, slot 0: counts"),
@@ -173,12 +173,12 @@ CASES = (
      "slot 2: entries"),
     (REPLIES, {"pages": "Pages(1023)"}, "page"),
     (REPLIES, {"end 2": ""}, "slots"),
-    # A cut forgets its last entry, or hands out one twice.
+    # A cut forgets its last entry, or returns one twice.
     (CUTS, {"first cut": part("Cut", 0, 0, [], [MADE, SENT])}, "slot 0: gap"),
     (CUTS, {"first cut": part("Cut", 0, 0, [], [MADE, SENT, SENT_TOO, SENT_TOO])}, "slot 0: gap"),
     # A cut counts no making before it.
     (CUTS, {"third cut": AFTER_FOUR + part("Cut", 4, 0, [], [])}, "slot 0: part"),
-    # The base of a cut lacks a waiting message, has another one, or is told where no queue was.
+    # The base of a cut lacks a pending message, has another one, or is printed where no queue was.
     (CUTS, {"second cut": base(3, AFTER_BOTH, FIRST) + part("Cut", 3, 1, [], [RECEIVED])},
      "slot 0: part"),
     (CUTS, {"third cut": base(4, AFTER_RECEIPT, SECOND) + part("Cut", 4, 1, [], [])},
@@ -191,7 +191,7 @@ CASES = (
     (CUTS, {"end": AFTER_FOUR + part("End", 4, 1, [], [CHANGED, REMOVED], 0)}, "slot 0: part"),
     # A message is left that was removed.
     (CUTS, {"end": AFTER_FOUR + part("End", 4, 1, [CHANGED, REMOVED], [], 1)}, "slot 0: left"),
-    # The log of the removed queue lacks a waiting message, has an entry less, or one place less.
+    # The log of the removed queue lacks a pending message, has an entry less, or one place less.
     (CUTS, {"log": f"{base(4, AFTER_RECEIPT)}Log([{CHANGED}, {REMOVED}])"}, "seat 2: log"),
     (CUTS, {"log": f"{AFTER_FOUR}Log([{CHANGED}])"}, "seat 2: log"),
     (CUTS, {"log": f"{base(3, AFTER_RECEIPT, FIRST)}Log([{CHANGED}, {REMOVED}])"}, "seat 2: log"),

@@ -117,9 +117,9 @@ def round_of(text):
 
 
 class Part:
-    """A part of a slot's list: what a cut handed out, or what was kept to the end. It tells how
-    many entries are before it, how many of these are makings, and the base of the queue that they
-    leave, or None."""
+    """A part of a slot's list: what a cut returned, or what was kept to the end. It has the number
+    of entries before it, how many of these are makings, and the base of the queue that they leave,
+    or None."""
 
     def __init__(self, slot, base, first, made, past, last):
         self.slot, self.base, self.first, self.made, self.past = slot, base, first, made, past
@@ -163,7 +163,7 @@ def msgtyp_of(selection):
 
 
 def pick(waiting, selection):
-    """The first waiting message that the selection names, or None."""
+    """The first pending message that the selection matches, or None."""
     match selection:
         case "Any":
             named = waiting
@@ -180,7 +180,7 @@ def pick(waiting, selection):
 
 class State:
     """A slot after the first of its events: what a report shows of it, the entry of the last
-    making, and what waits, oldest first."""
+    making, and the pending messages, oldest first."""
 
     def __init__(self, row, begun, waiting):
         self.row, self.begun, self.waiting = row, begun, waiting
@@ -273,7 +273,7 @@ class State:
                 and base.waiting == self.waiting)
 
     def is_known(self, part):
-        """Whether a part that begins here tells what was known before it."""
+        """Whether a part that begins here has what was known before it."""
         if part.base is None:
             based = not self.row.live
         else:
@@ -313,14 +313,14 @@ class History:
 
     def is_log(self, entry, log):
         """Whether this is the log of the queue that the event at this entry removes: what was cut
-        off by then is told, and the rest is there."""
+        off by then is counted, and the rest is there."""
         begun = self.states[entry].begun
         first = max([begun] + [cut for cut in self.cuts if cut <= entry])
         told = self.states[first].is_base(log.base, first - begun)
         return told and log.tail == self.events[first:entry + 1]
 
     def is_told(self, part):
-        """Whether a part tells of the events before it what they say, and is parted where the queue
+        """Whether a part has of the events before it what they say, and is parted where the queue
         begins that it leaves."""
         if part.end >= len(self.states):
             return False
@@ -373,7 +373,7 @@ class Seen:
         self.changes[slot] += 1
 
     def handed(self, call, handed):
-        """A message was handed out: the one that the selection names."""
+        """A message was returned: the one that the selection picks."""
         slot = slot_of(call.asked)
         message = pick(self.state(slot, handed.entry).waiting, selection_of(call.asked))
         if message is None:
@@ -388,7 +388,7 @@ class Seen:
         self.made(slot, handed.entry, call)
 
     def sent_texts(self, call, first, left, ended):
-        """Letters were sent by one call, as by so many of msgsnd; the others came back."""
+        """Letters were sent by one call, as by so many of msgsnd; the others were returned."""
         letters, done = call.asked.letters, done_by(call)
         if done < 0 or letters[done:] != left:
             raise Fault("other rest")
@@ -406,7 +406,7 @@ class Seen:
             if handed or ended != ["Refused", "EINVAL", None]:
                 raise Fault("not early")
             return
-        # There was no memory to hand texts out, and no queue was asked.
+        # Out of memory for the list of texts, before any queue was read.
         if not handed and ended == ["Refused", "ENOMEM", None]:
             return
         first = handed[0].entry if handed else 0
@@ -429,7 +429,7 @@ class Seen:
                 self.refused(asked, errno, at)
 
     def refused(self, asked, errno, entry):
-        """A call of a queue was refused, after so many entries where that is told."""
+        """A call of a queue was refused, after so many entries where that is printed."""
         if is_early(asked) != (entry is None) or entry is None and errno != "EINVAL":
             raise Fault("not early")
         if entry is None:
@@ -496,7 +496,7 @@ class Seen:
             self.knows(slot, entry)
 
     def had(self, key):
-        """A slot had a queue with this key. Which one is not told, so nothing more is seen."""
+        """A slot had a queue with this key. Which one is not printed, so nothing more is seen."""
         least = (history.least(first, lambda state: state.has_key(key))
                  for history, first in zip(self.histories, self.known))
         if all(entry is None for entry in least):
@@ -516,12 +516,12 @@ class Seen:
             self.saw(slot, lambda state: state.row == row, "never shown")
 
     def cut(self, slot, end):
-        """A slot was cut that had so many entries. What was handed out is judged with all cuts."""
+        """A slot was cut that had so many entries. What was returned is judged with all cuts."""
         self.new_state(slot, end)
         self.knows(slot, end)
 
     def take_in(self, call):
-        """Takes in a call with its answer, where it is right; else says its fault."""
+        """Replays a call with its answer, where it is right; else says its fault."""
         asked = call.asked
         match kind_of(asked), call.answer:
             case "Get", ["Got", number, None]:
@@ -583,7 +583,7 @@ def receipt_of(asked, place):
 
 
 def handed_by(call):
-    """The messages that a call handed out."""
+    """The messages that a call returned."""
     match call.answer:
         case ["Handed", handed]:
             return [handed]

@@ -97,7 +97,7 @@ class Queue:
         self.lspid = self.lrpid = self.stime = self.rtime = 0
 
     def event(self):
-        """One event more; answers its entry in the slot."""
+        """One event more; returns its entry in the slot."""
         self.events += 1
         return self.entry + self.events - 1
 
@@ -279,7 +279,7 @@ def lines_of(script):
 
 
 def transcript(script):
-    """What the script writes, the line that is said on standard error or none, and the status."""
+    """What the script writes, the line on standard error or none, and the status."""
     if len(script) > 1 << 20:
         return b"", b"mqsim: script too long\n", 1
     run = Run()

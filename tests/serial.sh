@@ -1,8 +1,8 @@
 #!/usr/bin/env bash
 # Runs mqsim over each script of serial_tables.sh, over texts that just fit and just do not fit a
-# block, and over a script that uses a slot up, and wants its answers: all that both outputs have,
-# and status 1 where a line is not well formed, else 0. The tables of ipcs(1) are beside those of
-# the installed one. Wants mqsim to be built. Prints the cases that fail; the last line counts.
+# block, and over a script that uses a slot up, and compares its answers: all of both outputs, and
+# status 1 where a line is not well formed, else 0. The tables of ipcs(1) are beside those of
+# the installed one. Requires mqsim to be built. Prints the cases that fail; the last line counts.
 source "$(dirname "$0")/cases.sh"
 
 table() {

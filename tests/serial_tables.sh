@@ -15,7 +15,7 @@ case_of '' \
     'get 0 c\nsnd 0 1 =\nsnd 0 1 *65536\nsnd 0 1 =\nrcv 0 0 0 n\nrcv 0 0 0\nrcv 0 0 0 n\nrcv 0 0 0\nrcv 0 0 0 n\nsnd 0 1 =\n' \
     'id 0\nat 1\nat 2\nat 3\nmsg 1 seat 1 tag 2 len 0 =\nE2BIG\nmsg 1 seat 1 tag 3 len 65536 =\nmsg 1 seat 1 tag 4 len 0 =\nENOMSG\nat 7\n'
 
-# Below 1 no type is taken, and from 1 on each; the greatest size and bound take any.
+# Below 1 no type is accepted, and from 1 on each; the greatest size and bound accept any.
 table the_first_type_and_the_last_are_taken
 case_of '' \
     'get 0 c\nsnd 0 0 *65537\nsnd 0 -9223372036854775808 =\nsnd 0 9223372036854775807 =ab\nsnd 0 1 =abc\nrcv 0 18446744073709551615 -9223372036854775808\n' \
@@ -139,7 +139,7 @@ case_of '' \
 case_of '' \
     'get 0 c\nsnd 0 7 =a\nsnd 0 5 =b\nsnd 0 7 =c\nsnd 0 4 =d\nrcv 0 9 7 e\nrcv 0 9 7 e\nrcv 0 9 7 e\nrcv 0 9 0 e\nrcv 0 9 -7 e\n' \
     'id 0\nat 1\nat 2\nat 3\nat 4\nmsg 5 seat 1 tag 3 len 1 =b\nmsg 4 seat 1 tag 5 len 1 =d\nENOMSG\nmsg 7 seat 1 tag 2 len 1 =a\nmsg 7 seat 1 tag 4 len 1 =c\n'
-# A text that is longer than the size stays, or is cut.
+# A text that is longer than the size stays, or is truncated.
 case_of '' \
     'get 0 c\nsnd 0 1 =hello\nrcv 0 3 0\nrcv 0 3 0 n\nsnd 0 1 =hello\nrcv 0 0 0 n\nsnd 0 2 =\nrcv 0 0 0 n\n' \
     'id 0\nat 1\nE2BIG\nmsg 1 seat 1 tag 2 len 5 =hel\nat 3\nmsg 1 seat 1 tag 5 len 5 =\nat 5\nmsg 2 seat 1 tag 7 len 0 =\n'
@@ -162,7 +162,7 @@ case_of '' \
 case_of '' \
     'seat 16\nget 0 c\nsnd 0 1 =a\nseat 2\nrcv 0 1 0\nsnd 0 1 =b\nseat 1\nrcv 0 1 0\n' \
     'id 0\nat 1\nmsg 1 seat 16 tag 3 len 1 =a\nat 3\nmsg 1 seat 2 tag 6 len 1 =b\n'
-# E2BIG does not look for a later message that fits.
+# E2BIG does not skip to a later message that fits.
 case_of '' \
     'get 0 c\nsnd 0 1 =long\nsnd 0 1 =s\nrcv 0 1 1\nrcv 0 1 -1\nrcv 0 1 9 e\nrcv 0 4 1\n' \
     'id 0\nat 1\nat 2\nE2BIG\nE2BIG\nE2BIG\nmsg 1 seat 1 tag 2 len 4 =long\n'
@@ -197,7 +197,8 @@ case_of 'serial --height 6' \
 case_of 'serial --height 7' \
     'get 0 c\nsnd 0 1 *16384\narena\nsnd 0 1 *16385\narena\nsnd 0 1 *8193\narena\nsnd 0 1 *32769\narena\n' \
     'id 0\nat 1\npages 128 free 112 largest 6\nat 2\npages 128 free 80 largest 6\nat 3\npages 128 free 64 largest 6\nat 4\npages 128 free 0 largest none\n'
-# The longest text takes all 64 pages, which come back where it is cut and where its queue is removed.
+# The longest text takes all 64 pages, which are freed where it is truncated and where its queue is
+# removed.
 case_of 'serial --height 6' \
     'get 0 c\nsnd 0 1 *65536\narena\nsnd 0 1 =a\nsnd 0 1 =\nrcv 0 65535 0\nrcv 0 28 0 n\narena\nsnd 0 1 *65536\nrm 0\narena\n' \
     'id 0\nat 1\npages 64 free 0 largest none\nENOMEM\nat 2\nE2BIG\nmsg 1 seat 1 tag 2 len 65536 =abcdefghijklmnopqrstuvwxyzab\npages 64 free 64 largest 6\nat 4\nat 5 events 6\npages 64 free 64 largest 6\n'
@@ -219,19 +220,19 @@ table each_change_of_a_queue_is_seen
 case_of '' \
     'get 0 c\nset 0 4\nsnd 0 1 =ab\nsnd 0 1 =cd\nsnd 0 1 =ef\nsnd 0 1 =\nsnd 0 1 =\nsnd 0 1 =\n' \
     'id 0\nat 1\nat 2\nat 3\nEAGAIN\nat 4\nat 5\nEAGAIN\n'
-# A queue over its quota takes nothing, and takes again once it is under.
+# A queue over its quota accepts nothing, and accepts again once it is under.
 case_of '' \
     'get 0 c\nsnd 0 1 =abcdef\nset 0 4\nsnd 0 1 =\nrcv 0 9 0\nsnd 0 1 =\nset 0 131073\nset 0 0\nrcv 0 9 0\nsnd 0 1 =\n' \
     'id 0\nat 1\nat 2\nEAGAIN\nmsg 1 seat 1 tag 2 len 6 =abcdef\nat 4\nEPERM\nat 5\nmsg 1 seat 1 tag 6 len 0 =\nEAGAIN\n'
-# The greatest quota is taken, the next one and the greatest number are not.
+# The greatest quota is accepted, the next one and the greatest number are not.
 case_of '' \
     'get 0 c\nset 0 131072\nset 0 131073\nset 0 18446744073709551615\nset 1 0\n' \
     'id 0\nat 1\nEPERM\nEPERM\nEINVAL\n'
-# A removal gives the pages of all that waits back, and no call finds the queue again.
+# A removal frees the pages of all pending messages, and no call finds the queue again.
 case_of '' \
     'get 0 c\nsnd 0 1 *3000\nsnd 0 1 *3000\nsnd 0 2 =x\nrm 0\narena\nsnd 0 1 =a\nrcv 0 9 0\nstat 0\nsnd 5 1 =a\n' \
     'id 0\nat 1\nat 2\nat 3\nat 4 events 5\npages 64 free 64 largest 6\nEIDRM\nEIDRM\nEIDRM\nEINVAL\n'
-# A type below 1 is refused before the id is looked at; a removed id is given no more.
+# A type below 1 is refused before the id is checked; a removed id is not reused.
 case_of '' \
     'rm 0\nset 0 1\nstat 0\nget 0 c\nrm 0\nsnd 0 0 =a\nsnd 0 1 =a\nset 0 131073\nrm 0\nget 0 c\nrm 1\narena\n' \
     'EINVAL\nEINVAL\nEINVAL\nid 0\nat 1 events 2\nEINVAL\nEIDRM\nEIDRM\nEIDRM\nid 64\nEINVAL\npages 64 free 64 largest 6\n'
@@ -243,7 +244,7 @@ case_of '' \
 case_of '' \
     'seat 3\nget 0 c\nseat 4\nsnd 0 1 =abc\nseat 5\nsnd 0 0 =a\nrcv 0 2 0\nrcv 0 9 2\nset 0 131073\nstat 0\nset 0 131072\nstat 0\n' \
     'id 0\nat 1\nEINVAL\nE2BIG\nENOMSG\nEPERM\nqnum 1 cbytes 3 qbytes 131072 lspid 4 lrpid 0 stime 4 rtime 0 ctime 2\nat 2\nqnum 1 cbytes 3 qbytes 131072 lspid 4 lrpid 0 stime 4 rtime 0 ctime 11\n'
-# A cut text gives back the room of its whole length.
+# A truncated text frees the room of its whole length.
 case_of '' \
     'get 0 c\nset 0 5\nsnd 0 1 =hello\nrcv 0 1 0 n\nstat 0\nsnd 0 1 =world\n' \
     'id 0\nat 1\nat 2\nmsg 1 seat 1 tag 3 len 5 =h\nqnum 0 cbytes 0 qbytes 5 lspid 1 lrpid 1 stime 3 rtime 4 ctime 2\nat 4\n'
@@ -253,11 +254,11 @@ case_of '' \
     'id 0\nat 1\nat 2\n'
 
 table a_cut_is_told_and_changes_no_other_answer
-# Messages wait at a cut, a removed queue's log is told whole, and no slot 16 is there.
+# Messages are pending at a cut, a removed queue's log is listed whole, and there is no slot 16.
 case_of '' \
     'get 0 c\nsnd 0 5 =hello\nsnd 0 6 =x\ncut 0\ncut 0\nrcv 0 9 6\nstat 0\ncut 0\nrm 0\ncut 0\nget 0 c\nsnd 64 1 =n\ncut 16\n' \
     'id 0\nat 1\nat 2\ncut from 0 to 3\ncut from 3 to 3\nmsg 6 seat 1 tag 3 len 1 =x\nqnum 1 cbytes 5 qbytes 131072 lspid 1 lrpid 1 stime 3 rtime 6 ctime 1\ncut from 3 to 4\nat 4 events 5\ncut from 4 to 5\nid 64\nat 6\nEINVAL\n'
-# A slot that was never used has nothing to cut off; the last slot is 63, and slots are cut one by one.
+# A slot that was never used has nothing to drain; the last slot is 63, and slots are drained one by one.
 case_of 'serial --slots 64' \
     'cut 0\ncut 63\nget 0 c\nget 0 c\ncut 1\ncut 0\nsnd 1 1 =a\ncut 1\ncut 0\n' \
     'cut from 0 to 0\ncut from 0 to 0\nid 0\nid 1\ncut from 0 to 1\ncut from 0 to 1\nat 1\ncut from 1 to 2\ncut from 1 to 1\n'
@@ -265,7 +266,7 @@ case_of 'serial --slots 64' \
 case_of 'serial --slots 2 --last-seq 1' \
     'get -7 c\nset 0 3\nsnd 0 1 =abc\ncut 0\nget -7\nget -7 cx\nsnd 0 1 =d\nipcs\nrm 0\ncut 0\nstat 0\nget -7\nget -7 c\ncut 0\nrm 64\nget 0 c\nget 0 c\nstat 64\n' \
     'id 0\nat 1\nat 2\ncut from 0 to 3\nid 0\nEEXIST\nEAGAIN\nslot      id         key   qnum  cbytes  qbytes lspid lrpid\n   0       0          -7      1       3       3     1     0\nat 3 events 4\ncut from 3 to 4\nEIDRM\nENOENT\nid 64\ncut from 4 to 5\nat 5 events 2\nid 1\nENOSPC\nEIDRM\n'
-# What waits is received after it as before it, and its pages come home.
+# Pending messages are received after it as before it, and their pages are freed.
 case_of 'serial --height 2' \
     'get 0 c\nsnd 0 2 =b\nsnd 0 1 =a\nsnd 0 3 *1025\ncut 0\narena\nrcv 0 9 -2\ncut 0\nrcv 0 1 3\nrcv 0 9 3 e\nrm 0\narena\n' \
     'id 0\nat 1\nat 2\nat 3\ncut from 0 to 4\npages 4 free 0 largest none\nmsg 1 seat 1 tag 3 len 1 =a\ncut from 4 to 5\nE2BIG\nmsg 2 seat 1 tag 2 len 1 =b\nat 6 events 7\npages 4 free 4 largest 2\n'
@@ -291,7 +292,8 @@ case_of 'serial --slots 2 --last-seq 0' \
 case_of 'serial --slots 2 --last-seq 32767' \
     'ipcs\nget 7 c\nget 8 c\nrm 0\nipcs\nrm 1\nipcs\n' \
     'slot      id         key   qnum  cbytes  qbytes lspid lrpid\nid 0\nid 1\nat 1 events 2\nslot      id         key   qnum  cbytes  qbytes lspid lrpid\n   1       1           8      0       0  131072     0     0\nat 1 events 2\nslot      id         key   qnum  cbytes  qbytes lspid lrpid\n'
-# What is in use, of all queues together: what waits in those that are there, and none of another.
+# What is in use, of all queues together: the pending messages of the live ones, and none of
+# another.
 case_of 'serial --slots 3 --height 2' \
     'info\nget 7 c\nget 8 c\nget 9 c\nsnd 0 1 =abc\nsnd 2 1 =de\nsnd 2 1 =\nsnd 1 1 =x\nrm 1\ninfo\nrcv 2 9 0\nrm 0\ninfo\ninfo 0\n' \
     'queues 0 messages 0 bytes 0 slots 3 pages 4 msgmax 65536 msgmnb 131072\nid 0\nid 1\nid 2\nat 1\nat 1\nat 2\nat 1\nat 2 events 3\nqueues 2 messages 3 bytes 5 slots 3 pages 4 msgmax 65536 msgmnb 131072\nmsg 1 seat 1 tag 6 len 2 =de\nat 2 events 3\nqueues 1 messages 1 bytes 0 slots 3 pages 4 msgmax 65536 msgmnb 131072\n' 'mqsim: line 14: words\n'
@@ -307,7 +309,7 @@ case_of 'serial --slots 4 --last-seq 32767' \
 case_of 'serial --slots 4 --last-seq 32767' \
     'get 1 c\nget 0 c\nget 3 c\nrm 1\nget 3\nget 1\nrm 0\nget 1\nget 3\nget 1 c\n' \
     'id 0\nid 1\nid 2\nat 1 events 2\nid 2\nid 0\nat 1 events 2\nENOENT\nid 2\nid 64\n'
-# Ids past the slots, and the greatest number; entries go on in the slot.
+# Ids past the slots, and the greatest number; entries continue in the slot.
 case_of 'serial --slots 2 --last-seq 2' \
     'get 0 c\nstat 2\nstat 63\nstat 4294967295\nrm 0\nget 0 c\nsnd 64 1 =a\nrcv 64 9 0\nset 64 5\nrm 64\nget 0 c\nstat 0\nstat 64\nstat 192\n' \
     'id 0\nEINVAL\nEINVAL\nEINVAL\nat 1 events 2\nid 64\nat 3\nmsg 1 seat 1 tag 7 len 1 =a\nat 5\nat 6 events 5\nid 128\nEIDRM\nEIDRM\nEINVAL\n'
@@ -331,7 +333,7 @@ case_of 'serial --slots 4' \
     'id 0\nid 1\nid 2\nid 3\nENOSPC\nat 1\ncut from 0 to 2\n\n------ Message Queues --------\nkey        msqid      owner      perms      used-bytes   messages    \n0x00000001 0          -          666        0            0           \n0x00000002 1          -          666        0            0           \n0x00000003 2          -          666        0            0           \n0x00000004 3          -          666        4096         1           \n\nmsg 1 seat 1 tag 6 len 4096 =\nat 1 events 2\n\n------ Message Queues --------\nkey        msqid      owner      perms      used-bytes   messages    \n1          0          -          666        0            0           \n3          2          -          666        0            0           \n4          3          -          666        0            0           \n\nslot      id         key   qnum  cbytes  qbytes lspid lrpid\n   0       0           1      0       0  131072     0     0\n   2       2           3      0       0  131072     0     0\n   3       3           4      0       0  131072     1     1\n\n------ Messages Limits --------\nmax queues system wide = 4\nmax size of message (bytes) = 65536\ndefault max size of queue (bytes) = 131072\n\n'
 
 table an_id_is_never_given_then_live_then_removed
-# Each removal's entry tells at which entry its queue was made.
+# Each removal's entry has the entry at which its queue was made.
 case_of 'serial --height 0 --slots 2' \
     'stat 0\nget 5 c\nstat 0\nstat 64\nstat 1\nget 0\nstat 1\nrm 0\nstat 0\nstat 64\nget 5 c\nstat 0\nstat 64\nstat 128\nrm 64\nget 6 c\nstat 0\nstat 64\nstat 128\nstat 192\nstat 1\nrm 128\nrm 1\n' \
     'EINVAL\nid 0\nqnum 0 cbytes 0 qbytes 131072 lspid 0 lrpid 0 stime 0 rtime 0 ctime 2\nEINVAL\nEINVAL\nid 1\nqnum 0 cbytes 0 qbytes 131072 lspid 0 lrpid 0 stime 0 rtime 0 ctime 6\nat 1 events 2\nEIDRM\nEINVAL\nid 64\nEIDRM\nqnum 0 cbytes 0 qbytes 131072 lspid 0 lrpid 0 stime 0 rtime 0 ctime 11\nEINVAL\nat 3 events 2\nid 128\nEIDRM\nEIDRM\nqnum 0 cbytes 0 qbytes 131072 lspid 0 lrpid 0 stime 0 rtime 0 ctime 16\nEINVAL\nqnum 0 cbytes 0 qbytes 131072 lspid 0 lrpid 0 stime 0 rtime 0 ctime 6\nat 5 events 2\nat 1 events 2\n'
@@ -369,7 +371,7 @@ case_of 'serial --height 0 --slots 3 --last-seq 9' \
     'id 0\nid 1\nid 2\nat 1 events 2\nat 1 events 2\nid 65\nat 1 events 2\nid 64\nid 66\nat 3 events 2\nat 3 events 2\nat 3 events 2\n'
 
 table a_key_is_found_or_made_as_the_flags_say
-# Alone, IPC_EXCL says nothing. What is found is not made again: no entry comes between.
+# Alone, IPC_EXCL says nothing. What is found is not made again: there is no entry between.
 case_of 'serial --height 0 --slots 1 --last-seq 9' \
     'get 9\nget 9 c\nget 9 cx\nget 9\nget 9 c\nget 8 c\nget 9 x\nget 8 x\nget 0\nrm 0\nget 9\nget 9 c\nstat 0\nstat 1\nstat 64\nstat 128\nget 9\nrm 64\n' \
     'ENOENT\nid 0\nEEXIST\nid 0\nid 0\nENOSPC\nid 0\nENOENT\nENOSPC\nat 1 events 2\nENOENT\nid 64\nEIDRM\nEINVAL\nqnum 0 cbytes 0 qbytes 131072 lspid 0 lrpid 0 stime 0 rtime 0 ctime 12\nEINVAL\nid 64\nat 3 events 2\n'
@@ -379,7 +381,7 @@ case_of 'serial --height 0 --slots 4 --last-seq 9' \
     'id 0\nid 1\nid 2\nid 3\nENOSPC\nENOSPC\nat 1 events 2\nat 1 events 2\nat 1 events 2\nat 1 events 2\n'
 
 table each_key_keeps_its_own_queue
-# A queue without a key takes no key with it, and one with a key takes that one alone.
+# The removal of a queue without a key frees no key, and of one with a key that one alone.
 case_of 'serial --height 0 --slots 4 --last-seq 9' \
     'get -2147483648 c\nget 2147483647 cx\nget 0 c\nget -1 c\nget -2147483648\nget 2147483647\nget -1\nrm 2\nget -2147483648 c\nget 2147483647 c\nget -1\nrm 1\nget 2147483647\nget -2147483648\nget -1 cx\nget 1 c\nget 2147483647 c\nget 2147483647\nget 2 c\nrm 0\nrm 3\nrm 65\nrm 66\n' \
     'id 0\nid 1\nid 2\nid 3\nid 0\nid 1\nid 3\nat 1 events 2\nid 0\nid 1\nid 3\nat 1 events 2\nENOENT\nid 0\nEEXIST\nid 65\nid 66\nid 66\nENOSPC\nat 1 events 2\nat 1 events 2\nat 3 events 2\nat 3 events 2\n'
@@ -392,7 +394,7 @@ case_of 'serial --height 0 --slots 1 --last-seq 9' \
 case_of 'serial --height 0 --slots 3 --last-seq 9' \
     'get 0\nget -8 cx\nsnd 1 1 =hi\nipcs\nstat 0\nstat 1\nstat 2\n' \
     'id 0\nid 1\nat 1\nslot      id         key   qnum  cbytes  qbytes lspid lrpid\n   0       0           0      0       0  131072     0     0\n   1       1          -8      1       2  131072     1     0\nqnum 0 cbytes 0 qbytes 131072 lspid 0 lrpid 0 stime 0 rtime 0 ctime 1\nqnum 1 cbytes 2 qbytes 131072 lspid 1 lrpid 0 stime 3 rtime 0 ctime 2\nEINVAL\n'
-# What waits at the end is of two queues; a third was removed, and a slot never used.
+# The messages pending at the end are of two queues; a third was removed, and a slot never used.
 case_of 'serial --height 3 --slots 4 --last-seq 9' \
     'get 5 c\nsnd 0 1 =gone\nrm 0\nget 5 c\nget 6 c\nget 7 c\nrm 1\nsnd 64 1 =one\nsnd 64 1 =two\nsnd 2 1 =outside\nsnd 2 1 =four\narena\nseat 2\nrcv 2 9 0\narena\ncut 0\ncut 1\ncut 2\ncut 3\n' \
     'id 0\nat 1\nat 2 events 3\nid 64\nid 1\nid 2\nat 1 events 2\nat 4\nat 5\nat 1\nat 2\npages 8 free 4 largest 2\nmsg 1 seat 1 tag 10 len 7 =outside\npages 8 free 5 largest 2\ncut from 0 to 6\ncut from 0 to 2\ncut from 0 to 4\ncut from 0 to 0\n'
@@ -401,7 +403,7 @@ table what_waits_outlives_cuts
 case_of 'serial --height 1 --slots 2 --last-seq 9' \
     'cut 0\nget 9 cx\nsnd 0 1 =one\nsnd 0 2 =four\ncut 0\nget 9\nstat 0\nipcs\ncut 0\nget 9\nstat 0\nipcs\nseat 2\nrcv 0 9 0\ncut 0\nget 9\nstat 0\nipcs\nseat 1\nsnd 0 1 =two\ncut 1\narena\ncut 0\n' \
     'cut from 0 to 0\nid 0\nat 1\nat 2\ncut from 0 to 3\nid 0\nqnum 2 cbytes 7 qbytes 131072 lspid 1 lrpid 0 stime 4 rtime 0 ctime 2\nslot      id         key   qnum  cbytes  qbytes lspid lrpid\n   0       0           9      2       7  131072     1     0\ncut from 3 to 3\nid 0\nqnum 2 cbytes 7 qbytes 131072 lspid 1 lrpid 0 stime 4 rtime 0 ctime 2\nslot      id         key   qnum  cbytes  qbytes lspid lrpid\n   0       0           9      2       7  131072     1     0\nmsg 1 seat 1 tag 3 len 3 =one\ncut from 3 to 4\nid 0\nqnum 1 cbytes 4 qbytes 131072 lspid 1 lrpid 2 stime 4 rtime 14 ctime 2\nslot      id         key   qnum  cbytes  qbytes lspid lrpid\n   0       0           9      1       4  131072     1     2\nat 4\ncut from 0 to 0\npages 2 free 0 largest none\ncut from 4 to 5\n'
-# A removed queue's entries are counted with those that were cut off.
+# A removed queue's entries are counted with those that were drained.
 case_of 'serial --height 1 --slots 2 --last-seq 9' \
     'get 9 cx\nsnd 0 1 =one\nsnd 0 2 =four\ncut 0\ncut 0\nseat 2\nrcv 0 9 0\nseat 1\nrm 0\narena\ncut 0\n' \
     'id 0\nat 1\nat 2\ncut from 0 to 3\ncut from 3 to 3\nmsg 1 seat 1 tag 2 len 3 =one\nat 4 events 5\npages 2 free 2 largest 1\ncut from 3 to 5\n'
@@ -439,13 +441,13 @@ table each_flag_of_msgrcv_does_its_own
 case_of 'serial --height 2 --slots 1 --last-seq 9' \
     'get 0 c\nsnd 0 2 *4\nsnd 0 1 *3\nsnd 0 1 *0\narena\nseat 2\nrcv 0 9 -2\nrcv 0 9 1 e\nrcv 0 9 1 e\nrcv 0 1 1 n\narena\nset 0 9\n' \
     'id 0\nat 1\nat 2\nat 3\npages 4 free 2 largest 1\nmsg 1 seat 1 tag 3 len 3 =abc\nmsg 2 seat 1 tag 2 len 4 =abcd\nENOMSG\nmsg 1 seat 1 tag 4 len 0 =\npages 4 free 4 largest 2\nat 7\n'
-# A text that is cut tells its whole length, and its page comes home.
+# A truncated text reports its whole length, and its page is freed.
 case_of 'serial --height 1 --slots 1 --last-seq 9' \
     'get 9 c\nsnd 0 1 =before\nsnd 0 3 =hello\nrcv 0 9 1\narena\nseat 2\nrcv 0 4 0\nrcv 0 2 0 n\narena\n' \
     'id 0\nat 1\nat 2\nmsg 1 seat 1 tag 2 len 6 =before\npages 2 free 1 largest 0\nE2BIG\nmsg 3 seat 1 tag 3 len 5 =he\npages 2 free 2 largest 1\n'
 
 # Forty messages of five types, of which one has a text that takes all pages; after twenty receipts
-# the log is cut off.
+# the log is drained.
 table a_list_of_calls_is_answered_over_cuts
 script='get 9 c\nget 0 c\n'
 answers='id 0\nid 1\n'

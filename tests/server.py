@@ -1,10 +1,10 @@
 #!/usr/bin/env python3
-"""Runs the server of three threads, which cuts its logs as they grow, and wants its memory to stay.
+"""Runs the server of three threads, which cuts its logs as they grow, and checks its memory bound.
 
 It answers 200,000 requests and then 1,000,000, cutting each of its two logs after 100,000 entries.
-Each run must tell all entries, end in its time, and take no more resident memory than BOUND; and the
-long one no more than a few cuts' worth above the short one. Wants hello_server to be built. Prints
-each run's memory; the last line counts.
+Each run must report all entries, end before its timeout, and take no more resident memory than
+BOUND; and the long one no more than a few cuts' worth above the short one. Requires example_server to
+be built. Prints each run's memory; the last line counts.
 """
 import os
 import subprocess
@@ -12,14 +12,14 @@ import sys
 import time
 
 TOP = os.path.dirname(os.path.dirname(os.path.abspath(__file__)))
-PROGRAM = f"{TOP}/crates/hello_server/out/hello_server"
+PROGRAM = f"{TOP}/crates/example_server/out/example_server"
 EVERY = 100_000
 SHORT, LONG = 200_000, 1_000_000
 # In MiB: the arena has 1.3, and each of two logs up to 131,072 events of 56 bytes, half as
-# much again while it grows, and again what a cut hands out until it is dropped.
+# much again while it grows, and again what a cut returns until it is dropped.
 BOUND = 40
 MORE = 16
-# Large memory that is freed goes back at once. Else each thread's heap keeps some of it, as the C
+# Large memory that is freed is unmapped at once. Else each thread's heap keeps some of it, as the C
 # library sees fit: the same run then takes 20 to 43 MiB.
 HEAP = {"MALLOC_MMAP_THRESHOLD_": "65536"}
 SECONDS = 240

@@ -1,11 +1,11 @@
 #!/usr/bin/env bash
 # The exit statuses of mqsim, each with all that is written to standard output and standard error.
 # Status 5 is tried by allocations.sh, and the mistakes that a command line can have by
-# command_lines.sh. Wants mqsim to be built. Prints the cases that fail; the last line counts.
+# command_lines.sh. Requires mqsim to be built. Prints the cases that fail; the last line counts.
 #
 # Of the wrong bodies that the proofs let through it finds these, each of which was tried:
 #   a fault is not named on standard error;
-#   the answer of a run is passed over (`told(rt, Ok(()))`);
+#   the result of a run is ignored (`told(rt, Ok(()))`);
 #   a help that could not be written ends with 0.
 source "$(dirname "$0")/cases.sh"
 
@@ -24,7 +24,7 @@ run() {
     printf "$1" | "$program" "${@:2}" > "$seen/out" 2> "$seen/err"
 }
 
-# A writer whose reader has gone, as file descriptor 6.
+# A pipe whose reader is closed, as file descriptor 6.
 mkfifo "$seen/pipe"
 exec 5<> "$seen/pipe" 6> "$seen/pipe" 5<&-
 
@@ -136,8 +136,9 @@ done
 (ulimit -v 60000; exec "$program" trace --threads < "$seen/script" > "$seen/out" 2> "$seen/err")
 ended 'no room for threads that are traced' 6 '' 'mqsim: thread not started\n'
 
-# Who types a script at a terminal is told how it ends, and of a serial one has a prompt. Prints what the terminal shows of a script
-# that is typed there, of the program with the words of the table, and ends with its status.
+# A script that is typed at a terminal has its end reported there, and a serial one has a prompt.
+# Prints what the terminal shows of a script that is typed there, of the program with the words of
+# the table, and ends with its status.
 typed() {
     python3 - crates/mqsim/out/mqsim "$@" <<'PYTHON'
 import os, pty, signal, sys
@@ -178,7 +179,7 @@ END
 : > "$seen/out"
 : > "$seen/err"
 
-# A standard error that takes nothing changes no status and no answer.
+# A standard error that accepts nothing changes no status and no answer.
 printf 'get 0 c\nget\n' > "$seen/script"
 "$program" < "$seen/script" 2> /dev/full > "$seen/out"
 ended 'status 1 with a full standard error' 1 'id 0\n' ''

@@ -1,8 +1,8 @@
 #!/usr/bin/env bash
-# Runs mqsim over each script of threads_tables.sh, 20 times, in any schedule that comes, beside
+# Runs mqsim over each script of threads_tables.sh, 20 times, in whatever schedule, beside
 # other scripts, and 3 times with all its threads on one processor; each run must end, with status 0
-# and with the answers that are known in every schedule. Wants mqsim to be built. Prints the first
-# run of a case that fails; the last line counts the runs.
+# and with the answers that are known in every schedule. Requires mqsim to be built. Prints the
+# first run of a case that fails; the last line counts the runs.
 source "$(dirname "$0")/cases.sh"
 runs=20
 alone=3
@@ -62,7 +62,7 @@ try() {
     echo "$passed $failed" > counts
 }
 
-# Tries the case that was told last, beside as many as there are processors.
+# Tries the case that was defined last, beside as many as there are processors.
 begin() {
     [ "$cases" -gt 0 ] || return 0
     while [ "$(jobs -rp | wc -l)" -ge "$(nproc)" ]; do

@@ -8,9 +8,9 @@
 #                                   there are, and that their lines add up to those of the slots
 #   main LINE ANSWER ..             lines of the main part, each with its answer
 #   worker SENT RECEIVED END [LINE ..]
-#                                   a section, and what is told of its worker
+#                                   a section, and what is printed of its worker
 #   slot K EVENTS SENT RECEIVED LEFT
-#                                   what is told of a slot; in `parts` EVENTS are those that are
+#                                   what is printed of a slot; in `parts` EVENTS are those that are
 #                                   neither sent nor received
 #   pages COUNT                     so many pages, all free
 #   sums SENT RECEIVED END COUNT .. in `sums`, after the pages: all that was sent and received, and
@@ -49,7 +49,7 @@ done
 worker 5 5 done 'put 0 8 5 1000' 'take 0 8 5'
 slot 0 2812 1405 1405 0
 pages 64
-# Three queues; in each, two who send one type and one who sends another, one who takes each.
+# Three queues; in each, two senders of one type and one of another, and a receiver of each.
 case_of threads
 queues 3 16384
 for k in 0 1 2; do
@@ -63,7 +63,7 @@ for k in 0 1 2; do
     slot "$k" 602 300 300 0
 done
 pages 64
-# Eight who send to seven who take whatever comes first.
+# Eight senders to seven receivers of any type.
 case_of threads
 queues 1 16384
 for type in {1..8}; do
@@ -94,7 +94,7 @@ worker 50 0 done 'put 0 1 50 1000'
 worker 0 100 done 'take 0 -9223372036854775808 100'
 slot 0 202 100 100 0
 pages 64
-# Each puts and then takes, in one queue and of one type: whoever waits finds what another sent.
+# Each sends and then receives, in one queue and of one type: a waiter finds what another sent.
 case_of threads
 queues 1
 mapfile -t lines < <(turns 100 'put 0 1 1 10' 'take 0 1 1')
@@ -145,7 +145,7 @@ for k in {0..13}; do
     slot "$k" 122 60 60 0
 done
 pages 256
-# A ring of 15, over queues and over types, that hands on one text, over one page.
+# A ring of 15, over queues and over types, that forwards one text, over one page.
 case_of 'threads --height 0'
 queues 15
 mapfile -t lines < <(turns 20 'put 1 1 1 1024' 'take 0 0 1')
@@ -170,7 +170,7 @@ slot 0 601 300 300 0
 pages 1
 
 table all_slots_are_used
-# Fifteen put into each of 64 queues, and take there what another put.
+# Fifteen send to each of 64 queues, and receive there what another sent.
 case_of 'threads --slots 64 --height 10'
 queues 64
 for type in {1..15}; do
@@ -201,8 +201,8 @@ for k in {0..63}; do
     slot "$k" 2 0 0 0
 done
 pages 1
-# 960 pages wait, in 60 queues without room for more, in blocks of one page and of eight; and in
-# eight queues, all but one of them full, in blocks of 16, 32 and 64.
+# 960 pages are pending, in 60 queues without room for more, in blocks of one page and of eight; and
+# in eight queues, all but one of them full, in blocks of 16, 32 and 64.
 case_of 'threads --slots 64 --height 10'
 queues 64 16384
 for k in {0..14}; do
@@ -239,7 +239,7 @@ done
 slot 7 3 2 0 2
 pages 1024
 # Blocks of every size, in queues with room for so few that there is always a block: the arena has
-# 128 runs of eight pages and 16 of 64, and fewer blocks than that are lent at a time.
+# 128 runs of eight pages and 16 of 64, and fewer blocks than that are allocated at a time.
 case_of 'threads --height 10'
 queues 5 16384
 main 'set 0 8' 'at 2'
@@ -271,8 +271,8 @@ done
 pages 1024
 
 table scripts_at_their_bounds_are_run
-# Texts of no bytes need no page: two hand on many over one page, which a third has; and the most
-# that a line may hand on.
+# Texts of no bytes need no page: two forward many over one page, which a third has; and the most
+# that a line may forward.
 case_of 'threads --height 0'
 queues 2
 main 'set 0 16384' 'at 1'
@@ -316,8 +316,8 @@ printf '%s' "${line:0:1048576-k}" >&7
 
 table a_worker_ends_at_its_first_refusal
 # By no other errno than these can a worker end whose lines have no `within`: it waits where a
-# serial script answers EAGAIN or ENOMSG, takes texts of any size, and neither makes a queue nor sets
-# a quota.
+# serial script answers EAGAIN or ENOMSG, receives texts of any size, and neither makes a queue nor
+# sets a quota.
 case_of threads
 queues 1
 for line in 'put 0 0 1 0' 'put 0 -1 1 1' 'put 0 -9223372036854775808 1 1' 'put 1 1 1 1' \
@@ -344,7 +344,7 @@ queues 1 131072
 worker 1 0 ENOMEM 'put 0 1 1 65536' 'put 0 1 1 8192' 'rm 0'
 slot 0 3 1 0 1
 pages 64
-# A text is made before the id and the type are looked at.
+# A text is made before the id and the type are checked.
 case_of 'threads --height 0'
 queues 1
 worker 1 0 ENOMEM 'put 0 1 1 1' 'put 9 0 1 1'
@@ -352,7 +352,7 @@ slot 0 2 1 0 1
 pages 1
 
 table a_step_ends_where_its_waits_do
-# Fifteen who wait in vain: for a message, for room, and with no time to wait at all. The lines
+# Fifteen that time out: waiting for a message, for room, and with a timeout of 0. The lines
 # behind are not run.
 case_of threads
 queues 1
@@ -371,7 +371,7 @@ for k in {1..7}; do
 done
 slot 0 2 0 0 0
 pages 64
-# What is there in time is received, and one end holds for the whole line.
+# What is there in time is received, and one deadline holds for the whole line.
 case_of threads
 queues 1
 for k in {1..15}; do
@@ -385,7 +385,7 @@ main 'get 0 c' 'id 0' 'set 0 150' 'at 1'
 worker 3 0 EAGAIN 'put 0 1 100000 50 within 20' 'rm 0'
 slot 0 5 3 0 3
 pages 64
-# Who need not wait need not hurry, and a refusal that no wait can mend comes at once.
+# A call that need not wait does not time out, and a refusal that no wait can mend is immediate.
 case_of threads
 queues 1
 worker 5 5 done 'put 0 1 5 1000 within 0' 'take 0 1 5 within 0' 'take 0 7 0 within 0'
@@ -394,7 +394,7 @@ worker 0 0 EINVAL 'put 0 1 1 65537 within 1000000'
 worker 0 0 EINVAL 'take 64 0 1 within 1000000'
 slot 0 11 5 5 0
 pages 64
-# Pages that do not come in time, and an arena that never has as many.
+# Pages that are not freed in time, and an arena that never has as many.
 case_of 'threads --height 0'
 queues 1
 worker 1 0 ENOMEM 'put 0 1 1 1' 'put 0 1 1 1 within 20' 'rm 0'
@@ -429,8 +429,8 @@ worker 50 0 done 'put 0 1 50 65536 within 1000000'
 worker 0 50 done 'take 0 1 50 within 1000000'
 slot 0 101 50 50 0
 pages 64
-# A queue is removed while fourteen wait who could wait long, and while others come and go who
-# cannot.
+# A queue is removed while fourteen wait with a long timeout, and while others send and receive with
+# a short one.
 case_of threads
 main 'get 0 c' 'id 0' 'set 0 0' 'at 1'
 for k in {1..7}; do
@@ -455,7 +455,7 @@ slot 1 2 - - 0
 pages 64
 
 table an_arena_is_used_up
-# Fifteen who put into queues with room for all, until there is no page for the next text.
+# Fifteen that send to queues with room for all, until there is no page for the next text.
 case_of 'threads --height 0' sums
 queues 1
 for _ in {1..15}; do
@@ -494,8 +494,8 @@ for block in '3 1025 4' '4 4096 4' '3 8192 1' '4 8192 2' '6 8193 4' '6 16384 4' 
     sums "$count" 0 ENOMEM $((15 - count)) done "$count"
 done
 
-table who_waits_in_a_queue_that_is_removed_answers_eidrm
-# Nobody can send and nothing can be received; whoever comes too late answers the same.
+table a_wait_in_a_queue_that_is_removed_answers_eidrm
+# No call can send or receive; one that is too late answers the same.
 case_of threads exact 100
 main 'get 0 c' 'id 0' 'set 0 0' 'at 1'
 worker 0 0 EIDRM 'take 0 5 1'
@@ -512,7 +512,7 @@ done
 worker 0 0 done 'rm 0'
 slot 0 3 0 0 0
 pages 64
-# Fourteen say that they come before they wait, and then the queue is removed.
+# Fourteen announce themselves before they wait, and then the queue is removed.
 case_of threads exact 50
 queues 2
 main 'set 0 0' 'at 1'
@@ -524,7 +524,7 @@ worker 0 14 done 'take 1 1 14' 'rm 0'
 slot 0 3 0 0 0
 slot 1 29 14 14 0
 pages 64
-# Texts wait in the queue, and go home.
+# Texts are pending in the queue, and are freed.
 case_of threads exact 50
 queues 2
 for k in {1..14}; do
@@ -543,7 +543,7 @@ done
 slot 0 2 0 0 0
 pages 64
 sums 0 0 EIDRM 14 done 1
-# A message and a removal come at once.
+# A message is sent and the queue removed at once.
 case_of threads parts 100 done EIDRM
 queues 1
 worker - - - 'take 0 5 1'
@@ -551,8 +551,8 @@ worker - - - 'put 0 5 1 1000'
 worker - - - 'rm 0'
 slot 0 2 - - 0
 pages 64
-# One queue is removed under seven who send, the first of whom says so after 50 texts, and seven who
-# receive more than the others send; or each of three is, at once or in the midst.
+# One queue is removed under seven senders, the first of which says so after 50 texts, and seven
+# that receive more than the others send; or each of three is, at once or in the midst.
 case_of threads parts 20 done EIDRM
 queues 2 16384
 worker - - - 'put 0 1 50 1000' 'put 1 1 1 0' 'put 0 1 100000 1000'

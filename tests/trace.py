@@ -2,17 +2,17 @@
 """Runs mqsim trace and mqsim picture over random scripts, beside mqsim serial.
 
 The scripts are random ones, one in eight with a byte replaced, and some threads scripts. What is
-wanted of each:
+expected of each:
 - Python's parsers read the trace and the picture, and the picture is an SVG;
-- the trace has one event for each answer of `mqsim serial` that tells of a change or of a refusal,
+- the trace has one event for each answer of `mqsim serial` that reports a change or a refusal,
   and no other: at the line, by the seat, of the queue and the entry that the script and the answer
   have; a refusal has its errno, its call and its id;
-- a message ends to wait under the id with which it began to, at the line that its receipt tells;
+- a message stops pending under the id with which it began to, at the line of its receipt;
 - of a script that is not well formed nothing is written, and the fault and the status are those of
   `mqsim serial`;
-- of a threads script the trace has, slot by slot, what `mqsim threads` tells of it;
+- of a threads script the trace has, slot by slot, what `mqsim threads` prints of it;
 - a script of 10,000 lines is drawn within 2 s of a processor and 64 MiB, to at most 1 MB.
-Wants mqsim to be built. Prints the scripts that fail; the last line counts.
+Requires mqsim to be built. Prints the scripts that fail; the last line counts.
 """
 import collections
 import concurrent.futures
@@ -48,7 +48,7 @@ Event = collections.namedtuple("Event", "ph name pid tid entry")
 
 
 class Wrong(Exception):
-    """What a run has that is not wanted."""
+    """What a run has that is not expected."""
 
 
 def run(words, script):
@@ -170,7 +170,7 @@ def check_long(script):
 
 
 def long_script(dice):
-    """So many lines: messages come and go in four queues, and are refused where a queue is full."""
+    """So many lines: sends and receives in four queues, some of them refused where one is full."""
     lines = [f"get {key} c" for key in range(1, 5)] + ["set 3 200"]
     for queue in dice.choices(range(4), k=LONG_LINES - len(lines)):
         lines.append(dice.choice((f"snd {queue} {dice.randrange(1, 9)} *{dice.randrange(60)}",
@@ -179,7 +179,7 @@ def long_script(dice):
 
 
 def counts_told(answers):
-    """The events, sendings and receipts of each slot, as `mqsim threads` tells them."""
+    """The events, sendings and receipts of each slot, as `mqsim threads` prints them."""
     return {int(slot): tuple(map(int, counts)) for slot, *counts in SLOT.findall(answers)}
 
 
@@ -215,7 +215,7 @@ def check_threads(script):
 
 
 def threads_script(dice):
-    """A script all of whose sections end, whoever is served first."""
+    """A script all of whose sections end, in whatever order they are served."""
     main = ["get 1", "get 1 c", "get 2 c", "get 2 cx", f"set 0 {dice.randrange(4096, 20000)}",
             f"set {dice.randrange(2)} {dice.choice((20000, 200000))}"]
     sections = []
@@ -234,7 +234,7 @@ def damaged(dice, script):
 
 
 def is_right(case):
-    """Whether a script's runs are as wanted, and what is to be said of it if not."""
+    """Whether a script's runs are as expected, and what is to be printed of it if not."""
     check, script = case
     try:
         check(script)
@@ -246,7 +246,7 @@ def is_right(case):
 
 def main():
     dice = random.Random(20261130)
-    # Before all others: the memory of who begins a program counts as that program's.
+    # Before all others: the memory of a program's parent counts as that program's.
     cases = [(check_long, long_script(dice))]
     cases += [(check_serial, b""), (check_serial, b"arena"), (check_serial, b"nothing")]
     for place in range(RANDOM_SCRIPTS - 3):

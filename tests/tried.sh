@@ -1,7 +1,7 @@
 #!/usr/bin/env bash
 # Runs mqsim, which `rt try` builds without proofs, over each script of serial_tables.sh and of
-# examples/, and wants their answers on standard output. Prints the cases that fail; the last line
-# counts.
+# examples/, and compares their answers on standard output. Prints the cases that fail; the last
+# line counts.
 source "$(dirname "$0")/cases.sh"
 cases=$seen/cases
 mkdir "$cases"

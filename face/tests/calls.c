@@ -118,7 +118,7 @@ static void selects(int id) {
   CHECK(civdrax_msgrcv(id, &m, 1, 3, 0) == 1 && m.type == 3 && m.text[0] == '3');
 }
 
-/* Each length about the ends of a page comes back byte for byte. */
+/* Each length about the ends of a page is received byte for byte. */
 static void carries(int id) {
   static const size_t lengths[] = {1, 1023, 1024, 1025, 2048, 8191, 8192, 8193, 65535, 65536};
   static struct message got;
@@ -171,7 +171,7 @@ static void controls(int id) {
   REFUSED(civdrax_msgctl(-1, IPC_RMID, NULL), EINVAL);
 }
 
-/* A queue that was removed is none; its number never comes again. */
+/* A queue that was removed is none; its id is never given again. */
 static void is_gone(int id) {
   struct msqid_ds ds;
   remove_queue(id);
@@ -185,7 +185,7 @@ static void is_gone(int id) {
   remove_queue(next);
 }
 
-/* All pages are lent: without IPC_NOWAIT a send would wait, and a queue that is none is told. */
+/* All pages are allocated: without IPC_NOWAIT a send would wait, and an invalid id is EINVAL. */
 static void runs_out_of_pages(void) {
   int ids[3];
   take_pages(0, ids);
@@ -202,7 +202,7 @@ static int has_come(const struct timespec *end) {
   return now.tv_sec > end->tv_sec || (now.tv_sec == end->tv_sec && now.tv_nsec >= end->tv_nsec);
 }
 
-/* A wait ends at its time, and not before. */
+/* A wait ends at its deadline, and not before. */
 static void times_out(void) {
   int id = new_queue();
   struct timespec end = in_milliseconds(20);

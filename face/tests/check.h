@@ -23,8 +23,8 @@
 #define MSG_STAT_ANY 13
 #endif
 
-/* The queues are dealt out to parts, each with pages of its own: an id is the number of the slot's
-   queue times A_SEQ, plus the index of the slot, of which the lowest digit tells the part. */
+/* The queues are sharded into parts, each with pages of its own: an id is the number of the slot's
+   queue times A_SEQ, plus the index of the slot, of which the lowest digit is the part. */
 enum { PARTS = 8, A_SEQ = 64 * PARTS };
 
 static int passed, failed;

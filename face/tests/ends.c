@@ -1,6 +1,6 @@
 /* A program whose waits a signal ends, by the manual's names: alarms, with SA_RESTART and without,
-   and a server that serves until SIGTERM. With the word "control" no signal comes, and it waits for
-   ever. */
+   and a server that serves until SIGTERM. With the argument "control" no signal is sent, and it
+   waits for ever. */
 #define _GNU_SOURCE
 #include <errno.h>
 #include <signal.h>
@@ -33,7 +33,7 @@ static void on_signal(int number, int flags) {
   if (sigaction(number, &action, NULL)) abort();
 }
 
-/* The alarm comes again and again, lest the first comes before the wait. */
+/* The alarm is repeated, lest the first is before the wait. */
 static void alarms(int is_on) {
   struct itimerval its = {{0, 50000}, {0, 50000}}, none = {0};
   if (setitimer(ITIMER_REAL, is_on && !is_control ? &its : &none, NULL)) abort();

@@ -1,6 +1,6 @@
 <?php
-// An alarm ends a wait of the extension sysvmsg, in receive and send. With the word "control" no
-// signal comes, and it waits for ever.
+// An alarm ends a wait of the extension sysvmsg, in receive and send. With the argument "control"
+// no signal is sent, and it waits for ever.
 $is_control = ($argv[1] ?? '') === 'control';
 $alarms = 0;
 pcntl_async_signals(true);

@@ -1,5 +1,5 @@
-# An alarm whose handler dies ends a wait of Perl's own msgrcv and msgsnd. With the word "control"
-# no signal comes, and it waits for ever.
+# An alarm whose handler dies ends a wait of Perl's own msgrcv and msgsnd. With the argument
+# "control" no signal is sent, and it waits for ever.
 use strict;
 use warnings;
 use IPC::SysV qw(IPC_CREAT IPC_NOWAIT IPC_PRIVATE IPC_RMID);

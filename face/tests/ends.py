@@ -1,5 +1,5 @@
-"""Ctrl-C, and an alarm whose handler raises, end a wait of the package sysv_ipc. With the word
-"control" no signal comes, and it waits for ever."""
+"""Ctrl-C, and an alarm whose handler raises, end a wait of the package sysv_ipc. With the
+argument "control" no signal is sent, and it waits for ever."""
 import os
 import signal
 import sys

@@ -9,14 +9,14 @@ static struct message m;
 static sem_t fork_begins, call_begins;
 static volatile int is_over;
 
-/* The first call asks for its size, has the lock then, and takes its time. */
+/* The first call reads its size, has the lock then, and is slow here. */
 char *secure_getenv(const char *name) {
   sem_post(&call_begins);
   usleep(100000);
   return getenv(name);
 }
 
-/* The first fork begins before the first call, and goes on within it. */
+/* The first fork begins before the first call, and continues within it. */
 static void let_it_begin(void) {
   static int is_later;
   if (is_later++) return;
@@ -73,7 +73,7 @@ static void is_whole(int id) {
   CHECK(civdrax_msgrcv(id, &its, SIZE, 0, 0) == SIZE && its.type == WAITED_FOR);
 }
 
-/* The child receives what waited at the fork, and what it sends stays its own. */
+/* The child receives the messages pending at the fork, and what it sends stays its own. */
 static void has_its_own(int id, int waited_in) {
   CHECK(civdrax_msgrcv(id, &m, 10, 0, IPC_NOWAIT) == 3 && !memcmp(m.text, "abc", 3));
   REFUSED(civdrax_msgrcv(id, &m, 10, 0, IPC_NOWAIT), ENOMSG);

@@ -8,7 +8,7 @@
 #include <sys/syscall.h>
 
 static int sleep_count, wake_count;
-/* What is done before each wake, and between a thread's look and its sleep, or null. */
+/* What is done before each wake, and between a thread's check and its sleep, or null. */
 static void (*at_wake)(void), (*at_sleep)(void);
 
 static inline void at(void (*it)(void)) {

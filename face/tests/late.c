@@ -1,4 +1,4 @@
-/* A call whose time came is asked once more, and what changed before it had the lock is answered.
+/* A call that timed out is retried once, and what changed before it had the lock is answered.
    Here a timed wait ends at once, and lets such a change happen. */
 #include "check.h"
 #include <linux/futex.h>

@@ -1,5 +1,5 @@
 /* As many messages as the first word says, through one queue after another: the memory stays.
- * Each 1,024th entry, at which a log is cut off, is a send in the first half, and a receipt in the
+ * Each 1,024th entry, at which a log is drained, is a send in the first half, and a receipt in the
  * second. */
 #include "check.h"
 #include <sys/resource.h>
@@ -12,7 +12,8 @@ static long resident(void) {
   return pages * sysconf(_SC_PAGESIZE);
 }
 
-/* Sends and receives these messages, one after the other, and answers how many came whole. */
+/* Sends and receives these messages, one after the other, and returns how many
+   were received whole. */
 static long pass(const int *ids, long from, long to) {
   static struct message m;
   long right = 0;

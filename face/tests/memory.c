@@ -4,7 +4,7 @@
 
 static struct message m;
 
-/* The call's answer, made again once where it is refused for want of memory. */
+/* The call's answer, made again once where it is out of memory. */
 #define AGAIN(call) \
   ({ long it = (call); it == -1 && errno == ENOMEM ? (call) : it; })
 

@@ -1,5 +1,5 @@
 /* In the midst of a call, which has the lock then: a call that a signal handler makes answers
-   EDEADLK, and a child that it forks goes on. After a jump out of the midst each call answers, of
+   EDEADLK, and a child that it forks continues. After a jump out of the midst each call answers, of
    whatever thread, if by an errno. The signal is that of memory that may not be touched, which the
    call is given. */
 #include "check.h"
@@ -114,7 +114,7 @@ static void a_handler_forks(void) {
 
 static volatile int is_over;
 
-/* What wants all locks: a fork within a call does too. */
+/* What needs all locks: a fork within a call does too. */
 static void *asks_of_all(void *its) {
   int right = 1;
   while (!is_over) right &= all() >= 0;
@@ -179,7 +179,7 @@ static void *sends_and_forks(void *its) {
   return its;
 }
 
-/* In two parts at once: each has a lock that the other's fork wants. */
+/* In two parts at once: each has a lock that the other's fork needs. */
 static void two_handlers_fork(void) {
   pthread_t thread;
   on_fault(forks_with_another, 0);
@@ -216,7 +216,8 @@ static void start(struct job *job) {
 
 static void end(struct job *job) { CHECK(pthread_join(job->thread, NULL) == 0); }
 
-/* The message is taken by then, and what a jump kept from being woken is woken by the next call. */
+/* The message is taken by then, and the waiter that the jump left asleep is woken by the next
+   call. */
 static void a_jump_out_of_the_end_of_a_call(void) {
   struct job sender = {.is_send = 1};
   CHECK(civdrax_msgsnd(id, message, SIZE, 0) == 0);
@@ -235,7 +236,7 @@ static void a_jump_out_of_the_end_of_a_call(void) {
 }
 
 /* What the next call answers, and then all others of that part and those of all parts, also one that
-   waits. Another part's go on. */
+   waits. Another part's continue. */
 static void a_jump_out_of_a_step(void) {
   struct job receiver = {0}, later = {0};
   start(&receiver);

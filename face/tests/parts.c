@@ -1,4 +1,4 @@
-/* The queues are dealt out to parts: what several of them hold is told as of one. */
+/* The queues are sharded into parts: what several of them hold is reported as of one. */
 #include "check.h"
 
 enum { SLOTS = 64, GETTERS = 4, KEYS = 200 };
@@ -35,7 +35,7 @@ static void fill(int count) {
   for (int i = count; i < 2 * SLOTS; i++) REFUSED(civdrax_msgctl(i, MSG_STAT, &ds), EINVAL);
 }
 
-/* Each in turn goes, is none any more, and comes again with its index. */
+/* Each in turn is removed, is none any more, and is made again with its index. */
 static void each_comes_again(int count) {
   struct msqid_ds ds;
   for (int i = 0; i < count; i++) {
@@ -117,7 +117,7 @@ static void in_a_child(int slots) {
   CHECK(pid > 0 && waitpid(pid, &status, 0) == pid && status == 0);
 }
 
-/* The queues are dealt out evenly, also where some have gone; another part's pages are not taken. */
+/* The queues are spread evenly, also after removals; another part's pages are not allocated. */
 static void each_has_its_part(void) {
   int all[PARTS], full[3], in_part[PARTS] = {0};
   for (int i = 0; i < PARTS; i++) in_part[(all[i] = new_queue()) % PARTS]++;
@@ -178,8 +178,8 @@ static void *is_busy(void *its) {
   return its;
 }
 
-/* What is told of all parts is of one moment: no thread has two messages. Queues come and go and
-   keys are looked for beside them. */
+/* What is reported of all parts is one snapshot: no thread has two messages. Queues are made and
+   removed and keys are looked up beside them. */
 static void is_told_of_one_moment(void) {
   pthread_t threads[GETTERS];
   int all[GETTERS];

@@ -1,6 +1,6 @@
 /* Over the preloaded library: another library is found where the program says, also where it is to
-   be opened past preloaded names, and its calls come here; a child counts its own. Built also as
-   that other library, with OPENED. */
+   be opened past preloaded names, and its calls are made here; a child counts its own. Built also
+   as that other library, with OPENED. */
 #define _GNU_SOURCE
 #include <dlfcn.h>
 #include <stdio.h>

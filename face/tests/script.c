@@ -1,7 +1,7 @@
 /* Random scripts of calls by the manual's names, from the first seed on as many as the second word
-   says, and what each call answers. Some may wait, until a signal ends them. An id is told as the
-   place of its queue, and a time as whether there is one, so that it is the same over the kernel
-   and over these queues. */
+   says, and what each call answers. Some may wait, until a signal ends them. An id is printed as
+   the place of its queue, and a time as whether there is one, so that it is the same over the
+   kernel and over these queues. */
 #define _GNU_SOURCE
 #include <errno.h>
 #include <signal.h>
@@ -84,7 +84,7 @@ static void get(void) {
 
 static void handles(int number) { (void)number; }
 
-/* For a call that may wait signals come, each millisecond. */
+/* A signal is sent each millisecond to a call that may wait. */
 static void signals(int is_on) {
   struct itimerval its = {{0, 1000 * is_on}, {0, 1000 * is_on}};
   if (setitimer(ITIMER_REAL, &its, NULL)) abort();

@@ -1,6 +1,6 @@
 /* A signal whose handler runs in a wait ends it with EINTR, whatever SA_RESTART says, and nothing
-   else does; nothing is sent or taken by then. A message that comes with the signal is received or
-   still there. Out of a wait a handler may jump, and in one it may call and fork. */
+   else does; nothing is sent or taken by then. A message that is sent with the signal is received
+   or still there. Out of a wait a handler may jump, and in one it may call and fork. */
 #include "check.h"
 #include "futex.h"
 #include <setjmp.h>
@@ -105,7 +105,7 @@ static void a_handler_ends_each_wait(int flags) {
   CHECK(civdrax_msgrcv(id, &m, SIZE, 0, IPC_NOWAIT) == SIZE && m.type == TYPE + 1);
 }
 
-/* Stops this process, by another, and has it go on. */
+/* Stops this process, by another, and has it continue. */
 static void is_stopped(void) {
   int status;
   pid_t own = getpid(), pid = fork();
@@ -150,7 +150,7 @@ static void *receives_all(void *its) {
   return its;
 }
 
-/* A message that comes with a signal, before it or after it. */
+/* A message that is sent with a signal, before it or after it. */
 static void a_message_is_not_lost(void) {
   pthread_t thread;
   on_signal(SIGUSR1, counts, SA_RESTART);
@@ -167,7 +167,7 @@ static void a_message_is_not_lost(void) {
 
 static void jumps(int number) { (void)number, siglongjmp(before, 1); }
 
-/* Has a signal come to this thread once it sleeps. */
+/* Has this thread get a signal once it sleeps. */
 static void *signals_once_it_sleeps(void *its) {
   static volatile int never;
   volatile pid_t tid = (pid_t)(intptr_t)its;
@@ -280,8 +280,8 @@ static void forks_and_sends(void) {
   if (child == 0) send(id, TYPE, SIZE);
 }
 
-/* A handler may also run just before the sleep: the wait goes on, can be cancelled and ends by its
-   message. */
+/* A handler may also run just before the sleep: the wait continues, can be cancelled and ends by
+   its message. */
 static void a_handler_comes_before_the_sleep(void) {
   struct job job = {.id = id, .size = SIZE};
   int status;

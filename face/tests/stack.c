@@ -1,6 +1,6 @@
 /* A signal handler that runs while its thread is inside a call is on the stack of the proved part.
    One with a large array touches far below there: the program's own memory stays as it was, and a
-   handler that wants more than there is ends the process, and touches nothing of it either. The
+   handler that needs more than there is ends the process, and touches nothing of it either. The
    signal is that of a page that may not be read, met as its text is copied. */
 #include "check.h"
 #include <sys/mman.h>

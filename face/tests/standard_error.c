@@ -1,6 +1,6 @@
-/* That the size is wrong is told on standard error alone: on a terminal, or where descriptor 2 is
-   what it was when the program began; in no file of the program's that has this number. The program
-   runs itself anew for each case. */
+/* That the size is wrong is printed on standard error alone: on a terminal, or where descriptor 2
+   is what it was when the program began; in no file of the program's that has this number. The
+   program runs itself anew for each case. */
 #include "check.h"
 #include <fcntl.h>
 

@@ -1,5 +1,5 @@
 /* Four threads send and four receive as many texts as the first word says, through one queue that
-   holds few, while 10,000 signals a second come to them; and while as many threads as the second
+   holds few, while they get 10,000 signals a second; and while as many threads as the second
    word says are cancelled a second, each of which receives beside them. Each text is received
    once. */
 #include "check.h"

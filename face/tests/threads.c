@@ -1,5 +1,5 @@
-/* Four threads send and four receive, all of which wait where they have to: each message comes once,
-   whole, and those of one sender in their order. */
+/* Four threads send and four receive, all of which wait where they have to: each message is
+   received once, whole, and those of one sender in their order. */
 #include "check.h"
 
 enum { PAIRS = 4, EACH = 20000 };

@@ -1,5 +1,5 @@
-/* Whose turn it is: a change wakes those alone whom it may serve, each of them once, and one that
-   does not take what it was woken for leaves it to the others. Sleeps and wakes are counted. */
+/* Whose turn it is: a change wakes only the waiters that it may serve, each once, and one that does
+   not take what it was woken for leaves it to the others. Sleeps and wakes are counted. */
 #include "check.h"
 #include "futex.h"
 #include <limits.h>
@@ -78,7 +78,8 @@ static void end_by_removal(struct job *job) {
   CHECK(job->result == -1 && job->error == EIDRM);
 }
 
-/* A message wakes who would receive it, as a receipt that does not wait shows in another queue. */
+/* A message wakes the waiters that would receive it, as a receipt that does not wait shows in
+   another queue. */
 static void a_message_wakes_by_its_type(struct job job, long type) {
   int other = new_queue();
   send(other, type, 1);
@@ -222,7 +223,7 @@ static void a_crowd_is_woken(void) {
   CHECK(received == 1);
 }
 
-/* Of two that wait for a message one cannot take it, whichever came first. */
+/* Of two that wait for a message one cannot take it, whichever waited first. */
 static void a_text_too_long_for_one_is_anothers(int small_is_first) {
   int id = new_queue();
   struct job small = {.id = id, .type = 5, .size = 1}, roomy = {.id = id, .type = 5, .size = 10};
@@ -242,7 +243,7 @@ static void signals(struct job *job) { pthread_kill(job->thread, SIGUSR1); }
 
 static void waits(struct job *job) { (void)job, usleep(1000); }
 
-/* Of two that wait the first is ended otherwise, about when the message comes, which one of them
+/* Of two that wait the first is ended otherwise, about when the message is sent, which one of them
    receives. */
 static void one_of_two_receives(void (*ends)(struct job *), int wait) {
   int id = new_queue();

@@ -1,5 +1,5 @@
-/* Threads that wait: each kind of wait ends by what it waits for and by a removal, and who waits
-   holds up nobody. A thread is known to wait once it is asleep, as /proc says. */
+/* Threads that wait: each kind of wait ends by what it waits for and by a removal, and a waiter
+   blocks no other. A thread is known to wait once it is asleep, as /proc says. */
 #include "check.h"
 #include <sys/syscall.h>
 
@@ -164,7 +164,7 @@ static void removals_end_waits(void) {
   for (int i = 0; i < 3; i++) remove_queue(ids[i]);
 }
 
-/* A thread that is cancelled in its wait lets the others go on. */
+/* A thread that is cancelled in its wait lets the others continue. */
 static void a_cancelled_wait_holds_up_nobody(void) {
   int id = new_queue();
   struct job *job = receiver(id, 1);

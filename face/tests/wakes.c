@@ -1,4 +1,4 @@
-/* Nobody is woken where nobody waits: a thread that was served, was cancelled, ran out of time, was
+/* No wake where no thread waits: a thread that was served, was cancelled, ran out of time, was
    ended by a signal, or left its wait by siglongjmp and ended, is in no list any more, and a child
    wakes no thread of its parent. */
 #include "check.h"

@@ -35,7 +35,7 @@ struct Came {
 }
 
 impl Player {
-    /// How many bytes came. What it could not send is left in the list.
+    /// How many bytes it received. What it could not send is left in the list.
     fn play<N: Names, R: Wait + Clock>(
         &self,
         caller: &mut Caller<'_, Anything, N, R>,
@@ -117,7 +117,7 @@ fn spend_all<N: Names, R: Wait + Clock>(
     }
 }
 
-/// Whether a call ended since the queue had no more room, or no more texts.
+/// An error, unless the call did all, or ended since the queue was full or empty.
 fn check(ended: Result<(), Refused>) -> Result<(), Errno> {
     match ended {
         Ok(()) => Ok(()),
@@ -140,7 +140,7 @@ fn send<N: Names, R: Wait + Clock>(
     Ok(before.saturating_sub(letters.len()))
 }
 
-/// Spends the texts that came.
+/// Spends the received texts.
 fn spend_texts<N: Names, R: Wait + Clock>(
     caller: &Caller<'_, Anything, N, R>,
     texts: &mut VecDeque<Delivered<TextOf<N>>>,
@@ -224,9 +224,9 @@ impl Sizes {
     }
 }
 
-/// `batches flow BYTES COUNT SENDERS RECEIVERS QUOTA EACH`, as `system flow`, and `batches own BYTES
-/// CYCLES SEATS RECEIVERS QUOTA EACH`, as `system own`, but that one call sends, or receives, up to
-/// EACH texts: counts the bytes that came.
+/// `batches flow BYTES COUNT SENDERS RECEIVERS QUOTA EACH`, as `system flow`, and `batches own
+/// BYTES CYCLES SEATS RECEIVERS QUOTA EACH`, as `system own`, but that one call sends, or receives,
+/// up to EACH texts: counts the bytes that were received.
 pub(crate) fn run(
     rt: &(impl Print + Threads + Wait + Clock + Sync),
     alloc: Global,

@@ -1,5 +1,5 @@
-//! Threads that send and receive texts through bounded channels of crossbeam_channel, of which as
-//! many bytes may wait as in a queue: what the seats of a system are measured against.
+//! Threads that send and receive texts through bounded channels of crossbeam_channel, with the same
+//! quota of bytes as a queue: what the seats of a system are measured against.
 
 use crate::words::Words;
 use anyhow::{Result, bail};
@@ -58,7 +58,7 @@ struct Sizes {
     alloc: Global,
     bytes: usize,
     rounds: u32,
-    /// How many bytes may wait, or texts of none.
+    /// How many bytes may be pending, or texts of no bytes.
     quota: usize,
 }
 
@@ -109,8 +109,9 @@ impl Sizes {
     }
 }
 
-/// `channel two BYTES CYCLES`, where two threads pass one text there and back, each on a channel;
-/// `channel flow BYTES COUNT SENDERS RECEIVERS QUOTA`, as in a system: counts the bytes that came.
+/// `channel two BYTES CYCLES`, where two threads make round trips of one text, each sending on a
+/// channel of its own; `channel flow BYTES COUNT SENDERS RECEIVERS QUOTA`, as in a system: counts
+/// the bytes that were received.
 pub(crate) fn run(
     rt: &(impl Print + Threads + Wait + Sync),
     alloc: Global,

@@ -13,17 +13,17 @@ struct Cycles {
     bytes: Vec<u8>,
     /// How many cycles a round has.
     count: u32,
-    /// How many texts wait meanwhile.
+    /// How many texts are pending meanwhile.
     waiting: u32,
     rounds: u32,
-    /// Whether the log is cut after each round.
+    /// Whether the log is drained after each round.
     cuts: bool,
 }
 
 #[derive(Drop)]
 struct Came {
     bytes: u64,
-    /// How many entries the cuts handed out.
+    /// How many entries the drains returned.
     entries: u64,
 }
 
@@ -41,8 +41,8 @@ impl QueueProgram for Cycles {
             bytes: 0,
             entries: 0,
         };
-        // One round more goes ahead, in which nothing is received. So `msgsnd` is called at one
-        // place: by a second one the compiler would make another cycle.
+        // Round 0 only sends. So `msgsnd` has one call site: with a second one the compiler would
+        // make another cycle.
         for round in 0..=self.rounds {
             let count = if round == 0 { self.waiting } else { self.count };
             for _ in 0..count {
@@ -57,7 +57,7 @@ impl QueueProgram for Cycles {
     }
 }
 
-/// Cuts the log off; how many entries it had.
+/// Drains the log; how many entries it had.
 fn cut<L: Ledger>(queues: &mut OneThread<L>, id: Id) -> Result<u64, Errno> {
     if id.slot() >= queues.slots() {
         return Ok(0);
@@ -68,7 +68,7 @@ fn cut<L: Ledger>(queues: &mut OneThread<L>, id: Id) -> Result<u64, Errno> {
     }
 }
 
-/// One text there, and the first back if it is to be received; how many bytes came.
+/// Sends one text, and receives the first one if asked to; how many bytes were received.
 fn cycle<L: Ledger>(
     queues: &mut OneThread<L>,
     id: Id,
@@ -103,9 +103,9 @@ fn cycle<L: Ledger>(
     Ok(length)
 }
 
-/// `cycle BYTES CYCLES WAITING ROUNDS CUTS`: in each round so many cycles, while so many texts
-/// wait, with a cut of the log behind each round unless CUTS is 0. It counts the bytes that came,
-/// and the entries that were cut off.
+/// `cycle BYTES CYCLES WAITING ROUNDS CUTS`: in each round so many cycles, while so many texts are
+/// pending, with a drain of the log after each round unless CUTS is 0. It counts the bytes that
+/// were received, and the entries that were drained.
 pub(crate) fn run(rt: &impl Print, alloc: Global, words: &Words) -> Result<()> {
     let size = words.number(1, 16)?;
     let cycles = Cycles {

@@ -13,7 +13,7 @@ use std::sync::Wait;
 use std::time::Clock;
 use std::{fs, io};
 
-/// Makes no call, and answers what /proc tells of the process's memory, where it is asked to.
+/// Makes no call, and answers what /proc shows of the process's memory, where it is asked to.
 #[derive(Drop)]
 struct Idle<'a, R> {
     rt: &'a R,
@@ -52,7 +52,7 @@ impl<'a, F: Files + AllocGlobal> SystemProgram<Anything> for Idle<'a, F> {
 
 /// `start BODY HEIGHT COUNT WHAT`, where BODY is `one`, a queue system of one thread, `system`, one
 /// of 16 seats, or `none`: makes so many, one after another, and counts them. Where WHAT is
-/// `memory`, it prints what /proc tells of the process's memory while each is there.
+/// `memory`, it prints what /proc shows of the process's memory while each is there.
 pub(crate) fn run(
     rt: &(impl Print + Files + Wait + Clock + AllocGlobal),
     alloc: Global,

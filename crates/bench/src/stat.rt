@@ -10,15 +10,15 @@ use std::sync::atomic::{AtomicBool, Ordering};
 use std::thread::Threads;
 use std::time::Clock;
 
-/// What one seat does, by its first field: how often it asks, or what it sends and receives by
-/// turns until all has been asked.
+/// What one seat does: how often it asks, or what it sends and receives by turns until all has been
+/// asked.
 #[derive(Drop)]
 enum Part<'a> {
     Asks(u32, &'a AtomicBool),
     Sends(&'a [u8], &'a AtomicBool),
 }
 
-/// How many figures it was shown, each with a quota.
+/// Asks so often; how many of the figures have a quota.
 fn ask<N: Names, R: Wait>(
     rt: &R,
     system: &System<Anything, N>,
@@ -35,7 +35,7 @@ fn ask<N: Names, R: Wait>(
     Ok(seen)
 }
 
-/// Sends before it receives, so none of those that do so waits for good.
+/// Sends before it receives, so none of those that do so waits forever.
 fn send_until<N: Names, R: Wait>(
     rt: &R,
     system: &System<Anything, N>,

@@ -69,7 +69,7 @@ impl Worker<Anything> for Player {
     }
 }
 
-/// The queue of this key, which is made where it is not there yet.
+/// The queue of this key, which is made where there is none yet.
 pub(crate) fn queue<N: Names, R: Wait>(
     rt: &R,
     system: &System<Anything, N>,
@@ -235,11 +235,11 @@ impl Sizes {
 
 /// `system alone BYTES CYCLES SEATS`, where one of so many seats sends and receives by turns;
 /// `system own BYTES CYCLES SEATS`, where each of them does, in a queue of its own; `system two
-/// BYTES CYCLES`, where two pass one text there and back; `system flow BYTES COUNT SENDERS
+/// BYTES CYCLES`, where two make round trips of one text; `system flow BYTES COUNT SENDERS
 /// RECEIVERS QUOTA`, where each sender sends COUNT texts through one queue of that quota and each
 /// receiver takes its share of them; `system types`, of the same words, where each sender sends
-/// COUNT texts to each receiver, which takes those of a type of its own: counts the bytes that
-/// came.
+/// COUNT texts to each receiver, which takes those of a type of its own: counts the bytes that were
+/// received.
 pub(crate) fn run(
     rt: &(impl Print + Threads + Wait + Clock + Sync),
     alloc: Global,

@@ -1,11 +1,11 @@
-//! One page that is lent and given back again and again.
+//! The buddy system: one page that is allocated and freed again and again.
 
 use crate::words::Words;
 use anyhow::Result;
 use mq_tree::OrderTree;
 use std::alloc::Global;
 
-// Lends every page, and gives each second one back.
+// Allocates every page, and frees each second one.
 fn half_full(tree: &mut OrderTree) {
     for _ in 0..tree.pages() {
         tree.lend(0);
@@ -17,7 +17,7 @@ fn half_full(tree: &mut OrderTree) {
     }
 }
 
-// Lends every page, and gives the last one back.
+// Allocates every page, and frees the last one.
 fn all_but_last(tree: &mut OrderTree) {
     for _ in 0..tree.pages() {
         tree.lend(0);
@@ -27,7 +27,7 @@ fn all_but_last(tree: &mut OrderTree) {
     }
 }
 
-// Lends what the word says; without one, every second page.
+// Allocates what the word says; every second page where it says nothing else.
 fn lend_before(tree: &mut OrderTree, state: &str) {
     match state {
         "empty" => {}
@@ -36,7 +36,7 @@ fn lend_before(tree: &mut OrderTree, state: &str) {
     }
 }
 
-// That many lends of one page, each given back; how many of them were answered.
+// Allocates and frees one page so many times; how often both succeeded.
 fn pairs(tree: &mut OrderTree, count: u32) -> u32 {
     let mut met = 0u32;
     for _ in 0..count {
@@ -50,7 +50,7 @@ fn pairs(tree: &mut OrderTree, count: u32) -> u32 {
 }
 
 /// `tree HEIGHT PAIRS STATE`, in an arena that is `half` full before, `empty`, or full but for its
-/// `last` page: counts the pages that were lent and taken back.
+/// `last` page: counts the pages that were allocated and freed.
 pub(crate) fn run(rt: &impl Print, alloc: Global, words: &Words) -> Result<()> {
     let height = words.number(1, 3)?;
     let count = words.number(2, 10)?;

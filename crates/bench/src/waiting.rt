@@ -1,12 +1,12 @@
-//! A message that is sent to a waiting list and one that is received, again and again, behind
-//! messages that wait.
+//! The data structures of pending messages: one message is put at the end and one is taken, again
+//! and again, behind a number of pending ones.
 
 ghost use Rattle.std.specs.Prelude.{◌+◌, ◌<◌, All, OnOk};
 
 use crate::words::Words;
 use anyhow::Result;
-use mq_index::{ByType, IndexWaiting, ListWaiting};
 use mq_message::{Message, Selection, VecBody, Waiting, discard};
+use mq_select::{ByType, IndexWaiting, ListWaiting};
 use std::alloc::{AllocError, Global};
 
 /// What is measured.
@@ -28,7 +28,7 @@ enum Picks {
     Last,
 }
 
-/// The type of the message at a place.
+/// The type of the message at an index.
 fn type_of(place: u64, types: u32) -> i64 {
     if types == 0 {
         return 1;
@@ -57,7 +57,7 @@ fn put<W: Waiting<VecBody>>(
     Ok(())
 }
 
-/// The message that a selection picks leaves: one for it and for each of its bytes.
+/// Takes the message that a selection picks: 1 plus its length, or 0 where there is none.
 fn receive<W: Waiting<VecBody>>(list: &mut W, selection: Selection, above: u64) -> u64
     requires { All (λ m. m.0 < above) (W.messages list.old) }
     ensures { All (λ m. m.0 < above) (W.messages list.new) }
@@ -70,7 +70,7 @@ fn receive<W: Waiting<VecBody>>(list: &mut W, selection: Selection, above: u64) 
     length.wrapping_add(1)
 }
 
-/// Puts the messages that wait.
+/// Puts the pending messages.
 fn filled<W: Waiting<VecBody>>(alloc: Global, list: &mut W, plan: Plan) -> Result<(), AllocError>
     requires { All (λ m. m.0 < 0) (W.messages list.old) }
     ensures { OnOk result (All (λ m. m.0 < plan.waiting) (W.messages list.new)) }
@@ -81,7 +81,7 @@ fn filled<W: Waiting<VecBody>>(alloc: Global, list: &mut W, plan: Plan) -> Resul
     Ok(())
 }
 
-/// Makes the pairs, and counts the messages that came.
+/// Makes the pairs, and counts the messages that were received.
 fn pairs<W: Waiting<VecBody>>(alloc: Global, list: &mut W, plan: Plan) -> Result<u64, AllocError>
     requires { All (λ m. m.0 < plan.waiting) (W.messages list.old) }
 {
@@ -115,7 +115,7 @@ fn measured<W: Waiting<VecBody>>(alloc: Global, plan: Plan) -> Result<u64, Alloc
     came
 }
 
-/// What the messages wait in.
+/// The data structure of the pending messages.
 #[derive(Clone, Copy)]
 enum Form {
     List,
@@ -144,9 +144,9 @@ fn picks_of(word: &str) -> Picks {
 }
 
 /// `waiting FORM WAITING TYPES SELECTION PAIRS`, where FORM is `list`, `typed`, or `index`, which
-/// is a list or in layers by how many wait. The messages are of the types from 1 on in turn, and
-/// SELECTION is `any`, `exact`, `except` or `upto`; or `last`, where those of the pairs are of a
-/// type that no other is of, and selected by it: counts the messages that came.
+/// is a list or in layers by how many are pending. The messages are of the types from 1 on in turn,
+/// and SELECTION is `any`, `exact`, `except` or `upto`; or `last`, where those of the pairs are of
+/// a type that no other is of, and selected by it: counts the messages that were received.
 pub(crate) fn run(rt: &impl Print, alloc: Global, words: &Words) -> Result<()> {
     let plan = Plan {
         waiting: words.number(2, 3)?,

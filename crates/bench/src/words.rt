@@ -1,13 +1,15 @@
+//! The command-line arguments of a benchmark, by position.
+
 use anyhow::Result;
 
-/// The words of a command line, of which the first names what is measured.
+/// The arguments of a command line, of which the first names what is measured.
 #[derive(Drop)]
 pub(crate) struct Words {
     pub words: Vec<String>,
 }
 
 impl Words {
-    /// The word at a place; none is empty.
+    /// The argument at a position, or an empty text where there is none.
     pub(crate) fn word(&self, place: usize) -> &str {
         match self.words.get(place) {
             Some(word) => word.as_str(),
@@ -15,7 +17,7 @@ impl Words {
         }
     }
 
-    /// The number at a place, or that default where there is none.
+    /// The number at a position, or that default where there is none.
     pub(crate) fn number(&self, place: usize, default: u32) -> Result<u32> {
         match self.words.get(place) {
             Some(word) => Ok(word.parse()?),

@@ -1,5 +1,5 @@
-//! The queues behind C: one exported function, in which a loop runs. Its calls come by the C
-//! library's `read`, and its answers go by `write`, both of which the C side supplies.
+//! The queues behind C: one exported function, a loop that reads calls by the C library's `read`
+//! and writes results by `write`, both supplied by the C side.
 
 #![tactic(auto)]
 
@@ -10,7 +10,7 @@ mod program;
 
 use mq_arena::LEDGER_PARTS;
 use mq_calls::{Config, Errno, MAX_SEATS, MAX_SEQ, SysError};
-use mq_one_thread::OneThread;
+use mq_local::OneThread;
 use std::alloc::Global;
 use std::marker::Brand;
 use std::sync::ledger::{Blank, Ledger};

@@ -1,13 +1,15 @@
+//! The server's loop: it reads a call, runs it on the queues, and writes the answer.
+
 use mq_arena::Text;
 use mq_face::{
     ANSWER_NUMBERS, Call, CallKind, ControlShown, Done, EIGHT_BYTES, ReceivedMessage, Refusal,
     control, cut_where_due, draft, from_bytes, get, receive, send, spend_received, to_bytes,
     unknown,
 };
-use mq_one_thread::OneThread;
+use mq_local::OneThread;
 use std::sync::ledger::Ledger;
 
-/// Answers calls until they end.
+/// Answers calls until they end, or an answer can't be written.
 pub(crate) fn answer_all<L: Ledger>(queues: &mut OneThread<L>, calls: i32) {
     for _ in 0..u64::MAX {
         let mut bytes = [0; EIGHT_BYTES];
@@ -20,7 +22,7 @@ pub(crate) fn answer_all<L: Ledger>(queues: &mut OneThread<L>, calls: i32) {
     }
 }
 
-/// Whether the call was answered: else nobody takes answers any more.
+/// Runs a call. The result is whether its answer was written.
 fn answer<L: Ledger>(queues: &mut OneThread<L>, calls: i32, call: Call) -> bool {
     match call.kind {
         CallKind::Get => {
@@ -79,7 +81,7 @@ fn read_text<L: Ledger>(calls: i32, text: &mut Text<L>) {
     }
 }
 
-/// Writes the message from its pages, which are then free.
+/// Writes the message from its pages, which are then freed.
 fn hand_out<L: Ledger>(
     queues: &mut OneThread<L>,
     calls: i32,

@@ -80,7 +80,7 @@ module _ {V : Type 0} (bytes_of : V → List ℕ) (slots id : ℕ) where
   allowed nowait true r is = rw is tt
   allowed nowait false r is = is.1
 
-  -- a letter that was turned away is a value that was
+  -- a letter that was refused is a value that was
   pub turned_away : (height : ℕ) (nowait : Bool) (seat : SeatState) (l : Letter PlainText) (v : Letter V) (r : Refused)
       → IsDraftOf bytes_of l v → IsNotSent slots id l.mtype (length l.text.bytes) nowait seat seat r
       → IsNotSentFrom (IsNotMade nowait height (length (bytes_of v.text)) seat seat) slots id v.mtype
@@ -154,7 +154,7 @@ module _ {V : Type 0} (bytes_of : V → List ℕ) (slots id : ℕ) where
     refused = unsent height nowait seat told.first r.errno told.why;
   }
 
-  -- values of which none has a text, for want of memory
+  -- values of which none has a text, since memory ran out
   pub none_sent : (height moment : ℕ) (nowait : Bool) (seat : SeatState) (values : List (Letter V))
       → 0 < length values
       → AreValuesSent bytes_of slots height id nowait moment seat seat values

@@ -1,4 +1,4 @@
--- The first events of a slot list, and what a seat that knows of a removal is told from then on.
+-- Prefixes of a slot list, and what later calls return at a seat that knows of a removal.
 use Rattle.std.proofs.Common.{◌≡◌, ◌⊎◌, inl, inr, ℕ, suc, ◌+◌, ◌-◌, ◌≤◌, if◌then◌else◌, true, false, List, [], ◌∷◌, ◌++◌, length, take, drop, append_assoc, refl, ap, sym, subst, ◌∙◌, arith, Option, Some, None, slice_get, unwrap_or, Err}
 use Rattle.std.specs.Prelude.{All}
 use Rattle.std.proofs.lemmas.List.{append-nil, length-append, take-append-drop}
@@ -31,7 +31,7 @@ use Rattle.mq_system.specs.Shown.{figures_by, stat_answer}
 use Rattle.mq_system.specs.Shown.{figures_or_errno, stat_of}
 use Rattle.mq.specs.Laws.{FindsRemoved, KnowsRemoved, StaysRefused, StaysWritten}
 
--- a list that begins another ends within its first part, or goes on after it
+-- a prefix of two lists' concatenation ends within the first, or continues after it
 apart : {X : Type 0} (log tail events more : List X) → log ++ tail ≡ events ++ more
     → ((rest : List X) × (log ≡ events ++ rest))
     ⊎ ((left : List X) × (events ≡ log ++ left) × (tail ≡ left ++ more))
@@ -60,13 +60,13 @@ begins e es rest log is h = record {
 abbrev IsRemoved : List Event → Type 0
 IsRemoved log = ends_with_removed log ≡ true
 
--- of so many makings, the first events of these logs after such a past are a slot list
+-- within `last_seq` + 1 creations, the first events of these logs after such a past are a slot list
 abbrev IsCut : ℕ → List Event → List (List Event) → List Event → List Event → Type 0
 IsCut last_seq past logs events more = ArePast past → All Lawful logs
     → All IsRemoved (take (length logs - 1) logs) → joined logs ≡ events ++ more
     → made_count (past ++ events) ≤ last_seq + 1 → IsSlotList last_seq (past ++ events)
 
--- they are, if they go on after the first log, and the rest of them are
+-- they are, if they continue after the first log, and the rest of them are
 goes_on : (last_seq : ℕ) (past log : List Event) (logs : List (List Event)) (left more : List Event)
     → IsCut last_seq (past ++ log) logs left more → ArePast past → All Lawful (log ∷ logs)
     → All IsRemoved (take (length (log ∷ logs) - 1) (log ∷ logs)) → joined logs ≡ left ++ more
@@ -125,7 +125,7 @@ beginning last_seq events more h =
     omega (arith, h.few, list_counted last_seq (events ++ more) h, counted events more) in
     cut last_seq [] h.logs events more none h.lawful h.ended (sym h.whole) few
 
--- a seat reads back what it wrote
+-- a seat's own event stays at its entry in its later fronts
 pub written : StaysWritten
 written old now later slot verdict entry event done grown =
     let front = front_of now slot in
@@ -148,7 +148,7 @@ stays_in last_seq front more rest seq n lawful removed =
     (subst (IsSlotList last_seq) parts lawful))
     removed
 
--- so it is removed after any events that a call of such a seat looks at
+-- so it is removed in each prefix of a later front that is as long as the earlier front, or longer
 removed_then : (last_seq : ℕ) (old new : SeatState) (slot seq entry : ℕ)
     → KnowsRemoved last_seq old new slot seq → length (front_of old slot) ≤ entry
     → standing (take entry (front_of new slot)) seq ≡ Removed

@@ -1,4 +1,4 @@
--- A receipt of a call that was refused for a text's length, and was made again.
+-- A receipt by a call that was refused for a text's length, and was retried.
 use Rattle.std.proofs.Common.{◌≡◌, inl, inr, ℕ, ◌≤◌, Bool, true, false, length, Option, None, Some, ap, subst, arith}
 use Rattle.std.specs.Prelude.{MatchOption}
 use Rattle.std.proofs.lemmas.List.{length-append, length-take}
@@ -19,14 +19,14 @@ use Rattle.mq_system.specs.Seen.{IsDone, IsRefused, Verdict, receive_verdict}
 use Rattle.mq_system.proofs.LaterLemmas.{look_self, look_trans, step_after}
 use Rattle.mq.specs.Caller.{IsReceivedInto, IsTooLong}
 
--- a seat that looked has as many events of a slot, or more
+-- after a read a seat knows as many events of a slot as before, or more
 known_more : (a b : SeatState) (slot : ℕ) → IsLook a b
     → length (front_of a slot) ≤ length (front_of b slot)
 known_more a b slot look =
     let p = look.later.later slot in
     omega (arith, ap length p.1, length-append (front_of a slot) p.0)
 
--- a change of a seat that looked before
+-- a change by a seat after a read
 done_after : (a b c : SeatState) (slot : ℕ) (verdict : Verdict) (entry : ℕ) (e : Event)
     → IsLook a b → IsDone b c slot verdict entry e → IsDone a c slot verdict entry e
 done_after a b c slot verdict entry e look done = record {
@@ -35,7 +35,7 @@ done_after a b c slot verdict entry e look done = record {
   allowed = done.allowed;
 }
 
--- a receipt of a seat that looked before, with its bytes alone
+-- a receipt by a seat after a read, with its bytes alone
 pub received_after : (kept : Pledged) (slots id size : ℕ) (selection : Selection) (noerror : Bool)
     (moment : ℕ) (a b c : SeatState) (d : Delivered PlainText)
     → IsLook a b → IsReceived kept slots id size selection noerror moment b c d
@@ -71,7 +71,7 @@ received_after kept slots id size selection noerror moment a b c d look is =
       };
     }
 
--- a refusal of a seat that looked before
+-- a refusal of a seat after a read
 pub turned_after : (early : Bool) (may : Errno → Type 0) (slot : ℕ) (verdict : Verdict)
     (a b c : SeatState) (r : Refused)
     → IsLook a b → IsTurnedAway early may slot verdict b c r
@@ -92,7 +92,7 @@ turned_after early may slot verdict a b c r look is = record {
       why = its.why;
     }
 
--- a seat that was told of too long a text looked
+-- a seat that was refused for a text's length did no more than read
 pub looked : (slots id most : ℕ) (selection : Selection) (noerror nowait : Bool) (a b : SeatState)
     → IsTooLong slots id most selection noerror nowait a b → IsLook a b
 looked slots id most selection noerror nowait a b (inl same) = rw same (look_self a)
@@ -106,7 +106,7 @@ too_long early may slot verdict a c r long turned =
     subst (λ errno. IsRefusal early may slot verdict a c errno) long
     (record { entry = r.entry; turned = turned })
 
--- a call that cuts a longer text is not refused for its length
+-- a call that truncates a longer text is not refused for its length
 pub not_cut : (early ends noerror : Bool) (slot : ℕ) (verdict : Verdict) (a c : SeatState)
     (r : Refused) → IsTurnedAway early (MayReceive ends noerror) slot verdict a c r
     → r.errno ≡ E2BIG → noerror ≡ false

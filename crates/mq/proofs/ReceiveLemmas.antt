@@ -15,7 +15,7 @@ use Rattle.mq_calls.specs.Texts.{text_at}
 use Rattle.mq_calls.specs.declared.results.Delivered.{Delivered}
 use Rattle.mq_calls.specs.declared.results.Refused.{Refused}
 
--- what is handed out is no longer than there is room
+-- a received text is no longer than the room for it
 pub received_fits : (s after : QueuesState) (seat id size : ℕ) (msgtyp : ℤ) (except noerror : Bool)
     (moment : ℕ) (d : Delivered PlainText)
     → msgrcv s seat id size msgtyp except noerror moment ≡ Ok (d, after)

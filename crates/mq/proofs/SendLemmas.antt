@@ -5,7 +5,7 @@ use Rattle.mq_queue.specs.Memory.{or_memory}
 use Rattle.mq_table.specs.Ids.{slot_of}
 use Rattle.mq_table.specs.Kept.{KeptSlot, entries_of}
 use Rattle.mq_table.specs.SlotParts.{empty_kept}
-use Rattle.mq_one_thread.proofs.DraftLemmas.{spent_after}
+use Rattle.mq_local.proofs.DraftLemmas.{spent_after}
 use Rattle.mq_calls.specs.Calls.{msgsnd}
 use Rattle.mq_calls.specs.Look.{Answer, refused_early, refused_or_memory}
 use Rattle.mq_calls.specs.State.{QueuesState}

@@ -1,4 +1,4 @@
--- Workers that come to their seats, and leave them with their answers.
+-- Workers that take their seats, and leave them with their answers.
 use Rattle.std.proofs.Common.{◌≡◌, ℕ, zero, suc, ◌*◌, List, [], ◌∷◌, ◌++◌, length, take, replicate, Some, slice_get, slice_index, sum, refl, ap, ◌∙◌, arith, append_assoc}
 use Rattle.std.proofs.Math.Seq.{take-length}
 use Rattle.std.proofs.lemmas.List.Folds.{sum_by-replicate}
@@ -56,7 +56,7 @@ zeros zero i = refl
 zeros (suc n) zero = refl
 zeros (suc n) (suc i) = zeros n i
 
--- where nobody works nothing happens
+-- without workers nothing is changed
 pub none_changed : (last_seq slots : ℕ) (seats : List SeatState) (ended : List ClosedSlot) → length seats ≡ 1 → AreFresh slots seats
     → IsEnd last_seq seats ended → entries_in ended ≡ counted_by seats → AreChanges last_seq [] ended
 none_changed last_seq slots [] ended one fresh end total = absurd (omega arith)
@@ -76,7 +76,7 @@ none_changed last_seq slots (s ∷ []) ended one fresh end total =
       total = omega (arith, total, none);
     }
 
--- nor is anything answered
+-- nor are there answers
 pub none_left : {W A : Type 0} (after : W → SeatState → A → Type 0) (last_seq slots : ℕ) (seats : List SeatState) (workers : List W)
     (answers : List A) (ended : List ClosedSlot) → length seats ≡ 1 → AreFresh slots seats → IsEnd last_seq seats ended
     → entries_in ended ≡ counted_by seats → length workers ≡ 0 → answers ≡ [] → AreOf after last_seq workers answers ended

@@ -12,7 +12,7 @@ use Rattle.mq_system.specs.Seat.{SeatState}
 use Rattle.mq_system.specs.SeenMany.{AreReceived}
 use Rattle.mq.specs.Caller.{IsUnasked, IsUnselectable}
 
--- the queues were not asked: for the selection, or since there was no memory to hand texts out
+-- the queues were not asked: for the selection, or since there was no memory to return texts
 pub record IsUnaskedForTexts (selection : Selection) (n : ℕ) (old new : SeatState)
     (ds : List (Delivered PlainText)) (ended : Result (Unit {0}) Refused) : Type 0 where
   pub errno : Errno
@@ -21,7 +21,7 @@ pub record IsUnaskedForTexts (selection : Selection) (n : ℕ) (old new : SeatSt
   pub same : IsUnasked old new
   pub why : IsUnselectable selection errno ⊎ ((errno ≡ ENOMEM) × (0 < n))
 
--- up to n texts were received, as so many calls hand them out, or the queues were not asked
+-- up to n texts were received, as so many calls return them, or the queues were not asked
 abbrev pub AreReceivedTexts : Pledged → ℕ → ℕ → ℕ → Selection → Bool → Bool → ℕ → ℕ → SeatState
     → SeatState → List (Delivered PlainText) → Result (Unit {0}) Refused → Type 0
 AreReceivedTexts kept slots id size selection noerror nowait moment n old new ds ended =

@@ -25,7 +25,7 @@ abbrev pub sends_bytes : QueuesState → ℕ → ℕ → ℤ → ℕ → List �
 sends_bytes s seat id mtype tag bytes moment =
     sends_draft seat id mtype tag bytes moment (drafts s (length bytes))
 
--- a text of these bytes may find no memory: it takes some, and a run of pages is free for it
+-- a text of these bytes may run out of memory: it needs some, and a run of pages is free for it
 abbrev pub MayLackMemory : QueuesState → List ℕ → Type 0
 MayLackMemory s bytes = (INLINE_LEN < length bytes) × IsOk (drafts s (length bytes))
 
@@ -54,7 +54,7 @@ pub record IsErrnoOf {T : Type 0} (answer : Answer T) (memory : Refused) (lackin
   pub refused : (errno ≡ (or_memory memory answer).errno) ⊎ ((errno ≡ ENOMEM) × lacking)
   pub unchanged : after ≡ before
 
--- a call of bytes answers and leaves so, or is refused
+-- a call of bytes returns and leaves this, or is refused
 abbrev pub AnswersBytes : {T U : Type 0} → Result U Errno → (U → T) → Answer T → Refused → Type 0
     → QueuesState → QueuesState → Type 0
 AnswersBytes (Ok told) tell answer memory lacking before after = answer ≡ Ok (tell told, after)

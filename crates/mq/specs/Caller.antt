@@ -23,18 +23,18 @@ use Rattle.mq.specs.Bytes.{with_text}
 abbrev pub with_bytes : {T : Type 0} → Delivered T → List ℕ → Delivered PlainText
 with_bytes d bytes = with_text d (record { bytes = bytes; block = None })
 
--- the flags with which a queue is made where it is not there
+-- the flags with which a queue is created where there is none
 abbrev pub creating : GetFlags
 creating = record { create = true; exclusive = false }
 
--- an id is that of a queue that was found, or that was made where none was found
+-- an id is that of a queue that was found, or that was created where none was found
 pub record IsGotId (slots last_seq : ℕ) (key : ℤ) (moment : ℕ) (old new : SeatState) (id : ℕ)
     : Type 0 where
   pub made : Option ℕ
   pub got : IsGot slots last_seq key creating moment old new (record { id = id; made = made })
   pub within : out_of_slots slots id ≡ false
 
--- a call was refused: the queues were not asked, or they turned it away
+-- a call was refused: the queues were not asked, or they refused it
 pub record IsTurnedBack (unasked : Errno → Type 0) (early : Bool) (may : Errno → Type 0) (slot : ℕ)
     (verdict : Verdict) (old new : SeatState) (errno : Errno) : Type 0 where
   pub allowed : may errno
@@ -54,16 +54,16 @@ abbrev pub IsNotDrafted : ℕ → SeatState → SeatState → Errno → Type 0
 IsNotDrafted n old new errno = MayNotDraft n errno × IsUnasked old new
 
 -- why a draft that waits found no pages or no memory: its patience ends, or the arena is too small,
--- or it wants memory
+-- or it needs memory
 abbrev pub MayWaitInVain : Bool → ℕ → ℕ → Type 0
 MayWaitInVain ends height n = (ends ≡ true) ⊎ (height < order_for n) ⊎ (INLINE_LEN < n)
 
--- no text was drafted of so many bytes, though it was waited for pages
+-- no text was drafted of so many bytes, though the draft waited for pages
 abbrev pub IsNotDraftedWithin : Bool → ℕ → ℕ → SeatState → SeatState → Errno → Type 0
 IsNotDraftedWithin ends height n old new errno =
     IsNotDrafted n old new errno × (errno ≡ ENOMEM → MayWaitInVain ends height n)
 
--- bytes were not sent: no text was drafted, or it was turned away
+-- bytes were not sent: no text was drafted, or it was refused
 abbrev pub IsNotSentFrom : (Errno → Type 0) → ℕ → ℕ → ℤ → ℕ → Bool → SeatState → SeatState → Errno
     → Type 0
 IsNotSentFrom undrafted slots id mtype n nowait old new errno =
@@ -89,7 +89,8 @@ is_selectable (UpTo bound) = nat_lt 0 bound && nat_le bound (2 ^ 63)
 abbrev pub IsUnselectable : Selection → Errno → Type 0
 IsUnselectable selection errno = (errno ≡ EINVAL) × (is_selectable selection ≡ false)
 
--- for how many bytes a call that may hand out so many made room: for all where a longer text is cut
+-- for how many bytes a call that may return so many has room: for all where a longer text is
+-- truncated
 pub record IsRoom (most : ℕ) (noerror : Bool) (room : ℕ) : Type 0 where
   pub within : room ≤ most
   pub cut : noerror ≡ true → room ≡ min most MSGMAX
@@ -114,8 +115,8 @@ abbrev pub HasNoRoom : ℕ → ℕ → ℕ → Selection → Bool → Bool → S
 HasNoRoom slots id most selection noerror nowait old new errno =
     (errno ≡ ENOMEM) × (0 < most) × IsTooLong slots id most selection noerror nowait old new
 
--- bytes were not received: for the selection, for want of memory, or the call was turned away; for
--- a text's length only where it is longer than all that may be handed out
+-- bytes were not received: for the selection, out of memory, or the call was refused; for a text's
+-- length only where it is over the most that may be returned
 pub record IsNotReceivedFrom (slots id most : ℕ) (selection : Selection) (noerror nowait : Bool)
     (old new : SeatState) (errno : Errno) : Type 0 where
   pub room : ℕ

@@ -15,7 +15,7 @@ pub record IsEnded {A : Type 0} (slots last_seq height : ℕ) (ended : Ended A) 
   pub closed : All (IsClosed last_seq) ended.slots.items
   pub free : ended.free_pages ≤ 2 ^ height
 
--- how many pages are free once all that waits is home
+-- how many pages are free once all pending texts are freed
 abbrev pub free_at_end : QueuesState → ℕ
 free_at_end s =
     let home : Lending = all_home s.slots s.arena in

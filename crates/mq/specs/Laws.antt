@@ -30,7 +30,7 @@ pub record FindsRemoved (old new : SeatState) (slot : ℕ) (verdict : Verdict) :
   pub refused : (entry : ℕ) (errno : Errno) → IsRefused old new slot verdict entry errno
       → errno ≡ EIDRM
 
--- a seat that knows that an id's queue was removed, in a slot whose list goes on as it may after
+-- a seat that knows that an id's queue was removed, in a slot whose list continues as it may after
 -- what the seat knows once the call is done, which is known of each list at the end
 pub record KnowsRemoved (last_seq : ℕ) (old new : SeatState) (slot seq : ℕ) : Type 0 where
   pub later : IsLater old new

@@ -1,4 +1,4 @@
--- What a caller of one thread answers and leaves.
+-- What the calls of one thread return, and the state after them.
 use Rattle.std.specs.Prelude.{◌≡◌, ◌⊎◌, ℕ, ℤ, ◌<◌, Bool, false, if◌then◌else◌, List, length}
 use Rattle.std.specs.Prelude.{Option, Result, Ok, Err, IsOk}
 use Rattle.mq_arena.specs.Text.{PlainText}
@@ -25,7 +25,7 @@ use Rattle.mq_system.specs.Refusals.{never_sent}
 use Rattle.mq.specs.Bytes.{copied_out, sends_bytes}
 use Rattle.mq.specs.Caller.{IsRoom, IsUnselectable}
 
--- a message is sent: its type and its slot are looked at before a text is drafted
+-- a message is sent: its type and its slot are checked before a text is drafted
 abbrev pub sends_message : QueuesState → ℕ → ℕ → ℤ → ℕ → List ℕ → ℕ → Answer ℕ
 sends_message s seat id mtype tag bytes moment =
     if never_sent (length s.slots) id mtype then Err (refused_early EINVAL)
@@ -52,7 +52,7 @@ pub record IsCopiedOut (s : QueuesState) (seat id most : ℕ) (selection : Selec
   pub is_room : IsRoom most noerror room
   pub answer : copied_out (receives s seat id room selection noerror moment) ≡ Ok (d, after)
 
--- a receipt was refused: for a text's length only where that is over all that may be handed out
+-- a receipt was refused: for a text's length only where that is over the most that may be returned
 pub record IsRefusedReceipt (s : QueuesState) (seat id most : ℕ) (selection : Selection)
     (noerror : Bool) (moment : ℕ) (errno : Errno) : Type 0 where
   pub room : ℕ
@@ -61,7 +61,7 @@ pub record IsRefusedReceipt (s : QueuesState) (seat id most : ℕ) (selection : 
   pub refused : errno
       ≡ (refused_or_memory s id (receives s seat id room selection noerror moment)).errno
 
--- nothing was received: for the selection, for want of memory, or it was refused
+-- nothing was received: for the selection, out of memory, or the call was refused
 abbrev pub IsNotTaken : QueuesState → ℕ → ℕ → ℕ → Selection → Bool → ℕ → Errno → Type 0
 IsNotTaken s seat id most selection noerror moment errno =
     IsUnselectable selection errno ⊎ ((errno ≡ ENOMEM) × (0 < most))
@@ -73,32 +73,32 @@ pub record IsTurnedDown {T : Type 0} (answer : Answer T) (memory : Refused)
   pub refused : errno ≡ (or_memory memory answer).errno
   pub unchanged : after ≡ before
 
--- a call answers and leaves so, or is refused
+-- a call returns and leaves this, or is refused
 abbrev pub AnswersErrno : {T : Type 0} → Answer T → Refused → QueuesState → QueuesState
     → Result T Errno → Type 0
 AnswersErrno answer memory before after (Ok told) = answer ≡ Ok (told, after)
 AnswersErrno answer memory before after (Err errno) =
     IsTurnedDown answer memory before after errno
 
--- a queue was not found, nor made, and all is as it was
+-- a queue was neither found nor created, and all is as it was
 pub record IsNoIdOf (answer : GetAnswer) (before after : QueuesState) (errno : Errno)
     : Type 0 where
   pub refused : errno ≡ or_memory ENOMEM answer
   pub memory : MayRunOut answer
   pub unchanged : after ≡ before
 
--- an id is that which msgget answers, or it answers none
+-- an id is what msgget returns, or there is none
 abbrev pub IsIdOf : GetAnswer → QueuesState → QueuesState → Result ℕ Errno → Type 0
 IsIdOf answer before after (Ok id) =
     (made : Option ℕ) × (answer ≡ Ok (record { id = id; made = made }, after))
 IsIdOf answer before after (Err errno) = IsNoIdOf answer before after errno
 
--- a slot's list is cut, or there is no memory for that
+-- a slot's log is drained, or there is no memory for that
 abbrev pub AnswersCutLog : QueuesState → ℕ → QueuesState → Result Cut Errno → Type 0
 AnswersCutLog before k after (Ok cut) = cut_log before k ≡ (cut_shown cut, after)
 AnswersCutLog before k after (Err errno) = (errno ≡ ENOMEM) × (after ≡ before)
 
--- no text is drafted: it is too long, no pages are free, or it wants memory
+-- no text is drafted: it is too long, no pages are free, or memory ran out
 pub record IsNoDraftOf (before : QueuesState) (n : ℕ) (after : QueuesState) (errno : Errno)
     : Type 0 where
   pub refused : errno ≡ draft_errno (or_memory Memory (drafts before n))

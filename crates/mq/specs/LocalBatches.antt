@@ -1,4 +1,4 @@
--- What a caller's calls of several texts answer and leave, of one thread.
+-- What one thread's calls of several texts return, and the state after them.
 use Rattle.std.specs.Prelude.{◌≡◌, ◌⊎◌, ℕ, ◌<◌, false, min, List, [], ◌∷◌, ◌++◌, length, Option, None, Some}
 use Rattle.std.specs.Prelude.{Result, Ok, Err, MatchResult}
 use Rattle.std.specs.List.{FoldsTo}
@@ -12,12 +12,12 @@ use Rattle.mq_calls.specs.declared.errno.Errno.{Errno}
 use Rattle.mq_calls.specs.declared.errno.Errno.TheVariants.{ENOMEM}
 use Rattle.mq_calls.specs.declared.results.Delivered.{Delivered}
 use Rattle.mq_calls.specs.declared.results.Refused.{Refused}
-use Rattle.mq_one_thread.specs.Many.{AnswersMany}
+use Rattle.mq_local.specs.Many.{AnswersMany}
 use Rattle.mq_system.specs.declared.many.Letter.{Letter}
 use Rattle.mq.specs.Caller.{IsUnselectable}
 use Rattle.mq.specs.Local.{receives}
 
--- msgsnd of a letter at a seat, of what stands when its turn comes
+-- msgsnd of a letter at a seat, in the state before it
 abbrev pub sends_letter : ℕ → ℕ → ℕ → Letter PlainText → QueuesState → Answer ℕ
 sends_letter seat id moment l s = msgsnd s seat id l.mtype l.tag l.text moment
 
@@ -38,7 +38,7 @@ IsFirstEntryOf seat id moment s [] first = first ≡ None
 IsFirstEntryOf seat id moment s (l ∷ ls) first =
     (entry : ℕ) × (first ≡ Some entry) × IsEntryOf seat id moment s l entry
 
--- the first of those that are left is refused, or wants memory
+-- the first of those that are left is refused, or memory ran out for it
 pub record IsFirstRefusal (seat id moment : ℕ) (s : QueuesState) (left : List (Letter PlainText))
     (r : Refused) : Type 0 where
   pub first : Letter PlainText
@@ -59,11 +59,11 @@ pub record AnswersLetters (seat id moment most : ℕ) (before after : QueuesStat
       (λ _. length sent < most)
   pub refused : MatchResult ended (λ _. Unit {0}) (IsFirstRefusal seat id moment after left)
 
--- a receipt of a text of any length, of what stands when its turn comes
+-- a receipt of a text of any length, in the state before it
 abbrev pub receives_text : ℕ → ℕ → Selection → ℕ → QueuesState → Answer (Delivered PlainText)
 receives_text seat id selection moment s = receives s seat id MSGMAX selection false moment
 
--- the queues were not asked: for the selection, or since there was no memory to hand texts out
+-- the queues were not asked: for the selection, or since there was no memory to return texts
 pub record IsUnaskedHere (selection : Selection) (n : ℕ) (before after : QueuesState)
     (ds : List (Delivered PlainText)) (ended : Result (Unit {0}) Refused) : Type 0 where
   pub errno : Errno
@@ -72,7 +72,7 @@ pub record IsUnaskedHere (selection : Selection) (n : ℕ) (before after : Queue
   pub unchanged : after ≡ before
   pub why : IsUnselectable selection errno ⊎ ((errno ≡ ENOMEM) × (0 < n))
 
--- up to n texts are received, as so many calls hand them out, or the queues were not asked
+-- up to n texts are received, as so many calls return them, or the queues were not asked
 abbrev pub AnswersTexts : ℕ → ℕ → Selection → ℕ → ℕ → QueuesState → QueuesState
     → List (Delivered PlainText) → Result (Unit {0}) Refused → Type 0
 AnswersTexts seat id selection moment n before after ds ended =

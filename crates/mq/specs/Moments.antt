@@ -1,4 +1,4 @@
--- The times that a caller's calls tell the queues.
+-- The timestamps that a caller's calls pass to the queues.
 use Rattle.std.specs.Prelude.{◌≡◌, false}
 use Rattle.mq.specs.declared.moments.Moments.{Moments}
 

@@ -45,7 +45,7 @@ pub record IsFirstValueNotSent {V : Type 0} (bytes_of : V → List ℕ) (slots h
   pub refused : IsNotSentFrom (IsNotMade nowait height (length (bytes_of first.text)) seat seat)
       slots id first.mtype (length (bytes_of first.text)) nowait seat seat r.errno
 
--- up to so many values were sent: the seat looked, and then so many calls of msgsnd sent their
+-- up to so many values were sent: the seat read, and then so many calls of msgsnd sent their
 -- texts one after another at consecutive entries; the first refusal ended it
 pub record AreValuesSent {V : Type 0} (bytes_of : V → List ℕ) (slots height id : ℕ) (nowait : Bool)
     (moment : ℕ) (old new : SeatState) (values : List (Letter V)) (told : ValuesSent)
@@ -120,7 +120,7 @@ pub record IsValueOf {V : Type 0} (bytes_of : V → List ℕ) (vowed : ℕ → �
   pub bytes : bytes_of v.text ≡ d.text.bytes
   pub vow : vowed v.sender v.tag v.mtype v.text
 
--- values were read of the first of these texts, and of all of them unless a value may want memory
+-- values were read of the first of these texts, and of all of them unless a read may allocate
 pub record AreValuesRead {V : Type 0} (bytes_of : V → List ℕ) (vowed : ℕ → ℕ → ℤ → V → Type 0)
     (allocates : Bool) (texts : List (Delivered PlainText)) (values : List (Delivered V))
     (unread : List (Delivered PlainText)) : Type 0 where

@@ -1,3 +1,6 @@
+//! Workers at their seats, as jobs of threads: `with_workers` puts each worker at a seat, runs it
+//! there, and takes its seat and its answer back. Proofs see which worker each answer is of.
+
 ghost use Rattle.std.specs.Prelude.{◌≡◌, ◌≤◌, List, [], length, vec_len, vec_capacity};
 ghost use Rattle.mq.specs.Workers.{AreAfterWork, IsOf};
 
@@ -10,7 +13,7 @@ use std::marker::{Brand, Model, PhantomData};
 use std::sync::Wait;
 use std::time::Clock;
 
-/// The workers of a system in the order of their places, which only proofs see.
+/// The workers of a system by their indices, which only proofs see.
 pub(crate) trait Crew<W> {
     ghost workers: { List W };
 }
@@ -19,8 +22,8 @@ impl<W> Crew<W> for Brand {
     ghost workers = { [] };
 }
 
-/// A worker and its caller, beside which it leaves its answer. What a thread leaves behind a
-/// reference is known by its type alone, so the type says whose answer it is.
+/// A worker, its caller, and room for its answer. Of what a thread leaves behind a reference,
+/// proofs know the type alone: so the type says whose answer it is.
 pub(crate) struct AtSeat<'a, P: Pledge, N: Names, R: Wait + Clock, C: Crew<W>, W: Worker<P>> {
     place: usize,
     caller: Caller<'a, P, N, R>,
@@ -43,7 +46,8 @@ impl<'a, P: Pledge, N: Names, R: Wait + Clock, C: Crew<W>, W: Worker<P>> Model
 }
 
 impl<'a, P: Pledge, N: Names, R: Wait + Clock, C: Crew<W>, W: Worker<P>> AtSeat<'a, P, N, R, C, W> {
-    /// The seat and the answer of the worker of this place: no run meets that of another, or none.
+    /// The seat and the answer of the worker with this index. The answer of another worker, or
+    /// none, cannot occur; this is argued, not proved.
     fn leave(self, rt: &R, place: usize) -> (Seat<N>, W::Answer)
         ensures { IsOf W.after C.workers place result.0 result.1 }
     {
@@ -78,7 +82,7 @@ impl<'a, P: Pledge, N: Names, R: Wait + Clock, C: Crew<W>, W: Worker<P>> AtSeat<
     }
 }
 
-/// What one thread does: the worker works, if it has not yet.
+/// The job of one thread: it runs the worker, if that has not run yet.
 #[derive(Drop)]
 pub(crate) struct SeatJob<'b, 'a, P: Pledge, N: Names, R: Wait + Clock, C: Crew<W>, W: Worker<P>> {
     at: &'b mut AtSeat<'a, P, N, R, C, W>,
@@ -106,7 +110,7 @@ impl<
     }
 }
 
-/// Each worker at the seat of its place, the last one first.
+/// Puts each worker at the seat of its index, the last one first.
 pub(crate) fn take_seats<'a, P: Pledge, N: Names, R: Wait + Clock, C: Crew<W>, W: Worker<P>>(
     rt: &'a R,
     alloc: Global,
@@ -138,7 +142,7 @@ pub(crate) fn take_seats<'a, P: Pledge, N: Names, R: Wait + Clock, C: Crew<W>, W
     }
 }
 
-/// A turn for each worker.
+/// A job for each worker.
 pub(crate) fn turns<'b, 'a, P: Pledge, N: Names, R: Wait + Clock, C: Crew<W>, W: Worker<P>>(
     alloc: Global,
     taken: &'b mut [AtSeat<'a, P, N, R, C, W>],

@@ -23,14 +23,14 @@ use std::time::Clock;
 
 /// Texts that were received by one call.
 pub struct BatchReceived<T> {
-    /// In the order of their receipts.
+    /// In the order in which they were received.
     pub texts: VecDeque<Delivered<T>>,
     /// Why there are fewer than were asked for.
     pub ended: Result<(), Refused>,
 }
 
 impl<T> BatchReceived<T> {
-    /// None, for this refusal, before the queues were asked.
+    /// No texts, for this refusal, before the queue was called.
     pub(crate) fn none(alloc: Global, errno: Errno) -> BatchReceived<T>
         ensures texts { result.texts.items ≡ [] }
         ensures ended { result.ended ≡ Err (refused_early errno) }
@@ -43,8 +43,8 @@ impl<T> BatchReceived<T> {
 }
 
 impl<'a, P: Pledge, N: Names, R: Wait + Clock> Caller<'a, P, N, R> {
-    /// Sends letters by moves, at most `MAX_BATCH` by one call, as so many calls of `send_text` at
-    /// consecutive entries of the queue's log. It waits for room for the first alone. The first
+    /// Sends letters by moves, at most `MAX_BATCH` by one call, as that many calls of `send_text`
+    /// at consecutive entries of the queue's log. It waits for room for the first alone. The first
     /// refusal ends it; that letter and those behind it stay in the list.
     pub fn send_texts(&mut self, id: Id, letters: &mut VecDeque<Letter<TextOf<N>>>) -> BatchSent
         requires pledge { All (λ l. P.kept self.old.seat.number l.tag l.mtype l.text.bytes)
@@ -56,7 +56,7 @@ impl<'a, P: Pledge, N: Names, R: Wait + Clock> Caller<'a, P, N, R> {
         self.send_texts_within(id, letters, &mut Forever)
     }
 
-    /// Sends letters as `send_texts` does, and waits for nobody.
+    /// Sends letters as `send_texts` does, and does not wait.
     pub fn try_send_texts(&mut self, id: Id, letters: &mut VecDeque<Letter<TextOf<N>>>) -> BatchSent
         requires pledge { All (λ l. P.kept self.old.seat.number l.tag l.mtype l.text.bytes)
             letters.old.items }
@@ -94,9 +94,9 @@ impl<'a, P: Pledge, N: Names, R: Wait + Clock> Caller<'a, P, N, R> {
         )
     }
 
-    /// Receives up to so many texts that the selection names, at most `MAX_BATCH` by one call, as
-    /// so many calls of `receive_text` at consecutive entries of the queue's log. It waits for the
-    /// first alone, and takes what is there. The first refusal ends it.
+    /// Receives up to `most` texts that the selection matches, at most `MAX_BATCH` by one call, as
+    /// that many calls of `receive_text` at consecutive entries of the queue's log. It waits for
+    /// the first alone, and takes what is there. The first refusal ends it.
     pub fn receive_texts(
         &mut self,
         id: Id,
@@ -111,7 +111,7 @@ impl<'a, P: Pledge, N: Names, R: Wait + Clock> Caller<'a, P, N, R> {
         self.receive_texts_within(id, selection, ReceiveOptions::new(), most, &mut Forever)
     }
 
-    /// Receives texts as `receive_texts` does, and waits for nobody.
+    /// Receives texts as `receive_texts` does, and does not wait.
     pub fn try_receive_texts(
         &mut self,
         id: Id,
@@ -127,8 +127,8 @@ impl<'a, P: Pledge, N: Names, R: Wait + Clock> Caller<'a, P, N, R> {
     }
 
     /// Receives texts as `receive_texts` does, as the options say, and waits for the first no
-    /// longer than until the patience ends. A selection of types that no message has is refused
-    /// with EINVAL, and where there is no memory to hand texts out the call with ENOMEM.
+    /// longer than until the patience ends. A selection that no msgtyp stands for is refused with
+    /// EINVAL, and where there is no memory for the list of texts the call with ENOMEM.
     pub fn receive_texts_within<T: Patience>(
         &mut self,
         id: Id,

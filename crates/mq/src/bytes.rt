@@ -1,3 +1,5 @@
+//! Sends and receives of bytes by copy: a text is drafted from a slice, and copied out to a vector.
+
 ghost use Rattle.std.specs.Prelude.{◌≡◌, ◌+◌, ◌≤◌, ◌++◌, length};
 ghost use Rattle.std.specs.Prelude.{vec_len, vec_capacity};
 ghost use Rattle.mq_calls.specs.Look.{refused_at};
@@ -5,16 +7,16 @@ ghost use Rattle.mq.specs.Bytes.{AnswersBytes, MayLackMemory, sends_bytes};
 
 use mq_arena::Text;
 use mq_calls::{Errno, SendRefused};
-use mq_one_thread::OneThread;
+use mq_local::OneThread;
 use mq_table::Id;
 use std::sync::ledger::Ledger;
 
-/// The room that is made at a first receipt: a longer text makes it grow.
+/// The size of the buffer of a first receive: a longer text makes it grow.
 pub(crate) const FIRST_ROOM: u64 = 256;
 
 /// Drafts a text with these bytes and sends it, or spends it where it is refused. EINVAL and
 /// ENOMEM of the draft, then the refusals of `OneThread::msgsnd`: a draft that finds no memory
-/// answers ENOMEM, whatever the send would have answered.
+/// returns ENOMEM, whatever the send would have returned.
 #[tactic(auto, using(crate::proofs::SendLemmas::sends_drafted))]
 pub(crate) fn send_bytes<L: Ledger>(
     queues: &mut OneThread<L>,

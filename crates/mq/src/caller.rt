@@ -1,3 +1,6 @@
+//! The client handle of a seat: msgget(2) and msgctl(2). Its sends and receives are in modules of
+//! their own.
+
 ghost use Rattle.std.specs.Prelude.{◌≡◌, ◌<◌, true, length, map, slice_index, MatchResult};
 ghost use Rattle.mq_queue.specs.Row.{row};
 ghost use Rattle.mq_table.specs.Cut.{IsCutOf, cut_shown};
@@ -21,21 +24,21 @@ use std::alloc::Global;
 use std::sync::Wait;
 use std::time::Clock;
 
-/// What a thread calls a system by: the calls of the manual at a seat of its own. It takes bytes in
-/// place of texts, or the texts themselves.
+/// A thread's handle to a system: the calls of the manual, at a seat of its own. Messages are
+/// bytes, which it copies, or texts, which it moves.
 pub struct Caller<'a, P: Pledge, N: Names, R: Wait + Clock> {
     pub rt: &'a R,
     pub alloc: Global,
     pub system: &'a System<P, N>,
     pub seat: Seat<N>,
-    /// Room that a receipt is made into, kept for the next one.
+    /// A buffer that a receive reserves before it takes a message, kept for the next one.
     pub(crate) room: Vec<u8>,
-    /// The times that its calls tell the queues.
+    /// The timestamps of its calls.
     pub moments: Moments,
 }
 
 impl<'a, P: Pledge, N: Names, R: Wait + Clock> Caller<'a, P, N, R> {
-    /// The caller at this seat, with the clock's moments.
+    /// The caller at this seat, with timestamps of the clock.
     pub fn new(
         rt: &'a R,
         alloc: Global,
@@ -71,12 +74,12 @@ impl<'a, P: Pledge, N: Names, R: Wait + Clock> Caller<'a, P, N, R> {
         seat
     }
 
-    /// What runs it, which is a clock.
+    /// Its runtime, which is its clock too.
     pub fn runtime(&self) -> &'a R {
         self.rt
     }
 
-    /// Where it takes memory.
+    /// Its allocator.
     pub fn alloc(&self) -> Global {
         self.alloc
     }
@@ -104,7 +107,7 @@ impl<'a, P: Pledge, N: Names, R: Wait + Clock> Caller<'a, P, N, R> {
         self.seat.count(slot)
     }
 
-    /// Begins a call: its moment is that of the clock, where it is to be read.
+    /// Begins a call: its timestamp is read from the clock, where `moments` says so.
     #[inline(always)]
     pub(crate) fn begin(&mut self)
         ensures seat { self.new.seat ≡ self.old.seat }
@@ -113,7 +116,7 @@ impl<'a, P: Pledge, N: Names, R: Wait + Clock> Caller<'a, P, N, R> {
         self.moments = self.moments.of_call(self.rt);
     }
 
-    /// The queue with this key, which is made where it is not there (msgget(2) with IPC_CREAT).
+    /// The queue with this key, which is made where there is none (msgget(2) with IPC_CREAT).
     pub fn queue(&mut self, key: i32) -> Result<Id, Errno>
         ensures answer { MatchResult result
             (IsGotId N.slots N.last_seq key self.new.moments.now self.old.seat self.new.seat)
@@ -142,8 +145,8 @@ impl<'a, P: Pledge, N: Names, R: Wait + Clock> Caller<'a, P, N, R> {
             .msgget(self.rt, &mut self.seat, key, flags, self.moments.now)
     }
 
-    /// Sets how many bytes may wait in the queue, and as many messages (msgctl(2), IPC_SET).
-    /// EINVAL, EIDRM, EPERM, then ENOMEM.
+    /// Sets the quota of the queue: how many bytes may be pending, and as many messages (msgctl(2),
+    /// IPC_SET). EINVAL, EIDRM, EPERM, then ENOMEM.
     pub fn set(&mut self, id: Id, qbytes: u64) -> Result<u64, Errno>
         ensures answer { MatchResult result
             (IsSet N.slots id qbytes self.new.moments.now self.old.seat self.new.seat)
@@ -161,7 +164,7 @@ impl<'a, P: Pledge, N: Names, R: Wait + Clock> Caller<'a, P, N, R> {
         }
     }
 
-    /// Removes the queue (msgctl(2), IPC_RMID). Who waits in it answers EIDRM.
+    /// Removes the queue (msgctl(2), IPC_RMID). Its waiters are refused with EIDRM.
     pub fn remove(&mut self, id: Id) -> Result<Removal, Errno>
         ensures answer { MatchResult result
             (IsRemoved N.slots N.last_seq id self.new.moments.now self.old.seat self.new.seat)
@@ -179,9 +182,9 @@ impl<'a, P: Pledge, N: Names, R: Wait + Clock> Caller<'a, P, N, R> {
         }
     }
 
-    /// Cuts the log of a slot off where it ends now, and hands out the entries since the last cut,
-    /// to be stored or dropped, with what is known of those before. Messages, ids, keys and figures
-    /// stay, and entries count on. `close` tells only what is kept then. ENOMEM alone.
+    /// Drains the log of a slot: returns its entries since the last drain, to be stored or dropped,
+    /// with a checkpoint of those before. Messages, ids, keys and figures stay, and the indices
+    /// of entries count on. `close` returns only what is retained then. ENOMEM alone.
     pub fn cut_log(&mut self, slot: u8) -> Result<Cut, Errno>
         requires within { slot < N.slots }
         ensures answer { MatchResult result
@@ -196,8 +199,8 @@ impl<'a, P: Pledge, N: Names, R: Wait + Clock> Caller<'a, P, N, R> {
         }
     }
 
-    /// The figures of the queue (msgctl(2), IPC_STAT). It waits for nobody, and takes no lock and
-    /// no memory. EINVAL, then EIDRM.
+    /// The figures of the queue (msgctl(2), IPC_STAT). It does not wait, takes no lock and
+    /// allocates nothing. EINVAL, then EIDRM.
     pub fn stat(&mut self, id: Id) -> Result<Figures, Errno>
         ensures answer { result ≡ stat_of N.slots (front_of self.new.seat (slot_of id)) id }
         ensures look { IsLook self.old.seat self.new.seat }
@@ -206,7 +209,7 @@ impl<'a, P: Pledge, N: Names, R: Wait + Clock> Caller<'a, P, N, R> {
         self.seat.stat(id)
     }
 
-    /// A row for each slot. It waits for nobody, and takes no lock and no memory.
+    /// A row for each slot. It does not wait, takes no lock and allocates nothing.
     pub fn report(&mut self, rows: &mut [BoardRow])
         requires { length rows.old ≡ N.slots }
         ensures rows { rows.new ≡ map row self.new.seat.fronts }
@@ -216,8 +219,7 @@ impl<'a, P: Pledge, N: Names, R: Wait + Clock> Caller<'a, P, N, R> {
         self.seat.report(rows);
     }
 
-    /// What is in use, of all slots together (msgctl(2), IPC_INFO and MSG_INFO). It waits for
-    /// nobody.
+    /// What is in use, of all slots together (msgctl(2), IPC_INFO and MSG_INFO). It does not wait.
     pub fn info(&mut self) -> Usage
         ensures answer { result ≡ known_usage N.slots N.height self.new.seat N.slots }
         ensures look { IsLook self.old.seat self.new.seat }

@@ -1,3 +1,6 @@
+//! Message invariants of values in place of bytes: a receiver reads back a value that was sent, and
+//! may assume what its sender vowed of it.
+
 ghost use Rattle.std.specs.Prelude.{ℕ, ℤ, List};
 ghost use Rattle.mq.specs.Values.{carries};
 
@@ -29,7 +32,7 @@ pub trait Vow {
     ghost vowed: { ℕ → ℕ → ℤ → Self.Value → Type 0 } = { λ _ _ _ _. Unit {0} };
 }
 
-/// The pledge of such a vow. A value with a `Bytes` in it wants a pledge of the program's own,
+/// The pledge of such a vow. A value with a `Bytes` in it needs a pledge of the program's own,
 /// whose two laws are those below.
 pub struct Carries<V> {
     of: PhantomData<V>,

@@ -1,17 +1,19 @@
+//! A sum of two types, by which `with_two` puts workers of different types into one list.
+
 ghost use Rattle.std.specs.Prelude.{◌≡◌, ◌∷◌, [], length, IfOk};
 ghost use Rattle.mq.specs.Either.{AreTwo};
 ghost use Rattle.mq.specs.declared.either.Either.TheVariants.{One, Other};
 
 use std::alloc::{AllocError, Global};
 
-/// What is of one of two types.
+/// A value of one of two types.
 #[derive(Drop)]
 pub(crate) enum Either<A, B> {
     One(A),
     Other(B),
 }
 
-/// One of each, in a list.
+/// A list of one value of each type.
 pub(crate) fn both<A: Drop, B: Drop>(
     alloc: Global,
     one: A,
@@ -25,7 +27,7 @@ pub(crate) fn both<A: Drop, B: Drop>(
     Ok(both)
 }
 
-/// What `both` has put together.
+/// The two values of a list that `both` made.
 pub(crate) fn apart<A: Drop, B: Drop>(mut both: Vec<Either<A, B>>) -> (A, B)
     requires len { length both.items ≡ 2 }
     requires two { AreTwo both.items }

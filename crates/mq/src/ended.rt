@@ -1,16 +1,18 @@
+//! The result of a run, once its queue system is closed.
+
 ghost use Rattle.std.specs.Prelude.{◌≡◌};
 ghost use Rattle.mq_tree.specs.LentSet.{free_pages};
 
 use mq_calls::{Closed, ClosedSlot};
 use std::sync::ledger::Ledger;
 
-/// What a program answered, and what its queues left.
+/// The answer of a program, and what its queues left.
 #[derive(Drop)]
 pub struct Ended<A> {
     pub answer: A,
     /// What each slot left, in the order of their numbers.
     pub slots: Vec<ClosedSlot>,
-    /// How many pages are free once the texts that waited have gone home.
+    /// How many pages are free once the pending texts are freed.
     pub free_pages: u32,
 }
 

@@ -1,4 +1,4 @@
-//! System V message queues: what a program names; `with_queues`, which runs one thread;
+//! System V message queues: the public API; `with_queues`, which runs one thread;
 //! `with_workers` and `with_two`, which run several; and `with_system`, one at all seats.
 
 #![tactic(auto)]
@@ -51,8 +51,8 @@ pub use mq_calls::{
     Closed, ClosedSlot, Config, ConfigError, DEFAULTS, Delivered, DraftError, Errno, GetFlags, Got,
     MAX_SEATS, Refused, Removal, SendRefused, SysError, Usage,
 };
+pub use mq_local::OneThread;
 pub use mq_message::{Body, Selection};
-pub use mq_one_thread::OneThread;
 pub use mq_queue::{
     Base, BaseEntries, BaseEntry, BoardRow, Event, Figures, Log, MSGMAX, MSGMNB, Received,
 };

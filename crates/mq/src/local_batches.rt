@@ -15,8 +15,8 @@ use std::collections::VecDeque;
 use std::sync::ledger::Ledger;
 
 impl<'a, L: Ledger> LocalCaller<'a, L> {
-    /// Sends letters by moves, at most `MAX_BATCH` by one call, as so many calls of `send_text` at
-    /// consecutive entries of the queue's log. The first refusal ends it; that letter and those
+    /// Sends letters by moves, at most `MAX_BATCH` by one call, as that many calls of `send_text`
+    /// at consecutive entries of the queue's log. The first refusal ends it; that letter and those
     /// behind it stay in the list.
     pub fn send_texts(&mut self, id: Id, letters: &mut VecDeque<Letter<Text<L>>>) -> BatchSent
         ensures same_reference { self.new.of.ghost_name ≡ self.old.of.ghost_name }
@@ -52,9 +52,10 @@ impl<'a, L: Ledger> LocalCaller<'a, L> {
         }
     }
 
-    /// Receives up to so many texts that the selection names, at most `MAX_BATCH` by one call, as
-    /// so many calls of `receive_text` at consecutive entries of the queue's log. The first refusal
-    /// ends it. Where there is no memory to hand texts out the call is refused with ENOMEM.
+    /// Receives up to `most` texts that the selection matches, at most `MAX_BATCH` by one call, as
+    /// that many calls of `receive_text` at consecutive entries of the queue's log. The first
+    /// refusal ends it. Where there is no memory for the list of texts the call is refused with
+    /// ENOMEM.
     pub fn receive_texts(
         &mut self,
         id: Id,

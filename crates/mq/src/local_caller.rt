@@ -1,10 +1,13 @@
+//! The client handle of one thread: msgget(2) and msgctl(2). Its sends and receives are in modules
+//! of their own.
+
 ghost use Rattle.std.specs.Prelude.{◌≡◌, ◌<◌, length, map, OnErr};
 ghost use Rattle.mq_table.specs.KeptShown.{row_now};
 ghost use Rattle.mq_calls.specs.Calls.{rmid, set as set_answer, stat as stat_answer};
 ghost use Rattle.mq_calls.specs.Get.{MayRunOut, msgget};
 ghost use Rattle.mq_calls.specs.Look.{refused_at};
 ghost use Rattle.mq_calls.specs.Usages.{usage_of};
-ghost use Rattle.mq_one_thread.specs.Outcome.{Answers};
+ghost use Rattle.mq_local.specs.Outcome.{Answers};
 ghost use Rattle.mq.specs.Caller.{creating};
 ghost use Rattle.mq.specs.Local.{AnswersCutLog, AnswersErrno, IsIdOf};
 
@@ -14,9 +17,8 @@ use mq_queue::{BoardRow, Figures};
 use mq_table::{Cut, Id};
 use std::sync::ledger::Ledger;
 
-/// What one thread calls its queues by, at a seat: the calls of `Caller`, with its answers where
-/// nobody waits. A call that would wait is refused with EAGAIN or ENOMSG, since nobody else could
-/// end its wait.
+/// The queues of one thread, at a seat: the calls of `Caller`, with the answers of IPC_NOWAIT. A
+/// call that would wait is refused with EAGAIN or ENOMSG, since no other thread could end its wait.
 #[derive(Drop)]
 pub struct LocalCaller<'a, L: Ledger> {
     pub of: &'a mut LocalQueues<L>,
@@ -38,7 +40,7 @@ impl<'a, L: Ledger> LocalCaller<'a, L> {
         self.of.queues.slots()
     }
 
-    /// The queue with this key, which is made where it is not there (msgget(2) with IPC_CREAT).
+    /// The queue with this key, which is made where there is none (msgget(2) with IPC_CREAT).
     pub fn queue(&mut self, key: i32) -> Result<Id, Errno>
         ensures same_reference { self.new.of.ghost_name ≡ self.old.of.ghost_name }
         ensures answer { IsIdOf (msgget self.old.of.now.queues self.old.seat key creating
@@ -71,8 +73,8 @@ impl<'a, L: Ledger> LocalCaller<'a, L> {
         self.of.queues.msgget(self.seat, key, flags, moment)
     }
 
-    /// Sets how many bytes may wait in the queue, and as many messages (msgctl(2), IPC_SET).
-    /// EINVAL, EIDRM, EPERM, then ENOMEM.
+    /// Sets the quota of the queue: how many bytes may be pending, and as many messages (msgctl(2),
+    /// IPC_SET). EINVAL, EIDRM, EPERM, then ENOMEM.
     pub fn set(&mut self, id: Id, qbytes: u64) -> Result<u64, Errno>
         ensures same_reference { self.new.of.ghost_name ≡ self.old.of.ghost_name }
         ensures answer { AnswersErrno (set_answer self.old.of.now.queues self.old.seat id qbytes
@@ -104,8 +106,8 @@ impl<'a, L: Ledger> LocalCaller<'a, L> {
         }
     }
 
-    /// Cuts the log of a slot off where it ends now, and hands out the entries since the last cut,
-    /// with what is known of those before. ENOMEM alone.
+    /// Drains the log of a slot: returns its entries since the last drain, with a checkpoint of
+    /// those before. ENOMEM alone.
     pub fn cut_log(&mut self, slot: u8) -> Result<Cut, Errno>
         requires within { slot < length self.old.of.now.queues.slots }
         ensures same_reference { self.new.of.ghost_name ≡ self.old.of.ghost_name }

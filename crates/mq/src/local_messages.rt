@@ -12,15 +12,15 @@ use crate::msgtyp::msgtyp_of;
 use crate::{LocalCaller, Message, ReceiveOptions};
 use mq_arena::Text;
 use mq_calls::{Delivered, Errno};
+use mq_local::OneThread;
 use mq_message::{Body, Selection};
-use mq_one_thread::OneThread;
 use mq_queue::MSGMAX;
 use mq_table::Id;
 use std::mem::replace;
 use std::sync::ledger::Ledger;
 
 impl<'a, L: Ledger> LocalCaller<'a, L> {
-    /// Sends a message, and answers its entry (msgop(2), msgsnd). EINVAL of the type and of the
+    /// Sends a message, and returns its entry (msgop(2), msgsnd). EINVAL of the type and of the
     /// slot, EINVAL and ENOMEM of the draft, then the refusals of `OneThread::msgsnd`.
     pub fn send(&mut self, id: Id, message: Message<'_>) -> Result<u64, Errno>
         ensures same_reference { self.new.of.ghost_name ≡ self.old.of.ghost_name }
@@ -49,7 +49,7 @@ impl<'a, L: Ledger> LocalCaller<'a, L> {
         )
     }
 
-    /// Sends a message as `send` does, which waits for nobody here.
+    /// Sends a message as `send` does, which does not wait either.
     pub fn try_send(&mut self, id: Id, message: Message<'_>) -> Result<u64, Errno>
         ensures same_reference { self.new.of.ghost_name ≡ self.old.of.ghost_name }
         ensures answer { AnswersBytes result (λ entry. entry)
@@ -64,9 +64,9 @@ impl<'a, L: Ledger> LocalCaller<'a, L> {
         self.send(id, message)
     }
 
-    /// Receives the first message that the selection names, of any length (msgop(2), msgrcv).
+    /// Receives the first message that the selection matches, of any length (msgop(2), msgrcv).
     /// EINVAL of the selection, then the refusals of `OneThread::msgrcv`. Where there is no memory
-    /// for the bytes it answers ENOMEM, and the message stays.
+    /// for the bytes it returns ENOMEM, and the message stays.
     pub fn receive(&mut self, id: Id, selection: Selection) -> Result<Delivered<Vec<u8>>, Errno>
         ensures same_reference { self.new.of.ghost_name ≡ self.old.of.ghost_name }
         ensures answer { MatchResult result
@@ -81,7 +81,7 @@ impl<'a, L: Ledger> LocalCaller<'a, L> {
         self.receive_with(id, selection, ReceiveOptions::new())
     }
 
-    /// Receives a message as `receive` does, which waits for nobody here.
+    /// Receives a message as `receive` does, which does not wait either.
     pub fn try_receive(&mut self, id: Id, selection: Selection) -> Result<Delivered<Vec<u8>>, Errno>
         ensures same_reference { self.new.of.ghost_name ≡ self.old.of.ghost_name }
         ensures answer { MatchResult result
@@ -138,7 +138,7 @@ impl<'a, L: Ledger> LocalCaller<'a, L> {
         } = received?;
         let mut bytes = match Vec::with_capacity(alloc, text.len() as usize) {
             Ok(bytes) => bytes,
-            // No message is lost: there is room, and the next receipt makes its own.
+            // No message is lost: `room` is large enough, and the next receive makes its own.
             Err(_) => replace(&mut self.of.room, Vec::new(alloc)),
         };
         copy_out(&text, &mut bytes);
@@ -153,8 +153,8 @@ impl<'a, L: Ledger> LocalCaller<'a, L> {
         })
     }
 
-    /// Receives a message of any length, and appends its bytes: a buffer that is used again takes
-    /// no memory. Where it is refused the bytes stay as they were.
+    /// Receives a message of any length, and appends its bytes: a buffer that is used again needs
+    /// no allocation. Where it is refused the bytes stay as they were.
     pub fn receive_into(
         &mut self,
         id: Id,
@@ -204,7 +204,7 @@ impl<'a, L: Ledger> LocalCaller<'a, L> {
 }
 
 /// Receives the text of the first message that is selected, once there is room for its bytes: a
-/// call that has too little is refused with E2BIG, and made again with twice as much.
+/// call with too little is refused with E2BIG, and repeated with twice as much.
 fn take<L: Ledger>(
     queues: &mut OneThread<L>,
     room: &mut Vec<u8>,

@@ -1,7 +1,10 @@
+//! The state that the callers of one thread share: a program of `with_queues` makes its callers
+//! from it.
+
 ghost use Rattle.std.specs.Prelude.{◌≡◌};
 
 use crate::LocalCaller;
-use mq_one_thread::OneThread;
+use mq_local::OneThread;
 use std::alloc::Global;
 use std::sync::ledger::Ledger;
 
@@ -9,10 +12,10 @@ use std::sync::ledger::Ledger;
 /// scheduler's that calls for many.
 pub struct LocalQueues<L: Ledger> {
     pub queues: OneThread<L>,
-    /// The time that the calls tell the queues, which stime, rtime and ctime show.
+    /// The timestamp of the calls, which stime, rtime and ctime show.
     pub moment: u64,
     pub(crate) alloc: Global,
-    /// Room that a receipt is made into, kept for the next one.
+    /// A buffer that a receive reserves before it takes a message, kept for the next one.
     pub(crate) room: Vec<u8>,
 }
 
@@ -43,7 +46,7 @@ impl<L: Ledger> LocalQueues<L> {
         queues
     }
 
-    /// Where its calls take memory.
+    /// The allocator of its calls.
     pub fn alloc(&self) -> Global {
         self.alloc
     }

@@ -3,7 +3,7 @@ ghost use Rattle.std.specs.Prelude.{◌≡◌};
 ghost use Rattle.mq_calls.specs.Calls.{msgsnd};
 ghost use Rattle.mq_calls.specs.Look.{refused_at};
 ghost use Rattle.mq_calls.specs.Texts.{text_spent};
-ghost use Rattle.mq_one_thread.specs.Outcome.{AnswersSend};
+ghost use Rattle.mq_local.specs.Outcome.{AnswersSend};
 ghost use Rattle.mq.specs.Local.{AnswersDraft, AnswersText};
 
 use crate::LocalCaller;
@@ -16,7 +16,7 @@ use mq_table::Id;
 use std::sync::ledger::Ledger;
 
 impl<'a, L: Ledger> LocalCaller<'a, L> {
-    /// A text of so many zero bytes in pages of its own, which is written in place, and sent or
+    /// A zeroed text of `len` bytes in pages of its own, which is written in place, and sent or
     /// spent. EINVAL for more than `MSGMAX` bytes, ENOMEM where no pages are free.
     pub fn draft(&mut self, len: u64) -> Result<Text<L>, Errno>
         ensures same_reference { self.new.of.ghost_name ≡ self.old.of.ghost_name }
@@ -30,7 +30,7 @@ impl<'a, L: Ledger> LocalCaller<'a, L> {
         }
     }
 
-    /// Sends a text by a move. Where it is refused it is handed back.
+    /// Sends a text by a move. Where it is refused it is returned.
     pub fn send_text(
         &mut self,
         id: Id,
@@ -51,8 +51,8 @@ impl<'a, L: Ledger> LocalCaller<'a, L> {
             .msgsnd(self.seat, id, mtype, tag, text, moment)
     }
 
-    /// Receives the text itself of the first message that the selection names, and copies nothing.
-    /// It is to be spent, or sent on.
+    /// Receives the text itself of the first message that the selection matches, and copies
+    /// nothing. It is to be spent, or sent on.
     pub fn receive_text(
         &mut self,
         id: Id,
@@ -78,7 +78,7 @@ impl<'a, L: Ledger> LocalCaller<'a, L> {
         }
     }
 
-    /// Spends a text that is not sent: its pages go back.
+    /// Spends a text that is not sent: its pages are freed.
     pub fn spend(&mut self, text: Text<L>)
         ensures same_reference { self.new.of.ghost_name ≡ self.old.of.ghost_name }
         ensures back { self.new.of.now.queues ≡ text_spent text self.old.of.now.queues }

@@ -1,3 +1,5 @@
+//! The argument of a send by copy: a type, a tag and a slice of bytes.
+
 ghost use Rattle.std.specs.Prelude.{◌≡◌};
 
 /// A message to be sent (msgop(2), msgsnd).

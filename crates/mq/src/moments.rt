@@ -1,12 +1,14 @@
+//! The timestamps of calls: set by the caller, or read from a clock.
+
 ghost use Rattle.std.specs.Prelude.{◌≡◌, true, false};
 ghost use Rattle.mq.specs.Moments.{IsTimed};
 
 use std::time::Clock;
 
-/// The times that a caller's calls tell the queues, which stime, rtime and ctime show (msgctl(2)).
+/// The timestamps of a caller's calls, which stime, rtime and ctime show (msgctl(2)).
 #[derive(Clone, Copy, Debug, PartialEq, Eq)]
 pub struct Moments {
-    /// What the last call told, and the next one does where no clock is read.
+    /// The timestamp of the last call, and of the next one where no clock is read.
     pub now: u64,
     /// Whether each call reads the clock before it begins, in seconds since 1970.
     pub by_clock: bool,
@@ -35,8 +37,8 @@ impl Moments {
         }
     }
 
-    /// Those of a call that begins. A clock that cannot be read, or stands before 1970, tells what
-    /// it told last.
+    /// Those of a call that begins. Where the clock cannot be read, or is before 1970, the last
+    /// timestamp stays.
     #[inline(always)]
     pub(crate) fn of_call(self, clock: &impl Clock) -> Moments
         ensures { IsTimed self result }

@@ -1,10 +1,12 @@
+//! Selections as the msgtyp argument and the MSG_EXCEPT flag of msgrcv (msgop(2)).
+
 ghost use Rattle.std.specs.Prelude.{◌≡◌, false, IfSome, IsNone};
 ghost use Rattle.mq_message.specs.Selection.{selection_of};
 ghost use Rattle.mq.specs.Caller.{is_selectable};
 
 use mq_message::Selection;
 
-/// The msgtyp that selects so, and whether MSG_EXCEPT does; or that no message has such a type.
+/// The msgtyp of a selection, and whether MSG_EXCEPT goes with it; or that no msgtyp stands for it.
 #[inline(always)]
 pub(crate) fn msgtyp_of(selection: Selection) -> Option<(i64, bool)>
     ensures some { IfSome result (λ m. selection_of m.0 m.1 ≡ selection) }

@@ -1,3 +1,5 @@
+//! The trivial message invariant, for a system whose receivers assume nothing of a text.
+
 use mq_system::Pledge;
 
 /// The pledge of a system whose senders promise nothing of their texts.

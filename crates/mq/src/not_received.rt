@@ -1,3 +1,6 @@
+//! The error of a receive of a value. A value that was received without memory to read it is not
+//! lost: its bytes are returned.
+
 ghost use Rattle.std.specs.Prelude.{◌≡◌};
 ghost use Rattle.mq.specs.Values.{errno_of};
 

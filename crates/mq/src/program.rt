@@ -1,3 +1,5 @@
+//! A run of one thread: its queues are made, the program is run on them, and they are closed.
+
 ghost use Rattle.std.specs.Prelude.{◌≡◌, ◌↔◌, ◌≤◌, true, false, IfOk, IsErrOf};
 ghost use Rattle.mq_calls.specs.Limits.{keeps_limits, empty_queues};
 ghost use Rattle.mq_calls.specs.State.{QueuesState};
@@ -7,14 +9,14 @@ ghost use Rattle.mq.specs.Ended.{Leaves};
 use crate::{Ended, LocalQueues};
 use mq_arena::LEDGER_PARTS;
 use mq_calls::{Closed, Config, SysError};
-use mq_one_thread::OneThread;
+use mq_local::OneThread;
 use std::alloc::Global;
 use std::marker::Brand;
 use std::sync::ledger::{Blank, Ledger};
 
-/// What is done with the queues of one thread. What it wants of the size is `before`, and what is
-/// known of its answer and of the state that it left is `after`. A program that promises nothing
-/// leaves both out.
+/// What is done with the queues of one thread. Its precondition, of the sizes, is `before`; its
+/// postcondition, of its answer and of the state that it leaves, is `after`. A program that
+/// promises nothing leaves both out.
 pub trait QueueProgram: Drop {
     type Answer;
 
@@ -22,7 +24,7 @@ pub trait QueueProgram: Drop {
 
     ghost after: { Self → Sizes → QueuesState → Self.Answer → Type 0 } = { λ _ _ _ _. Unit {0} };
 
-    /// Runs once. No queue is made yet, and no page is lent.
+    /// Runs once. No queue is made yet, and no page is allocated.
     fn run<L: Ledger>(self, config: Config, queues: &mut LocalQueues<L>) -> Self::Answer
         requires before { before self config }
         requires limits { keeps_limits config ≡ true }

@@ -22,8 +22,8 @@ use std::sync::Wait;
 use std::time::{Clock, Duration, Instant};
 
 impl<'a, P: Pledge, N: Names, R: Wait + Clock> Caller<'a, P, N, R> {
-    /// Receives the first message that the selection names, of any length, and waits where there is
-    /// none (msgop(2), msgrcv).
+    /// Receives the first message that the selection matches, of any length, and waits where there
+    /// is none (msgop(2), msgrcv).
     pub fn receive(&mut self, id: Id, selection: Selection) -> Result<Delivered<Vec<u8>>, Errno>
         ensures answer { MatchResult result
             (λ d. IsReceivedOf P.kept N.slots id MSGMAX selection false self.new.moments.now
@@ -52,7 +52,7 @@ impl<'a, P: Pledge, N: Names, R: Wait + Clock> Caller<'a, P, N, R> {
         self.receive_within(id, selection, options, &mut Forever)
     }
 
-    /// Receives a message of any length, and waits for nobody (IPC_NOWAIT): ENOMSG where there is
+    /// Receives a message of any length, and does not wait (IPC_NOWAIT): ENOMSG where there is
     /// none.
     pub fn try_receive(&mut self, id: Id, selection: Selection) -> Result<Delivered<Vec<u8>>, Errno>
         ensures answer { MatchResult result
@@ -65,7 +65,7 @@ impl<'a, P: Pledge, N: Names, R: Wait + Clock> Caller<'a, P, N, R> {
         self.receive_within(id, selection, ReceiveOptions::new(), &mut NoWait)
     }
 
-    /// Receives a message of any length, and waits for so long at most: ENOMSG then.
+    /// Receives a message of any length, and waits no longer than the timeout: ENOMSG then.
     pub fn receive_timeout(
         &mut self,
         id: Id,
@@ -83,8 +83,8 @@ impl<'a, P: Pledge, N: Names, R: Wait + Clock> Caller<'a, P, N, R> {
         self.receive_within(id, selection, ReceiveOptions::new(), &mut until)
     }
 
-    /// Receives a message of any length, and waits no longer than until its runtime's clock reads
-    /// this: ENOMSG then.
+    /// Receives a message of any length, and waits no longer than until the deadline, by its
+    /// runtime's clock: ENOMSG then.
     pub fn receive_deadline(
         &mut self,
         id: Id,
@@ -103,8 +103,8 @@ impl<'a, P: Pledge, N: Names, R: Wait + Clock> Caller<'a, P, N, R> {
     }
 
     /// Receives a message as the options say, and waits for one no longer than until the patience
-    /// ends: ENOMSG then. A selection of types that no message has is refused with EINVAL. Where
-    /// there is no memory for the bytes it answers ENOMEM, and the message stays.
+    /// ends: ENOMSG then. A selection that no msgtyp stands for is refused with EINVAL. Where there
+    /// is no memory for the bytes it returns ENOMEM, and the message stays.
     #[inline]
     pub fn receive_within<T: Patience>(
         &mut self,
@@ -135,7 +135,7 @@ impl<'a, P: Pledge, N: Names, R: Wait + Clock> Caller<'a, P, N, R> {
         )?;
         let mut bytes = match Vec::with_capacity(self.alloc, received.text.len() as usize) {
             Ok(bytes) => bytes,
-            // No message is lost: there is room, and the next receipt makes its own.
+            // No message is lost: `room` is large enough, and the next receive makes its own.
             Err(_) => replace(&mut self.room, Vec::new(self.alloc)),
         };
         let Delivered {
@@ -158,8 +158,9 @@ impl<'a, P: Pledge, N: Names, R: Wait + Clock> Caller<'a, P, N, R> {
         })
     }
 
-    /// Receives a message of any length, and appends its bytes: a buffer that is used again takes
-    /// no memory. It waits where there is none. Where it is refused the bytes stay as they were.
+    /// Receives a message of any length, and appends its bytes: a buffer that is used again needs
+    /// no allocation. It waits where there is none. Where it is refused the bytes stay as they
+    /// were.
     pub fn receive_into(
         &mut self,
         id: Id,
@@ -178,7 +179,7 @@ impl<'a, P: Pledge, N: Names, R: Wait + Clock> Caller<'a, P, N, R> {
         self.receive_into_within(id, selection, options, bytes, &mut Forever)
     }
 
-    /// Receives a message as `receive_into` does, and waits for nobody: ENOMSG where there is none.
+    /// Receives a message as `receive_into` does, and does not wait: ENOMSG where there is none.
     pub fn try_receive_into(
         &mut self,
         id: Id,
@@ -197,7 +198,8 @@ impl<'a, P: Pledge, N: Names, R: Wait + Clock> Caller<'a, P, N, R> {
         self.receive_into_within(id, selection, options, bytes, &mut NoWait)
     }
 
-    /// Receives a message as `receive_into` does, and waits for so long at most: ENOMSG then.
+    /// Receives a message as `receive_into` does, and waits no longer than the timeout: ENOMSG
+    /// then.
     pub fn receive_into_timeout(
         &mut self,
         id: Id,
@@ -218,8 +220,8 @@ impl<'a, P: Pledge, N: Names, R: Wait + Clock> Caller<'a, P, N, R> {
         self.receive_into_within(id, selection, options, bytes, &mut end)
     }
 
-    /// Receives a message as `receive_into` does, and waits no longer than until its runtime's
-    /// clock reads this: ENOMSG then.
+    /// Receives a message as `receive_into` does, and waits no longer than until the deadline, by
+    /// its runtime's clock: ENOMSG then.
     pub fn receive_into_deadline(
         &mut self,
         id: Id,
@@ -290,8 +292,8 @@ impl<'a, P: Pledge, N: Names, R: Wait + Clock> Caller<'a, P, N, R> {
         })
     }
 
-    /// Receives the text itself of the first message that the selection names, and copies nothing.
-    /// It waits where there is none. The text is to be spent, or sent on.
+    /// Receives the text itself of the first message that the selection matches, and copies
+    /// nothing. It waits where there is none. The text is to be spent, or sent on.
     pub fn receive_text(
         &mut self,
         id: Id,
@@ -309,7 +311,7 @@ impl<'a, P: Pledge, N: Names, R: Wait + Clock> Caller<'a, P, N, R> {
         self.receive_text_within(id, selection, ReceiveOptions::new(), &mut Forever)
     }
 
-    /// Receives a text as `receive_text` does, and waits for nobody: ENOMSG where there is none.
+    /// Receives a text as `receive_text` does, and does not wait: ENOMSG where there is none.
     pub fn try_receive_text(
         &mut self,
         id: Id,
@@ -327,7 +329,7 @@ impl<'a, P: Pledge, N: Names, R: Wait + Clock> Caller<'a, P, N, R> {
         self.receive_text_within(id, selection, ReceiveOptions::new(), &mut NoWait)
     }
 
-    /// Receives a text as `receive_text` does, and waits for so long at most: ENOMSG then.
+    /// Receives a text as `receive_text` does, and waits no longer than the timeout: ENOMSG then.
     pub fn receive_text_timeout(
         &mut self,
         id: Id,
@@ -347,8 +349,8 @@ impl<'a, P: Pledge, N: Names, R: Wait + Clock> Caller<'a, P, N, R> {
         self.receive_text_within(id, selection, ReceiveOptions::new(), &mut patience)
     }
 
-    /// Receives a text as `receive_text` does, and waits no longer than until its runtime's clock
-    /// reads this: ENOMSG then.
+    /// Receives a text as `receive_text` does, and waits no longer than until the deadline, by its
+    /// runtime's clock: ENOMSG then.
     pub fn receive_text_deadline(
         &mut self,
         id: Id,
@@ -412,7 +414,7 @@ impl<'a, P: Pledge, N: Names, R: Wait + Clock> Caller<'a, P, N, R> {
 }
 
 /// Receives the text of the first message that is selected, once there is room for its bytes: a
-/// call that has too little is refused with E2BIG, and made again with twice as much.
+/// call with too little is refused with E2BIG, and repeated with twice as much.
 #[inline(always)]
 fn take<P: Pledge, N: Names, R: Wait, T: Patience>(
     rt: &R,

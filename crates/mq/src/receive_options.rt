@@ -1,3 +1,5 @@
+//! The msgsz argument and the MSG_NOERROR flag of msgrcv (msgop(2)), as a builder.
+
 ghost use Rattle.std.specs.Prelude.{◌≡◌, true, false};
 ghost use Rattle.mq_queue.specs.declared.limits.TheConstants.{MSGMAX};
 
@@ -6,9 +8,9 @@ use mq_queue::MSGMAX;
 /// Which messages a receive takes, by their length (msgop(2), msgrcv).
 #[derive(Clone, Copy, Debug, PartialEq, Eq)]
 pub struct ReceiveOptions {
-    /// The most bytes that are handed out.
+    /// The most bytes that are returned.
     pub size: u64,
-    /// Whether a longer text is cut (MSG_NOERROR), and not refused with E2BIG.
+    /// Whether a longer text is truncated (MSG_NOERROR), and not refused with E2BIG.
     pub noerror: bool,
 }
 
@@ -24,7 +26,7 @@ impl ReceiveOptions {
         }
     }
 
-    /// One of at most so many bytes; a longer one stays, with E2BIG.
+    /// One of at most `size` bytes; a longer one stays, with E2BIG.
     pub fn up_to(self, size: u64) -> ReceiveOptions
         ensures size { result.size ≡ size }
         ensures noerror { result.noerror ≡ self.noerror }
@@ -32,7 +34,7 @@ impl ReceiveOptions {
         ReceiveOptions { size, ..self }
     }
 
-    /// A longer one too, of which the first bytes are handed out.
+    /// A longer one too, which is truncated.
     pub fn cut(self) -> ReceiveOptions
         ensures size { result.size ≡ self.size }
         ensures noerror { result.noerror ≡ true }

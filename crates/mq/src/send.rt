@@ -15,7 +15,7 @@ use std::sync::Wait;
 use std::time::{Clock, Duration, Instant};
 
 impl<'a, P: Pledge, N: Names, R: Wait + Clock> Caller<'a, P, N, R> {
-    /// Sends a message, and answers its entry (msgop(2), msgsnd). It waits where no pages are free
+    /// Sends a message, and returns its entry (msgop(2), msgsnd). It waits where no pages are free
     /// for the text, and where the queue is full.
     pub fn send(&mut self, id: Id, message: Message<'_>) -> Result<u64, Errno>
         requires pledge { P.kept self.old.seat.number message.tag message.mtype message.bytes.now }
@@ -30,7 +30,7 @@ impl<'a, P: Pledge, N: Names, R: Wait + Clock> Caller<'a, P, N, R> {
         self.send_within(id, message, &mut Forever)
     }
 
-    /// Sends a message, and waits for nobody (IPC_NOWAIT): ENOMEM where no pages are free, EAGAIN
+    /// Sends a message, and does not wait (IPC_NOWAIT): ENOMEM where no pages are free, EAGAIN
     /// where the queue is full.
     pub fn try_send(&mut self, id: Id, message: Message<'_>) -> Result<u64, Errno>
         requires pledge { P.kept self.old.seat.number message.tag message.mtype message.bytes.now }
@@ -45,7 +45,7 @@ impl<'a, P: Pledge, N: Names, R: Wait + Clock> Caller<'a, P, N, R> {
         self.send_within(id, message, &mut NoWait)
     }
 
-    /// Sends a message, and waits for so long at most: ENOMEM or EAGAIN then.
+    /// Sends a message, and waits no longer than the timeout: ENOMEM or EAGAIN then.
     pub fn send_timeout(
         &mut self,
         id: Id,
@@ -65,8 +65,8 @@ impl<'a, P: Pledge, N: Names, R: Wait + Clock> Caller<'a, P, N, R> {
         self.send_within(id, message, &mut until)
     }
 
-    /// Sends a message, and waits no longer than until its runtime's clock reads this: ENOMEM or
-    /// EAGAIN then.
+    /// Sends a message, and waits no longer than until the deadline, by its runtime's clock: ENOMEM
+    /// or EAGAIN then.
     pub fn send_deadline(
         &mut self,
         id: Id,
@@ -87,7 +87,7 @@ impl<'a, P: Pledge, N: Names, R: Wait + Clock> Caller<'a, P, N, R> {
     }
 
     /// Sends a message, and waits for pages, and then for room, until the patience ends: one end
-    /// holds for both. Then it answers ENOMEM or EAGAIN. EINVAL of the type and of the slot, EINVAL
+    /// holds for both. Then it returns ENOMEM or EAGAIN. EINVAL of the type and of the slot, EINVAL
     /// and ENOMEM of the draft, then the refusals of `System::msgsnd`.
     #[inline]
     pub fn send_within<T: Patience>(
@@ -146,8 +146,8 @@ impl<'a, P: Pledge, N: Names, R: Wait + Clock> Caller<'a, P, N, R> {
         }
     }
 
-    /// Sends a text by a move, and waits where the queue is full. Where it is refused it is handed
-    /// back.
+    /// Sends a text by a move, and waits where the queue is full. Where it is refused it is
+    /// returned.
     pub fn send_text(
         &mut self,
         id: Id,
@@ -167,7 +167,7 @@ impl<'a, P: Pledge, N: Names, R: Wait + Clock> Caller<'a, P, N, R> {
         self.send_text_within(id, mtype, tag, text, &mut Forever)
     }
 
-    /// Sends a text as `send_text` does, and waits for nobody: EAGAIN where the queue is full.
+    /// Sends a text as `send_text` does, and does not wait: EAGAIN where the queue is full.
     pub fn try_send_text(
         &mut self,
         id: Id,
@@ -187,7 +187,7 @@ impl<'a, P: Pledge, N: Names, R: Wait + Clock> Caller<'a, P, N, R> {
         self.send_text_within(id, mtype, tag, text, &mut NoWait)
     }
 
-    /// Sends a text as `send_text` does, and waits for so long at most: EAGAIN then.
+    /// Sends a text as `send_text` does, and waits no longer than the timeout: EAGAIN then.
     pub fn send_text_timeout(
         &mut self,
         id: Id,
@@ -209,8 +209,8 @@ impl<'a, P: Pledge, N: Names, R: Wait + Clock> Caller<'a, P, N, R> {
         self.send_text_within(id, mtype, tag, text, &mut patience)
     }
 
-    /// Sends a text as `send_text` does, and waits no longer than until its runtime's clock reads
-    /// this: EAGAIN then.
+    /// Sends a text as `send_text` does, and waits no longer than until the deadline, by its
+    /// runtime's clock: EAGAIN then.
     pub fn send_text_deadline(
         &mut self,
         id: Id,

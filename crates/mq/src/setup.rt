@@ -1,17 +1,19 @@
+//! The builder of a system: its configuration, and the limit of its logs.
+
 ghost use Rattle.std.specs.Prelude.{◌≡◌, ◌-◌, ◌^◌};
 
 use mq_system::Config;
 
-/// How a system is made: of which size, and whether its logs are kept.
+/// How a system is made: of which size, and whether its logs are retained.
 #[derive(Clone, Copy, Debug, PartialEq, Eq)]
 pub struct Setup {
     pub config: Config,
-    /// How many entries of a slot's log are kept before a call cuts them off.
+    /// How many entries of a slot's log are retained before a call drains them.
     pub log_limit: u64,
 }
 
 impl Setup {
-    /// A system of this size, which keeps its logs.
+    /// A system of this size, which retains its logs.
     pub fn new(config: Config) -> Setup
         ensures { result ≡ record { config = config; log_limit = u64.MAX } }
     {
@@ -21,10 +23,10 @@ impl Setup {
         }
     }
 
-    /// The same, but its logs need not grow: a call that finds so many entries of its slot's log
-    /// kept, or more, cuts them off before it looks, and drops them. A cut takes time by the number
-    /// of messages that wait in the slot, so the limit should be some times as great. Where there
-    /// is no memory for a cut, the next call makes it.
+    /// The same, but its logs need not grow: a call that finds `entries` or more retained entries
+    /// in its slot's log first drains and drops them. A drain takes time linear in the number of
+    /// pending messages of the slot, so the limit should be a few times as great. Where a drain is
+    /// out of memory, the next call makes it.
     pub fn cut_logs_after(self, entries: u64) -> Setup
         ensures { result ≡ record { config = self.config; log_limit = entries } }
     {

@@ -1,3 +1,5 @@
+//! A run of one thread that calls at all seats of a system, as a simulator or a scheduler does.
+
 ghost use Rattle.std.specs.Prelude.{◌≡◌, ◌↔◌, ℕ, ◌+◌, ◌≤◌, List, [], ◌++◌, true, false, length, map};
 ghost use Rattle.std.specs.Prelude.{IfOk, IsErrOf, vec_capacity, vec_len};
 ghost use Rattle.mq_calls.specs.Limits.{keeps_limits};
@@ -16,9 +18,9 @@ use std::sync::Wait;
 use std::time::Clock;
 
 /// What one thread does by the callers of all seats of a system, which stand in the order of their
-/// numbers: a simulator, or a scheduler that calls for many.
-/// What it wants of the size is `before`, and what is known of its answer and of the seats at the
-/// end is `after`. A program that promises nothing leaves both out.
+/// numbers: a simulator, or a scheduler that calls for many. Its precondition, of the sizes, is
+/// `before`; its postcondition, of its answer and of the seats at the end, is `after`. A program
+/// that promises nothing leaves both out.
 pub trait SystemProgram<P: Pledge>: Drop {
     type Answer;
 
@@ -26,7 +28,7 @@ pub trait SystemProgram<P: Pledge>: Drop {
 
     ghost after: { Self → Sizes → List SeatState → Self.Answer → Type 0 } = { λ _ _ _ _. Unit {0} };
 
-    /// Runs once. No queue is made yet, and no page is lent.
+    /// Runs once. No queue is made yet, and no page is allocated.
     fn run<N: Names, R: Wait + Clock>(
         self,
         config: Config,
@@ -45,7 +47,7 @@ pub trait SystemProgram<P: Pledge>: Drop {
 
 /// Makes a system of this size, runs the program on it once, and closes it. Where the answer is
 /// `Err`, the program has not begun. A call that waits for another seat of the same program waits
-/// for good.
+/// forever.
 pub fn with_system<P: Pledge, Q: SystemProgram<P>, R: Wait + Clock>(
     rt: &R,
     alloc: Global,

@@ -10,7 +10,7 @@ use std::sync::Wait;
 use std::time::{Clock, Duration, Instant};
 
 impl<'a, P: Pledge, N: Names, R: Wait + Clock> Caller<'a, P, N, R> {
-    /// A text of so many zero bytes in pages of its own, which is written in place, and sent or
+    /// A zeroed text of `len` bytes in pages of its own, which is written in place, and sent or
     /// spent. It waits where no pages are free.
     pub fn draft(&self, len: u64) -> Result<TextOf<N>, Errno>
         ensures zero { IfOk result (λ text. text.bytes ≡ replicate len 0) }
@@ -21,7 +21,7 @@ impl<'a, P: Pledge, N: Names, R: Wait + Clock> Caller<'a, P, N, R> {
         self.draft_within(len, &mut Forever)
     }
 
-    /// A text as `draft` makes it, which waits for nobody: ENOMEM where no pages are free.
+    /// A text as `draft` makes it, without a wait: ENOMEM where no pages are free.
     pub fn try_draft(&self, len: u64) -> Result<TextOf<N>, Errno>
         ensures zero { IfOk result (λ text. text.bytes ≡ replicate len 0) }
         ensures block { IfOk result (IsInLeast len) }
@@ -31,7 +31,7 @@ impl<'a, P: Pledge, N: Names, R: Wait + Clock> Caller<'a, P, N, R> {
         self.draft_within(len, &mut NoWait)
     }
 
-    /// A text as `draft` makes it, which waits for so long at most: ENOMEM then.
+    /// A text as `draft` makes it, which waits no longer than the timeout: ENOMEM then.
     pub fn draft_timeout(&self, len: u64, timeout: Duration) -> Result<TextOf<N>, Errno>
         ensures zero { IfOk result (λ text. text.bytes ≡ replicate len 0) }
         ensures block { IfOk result (IsInLeast len) }
@@ -42,8 +42,8 @@ impl<'a, P: Pledge, N: Names, R: Wait + Clock> Caller<'a, P, N, R> {
         self.draft_within(len, &mut until)
     }
 
-    /// A text as `draft` makes it, which waits no longer than until its runtime's clock reads this:
-    /// ENOMEM then.
+    /// A text as `draft` makes it, which waits no longer than until the deadline, by its runtime's
+    /// clock: ENOMEM then.
     pub fn draft_deadline(&self, len: u64, deadline: Instant) -> Result<TextOf<N>, Errno>
         ensures zero { IfOk result (λ text. text.bytes ≡ replicate len 0) }
         ensures block { IfOk result (IsInLeast len) }
@@ -68,8 +68,8 @@ impl<'a, P: Pledge, N: Names, R: Wait + Clock> Caller<'a, P, N, R> {
         }
     }
 
-    /// Spends a text that is not sent. Its pages are kept for the next texts of this seat, or go
-    /// back.
+    /// Spends a text that is not sent. Its pages are kept for the next texts of this seat, or
+    /// freed.
     pub fn spend(&self, text: TextOf<N>) {
         self.system.spend_by(self.rt, &self.seat, text);
     }

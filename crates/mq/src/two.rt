@@ -1,3 +1,5 @@
+//! Two threads whose workers have different types, as a producer and a consumer have.
+
 ghost use Rattle.std.specs.Prelude.{◌≡◌, ◌↔◌, ◌<◌, true, false, length, IfOk};
 ghost use Rattle.std.specs.Prelude.{IsErrOf};
 ghost use Rattle.mq_calls.specs.Limits.{keeps_limits};

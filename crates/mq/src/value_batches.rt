@@ -36,7 +36,7 @@ pub struct ValuesSent {
 
 /// Values that were received by one call.
 pub struct ValuesReceived<V, B> {
-    /// In the order of their receipts.
+    /// In the order in which they were received.
     pub values: VecDeque<Delivered<V>>,
     /// The texts behind them, where there was no memory for the value of the first of these.
     pub unread: VecDeque<Delivered<B>>,
@@ -45,7 +45,7 @@ pub struct ValuesReceived<V, B> {
 }
 
 impl<V, B> ValuesReceived<V, B> {
-    /// None, since the queues were not asked.
+    /// No values, since the queue was not called.
     fn none(alloc: Global, ended: Result<(), Refused>) -> ValuesReceived<V, B>
         ensures values { result.values.items ≡ [] }
         ensures unread { result.unread.items ≡ [] }
@@ -60,7 +60,7 @@ impl<V, B> ValuesReceived<V, B> {
 }
 
 impl<'a, P: ValuePledge, N: Names, R: Wait + Clock> Caller<'a, P, N, R> {
-    /// Sends values, at most `MAX_BATCH` by one call, as so many calls of `send_value` at
+    /// Sends values, at most `MAX_BATCH` by one call, as that many calls of `send_value` at
     /// consecutive entries of the queue's log. It waits for pages and for room for the first alone.
     /// The first refusal ends it. The values stay with the caller.
     pub fn send_values(&mut self, id: Id, letters: &[Letter<P::Value>]) -> ValuesSent
@@ -72,7 +72,7 @@ impl<'a, P: ValuePledge, N: Names, R: Wait + Clock> Caller<'a, P, N, R> {
         self.send_values_within(id, letters, &mut Forever)
     }
 
-    /// Sends values as `send_values` does, and waits for nobody.
+    /// Sends values as `send_values` does, and does not wait.
     pub fn try_send_values(&mut self, id: Id, letters: &[Letter<P::Value>]) -> ValuesSent
         requires vow { All (λ l. P.vowed self.old.seat.number l.tag l.mtype l.text) letters.now }
         ensures answer { AreValuesSent P.Value.bytes_of N.slots N.height id true
@@ -127,8 +127,8 @@ impl<'a, P: ValuePledge, N: Names, R: Wait + Clock> Caller<'a, P, N, R> {
         }
     }
 
-    /// Drafts the first of these values, at most `MAX_BATCH`, or tells why the next has no text. It
-    /// waits for pages for the first alone.
+    /// Drafts the first of these values, at most `MAX_BATCH`, or returns why the next has no text.
+    /// It waits for pages for the first alone.
     fn draft_values<T: Patience>(
         &mut self,
         id: Id,
@@ -161,7 +161,7 @@ impl<'a, P: ValuePledge, N: Names, R: Wait + Clock> Caller<'a, P, N, R> {
         Ok(())
     }
 
-    /// Drafts a value as `draft_value` does, and waits for nobody with the flag.
+    /// Drafts a value as `draft_value` does, and does not wait with the flag.
     fn draft_next<T: Patience>(
         &mut self,
         id: Id,
@@ -231,9 +231,9 @@ impl<'a, P: ValuePledge, N: Names, R: Wait + Clock> Caller<'a, P, N, R> {
         letters.destroy_empty();
     }
 
-    /// Receives up to so many values that the selection names, at most `MAX_BATCH` by one call, as
-    /// so many calls of `receive_value` at consecutive entries of the queue's log. It waits for the
-    /// first alone, and takes what is there. The first refusal ends it.
+    /// Receives up to `most` values that the selection matches, at most `MAX_BATCH` by one call,
+    /// as that many calls of `receive_value` at consecutive entries of the queue's log. It waits
+    /// for the first alone, and takes what is there. The first refusal ends it.
     pub fn receive_values(
         &mut self,
         id: Id,
@@ -250,7 +250,7 @@ impl<'a, P: ValuePledge, N: Names, R: Wait + Clock> Caller<'a, P, N, R> {
         self.receive_values_within(id, selection, most, &mut Forever)
     }
 
-    /// Receives values as `receive_values` does, and waits for nobody.
+    /// Receives values as `receive_values` does, and does not wait.
     pub fn try_receive_values(
         &mut self,
         id: Id,
@@ -268,9 +268,9 @@ impl<'a, P: ValuePledge, N: Names, R: Wait + Clock> Caller<'a, P, N, R> {
     }
 
     /// Receives values as `receive_values` does, and waits for the first no longer than until the
-    /// patience ends. It makes room for the longest text before, and where there is no memory for
-    /// that, or to hand values out, the call is refused with ENOMEM. A value without memory for it
-    /// is handed out as its text, with those behind it, to be spent or sent on.
+    /// patience ends. It first reserves a buffer for the longest text; where there is no memory for
+    /// that, or for the list of values, the call is refused with ENOMEM. A value without memory for
+    /// it is returned as its text, with those behind it, to be spent or sent on.
     pub fn receive_values_within<T: Patience>(
         &mut self,
         id: Id,
@@ -344,7 +344,8 @@ impl<'a, P: ValuePledge, N: Names, R: Wait + Clock> Caller<'a, P, N, R> {
         }
     }
 
-    /// Reads the value of a text, which is spent; the text is handed back without memory for it.
+    /// Reads the value of a text, which is spent; the text is returned where there is no memory for
+    /// the value.
     fn read_value(
         &mut self,
         delivered: Delivered<TextOf<N>>,

@@ -18,7 +18,7 @@ use std::sync::Wait;
 use std::time::{Clock, Duration, Instant};
 
 impl<'a, P: ValuePledge, N: Names, R: Wait + Clock> Caller<'a, P, N, R> {
-    /// Sends a value, and answers its entry. It waits where no pages are free for its bytes, and
+    /// Sends a value, and returns its entry. It waits where no pages are free for its bytes, and
     /// where the queue is full.
     pub fn send_value(
         &mut self,
@@ -39,8 +39,8 @@ impl<'a, P: ValuePledge, N: Names, R: Wait + Clock> Caller<'a, P, N, R> {
         self.send_value_within(id, mtype, tag, value, &mut Forever)
     }
 
-    /// Sends a value, and waits for nobody: ENOMEM where no pages are free, EAGAIN where the queue
-    /// is full.
+    /// Sends a value, and does not wait: ENOMEM where no pages are free, EAGAIN where the queue is
+    /// full.
     pub fn try_send_value(
         &mut self,
         id: Id,
@@ -60,7 +60,7 @@ impl<'a, P: ValuePledge, N: Names, R: Wait + Clock> Caller<'a, P, N, R> {
         self.send_value_within(id, mtype, tag, value, &mut NoWait)
     }
 
-    /// Sends a value, and waits for so long at most: ENOMEM or EAGAIN then.
+    /// Sends a value, and waits no longer than the timeout: ENOMEM or EAGAIN then.
     pub fn send_value_timeout(
         &mut self,
         id: Id,
@@ -82,8 +82,8 @@ impl<'a, P: ValuePledge, N: Names, R: Wait + Clock> Caller<'a, P, N, R> {
         self.send_value_within(id, mtype, tag, value, &mut until)
     }
 
-    /// Sends a value, and waits no longer than until its runtime's clock reads this: ENOMEM or
-    /// EAGAIN then.
+    /// Sends a value, and waits no longer than until the deadline, by its runtime's clock: ENOMEM
+    /// or EAGAIN then.
     pub fn send_value_deadline(
         &mut self,
         id: Id,
@@ -135,7 +135,7 @@ impl<'a, P: ValuePledge, N: Names, R: Wait + Clock> Caller<'a, P, N, R> {
         answer
     }
 
-    /// Receives the first value that the selection names, and waits where there is none.
+    /// Receives the first value that the selection matches, and waits where there is none.
     pub fn receive_value(
         &mut self,
         id: Id,
@@ -155,7 +155,7 @@ impl<'a, P: ValuePledge, N: Names, R: Wait + Clock> Caller<'a, P, N, R> {
         self.receive_value_within(id, selection, &mut Forever)
     }
 
-    /// Receives a value, and waits for nobody: ENOMSG where there is none.
+    /// Receives a value, and does not wait: ENOMSG where there is none.
     pub fn try_receive_value(
         &mut self,
         id: Id,
@@ -175,7 +175,7 @@ impl<'a, P: ValuePledge, N: Names, R: Wait + Clock> Caller<'a, P, N, R> {
         self.receive_value_within(id, selection, &mut NoWait)
     }
 
-    /// Receives a value, and waits for so long at most: ENOMSG then.
+    /// Receives a value, and waits no longer than the timeout: ENOMSG then.
     pub fn receive_value_timeout(
         &mut self,
         id: Id,
@@ -197,8 +197,8 @@ impl<'a, P: ValuePledge, N: Names, R: Wait + Clock> Caller<'a, P, N, R> {
         self.receive_value_within(id, selection, &mut until)
     }
 
-    /// Receives a value, and waits no longer than until its runtime's clock reads this: ENOMSG
-    /// then.
+    /// Receives a value, and waits no longer than until the deadline, by its runtime's clock:
+    /// ENOMSG then.
     pub fn receive_value_deadline(
         &mut self,
         id: Id,
@@ -221,8 +221,8 @@ impl<'a, P: ValuePledge, N: Names, R: Wait + Clock> Caller<'a, P, N, R> {
     }
 
     /// Receives a value, and waits for one no longer than until the patience ends. What arrives is
-    /// the value that was sent; where there is no memory for it beside its bytes, they are handed
-    /// out.
+    /// the value that was sent; where there is no memory for it beside its bytes, they are
+    /// returned.
     pub fn receive_value_within<T: Patience>(
         &mut self,
         id: Id,

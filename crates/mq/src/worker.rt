@@ -1,3 +1,5 @@
+//! The trait of what `with_workers` and `with_two` run on a thread.
+
 ghost use Rattle.mq_system.specs.Seat.{SeatState};
 
 use crate::Caller;
@@ -5,8 +7,8 @@ use mq_system::{Names, Pledge};
 use std::sync::Wait;
 use std::time::Clock;
 
-/// What is done on one thread, by a caller at a seat of its own. What is known of its answer, and
-/// of the seat at the end, is `after`; a worker that promises nothing leaves it out.
+/// What one thread does, by a caller at a seat of its own. Its postcondition, of its answer and of
+/// the seat at the end, is `after`; a worker that promises nothing leaves it out.
 pub trait Worker<P: Pledge>: Drop {
     type Answer: Drop + Send;
 

@@ -1,3 +1,6 @@
+//! A run of several threads, each with a worker at a seat of its own: the system is made, the
+//! workers are run and joined, and the system is closed.
+
 ghost use Rattle.std.specs.Prelude.{◌≡◌, ◌↔◌, ◌≤◌, ◌<◌, ◌⊎◌, true, false, length, IfOk, IfErr};
 ghost use Rattle.std.specs.Prelude.{IsErrOf, vec_len};
 ghost use Rattle.mq_calls.specs.Limits.{keeps_limits};
@@ -110,7 +113,7 @@ fn run_workers<
     Ok(Ended::of(ran?, closed))
 }
 
-/// Runs the workers, each at the seat of its place.
+/// Runs the workers, each at the seat of its index.
 fn run_at<
     P: Pledge + Send + Sync,
     N: Names + Send + Sync,
@@ -150,7 +153,7 @@ fn run_at<
     }
 }
 
-/// Runs all turns, each on a thread of its own.
+/// Runs all jobs, each on a thread of its own.
 fn run_turns<
     P: Pledge + Send + Sync,
     N: Names + Send + Sync,

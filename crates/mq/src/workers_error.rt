@@ -1,3 +1,5 @@
+//! The error of a run of several threads.
+
 use thiserror::Error;
 
 /// Why no worker has begun, in the order of the tests.

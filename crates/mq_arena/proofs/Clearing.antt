@@ -66,7 +66,7 @@ ends_here n k m page rest long few =
     ∙ ap (λ j. take k page ++ replicate j 0) all
     ∙ ap (λ bs. bs ++ replicate (n * suc m - k) 0) (sym (take-append-le k page rest (omega arith)))
 
--- bytes that go on past the page
+-- bytes that continue past the page
 goes_on : (n k m : ℕ) (page rest : List ℕ) → length page ≡ n → n ≤ k
     → kept_front n k page ++ (take (k - n) rest ++ replicate (n * m - (k - n)) 0)
     ≡ take k (page ++ rest) ++ replicate (n * suc m - k) 0

@@ -1,4 +1,4 @@
--- The parts that pages are cut into.
+-- The parts of pages, of which the last one is truncated.
 use Rattle.std.proofs.Common.{◌≡◌, nat_eq, false, List, ℕ, ◌+◌, ◌-◌, ◌*◌, ◌<◌, [], ◌∷◌, ◌++◌, length, take, refl, ap, sym, ◌∙◌, inl, inr, arith}
 use Rattle.std.proofs.lemmas.Bool.{cases_lt}
 use Rattle.std.proofs.lemmas.List.{take_all, take-append-le, append-nil}
@@ -50,7 +50,7 @@ concat_cut_parts len (page ∷ pages) whole =
           rw zero_len refl
     ]
 
--- cut at their end, they are whole
+-- truncated at their end, they are whole
 pub cut_whole : (len : ℕ) (pages : List (List ℕ)) → AreWhole pages → len ≡ PAGE_LEN * length pages
     → cut_parts len pages ≡ pages
 cut_whole len [] whole all = refl

@@ -17,7 +17,7 @@ ends_here n page rest bytes long short =
     rw (take_all n bytes short, drop_all n bytes short, drop-append-le (length bytes) page rest within)
     (append_assoc bytes (drop (length bytes) page) rest)
 
--- bytes that go on past the page
+-- bytes that continue past the page
 goes_on : (n : ℕ) (page rest bytes : List ℕ) → length page ≡ n → n ≤ length bytes
     → over (take n bytes) page ++ over (drop n bytes) rest ≡ over bytes (page ++ rest)
 goes_on n page rest bytes long enough =

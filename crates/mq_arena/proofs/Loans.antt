@@ -1,4 +1,4 @@
--- A part of a text that was lent, once it is given back.
+-- A part of a text, once a mutable borrow of it ends.
 use Rattle.std.proofs.Common.{◌≡◌, ◌∙◌, ◌+◌, ◌-◌, ◌*◌, ◌≤◌, ◌<◌, ℕ, List, [], ◌++◌, length, take, drop, get_or, set, min, Some, refl, sym, ap, arith, inl, inr, length-append, length-drop}
 use Rattle.std.proofs.lemmas.Bool.{cases_lt}
 use Rattle.std.proofs.lemmas.List.{take_all, take_at, take-take, drop-take, take-append-le, length-take, length-take-le}
@@ -83,7 +83,7 @@ part_written text len i b part is long =
     (written b.pages i len (length part) part is.whole is.within (omega arith) at_end refl)
     ∙ ap (λ t. with_part t i part) is.same
 
--- the text once the loan of its part ends
+-- the text once the borrow of its part ends
 pub part_left : (text : PlainText) (len i : ℕ) (b : OwnedBlock) (left : List ℕ)
     → IsPartOf text len i b
     → text_of len (Some (owned b.start b.order (with_page b.pages i left))) ≡ with_left text i left

@@ -1,4 +1,4 @@
--- The shells of an arena, of which one goes out with each block.
+-- The shells of an arena, of which each allocated block takes one.
 use Rattle.std.proofs.Common.{◌≡◌, ◌≤◌, ◌<◌, suc, inl, inr, true, false, nat_lt, ℕ, List, [], ◌∷◌, length, Some, refl, ap, arith}
 use Rattle.std.proofs.lemmas.Bool.{cases_Bool, cond_both}
 use Rattle.std.proofs.lemmas.List.Elements.{All-weaker}
@@ -12,14 +12,14 @@ use Rattle.mq_tree.specs.Fit.{fit}
 use Rattle.mq_arena.specs.Stocked.{IsShelled}
 use Rattle.mq_arena.proofs.Magazines.{few_blocks}
 
--- one block more is lent
+-- one block more is allocated
 pub length-joined : (b : PlainBlock) (lent : List PlainBlock)
     → length (inserted b lent) ≡ suc (length lent)
 length-joined b [] = refl
 length-joined b (c ∷ cs) =
     cond_both (nat_lt b.start c.start) (b ∷ c ∷ cs) (c ∷ inserted b cs) (λ l. length l ≡ suc (suc (length cs))) (λ _. refl) (λ _. ap suc (length-joined b cs))
 
--- one block fewer is lent, where it was
+-- one block fewer is allocated, where it was
 pub length-left : (b : PlainBlock) (lent : List PlainBlock) → AllPairs StartsBefore lent → is_lent b lent ≡ true
     → suc (length (left b lent)) ≡ length lent
 length-left b [] order lent = cc
@@ -42,7 +42,7 @@ shell_there arena order start shells room shelled set found =
     let whole = free_sum arena.height more (IsLentSet-joined arena.height arena.lent order start found set) in
     omega (arith, few, whole, length-joined (block start order) arena.lent, shelled.count)
 
--- while a block is out, there is room for its shell
+-- while a block is allocated, there is room for its shell
 pub shell_out : (arena : Lending) (b : PlainBlock) (shells room : ℕ) → IsShelled arena shells room
     → IsLentSet arena.height arena.lent → is_lent b arena.lent ≡ true → shells < room
 shell_out arena b shells room shelled set lent =

@@ -1,4 +1,4 @@
--- The stock of pages, before and after a block leaves or comes home.
+-- The pages of an arena, before and after a block is allocated or freed.
 use Rattle.std.proofs.Common.{◌≡◌, ◌∙◌, ◌+◌, ◌^◌, ◌≤◌, ◌<◌, inl, inr, true, not, ℕ, List, [], length, replicate, get_or, Some, sym, ap, subst, arith}
 use Rattle.std.proofs.lemmas.Bool.{cases_Bool, and_parts, and_from, not-true, not_from_false}
 use Rattle.std.proofs.lemmas.List.Elements.{All-contains}
@@ -17,14 +17,14 @@ use Rattle.mq_arena.specs.declared.limits.TheConstants.{INLINE_ORDER, INLINE_PAG
 use Rattle.mq_arena.specs.declared.page.TheConstants.{PAGE_LEN}
 use Rattle.mq_arena.proofs.Shells.{length-joined, length-left}
 
--- the pages of the block that is lent next are at home
+-- the arena holds the pages of the block that is allocated next
 pub fit_home : (arena : Lending) (homes : List (List ℕ)) (order start : ℕ) → IsStocked arena homes
     → fit arena.height arena.lent order ≡ Some start → AreHome homes start (2 ^ order)
 fit_home arena homes order start stocked found page from below =
     stocked.there page (omega (arith, (fit_passes arena.height arena.lent order start found).in_arena))
     (free_when_apart (block start order) arena.lent (fit_apart arena.height arena.lent order start found) page (record { from = from; below = below }))
 
--- a lent block is in the arena
+-- an allocated block is in the arena
 pub lent_inside : (arena : Lending) (homes : List (List ℕ)) (order start : ℕ) → IsStocked arena homes
     → is_lent (block start order) arena.lent ≡ true → start + 2 ^ order ≤ 2 ^ arena.height
 lent_inside arena homes order start stocked lent =
@@ -34,7 +34,7 @@ lent_inside arena homes order start stocked lent =
 pub few_pages : (order : ℕ) → order ≤ INLINE_ORDER → 2 ^ order ≤ INLINE_PAGES
 few_pages order low = pow_le order INLINE_ORDER low
 
--- the arena once a block has gone out
+-- the arena once a block is allocated
 pub arena_taken : (arena : Lending) (homes left_homes : List (List ℕ)) (order start shells places out parts fewer_shells same_places more fewer : ℕ)
     → IsArena arena homes shells places out parts → fit arena.height arena.lent order ≡ Some start
     → length left_homes ≡ length homes → SameOutside homes left_homes start (2 ^ order)
@@ -55,7 +55,7 @@ arena_taken arena homes left_homes order start shells places out parts fewer_she
       adds_up = record { pages = omega (arith, free, was.adds_up.pages); parted = omega (arith, free, was.adds_up.parted) };
     }
 
--- a block that is given back at once leaves the arena as it was
+-- allocating a block and freeing it at once restores the arena
 pub lent_back : (arena out after : Lending) (order start : ℕ) → fit arena.height arena.lent order ≡ Some start
     → out ≡ with_lent arena (inserted (block start order) arena.lent) → after ≡ with_lent out (left (block start order) out.lent)
     → after ≡ arena
@@ -63,14 +63,14 @@ lent_back arena out after order start found lent back =
     back ∙ ap (λ (o : Lending). with_lent o (left (block start order) o.lent)) lent
     ∙ ap (with_lent arena) (left_fit arena.height arena.lent order start found)
 
--- and so the arena, where the shell is back too
+-- and so its invariant, where the shell is returned too
 pub arena_back : (arena after : Lending) (homes : List (List ℕ)) (shells places same_shells same_places out parts : ℕ)
     → IsArena arena homes shells places out parts → after ≡ arena → same_shells ≡ shells → same_places ≡ places
     → IsArena after homes same_shells same_places out parts
 arena_back arena after homes shells places same_shells same_places out parts was same shells_back places_back =
     rw (same, shells_back, places_back) was
 
--- the arena once a block has come home
+-- the arena once a block is freed
 pub arena_given : (arena : Lending) (homes full_homes : List (List ℕ)) (order start shells places out parts more_shells same_places less more : ℕ)
     → IsArena arena homes shells places out parts → is_lent (block start order) arena.lent ≡ true
     → length full_homes ≡ length homes → AreHome full_homes start (2 ^ order) → SameOutside homes full_homes start (2 ^ order)
@@ -95,7 +95,7 @@ arena_given arena homes full_homes order start shells places out parts more_shel
       adds_up = record { pages = omega (arith, free, was.adds_up.pages); parted = omega (arith, free, was.adds_up.parted) };
     }
 
--- the arena when it is opened: nothing is lent
+-- the arena when it is opened: nothing is allocated
 pub arena_made : (arena : Lending) (homes : List (List ℕ)) (shells places out parts : ℕ)
     → IsFreshArena arena homes shells places → out ≡ 0 → 2 ^ arena.height < parts → IsArena arena homes shells places out parts
 arena_made arena homes shells places out parts made none_out enough =

@@ -36,7 +36,7 @@ pub record IsPartOf (text : PlainText) (len i : ℕ) (b : OwnedBlock) : Type 0 w
   pub same : text_of len (Some b) ≡ text
   pub part : text_part text.bytes i ≡ take (min PAGE_LEN (len - PAGE_LEN * i)) (get_or b.pages i [])
 
--- that it is
+-- this holds of each part of the text
 pub part_of : {text : PlainText} {len : ℕ} {b : OwnedBlock} (i : ℕ) → IsHeld text len b → i < count_of (length text.bytes) → IsPartOf text len i b
 part_of {text = text} {len = len} {b = b} i h below =
     let within : i < length b.pages = omega (arith, h.room, h.long, below) in

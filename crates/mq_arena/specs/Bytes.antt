@@ -2,11 +2,11 @@
 use Rattle.std.specs.Prelude.{◌≡◌, ℕ, ◌-◌, ◌==◌, List, [], ◌∷◌, ◌++◌, length, take, drop, replicate, All, if◌then◌else◌}
 use Rattle.mq_arena.specs.declared.page.TheConstants.{PAGE_LEN}
 
--- each page has all its bytes: none is blank
+-- each page has all its bytes: none is empty
 abbrev pub AreWhole : List (List ℕ) → Type 0
 AreWhole pages = All (λ page. length page ≡ PAGE_LEN) pages
 
--- the pages of the first bytes, that many, with the last one cut where they end
+-- the pages of the first bytes, that many, with the last one truncated where they end
 abbrev pub cut_parts : ℕ → List (List ℕ) → List (List ℕ)
 cut_parts len [] = []
 cut_parts len (page ∷ pages) =

@@ -1,4 +1,4 @@
--- What a page and a block end as, once the bytes that they lend are given back.
+-- What a page and a block are once a mutable borrow of their bytes ends.
 use Rattle.std.specs.Prelude.{ℕ, List, [], length, slice_index_or, slice_set}
 use Rattle.std.specs.List.{refill}
 use Rattle.std.specs.Borrow.{Lends, MutBor, Fml, Array, RattleType, u8}

@@ -1,4 +1,4 @@
--- Blocks that are kept back for the next draft.
+-- Free blocks that a magazine caches for the next drafts.
 use Rattle.std.specs.Prelude.{◌≡◌, ℕ, ◌≤◌, List}
 use Rattle.mq_arena.specs.OwnedBlock.{OwnedBlock}
 use Rattle.mq_arena.specs.Account.{pages_of}

@@ -1,4 +1,4 @@
--- Texts as those who send and receive them see them.
+-- Texts as senders and receivers see them.
 use Rattle.std.specs.Prelude.{◌≡◌, ℕ, ◌+◌, ◌-◌, ◌*◌, ◌/◌, ◌^◌, nat_lt, List, [], ◌++◌, length, take, drop, replicate, Option, None, Some, IfSome, count_by}
 use Rattle.std.specs.List.{concat, range_with_len}
 use Rattle.std.specs.Option.{option_map}
@@ -53,8 +53,8 @@ pub record AreItsAlone (text : PlainText) (pages : List (List ℕ)) : Type 0 whe
   pub bytes : concat pages
       ≡ text.bytes ++ replicate (PAGE_LEN * length pages - length text.bytes) 0
 
--- a text of these bytes in the block that an arena lends for it, and the arena; `None` where no
--- block fits
+-- a text of these bytes in the block that an arena allocates for it, and the arena after that;
+-- `None` where no block fits
 abbrev pub text_in : Lending → List ℕ → Option (PlainText × Lending)
 text_in arena bytes =
     option_map (λ l. (record { bytes = bytes; block = Some l.0 }, l.1))

@@ -1,4 +1,4 @@
--- What a text ends as, once the part that it lends is given back.
+-- What a text is once a mutable borrow of one of its parts ends.
 use Rattle.std.specs.Prelude.{ℕ, List, length}
 use Rattle.std.specs.List.{refill}
 use Rattle.std.specs.Borrow.{Lends, MutBor, Fml, Array, RattleType, u8}

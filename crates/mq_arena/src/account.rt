@@ -1,4 +1,4 @@
-//! The count of the pages that are lent.
+//! The count of the allocated pages, by a ledger.
 ghost use Rattle.std.specs.Prelude.{◌≡◌, ◌+◌, ◌^◌, ◌<◌, ◌≤◌};
 ghost use Rattle.mq_arena.specs.Account.{pages_of};
 

@@ -15,7 +15,7 @@ use std::sync::ledger::{Ledger, Share};
 use std::thread::{Threads, join_mut};
 
 /// A block of `2 ^ order` pages that begins at the page `start` of its arena, with its share of the
-/// arena's count of lent pages. It can't be dropped: its owner gives it back to the arena.
+/// arena's count of allocated pages. It can't be dropped: its owner frees it by the arena's `put`.
 pub struct Block<L: Ledger> {
     pub(crate) start: u32,
     pub(crate) order: u8,
@@ -95,7 +95,7 @@ impl<L: Ledger> Block<L> {
         }
     }
 
-    /// The pages of the first `len` bytes, the last one cut where they end.
+    /// The pages of the first `len` bytes, the last one truncated where they end.
     #[tactic(auto, using(crate::proofs::Cuts::concat_cut_parts))]
     pub fn parts_to(&self, len: usize) -> Parts<'_>
         ensures parts { result ≡ cut_parts len self.now.pages }

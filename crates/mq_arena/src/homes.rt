@@ -1,4 +1,4 @@
-//! Pages that leave their homes, and pages that come back.
+//! Moves of pages out of an arena's vector into a block, and back.
 ghost use Rattle.std.specs.Prelude.{◌≡◌, ◌+◌, ◌≤◌, [], length};
 ghost use Rattle.mq_arena.specs.Bytes.{AreWhole};
 ghost use Rattle.mq_arena.specs.Homes.{AreHome, SameOutside};
@@ -9,7 +9,7 @@ use std::alloc::Global;
 use std::default::MadeWith;
 use std::mem::replace;
 
-/// Takes the pages from `start` on out of their homes, with the bytes that they have.
+/// Moves the pages from `start` on out of the arena, with the bytes that they have.
 pub(crate) fn take_pages(
     alloc: Global,
     homes: &mut [Page],
@@ -32,7 +32,7 @@ pub(crate) fn take_pages(
     places
 }
 
-/// Puts the pages back to their homes from `start` on, and answers the empty places.
+/// Moves the pages back into the arena from `start` on, and returns the empty places.
 pub(crate) fn put_pages(homes: &mut [Page], start: usize, mut places: Places) -> Places
     requires within { start + length places.value.items ≤ length homes.old }
     requires whole { AreWhole places.value.items }

@@ -1,3 +1,5 @@
+//! The size limits of blocks, and the parts of an arena's ledger.
+
 use mq_tree::MAX_HEIGHT;
 
 /// The greatest order of a block.
@@ -6,7 +8,8 @@ pub const MAX_ORDER: u8 = 6;
 /// How many pages a block of the greatest order has.
 pub const MAX_PAGES: usize = 1 << MAX_ORDER;
 
-/// The greatest order of a block that is taken without memory: its pages have places in the arena.
+/// The greatest order of a block that is allocated without the heap: the arena has places for its
+/// pages.
 pub const INLINE_ORDER: u8 = 3;
 
 /// How many pages a block of that order has.

@@ -1,4 +1,4 @@
-//! The arena under its lock.
+//! An arena under a mutex.
 ghost use Rattle.std.specs.Prelude.{ℕ, ◌≡◌, ◌*◌, ◌^◌, ◌<◌, ◌≤◌, ◌-◌, ◌++◌, [], length, replicate, IfOk, IsErrOf};
 ghost use Rattle.std.specs.List.{concat};
 ghost use Rattle.mq_arena.specs.Bytes.{pages_with};
@@ -41,8 +41,8 @@ impl<L: OfHeight> Model for Held<L> {
     ghost invariant = { λ held. held.state.height ≡ L.height };
 }
 
-/// An arena for several threads. Its lock is held while a block leaves or comes home, and not while
-/// pages are written: those of a block are its owner's.
+/// An arena for several threads. Its lock is held while a block is allocated or freed, and not
+/// while pages are written: those of a block are its owner's.
 #[derive(Drop)]
 pub struct Arena<L: OfHeight> {
     held: Mutex<Held<L>>,
@@ -57,8 +57,8 @@ impl<L: OfHeight> Arena<L> {
         }
     }
 
-    /// Takes a block of that order, with all bytes zero. `NoRun` where none fitted, then `Memory`,
-    /// which an order up to `INLINE_ORDER` never meets.
+    /// Allocates a block of that order, with all bytes zero. `NoRun` where none fitted, then
+    /// `Memory`, which an order up to `INLINE_ORDER` never meets.
     #[tactic(auto, using(crate::proofs::Overwriting::no_bytes))]
     pub fn take<R: Wait>(&self, rt: &R, order: u8) -> Result<Block<L>, TakeError>
         requires { order ≤ MAX_ORDER }
@@ -99,19 +99,19 @@ impl<L: OfHeight> Arena<L> {
         Ok(Unwritten::of(block))
     }
 
-    /// Takes a block back, home or as a stray.
+    /// Frees a block that this arena has allocated; another one is a `Stray`.
     pub fn put<R: Wait>(&self, rt: &R, block: Block<L>) -> Homecoming {
         self.held.lock(rt).state.put(block)
     }
 
-    /// Takes all blocks of the magazine back.
+    /// Frees all blocks of the magazine.
     pub fn put_all<R: Wait>(&self, rt: &R, magazine: &mut Magazine<L>)
         ensures { magazine.new ≡ [] }
     {
         self.held.lock(rt).state.unload(magazine);
     }
 
-    /// The arena without its lock. No thread has it any more, so nothing is waited for.
+    /// The arena without its lock. No other thread has it any more, so this does not block.
     pub fn into_state(self) -> ArenaState<L>
         ensures { result.height ≡ L.height }
     {

@@ -1,4 +1,4 @@
-//! Blocks that are kept back for the next draft.
+//! A thread's cache of free blocks: a draft that finds one there takes no lock.
 ghost use Rattle.std.specs.Prelude.{◌≡◌, ◌==◌, ◌+◌, ◌^◌, ◌<◌, ◌≤◌, ◌++◌, ◌∷◌, []};
 ghost use Rattle.std.specs.Prelude.{IfNone, IfOk, IfErr, IfSome, OnOk, OnErr, option_to_list, position};
 ghost use Rattle.std.specs.List.Sorted.{IsPermutation};
@@ -13,12 +13,12 @@ use std::alloc::{AllocError, Global};
 use std::marker::Model;
 use std::sync::ledger::Ledger;
 
-/// The most pages that a magazine keeps back: those of a text of 8,192 bytes.
+/// The most pages that a magazine caches: those of a text of 8,192 bytes.
 pub const MAGAZINE_PAGES: u32 = 1 << INLINE_ORDER;
 
 /// Lent blocks that no text uses, kept where the next draft finds one without the arena's lock
 /// (Bonwick and Adams, "Magazines and Vmem", USENIX 2001). It can't be dropped, since blocks can't:
-/// its owner lets them go home.
+/// its owner frees them.
 pub struct Magazine<L: Ledger> {
     blocks: Vec<Block<L>>,
     /// How many pages these have.
@@ -45,7 +45,7 @@ fn index_of<L: Ledger>(blocks: &[Block<L>], order: u8) -> Option<usize>
 }
 
 impl<L: Ledger> Magazine<L> {
-    /// An empty one, which takes no more memory later. An `Err` means that memory ran out.
+    /// An empty one, which allocates no memory later. `Err` means out of memory.
     pub fn new(alloc: Global) -> Result<Magazine<L>, AllocError>
         ensures { IfOk result (λ m. m ≡ []) }
     {
@@ -67,7 +67,7 @@ impl<L: Ledger> Magazine<L> {
         Some(Unwritten::of(block))
     }
 
-    /// Keeps a block, or hands it back where it would keep more than `MAGAZINE_PAGES` pages then.
+    /// Caches a block, or returns it where more than `MAGAZINE_PAGES` pages would be cached then.
     pub fn put(&mut self, block: Block<L>) -> Result<(), Block<L>>
         ensures kept { OnOk result (self.new ≡ self.old ++ block ∷ []) }
         ensures handed_back { IfErr result (λ b. b ≡ block) }
@@ -83,7 +83,7 @@ impl<L: Ledger> Magazine<L> {
         Ok(())
     }
 
-    /// Takes out the block that came last.
+    /// Takes out the last block of the list.
     pub fn pop(&mut self) -> Option<Block<L>>
         ensures none { IfNone result (self.new ≡ []) }
         ensures last { self.old ≡ self.new ++ option_to_list result }
@@ -103,7 +103,7 @@ impl<L: Ledger> Magazine<L> {
 }
 
 impl<L: Ledger> ArenaState<L> {
-    /// Takes all blocks of the magazine back.
+    /// Frees all blocks of the magazine.
     pub(crate) fn unload(&mut self, magazine: &mut Magazine<L>)
         ensures height { self.new.height ≡ self.old.height }
         ensures all { magazine.new ≡ [] }

@@ -1,4 +1,4 @@
-//! The block that a text is drafted with.
+//! The size classes of texts: which order of block a text is drafted with.
 ghost use Rattle.std.specs.Prelude.{◌≡◌, ℕ, ◌*◌, ◌^◌, ◌<◌, ◌≤◌};
 ghost use Rattle.mq_arena.specs.Text.{order_for};
 
@@ -8,7 +8,7 @@ use crate::page::PAGE_LEN;
 /// How many bytes the longest text has: those of a block of the greatest order.
 pub const TEXT_LEN: usize = PAGE_LEN * MAX_PAGES;
 
-/// How many bytes the longest text has that is drafted without memory.
+/// How many bytes the longest text has that is drafted without the heap.
 pub const INLINE_LEN: usize = PAGE_LEN * INLINE_PAGES;
 
 /// The order of the block that a text of that many bytes is drafted with.
@@ -33,7 +33,7 @@ pub fn order_for(len: usize) -> u8
     }
 }
 
-/// The same for a text that is drafted with memory.
+/// The same for a text whose draft takes memory from the heap.
 #[tactic(auto, using(crate::proofs::Orders::order_least))]
 fn over_inline(len: usize) -> u8
     requires over { INLINE_LEN < len }

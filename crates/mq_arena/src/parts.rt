@@ -1,4 +1,4 @@
-//! The pages of a block in order, as parts that are read one after another.
+//! An iterator over the bytes of a block, page by page.
 ghost use Rattle.std.specs.Prelude.{◌≡◌, []};
 ghost use Rattle.std.specs.Iterator.{YieldsFirstBy, item_count};
 
@@ -6,7 +6,7 @@ use crate::page::{PAGE_LEN, Page};
 use std::iter::FusedIterator;
 use std::marker::Model;
 
-/// The parts that are left, each a whole page but for the last one, which may be cut.
+/// The parts that are left, each a whole page but for the last one, which may be truncated.
 #[derive(Drop)]
 pub struct Parts<'a> {
     pub(crate) pages: &'a [Page],

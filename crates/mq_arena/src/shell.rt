@@ -1,4 +1,4 @@
-//! The empty places of a block that is not lent.
+//! Preallocated storage for the page handles of a block, so that a small one needs no heap later.
 ghost use Rattle.std.specs.Prelude.{◌≡◌, ◌^◌, ◌<◌, ◌≤◌, [], IfOk, IsErr};
 
 use crate::account::page_count;
@@ -10,7 +10,7 @@ use std::marker::Model;
 
 /// Where the pages of a block are, in memory of its own: a block that moves leaves them in place.
 /// Those of a block of more than `INLINE_PAGES` pages are in an allocation behind it, which lasts
-/// until the block comes home.
+/// until the block is freed.
 pub(crate) type Places = Box<SmallVec<Page, INLINE_PAGES>>;
 
 /// The places of a block's pages while no block has them: all are empty.
@@ -47,8 +47,8 @@ impl Shell {
         Shell { places }
     }
 
-    /// Places for the pages of a block of that order. The one reason to fail is that an order over
-    /// `INLINE_ORDER` finds no memory; then the shell is as it was.
+    /// Places for the pages of a block of that order. It fails only where memory runs out for an
+    /// order over `INLINE_ORDER`; then the shell is as it was.
     #[tactic(auto, using(crate::proofs::Stock::few_pages))]
     pub(crate) fn into_places(self, order: u8) -> Result<Places, Shell>
         requires { order ≤ MAX_ORDER }

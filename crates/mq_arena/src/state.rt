@@ -1,4 +1,4 @@
-//! The arena: the pages at home, and which are lent.
+//! The arena: a pool of pages, with the buddy tree that allocates them in blocks.
 ghost use Rattle.std.specs.Prelude.{◌≡◌, ◌+◌, ◌-◌, ◌*◌, ◌^◌, ◌<◌, ◌≤◌, ◌↔◌, ◌++◌, Some, None, length, replicate, IfOk, OnErr, IsErrOf, IsTrue};
 ghost use Rattle.std.specs.List.{concat};
 ghost use Rattle.mq_tree.specs.LentSet.{is_lent, free_pages};
@@ -20,14 +20,14 @@ use std::marker::Model;
 use std::sync::ledger::{Book, Ledger, Share};
 
 /// The pages of an arena, lent in blocks by Knowlton's buddy system ("A fast storage allocator",
-/// CACM 1965). Each page that is not lent is at home, at the place of its number. The ledger `L`
-/// counts the pages of the blocks that are out, wherever they are: its book is here, and each
+/// CACM 1965). Each free page is in `homes`, at the index of its number. The ledger `L`
+/// counts the pages of the allocated blocks, wherever they are: its book is here, and each
 /// block carries its share.
 #[derive(Drop)]
 pub struct ArenaState<L: Ledger> {
     pub(crate) tree: OrderTree,
     pub(crate) homes: Vec<Page>,
-    /// One for each block that could still be lent.
+    /// One for each block that could still be allocated.
     pub(crate) shells: Vec<Shell>,
     pub(crate) out: Book<L>,
     pub(crate) parts: Share<L>,
@@ -47,9 +47,9 @@ impl<L: Ledger> Model for ArenaState<L> {
 }
 
 impl<L: Ledger> ArenaState<L> {
-    /// Takes the block of that order with the least start, with all bytes zero: the pages move into
-    /// the block. `NoRun` where no block of that order fits, then `Memory`, which an order up to
-    /// `INLINE_ORDER` never meets.
+    /// Allocates the block of that order with the least start, with all bytes zero: the pages move
+    /// into the block. `NoRun` where no block of that order fits, then `Memory`, which an order up
+    /// to `INLINE_ORDER` never meets.
     #[tactic(auto, using(crate::proofs::Overwriting::no_bytes))]
     pub fn take(&mut self, order: u8) -> Result<Block<L>, TakeError>
         requires { order ≤ MAX_ORDER }
@@ -119,7 +119,7 @@ impl<L: Ledger> ArenaState<L> {
         })
     }
 
-    /// Takes a block back: home where that very block is lent, else a stray.
+    /// Frees a block, where this arena has that very block allocated; else it is a `Stray`.
     // Inlined, so that the block's fields go to registers one by one: as one value it is copied in
     // pieces that overlap, and each copy waits for the one before it.
     #[inline(always)]
@@ -152,14 +152,14 @@ impl<L: Ledger> ArenaState<L> {
         self.tree.pages()
     }
 
-    /// How many pages are not lent.
+    /// How many pages are free.
     pub fn free_pages(&self) -> u32
         ensures { result ≡ free_pages self.now.height self.now.lent }
     {
         self.tree.free_pages()
     }
 
-    /// How many pages the lent blocks have.
+    /// How many pages the allocated blocks have.
     pub fn lent_pages(&self) -> u32
         ensures blocks { result ≡ lent_pages self.now.lent }
         ensures account { free_pages self.now.height self.now.lent + result ≡ 2 ^ self.now.height }
@@ -168,7 +168,7 @@ impl<L: Ledger> ArenaState<L> {
         all - self.tree.free_pages()
     }
 
-    /// Shows that every block is counted, whoever has it: the pages of these and the free ones are
+    /// Shows that every block is counted, wherever it is: the pages of these and the free ones are
     /// no more than the arena's. It changes nothing.
     pub fn account(&mut self, blocks: &mut [Block<L>])
         ensures counted { free_pages self.old.height self.old.lent + pages_of blocks.old
@@ -179,7 +179,7 @@ impl<L: Ledger> ArenaState<L> {
         audit(&mut self.out, &mut self.parts, blocks);
     }
 
-    /// The largest order of which `take` would find a block, where it is at most `MAX_ORDER`.
+    /// The largest order of which a block is free. It may be over `MAX_ORDER`, the most for `take`.
     pub fn largest(&self) -> Option<u8>
         ensures { result ≡ largest self.now.height self.now.lent }
     {

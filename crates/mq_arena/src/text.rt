@@ -1,4 +1,4 @@
-//! A text: bytes in a block of pages.
+//! Message buffers: the bytes of a text, in a block of pages.
 ghost use Rattle.std.specs.Prelude.{◌≡◌, ℕ, ◌-◌, ◌*◌, ◌^◌, ◌<◌, ◌≤◌, ◌↔◌, [], Some, None, length, take};
 ghost use Rattle.std.specs.Prelude.{replicate, min, slice_index_or, IfSome, IfNone, IfOk, OnErr, IsErrOf};
 ghost use Rattle.std.specs.List.{concat};
@@ -13,7 +13,7 @@ use std::marker::Model;
 use std::sync::ledger::Ledger;
 
 /// A text in a block, or the empty one without a block. It can't be dropped: its owner takes the
-/// block out and gives it back to the arena.
+/// block out and frees it.
 pub struct Text<L: Ledger> {
     pub(crate) len: usize,
     pub(crate) block: Option<Block<L>>,
@@ -60,7 +60,7 @@ impl<L: Ledger> Text<L> {
         }
     }
 
-    /// The text of these bytes, in a block that the arena lends for it: the least that has room.
+    /// The text of these bytes, in a block that the arena allocates: the least with room.
     /// Each byte of the block is written once.
     pub fn of_bytes(arena: &mut ArenaState<L>, bytes: &[u8]) -> Result<Text<L>, TakeError>
         requires some { 0 < length bytes.now }

@@ -60,8 +60,8 @@ impl<L: Ledger> Text<L> {
     }
 
     /// Lends the block's pages below `i` to `f` and those from `i` on to `g`, on two threads. The
-    /// text's bytes are the first ones of these pages, and zeros stand behind them: of what a cut
-    /// took away nothing is lent.
+    /// text's bytes are the first ones of these pages, and zeros stand behind them: nothing of
+    /// what was truncated is lent.
     pub fn write_halves<R: Threads, F: FnMut(&mut [Page]) + Send, G: FnMut(&mut [Page])>(
         &mut self,
         rt: &R,

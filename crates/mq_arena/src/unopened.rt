@@ -1,4 +1,4 @@
-//! An arena that is made, and not yet opened.
+//! The construction of an arena: its memory is allocated before its ledger is opened.
 ghost use Rattle.std.specs.Prelude.{◌≡◌, ◌^◌, ◌<◌, ◌↔◌, [], vec_len, vec_capacity, replicate, IfOk, IsErrOf};
 
 use crate::limits::LEDGER_PARTS;
@@ -75,7 +75,7 @@ impl Unopened {
         })
     }
 
-    /// The arena, with nothing lent. A ledger of more parts than the arena has pages counts for it.
+    /// The arena, all pages free. A ledger of more parts than the arena has pages counts for it.
     pub fn open<L: Ledger>(self, ledger: Blank) -> ArenaState<L>
         requires name { ledger.name ≡ L.name }
         requires parts { ledger.parts ≡ L.parts }

@@ -8,7 +8,7 @@ use crate::page::PAGE_LEN;
 use std::marker::Model;
 use std::sync::ledger::Ledger;
 
-/// A block in which bytes of an earlier text may lie. It lends none of them and can't be dropped:
+/// A block in which bytes of an earlier text may lie. It exposes none of them and can't be dropped:
 /// its owner has a `Block` only once all of it is written over.
 pub struct Unwritten<L: Ledger> {
     block: Block<L>,

@@ -1,4 +1,4 @@
--- The steps of a history keep its rule, and tell what they say.
+-- The steps of a history keep its invariant, and do what they state.
 use Rattle.std.proofs.Common.{◌≡◌, ℕ, ◌+◌, ◌<◌, ◌==◌, Bool, true, false, List, [], ◌∷◌, ◌++◌, length, slice_set, refl, ap, sym, ◌∙◌, subst, arith, inl, length-append, None}
 use Rattle.std.proofs.lemmas.Bool.Decides.{nat_tests}
 use Rattle.std.proofs.lemmas.List.{append-nil, get_or-set_same, length-set}
@@ -64,7 +64,7 @@ adds_goes cs v log ask n kept pre count false is =
       λ _ found. absurd (grind (arith, nat_tests, is, found)),
     )
 
--- whoever has seen as many events as there are has seen all, and adds one more
+-- a step whose view has as many events as there are has them all, and appends one more
 pub adds_moves : (v : List Event) (ask : Event) (n : ℕ) → n ≡ length v
     → Moves IsCounted shown moved 0 (v, (no_nib, None)) (λ k. either (k == n) (n + 1) k)
     (Adds (step 0 n (n + 1) ask) (v, (no_nib, None)))
@@ -74,7 +74,7 @@ adds_moves v ask n count cs log kept pre away = (
   adds_goes cs v log ask n kept pre count ((cell cs 0).0 == n) refl,
 )
 
--- whoever looks sees all
+-- a step that reads the word gets all events in its view
 pub learns_moves : (v : List Event) (ask : Event)
     → Moves IsCounted shown moved 0 (v, (no_nib, None)) (λ k. k)
     (LearnsAll (step 0 0 0 ask) (v, (no_nib, None)))

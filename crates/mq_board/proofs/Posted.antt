@@ -1,4 +1,4 @@
--- The one that is pending.
+-- The event that is pending.
 use Rattle.std.proofs.Common.{◌≡◌, ℤ, List, [], ◌∷◌, ◌++◌, Bool, true, false, ap, sym, ◌∙◌}
 use Rattle.mq_queue.specs.declared.event.Event.{Event}
 use Rattle.mq_queue.specs.declared.figures.BoardRow.{BoardRow}

@@ -17,19 +17,19 @@ history board events = record { board = board; events = events }
 abbrev pub word_of : Book → Named
 word_of book = record { tracked = true; key = 0; book = book }
 
--- what holds between two steps: the word is the number of the events
+-- the invariant: the word is the number of the events
 pub record IsCounted (cells : List Cell) (log : List Event) : Type 0 where
   pub inside : 0 < length cells
   pub head : cell cells 0 ≡ (length log, true)
 
--- what a step asks for that adds nothing
+-- the event of a step that appends none
 abbrev pub any_event : Event
 any_event = Removed 0 0
 
--- where all had been seen, the event was added
+-- where the view had all events, the event was appended
 abbrev pub Adds : Step Event → View Event ℕ → ℕ → View Event ℕ → Type 0
 Adds s v found w = length v.0 ≡ s.old → found ≡ s.old → w.0 ≡ v.0 ++ s.ask ∷ []
 
--- all is seen
+-- the view has all events
 abbrev pub LearnsAll : Step Event → View Event ℕ → ℕ → View Event ℕ → Type 0
 LearnsAll s v found w = found ≡ length w.0

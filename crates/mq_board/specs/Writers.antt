@@ -14,7 +14,7 @@ abbrev pub posting : Event → Figures → Posting
 posting event after = record { event = event; after = after }
 
 -- a writer: its board, the published list and what of it the copies show, what is pending, and the
--- places that came home
+-- places that were freed
 pub record WriterState : Type 0 where
   pub board : ℕ
   pub events : List Event
@@ -22,7 +22,7 @@ pub record WriterState : Type 0 where
   pub pending : List Posting
   pub home : List ℕ
 
--- what is pending, of the place for one
+-- what is pending: this event, or none
 abbrev pub pending_in : Bool → Posting → List Posting
 pending_in true next = next ∷ []
 pending_in false next = []

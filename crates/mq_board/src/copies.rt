@@ -58,7 +58,7 @@ impl<J: Naming> Copies<J> {
         Ok(Copies { pair })
     }
 
-    /// What makes readers of the copies.
+    /// The factory of readers of the copies.
     pub(crate) fn factory(&self) -> Result<Factory<Snapshot, (), BoardLaw<J>>, AllocError> {
         let Some(pair) = &self.pair else {
             unreachable!()
@@ -66,8 +66,8 @@ impl<J: Naming> Copies<J> {
         pair.factory().another()
     }
 
-    /// Publishes this snapshot. It takes no memory, and waits for a reader that is still inside the
-    /// copy that was published before the last.
+    /// Publishes this snapshot. It allocates nothing, and waits for a reader that is still inside
+    /// the copy that was published before the last.
     pub(crate) fn publish<R: Wait>(&mut self, rt: &R, next: Snapshot)
         requires { IsOfBoard J.board next }
         ensures { self.new ≡ next }

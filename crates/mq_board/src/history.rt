@@ -23,7 +23,7 @@ pub struct HistoryLaw;
 /// The word of a history.
 type Counted = Word<Event, u64, HistoryLaw>;
 
-/// A prefix of a history, which was reached. It has no bytes.
+/// A prefix of a history that was observed. It is zero-sized.
 pub(crate) type Reached = Seen<Event, u64, HistoryLaw>;
 
 impl Rule<Event, u64> for HistoryLaw {
@@ -90,7 +90,7 @@ impl Plain<u64, Event, u64> for Learn {
     ghost state = { λ count. None };
 }
 
-/// An empty history, which has no number yet.
+/// An empty history, which has no board number yet.
 #[derive(Drop)]
 pub struct OpenedHistory {
     word: Counted,
@@ -167,7 +167,7 @@ impl<J: Naming> EventCount<J> {
         self.number
     }
 
-    /// Another handle to the same word. `Err` means that the count of handles is full.
+    /// Another handle to the same word. `Err` means that the reference count is at its maximum.
     pub(crate) fn try_clone(&self) -> Result<EventCount<J>, AllocError>
         ensures { IfOk result (λ h. h ≡ self.now) }
     {
@@ -273,7 +273,7 @@ impl<J: Naming> HistoryWriter<J> {
         }
     }
 
-    /// Adds an event, if nobody else has added one, as nobody does.
+    /// Adds an event, if no other thread has added one, as none does.
     fn try_add(&mut self, event: Event) -> bool
         requires { length self.old.events < 2 ^ 64 - 1 }
         ensures added { IsTrue result
@@ -288,7 +288,7 @@ impl<J: Naming> HistoryWriter<J> {
         true
     }
 
-    /// Adds an event, by one compare-exchange. It takes no memory.
+    /// Adds an event, by one compare-exchange. It allocates nothing.
     pub(crate) fn add<R: Wait>(&mut self, rt: &R, event: Event)
         requires { length self.old.events < 2 ^ 64 - 1 }
         ensures { self.new ≡ history self.old.board (self.old.events ++ event ∷ []) }

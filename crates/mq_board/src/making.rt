@@ -1,4 +1,4 @@
-//! The making of a board.
+//! Construction of a board: its writer, and its readers at their places.
 
 ghost use Rattle.std.specs.Prelude.{◌≡◌, ◌+◌, ◌<◌, ◌≤◌, [], vec_len, IfOk};
 ghost use Rattle.mq_board.specs.Named.{AreNamed};
@@ -21,7 +21,7 @@ use std::sync::Wait;
 /// visits each place. As many readers as places never find all taken.
 pub(crate) const MAX_PLACES: usize = 2;
 
-/// So many boards, opened before there are names for them. An `Err` means that memory ran out.
+/// So many boards, opened before there are names for them. `Err` means out of memory.
 pub fn open_boards(alloc: Global, count: u8) -> Result<Vec<OpenedBoard>, AllocError>
     ensures { IfOk result (λ opened. vec_len opened ≡ count) }
 {
@@ -32,8 +32,8 @@ pub fn open_boards(alloc: Global, count: u8) -> Result<Vec<OpenedBoard>, AllocEr
     Ok(opened)
 }
 
-/// Makes the last of the boards, whose number this is, with so many readers. An `Err`
-/// means out of memory; the board is then given up.
+/// Makes the last of the boards, whose number this is, with so many readers. `Err` means out of
+/// memory; the board is then given up.
 pub fn next_board<J: Naming, R: Wait>(
     alloc: Global,
     rt: &R,

@@ -1,4 +1,4 @@
-//! A reader of a board.
+//! The read side of a board: a left-right read, skipped where the event count has not grown.
 
 ghost use Rattle.std.specs.Prelude.{◌≡◌, ◌<◌, ◌≤◌, [], length, IfSome, MatchBool};
 ghost use Rattle.mq_queue.specs.Row.{row};
@@ -82,9 +82,9 @@ impl<J: Naming> BoardReader<J> {
         self.place.number()
     }
 
-    /// The row of a published list that begins with the front, and that is the front then. It
-    /// takes no lock and no memory, and waits for nobody: where all places are taken at each of
-    /// `ATTEMPTS` tries, or the board was given up, it answers the row of the front.
+    /// The row of a published list that begins with the front, and that is the front then. It takes
+    /// no lock, allocates nothing and never blocks: where all places are taken at each of
+    /// `ATTEMPTS` tries, or the board was given up, it returns the row of the front.
     pub fn row(&mut self) -> BoardRow
         ensures later { HasSeenMore self.old self.new }
         ensures row { result ≡ row self.new.events }
@@ -125,7 +125,7 @@ impl<J: Naming> BoardReader<J> {
         Some(published)
     }
 
-    /// Learns what the board's writer told, if the list is at least as long as the front.
+    /// Learns a prefix that the board's writer published, if it is at least as long as the front.
     pub fn learn(&mut self, told: ToldList<J>) -> bool
         requires { told.board ≡ self.old.board }
         ensures later { HasSeenMore self.old self.new }

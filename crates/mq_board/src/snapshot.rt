@@ -55,7 +55,7 @@ impl Snapshot {
         self.count
     }
 
-    /// A copy, which takes no memory.
+    /// A copy, which allocates nothing.
     pub(crate) fn duplicate(&self) -> Snapshot
         ensures { result ≡ self.now }
     {
@@ -79,7 +79,7 @@ impl Snapshot {
     }
 }
 
-/// The next snapshot takes the place of the one before.
+/// The next snapshot replaces the one before.
 impl Absorb<Snapshot> for Snapshot {
     type State = Snapshot;
 

@@ -60,7 +60,7 @@ impl<J: Naming> ToldList<J> {
         self.snapshot.count()
     }
 
-    /// A copy, which takes no memory.
+    /// A copy, which allocates nothing.
     pub(crate) fn duplicate(&self) -> ToldList<J>
         ensures { result ≡ self.now }
     {

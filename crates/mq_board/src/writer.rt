@@ -1,4 +1,4 @@
-//! The writer of a board.
+//! The write side of a board: an event is appended to the history, and then shown by the copies.
 
 ghost use Rattle.std.specs.Prelude.{◌≡◌, ◌≢◌, ℕ, ◌++◌, ◌∷◌, [], map};
 ghost use Rattle.std.specs.List.{All, AllPairs, Contains};
@@ -21,9 +21,9 @@ use std::alloc::AllocError;
 use std::marker::Model;
 use std::sync::Wait;
 
-/// The writer of a board, seen as its published list, the prefix of it that the copies show, what is
-/// pending and the readers that came home. There is one of each board. It can't be dropped: `end` or
-/// `close` gives the board up.
+/// The writer of a board, seen as its published list, the prefix of it that the copies show, the
+/// pending event and the places that were returned. There is one of each board. It can't be
+/// dropped: `end` or `close` gives the board up.
 pub struct BoardWriter<J: Naming> {
     copies: Copies<J>,
     history: HistoryWriter<J>,
@@ -32,7 +32,7 @@ pub struct BoardWriter<J: Naming> {
     row: BoardRow,
     /// The key of the queue that was made last, also once it was removed.
     key: i32,
-    /// A place for the event that is prepared and not published yet, and whether one is there.
+    /// A buffer for the event that is prepared and not published yet, and whether it holds one.
     next: Posting,
     is_pending: bool,
     /// Whether events were appended that the copies do not show yet.
@@ -64,7 +64,7 @@ impl<J: Naming> Notice for BoardWriter<J> {
     ghost takes = { λ old event after new.
         new ≡ record old { pending = old.pending ++ posting event after ∷ [] } };
 
-    /// It takes no memory. There is a place for one event: `Err` where one is pending.
+    /// It allocates nothing. There is a buffer for one event: `Err` where one is pending.
     fn prepare(&mut self, event: Event, after: Figures) -> Result<(), AllocError> {
         if self.is_pending {
             return Err(AllocError);
@@ -114,7 +114,7 @@ impl<J: Naming> BoardWriter<J> {
         self.row
     }
 
-    /// Names the published list.
+    /// A token that proves the published list, for a reader to learn.
     pub fn tell(&mut self) -> ToldList<J>
         ensures told { result ≡ history self.old.board self.old.events }
         ensures same { self.new ≡ self.old }
@@ -122,8 +122,8 @@ impl<J: Naming> BoardWriter<J> {
         ToldList::new(self.history.snapshot(self.row))
     }
 
-    /// Appends the event that is pending to the published list. It takes no memory. The copies do not
-    /// show it before `show`.
+    /// Appends the event that is pending to the published list. It allocates nothing. The copies do
+    /// not show it before `show`.
     pub fn append<R: Wait>(&mut self, rt: &R)
         requires { HasOnePending self.old.events self.old.pending }
         ensures { self.new ≡ record self.old {
@@ -139,8 +139,8 @@ impl<J: Naming> BoardWriter<J> {
         self.history.add(rt, event);
     }
 
-    /// Has the copies show all of the published list: readers find it from then on. It takes no
-    /// memory, and waits for a reader that is still inside the copy that was published before the
+    /// Has the copies show all of the published list: readers find it from then on. It allocates
+    /// nothing, and waits for a reader that is still inside the copy that was published before the
     /// last.
     pub fn show<R: Wait>(&mut self, rt: &R)
         ensures { self.new ≡ record self.old { shown = self.old.events } }
@@ -164,7 +164,8 @@ impl<J: Naming> BoardWriter<J> {
         self.show(rt);
     }
 
-    /// A reader comes home. Its front begins the published list, and its place was not at home.
+    /// Takes a reader back. Its front is a prefix of the published list, and its place was not
+    /// returned before.
     pub fn take_back<R: Wait>(&mut self, rt: &R, reader: BoardReader<J>)
         requires { reader.board ≡ self.old.board }
         ensures same { self.new ≡ record self.old { home = self.new.home } }
@@ -178,8 +179,8 @@ impl<J: Naming> BoardWriter<J> {
         self.roll.take_home(place);
     }
 
-    /// Gives up the board, whose readers come home. The fronts of all begin the published list, and
-    /// no two had one place.
+    /// Gives up the board, and takes its readers back. The front of each is a prefix of the
+    /// published list, and no two had the same place.
     pub fn end<R: Wait>(self, rt: &R, readers: Vec<BoardReader<J>>)
         requires { All (λ r. r.board ≡ self.board) readers.items }
         ensures fronts { All (λ r. IsPrefix r.events self.events) readers.items }
@@ -194,7 +195,7 @@ impl<J: Naming> BoardWriter<J> {
     }
 
     /// Gives up the board, and waits for the readers inside its copies. A reader that is left
-    /// answers the row of its front from then on.
+    /// returns the row of its front from then on.
     pub fn close<R: Wait>(self, rt: &R) {
         let BoardWriter {
             copies,

@@ -49,7 +49,7 @@ taken old new log event idle took is lawful short =
     subst Ready (sym took)
     (rw idle (ready old.events log event (figures log) is lawful refl short))
 
--- so it may be of a queue whose log was not cut
+-- so it may be of a queue whose log was not drained
 pub taken_from : (base : Base) (old new : WriterState) (log : List Event) (event : Event)
     → base ≡ base_of [] → old.pending ≡ []
     → new ≡ record old { pending = old.pending ++ posting event (figures_from base log) ∷ [] }

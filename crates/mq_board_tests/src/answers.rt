@@ -13,7 +13,7 @@ pub(crate) const CHANGED: u64 = 41;
 /// The place of the last message that is received, after which there are new quotas.
 pub(crate) const RECEIVED: u64 = 81;
 
-/// The place of the removal. The log wants more memory at each place that is a power of two. A
+/// The place of the removal. The log grows at each place that is a power of two. A
 /// receipt is at 64, a new quota at 128 and the removal here, so each kind of call can be refused.
 pub(crate) const REMOVED: u64 = 256;
 
@@ -27,7 +27,7 @@ pub(crate) fn quota_of(place: u64) -> u64 {
     place.saturating_mul(10)
 }
 
-/// What the receiver at this place selects, and the place of the message that it is handed: eight
+/// What the receiver at this place selects, and the place of the message that it receives: eight
 /// of one type, eight of the lowest type, eight of two others, eight of the lowest, and the rest.
 pub(crate) fn wanted_at(place: u64) -> (Selection, u64) {
     let receipt = place.saturating_sub(CHANGED + 1);
@@ -59,7 +59,7 @@ fn seat_if(happened: bool, seat: u16) -> u16 {
     if happened { seat } else { 0 }
 }
 
-/// The quota after the change at this place, where it had come by then.
+/// The quota after the change at this place, where that had happened by then.
 fn quota_if(happened: bool, changed: u64) -> u64 {
     if happened { quota_of(changed) } else { MSGMNB }
 }

@@ -1,14 +1,14 @@
 //! The calls of a queue whose notice is a board's writer, each made once more where it was refused:
-//! the first reader then sees no change, and what was refused is handed back.
+//! the first reader then sees no change, and what was refused is returned.
 
 ghost use Rattle.std.specs.Prelude.{◌≡◌, []};
 ghost use Rattle.mq_board_tests.specs.Shown.{IsPending, IsShown};
 
 use crate::posts::{Queue, close, open};
 use mq_board::{BoardReader, BoardWriter, Naming};
-use mq_index::ListWaiting;
 use mq_message::{Message, Selection, VecBody};
 use mq_queue::{BoardRow, Log, Received};
+use mq_select::ListWaiting;
 use std::alloc::Global;
 use std::process::Abort;
 use std::sync::Wait;
@@ -135,7 +135,7 @@ pub(crate) fn set<J: Naming>(
     }
 }
 
-/// The log of the queue that is removed, and what waited.
+/// The log of the queue that is removed, and its pending messages.
 pub(crate) fn remove<J: Naming>(
     rt: &impl Abort,
     queue: Queue,

@@ -27,12 +27,12 @@ struct Learned {
     /// The first one learned a list that is shorter than its front, and the list of its front.
     shorter: bool,
     same: bool,
-    /// The second one, which had not looked, learned that list.
+    /// The second one, which had taken no snapshot, learned that list.
     longer: bool,
     row: BoardRow,
 }
 
-/// Tells the first reader an earlier list, and the first and the second one the last list.
+/// The first reader learns an earlier list, and the first and the second one the last list.
 fn tell<J: Naming>(
     earlier: ToldList<J>,
     writer: &mut BoardWriter<J>,
@@ -74,8 +74,8 @@ fn follow<J: Naming, R: Wait>(
     })
 }
 
-/// What the rows are of a reader that saw all, and of one that never looked, once the board was
-/// given up.
+/// What the rows are of a reader that saw all, and of one that never took a snapshot, once the
+/// board was given up.
 #[derive(Drop)]
 struct Left {
     saw_all: BoardRow,

@@ -1,4 +1,4 @@
-//! Tests of boards: readers beside a writer, fronts that learn, boards that are given up.
+//! Tests of boards: readers beside a writer, fronts that advance, boards that are closed.
 
 #![tactic(auto)]
 

@@ -115,7 +115,7 @@ fn place_of(row: BoardRow) -> Option<u64> {
     }
 }
 
-/// A reader that looked often, and whether each row was that of a prefix and of none before.
+/// A reader that took many snapshots, and whether each was that of a prefix and of none before.
 #[derive(Drop)]
 struct Looked<J: Naming> {
     reader: BoardReader<J>,

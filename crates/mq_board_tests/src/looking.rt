@@ -1,4 +1,4 @@
-//! After each event of a board a reader looks.
+//! After each event of a board a reader takes a snapshot.
 
 ghost use Rattle.std.specs.Prelude.{◌≡◌, []};
 
@@ -43,7 +43,7 @@ fn follow<J: Naming, R: Abort + Wait>(
     Ok(())
 }
 
-/// One reader looks after each of ten events, and another one only after the last.
+/// One reader takes a snapshot after each of ten events, and another one only after the last.
 fn followed<J: Naming, R: Abort + Wait>(
     rt: &R,
     alloc: Global,
@@ -63,7 +63,7 @@ fn run<R: Abort + Wait>(rt: &R, alloc: Global) -> Result<(), AllocError> {
 }
 
 #[test]
-fn a_reader_looks_after_each_of_ten_events(rt: HostRuntime) -> Result<(), Fail> {
+fn a_reader_polls_after_each_of_ten_events(rt: HostRuntime) -> Result<(), Fail> {
     run(&rt, rt.alloc())?;
     Ok(())
 }

@@ -6,15 +6,15 @@ ghost use Rattle.mq_queue.specs.Base.{base_of};
 ghost use Rattle.mq_board.specs.Writers.{HasOnePending, posting};
 
 use mq_board::{BoardReader, BoardWriter, Naming, ToldList};
-use mq_index::ListWaiting;
 use mq_message::{Message, VecBody, discard};
 use mq_queue::{Event, Figures, Notice, QueueState};
+use mq_select::ListWaiting;
 use std::alloc::{AllocError, Global};
 use std::sync::Wait;
 
 pub(crate) type Queue = QueueState<VecBody, ListWaiting<VecBody>>;
 
-/// Publishes an event. `Err` means that memory was wanted twice.
+/// Publishes an event. `Err` means that it was out of memory twice.
 pub(crate) fn publish<J: Naming, R: Wait>(
     rt: &R,
     writer: &mut BoardWriter<J>,
@@ -79,7 +79,7 @@ pub(crate) fn send<J: Naming, R: Wait>(
     Ok(())
 }
 
-/// Ends the queue with all that waits in it.
+/// Ends the queue with all its pending messages.
 pub(crate) fn close(queue: Queue) {
     let (_log, waiting) = queue.into_parts();
     discard(waiting);
@@ -92,7 +92,7 @@ pub(crate) fn are_of<J: Naming>(readers: &[BoardReader<J>], board: u8) -> bool
     readers.iter().all(|reader| reader.board() == board)
 }
 
-/// Whether the reader learns a list, which has to be told by its board.
+/// Whether the reader learns a list, which has to be of its board.
 pub(crate) fn learns<J: Naming>(reader: &mut BoardReader<J>, told: ToldList<J>) -> bool {
     reader.board() == told.board() && reader.learn(told)
 }

@@ -95,7 +95,7 @@ fn calls<J: Naming>(
     }
 }
 
-/// Makes all calls, and looks after each.
+/// Makes all calls, and takes a snapshot after each.
 fn follow<J: Naming, R: Abort + Wait>(
     rt: &R,
     alloc: Global,
@@ -120,7 +120,7 @@ fn follow<J: Naming, R: Abort + Wait>(
     holds!(rt; left == 0 && log.len() == REMOVED + 1);
 }
 
-/// `Err` comes before the first call: there was no memory for the board.
+/// `Err` is returned before the first call: the board was out of memory.
 fn listed<J: Naming, R: Abort + Wait>(
     rt: &R,
     alloc: Global,

@@ -1,4 +1,4 @@
-//! Readers that look while a writer publishes.
+//! Readers that take snapshots while a writer publishes.
 
 ghost use Rattle.std.specs.Prelude.{◌≡◌, ◌<◌, ◌≤◌, []};
 
@@ -11,7 +11,7 @@ use std::sync::Wait;
 use std::test::*;
 use std::thread::{Threads, join, map_vec};
 
-/// A reader that looked often, and whether a count that it saw was below one before.
+/// A reader that took many snapshots, and whether a count in one was below one before.
 #[derive(Drop)]
 struct Looked<J: Naming> {
     reader: BoardReader<J>,
@@ -52,8 +52,8 @@ fn publish_often<J: Naming, R: Wait>(
     Ok(())
 }
 
-/// Whether each reader saw no count fall, looked once more and then learned what is told, with a
-/// hundred messages both times.
+/// Whether each reader saw no count fall, took one more snapshot and then learned the published
+/// list, with a hundred messages both times.
 fn all_saw<J: Naming>(writer: &mut BoardWriter<J>, looked: Vec<Looked<J>>) -> bool {
     let mut right = true;
     for Looked { reader, fell } in looked {

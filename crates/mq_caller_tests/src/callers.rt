@@ -153,7 +153,7 @@ fn sends_most<N: Names, R: Wait + Clock>(
     }
 }
 
-/// Whether no text was drafted for want of pages.
+/// Whether no text was drafted since no pages were free.
 fn is_no_draft<N: Names, R: Wait + Clock>(
     caller: &Caller<'_, Nothing, N, R>,
     drafted: Result<TextOf<N>, Errno>,
@@ -167,7 +167,7 @@ fn is_no_draft<N: Names, R: Wait + Clock>(
     }
 }
 
-/// Drafts that may not wait while four texts have all pages, and one that a full queue hands back.
+/// Drafts that may not wait while four texts have all pages, and one that a full queue returns.
 fn is_drafted<N: Names, R: Wait + Clock>(
     caller: &mut Caller<'_, Nothing, N, R>,
 ) -> Result<Option<&'static str>, Errno> {

@@ -1,5 +1,5 @@
-//! The forms in which a caller's calls of texts and of buffers may wait: not at all, for so long, and
-//! until a time. Nobody else calls, so each is served at once or not at all.
+//! The forms in which a caller's calls of texts and of buffers may wait: not at all, for so long,
+//! and until a time. No other thread calls, so each is served at once or not at all.
 
 use mq::{
     Caller, Clock, Config, DEFAULTS, Delivered, Duration, Errno, Id, Instant, Message, Names,
@@ -22,7 +22,7 @@ struct Ends {
     time: Instant,
 }
 
-/// Spends a text that was handed back, and answers why it was.
+/// Spends a text that was returned, and answers why it was.
 fn errno_of<N: Names, R: Wait + Clock>(
     caller: &mut Caller<'_, NoPledge, N, R>,
     sent: Result<u64, SendRefused<TextOf<N>>>,
@@ -144,7 +144,7 @@ fn appends<N: Names, R: Wait + Clock>(
     Ok(None)
 }
 
-/// Texts that find the queue full come back.
+/// Texts that find the queue full are returned.
 fn is_full<N: Names, R: Wait + Clock>(
     caller: &mut Caller<'_, NoPledge, N, R>,
     id: Id,
@@ -205,7 +205,7 @@ impl SystemProgram<NoPledge> for Forms {
 }
 
 #[test]
-fn texts_and_buffers_wait_for_nobody_for_so_long_and_until_a_time(rt: HostRuntime) {
+fn texts_and_buffers_wait_not_at_all_for_so_long_and_until_a_time(rt: HostRuntime) {
     let Ok(ended) = with_system(&rt, rt.alloc(), SIZE, Forms) else {
         panic!(rt; "ENOMEM");
     };

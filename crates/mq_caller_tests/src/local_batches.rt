@@ -170,7 +170,7 @@ fn spend_all<C: Batches>(caller: &mut C, letters: &mut VecDeque<Letter<C::Text>>
     left
 }
 
-/// Sends letters of these types, and tells the entry of the first, and how many were not sent.
+/// Sends letters of these types. Returns the entry of the first, and how many were not sent.
 fn sends<C: Batches>(caller: &mut C, id: Id, types: &[i64]) -> Result<Told, Errno> {
     let mut letters = VecDeque::new(caller.alloc());
     let drafted = add(caller, &mut letters, types);
@@ -184,7 +184,7 @@ fn sends<C: Batches>(caller: &mut C, id: Id, types: &[i64]) -> Result<Told, Errn
     })
 }
 
-/// Receives texts, and tells of their entries, senders, tags and lengths.
+/// Receives texts. Returns their entries, senders, tags and lengths.
 fn takes<C: Batches>(
     caller: &mut C,
     id: Id,

@@ -65,7 +65,7 @@ trait Calls {
     /// The entry of the removal, and how many events the queue's log has.
     fn remove(&mut self, id: Id) -> Answer;
 
-    /// How many entries the cut hands out.
+    /// How many entries the drain returns.
     fn cut_log(&mut self, slot: u8) -> Answer;
 
     fn stat(&mut self, id: Id) -> Result<Figures, Errno>;

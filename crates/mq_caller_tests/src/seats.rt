@@ -32,7 +32,7 @@ fn first_of(bytes: &[u8]) -> u8
     }
 }
 
-/// At seat 2, receives what waits, and answers its sender and its first byte.
+/// At seat 2, receives the pending message, and returns its sender and its first byte.
 fn receive<N: Names, R: Wait + Clock>(
     caller: &mut Caller<'_, Signed, N, R>,
     id: Id,

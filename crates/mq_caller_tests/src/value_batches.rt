@@ -262,18 +262,18 @@ fn several_values_are_sent_and_received_by_one_call(rt: HostRuntime) {
     }
 }
 
-/// One queue, and none after it: who comes late makes none anew.
+/// One queue, and none after it: a call after its removal creates none anew.
 const ONE_QUEUE: Config = Config {
     seats: 2,
     last_seq: 0,
     ..SIZE
 };
 
-/// How often the thread that removes the queue looks whether the other has sent, at most.
+/// How often the thread that removes the queue polls for a message of the other, at most.
 const LOOKS: u32 = 2_000;
 
-/// Sends one value, and then waits for values that nobody sends, or for room that nobody makes; or
-/// removes the queue once there is that one.
+/// Sends one value, and then waits for values that are never sent, or for room that is never made;
+/// or removes the queue once there is that one.
 #[derive(Drop)]
 enum Part {
     Receives,
@@ -345,7 +345,7 @@ fn waits_in_vain<R: AllocGlobal + Abort + Threads + Wait + Clock + Sync>(rt: &R,
     };
     match ended.answer.0 {
         Ok((0, Some(Errno::EIDRM))) => holds!(rt; ended.free_pages == 128),
-        // The queue was removed before the other thread came so far.
+        // The queue was removed before the other thread reached it.
         Err(Errno::EIDRM | Errno::ENOSPC) => (),
         Err(errno) => panic!(rt; "{errno}"),
         Ok(_) => panic!(rt; "no refusal"),
@@ -353,7 +353,7 @@ fn waits_in_vain<R: AllocGlobal + Abort + Threads + Wait + Clock + Sync>(rt: &R,
 }
 
 #[test]
-fn who_waits_with_several_values_in_a_queue_that_is_removed_answers_eidrm(rt: HostRuntime) {
+fn a_wait_with_several_values_in_a_queue_that_is_removed_answers_eidrm(rt: HostRuntime) {
     waits_in_vain(&rt, Part::Receives);
     waits_in_vain(&rt, Part::Sends);
 }

@@ -1,4 +1,4 @@
--- What the arena is once texts have gone home.
+-- What the arena is once texts are freed.
 use Rattle.std.proofs.Common.{◌≡◌, ℕ, Bool, true, false, not, ◌||◌, List, [], ◌∷◌, ◌++◌, map, reverse, Option, None, Some, refl, sym, ap, ◌∙◌, append-nil, append_assoc, arith}
 use Rattle.std.specs.List.{filter, flat_map, list_any}
 use Rattle.std.specs.List.Sorted.{IsPermutation}
@@ -29,11 +29,11 @@ kept_all : {X : Type 0} (xs : List X) → filter (λ x. true) xs ≡ xs
 kept_all [] = refl
 kept_all (x ∷ xs) = ap (λ ys. x ∷ ys) (kept_all xs)
 
--- where nothing waits, nothing comes home
+-- where no message is pending, no block is freed
 pub none_home : (arena : Lending) → spends_all [] arena ≡ arena
 none_home arena = ap (with_lent arena) (kept_all arena.lent)
 
--- the same of a text that lies in this block or in none
+-- a block, if there is one, is freed with those of the messages or before them
 placed_home : (block : Option PlainBlock) (messages : List (ℕ × Message PlainText))
     (arena : Lending)
     → with_lent arena (filter (λ b. not (option_map_or (λ c. is_block c b) block false || list_any (λ m. lies_in b m.1.body) messages)) arena.lent)
@@ -42,7 +42,7 @@ placed_home None messages arena = refl
 placed_home (Some c) messages arena =
     ap (with_lent arena) (kept_twice (is_block c) (λ b. list_any (λ m. lies_in b m.1.body) messages) arena.lent)
 
--- one text comes home, and then all others
+-- one text is freed, and then all others
 pub one_home : (place : ℕ) (m : Message PlainText) (messages : List (ℕ × Message PlainText)) (arena : Lending)
     → spends_all ((place, m) ∷ messages) arena ≡ spends_all messages (spends m.body arena)
 one_home place m messages arena = placed_home m.body.block messages arena
@@ -53,7 +53,7 @@ order_home xs ys arena is =
     ap (with_lent arena) (filter_agree (λ b. not (list_any (λ m. lies_in b m.1.body) xs)) (λ b. not (list_any (λ m. lies_in b m.1.body) ys))
     (λ b. ap not (list_any-IsPermutation (λ m. lies_in b m.1.body) xs ys is)) arena.lent)
 
--- the texts of two lists come home one list after the other
+-- the texts of two lists are freed one list after the other
 both_home : (xs ys : List (ℕ × Message PlainText)) (arena : Lending) → spends_all (xs ++ ys) arena ≡ spends_all xs (spends_all ys arena)
 both_home xs ys arena =
     let waits : List (ℕ × Message PlainText) → PlainBlock → Bool = λ ms b. list_any (λ m. lies_in b m.1.body) ms in
@@ -62,7 +62,7 @@ both_home xs ys arena =
     (λ b. ap not (list_any-append (λ m. lies_in b m.1.body) xs ys ∙ or_comm (waits xs b) (waits ys b))) arena.lent
     ∙ kept_twice (waits ys) (waits xs) arena.lent)
 
--- the last slot's come home first
+-- the last slot's are freed first
 pub last_home : (slots : List (KeptSlot PlainText)) (slot : KeptSlot PlainText) (arena : Lending)
     → all_home (slots ++ slot ∷ []) arena ≡ all_home slots (spends_all slot.messages arena)
 last_home slots slot arena =

@@ -20,7 +20,7 @@ placed_new count k within =
 pub length_new : (count : ℕ) → length (empty_slots count) ≡ count
 length_new count = length-map-range_with_len empty_kept 0 count
 
--- a sound queue's figures count what waits
+-- a sound queue's figures count the pending messages
 pub count_of : {B : Type 0} (bytes : B → List ℕ) (queue : Queue B) (kept : Figures) → kept ≡ figures_from queue.base queue.tail → IsSoundFrom bytes queue.base queue.tail queue.messages → kept.qnum ≡ length queue.messages
 count_of bytes queue kept e sound =
     ap (λ (f : Figures). f.qnum) e

@@ -14,7 +14,7 @@ pub usage_more : (none : Usage) (row_of : ℕ → BoardRow) (k : ℕ) → used (
 unfolding usage_to
 usage_more none row_of k = rw (add-one k) refl
 
--- it is told by the rows of the slots alone
+-- the rows of the slots alone determine it
 pub usage_same : (none : Usage) (a b : ℕ → BoardRow) (k : ℕ) → ((i : ℕ) → i < k → a i ≡ b i) → usage_to none a k ≡ usage_to none b k
 unfolding usage_to
 usage_same none a b zero same = refl

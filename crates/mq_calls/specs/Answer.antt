@@ -1,4 +1,4 @@
--- What a call of an id answers and leaves, a slot or all queues, or why it is refused (msgop(2),
+-- What a call of an id returns and leaves, a slot or all queues, or why it is refused (msgop(2),
 -- msgctl(2)).
 use Rattle.std.specs.Prelude.{ℕ, ℤ, pos, int_lt, if◌then◌else◌, List, Some, None, Result, Ok, Err}
 use Rattle.mq_arena.specs.Text.{PlainText}
@@ -45,21 +45,22 @@ abbrev pub by_id : ℕ → Result (Unit {0}) IdRefusal → Result (Unit {0}) Ref
 by_id entries (Ok _) = Ok tt
 by_id entries (Err refusal) = Err (refused_after entries (errno_of_id refusal))
 
--- what is answered where the slot's queue answers so
+-- what is returned where the slot's queue returns this
 abbrev pub answered : {A : Type 0} → ℕ → Result A QueueError → Result A Refused
 answered entries (Ok turn) = Ok turn
 answered entries (Err refusal) = Err (refused_after entries (errno_of refusal))
 
--- the answer, unless the id is refused
+-- the result, unless the id is refused
 abbrev pub once : {A : Type 0} → Result (Unit {0}) Refused → Result A Refused → Result A Refused
 once (Ok _) answer = answer
 once (Err refused) answer = Err refused
 
--- msgsnd: a type below 1 is refused before the id is looked at (msgop(2), msgsnd)
+-- msgsnd: a type below 1 is refused before the id is checked (msgop(2), msgsnd)
 abbrev pub send : {A : Type 0} → ℤ → Result A Refused → Result A Refused
 send mtype answer = if int_lt mtype (pos 1) then Err (refused_early EINVAL) else answer
 
--- what a receiver is handed of what waits, at this entry: the message and its text, cut to the size
+-- what a receiver gets of the pending messages, at this entry: the message and its text, truncated
+-- to the size
 abbrev pub delivered : List (ℕ × Message PlainText) → ℕ → ℕ → Header → Delivered PlainText
 delivered messages size entry m = record {
   entry = entry;
@@ -70,7 +71,7 @@ delivered messages size entry m = record {
   text = cut_to size (text_at m.place messages);
 }
 
--- msgrcv: that is handed out, unless the queue refuses (msgop(2), msgrcv)
+-- msgrcv: that is returned, unless the queue refuses (msgop(2), msgrcv)
 abbrev pub delivers : {S : Type 0} → List (ℕ × Message PlainText) → ℕ → ℕ
     → Result (Header × S) QueueError → Result (Delivered PlainText × S) QueueError
 delivers messages size entry (Ok turn) = Ok (delivered messages size entry turn.0, turn.1)

@@ -1,4 +1,4 @@
--- What msgsnd, msgrcv and msgctl answer and leave (msgop(2), msgctl(2)).
+-- What msgsnd, msgrcv and msgctl return and leave (msgop(2), msgctl(2)).
 use Rattle.std.specs.Prelude.{ℕ, ℤ, Bool, Result, Ok, Err}
 use Rattle.mq_arena.specs.Text.{PlainText}
 use Rattle.mq_message.specs.Selection.{selection_of}
@@ -36,7 +36,7 @@ msgrcv s seat id size mtype except noerror moment = in_queue s id (λ slot.
 abbrev pub set : QueuesState → ℕ → ℕ → ℕ → ℕ → Answer ℕ
 set s seat id qbytes moment = in_queue s id (λ slot. kept_sets slot qbytes seat moment)
 
--- the queue leaves its slot, its key is forgotten, and all that waited goes home
+-- the queue leaves its slot, its key is forgotten, and the blocks of its pending messages are freed
 abbrev pub removed : QueuesState → ℕ → ℕ → ℕ → Removal × QueuesState
 removed s k seat moment =
     let slot = slot_at s k in (
@@ -60,6 +60,6 @@ figures_shown slot (Err refused) = Err refused.errno
 abbrev pub stat : QueuesState → ℕ → Result Figures Errno
 stat s id = figures_shown (slot_at s (slot_of id)) (look s id)
 
--- a slot's list is cut: what is handed out, and what is left
+-- a slot's list is drained: what is returned, and what is left
 abbrev pub cut_log : QueuesState → ℕ → CutState × QueuesState
 cut_log s k = let slot = slot_at s k in (cut_of slot, with_slot s k (kept_cuts slot))

@@ -11,7 +11,7 @@ use Rattle.mq_table.specs.SlotList.{IsSlotList, live_log}
 use Rattle.mq_calls.specs.Texts.{spends_all}
 use Rattle.mq_calls.specs.declared.close.ClosedSlot.{ClosedSlot}
 
--- what a slot leaves: a cut of its list, and how many messages were waiting
+-- what a slot leaves: a drain of its list, and how many messages were pending
 pub record Ending : Type 0 where
   pub cut : CutState
   pub left : ℕ
@@ -20,7 +20,7 @@ pub record Ending : Type 0 where
 abbrev pub ends : {B : Type 0} → KeptSlot B → Ending
 ends slot = record { cut = cut_of slot; left = length slot.messages }
 
--- what a slot that was closed tells of its list
+-- the drain of its list that a closed slot leaves
 abbrev pub cut_in : ClosedSlot → CutState
 cut_in slot = record {
   first = slot.first;
@@ -34,7 +34,7 @@ cut_in slot = record {
 abbrev pub ending_of : ClosedSlot → Ending
 ending_of slot = record { cut = cut_in slot; left = slot.left }
 
--- a slot ended with this list: it tells a cut of it, and as many messages were left as wait by it
+-- a slot ended with this list: it leaves a drain of it, and as many messages as are pending by it
 pub record IsEndOf (last_seq : ℕ) (list : List Event) (slot : ClosedSlot) : Type 0 where
   pub lawful : IsSlotList last_seq list
   pub kept : IsCutOf list (cut_in slot)
@@ -45,11 +45,11 @@ pub record IsClosed (last_seq : ℕ) (slot : ClosedSlot) : Type 0 where
   pub list : List Event
   pub is : IsEndOf last_seq list slot
 
--- how many entries a slot that was closed had: those that were cut off before, and those that it
+-- how many entries a slot that was closed had: those that were drained before, and those that it
 -- leaves
 abbrev pub entries_at_end : ClosedSlot → ℕ
 entries_at_end slot = slot.first + length slot.past.items + length slot.last.items
 
--- the arena once all that waits in any slot is home
+-- the arena once the blocks of the pending messages of all slots are freed
 abbrev pub all_home : List (KeptSlot PlainText) → Lending → Lending
 all_home slots arena = spends_all (flat_map (λ slot. slot.messages) slots) arena

@@ -1,4 +1,4 @@
--- What msgget answers and leaves (msgget(2)).
+-- What msgget returns and leaves (msgget(2)).
 use Rattle.std.specs.Prelude.{◌≡◌, ℕ, ℤ, pos, ◌<◌, ◌≤◌, false, ◌&&◌, if◌then◌else◌}
 use Rattle.std.specs.Prelude.{length, position, Option, Some, None, IsSome, Result, Ok, Err}
 use Rattle.std.specs.Ordering.{int_eq}
@@ -17,8 +17,8 @@ use Rattle.mq_calls.specs.declared.results.Got.{Got}
 abbrev pub GetAnswer : Type 0
 GetAnswer = Result (Got × QueuesState) Errno
 
--- a queue is made in slot k: its id is the slot's next one, and its key, if it has one, is entered
--- last
+-- a queue is created in slot k, if there is one: its id is the slot's next one, and its key, if it
+-- has one, is entered last
 abbrev pub made_in : QueuesState → ℤ → ℕ → ℕ → Option ℕ → GetAnswer
 made_in s key seat moment None = Err ENOSPC
 made_in s key seat moment (Some k) =
@@ -34,7 +34,7 @@ made_in s key seat moment (Some k) =
 abbrev pub free_slot : QueuesState → Option ℕ
 free_slot s = position (λ slot. is_free_now s.last_seq slot) s.slots
 
--- a queue is made in that slot
+-- a queue is created in that slot
 abbrev pub makes_one : QueuesState → ℤ → ℕ → ℕ → GetAnswer
 makes_one s key seat moment = made_in s key seat moment (free_slot s)
 
@@ -45,18 +45,18 @@ by_key s seat key flags moment (Some id) =
 by_key s seat key flags moment None =
     if flags.create then makes_one s key seat moment else Err ENOENT
 
--- msgget: key 0, which is IPC_PRIVATE, always makes a queue (msgget(2))
+-- msgget: key 0, which is IPC_PRIVATE, always creates a queue (msgget(2))
 abbrev pub msgget : QueuesState → ℕ → ℤ → GetFlags → ℕ → GetAnswer
 msgget s seat key flags moment =
     if int_eq key (pos 0) then makes_one s key seat moment
     else by_key s seat key flags moment (id_of_key s.keys key)
 
--- a call that fails where nothing refuses it was to make a queue
+-- a call that runs out of memory where nothing refuses it was to create a queue
 abbrev pub MayRunOut : GetAnswer → Type 0
 MayRunOut (Ok turn) = IsSome turn.0.made
 MayRunOut (Err errno) = Unit {0}
 
--- a queue can be made in slot k: none is in it, and a seq is left
+-- a queue can be created in slot k: none is in it, and a seq is left
 pub record IsFreeSlot (s : QueuesState) (k : ℕ) : Type 0 where
   pub within : k < length s.slots
   pub empty : is_live_kept (slot_at s k) ≡ false

@@ -25,11 +25,11 @@ pub record IsWithin (c : Config) : Type 0 where
   pub seats : c.seats ≤ MAX_SEATS
   pub last_seq : c.last_seq ≤ MAX_SEQ
 
--- slots in which no queue was made
+-- slots in which no queue was created
 abbrev pub empty_slots : ℕ → List (KeptSlot PlainText)
 empty_slots count = map empty_kept (range_with_len 0 count)
 
--- no queue is made, and nothing is lent
+-- no queue is created, and no block is allocated
 abbrev pub empty_queues : Config → QueuesState
 empty_queues c = record {
   arena = record { height = c.height; lent = [] };

@@ -1,4 +1,4 @@
--- How an id finds its queue among all queues, and what a call of it answers and leaves.
+-- How an id finds its queue among all queues, and what a call of it returns and leaves.
 use Rattle.std.specs.Prelude.{◌≡◌, ℕ, ◌<◌, nat_lt, true, if◌then◌else◌, length, Result, Ok, Err}
 use Rattle.mq_arena.specs.Text.{PlainText}
 use Rattle.mq_queue.specs.declared.error.QueueError.{QueueError}
@@ -16,7 +16,7 @@ use Rattle.mq_calls.specs.declared.errno.Errno.{Errno}
 use Rattle.mq_calls.specs.declared.errno.Errno.TheVariants.{EINVAL, ENOMEM}
 use Rattle.mq_calls.specs.declared.results.Refused.{Refused}
 
--- what a call answers and leaves, or why it is refused
+-- what a call returns and leaves, or why it is refused
 abbrev pub Answer : Type 0 → Type 0
 Answer T = Result (T × QueuesState) Refused
 
@@ -52,7 +52,7 @@ abbrev pub placed : {T : Type 0} → QueuesState → ℕ → KeptTurn PlainText 
 placed s id (Ok turn) = Ok (turn.0, with_slot s (slot_of id) turn.1)
 placed s id (Err refusal) = Err refusal
 
--- what the system answers and leaves, where one slot answers so
+-- what the system returns and leaves, where the id's slot returns this
 abbrev pub in_slot : {T : Type 0} → QueuesState → ℕ → KeptTurn PlainText T → Answer T
 in_slot s id turn = answered (entries_of (slot_at s (slot_of id))) (placed s id turn)
 
@@ -61,6 +61,7 @@ abbrev pub in_queue : {T : Type 0} → QueuesState → ℕ → (KeptSlot PlainTe
     → Answer T
 in_queue s id call = once (look s id) (in_slot s id (call (slot_at s (slot_of id))))
 
--- where nothing refuses a call of an id that failed, memory did, after all in its slot
+-- why a call of an id failed: where nothing else refuses it, it is out of memory, after all in its
+-- slot
 abbrev pub refused_or_memory : {T : Type 0} → QueuesState → ℕ → Answer T → Refused
 refused_or_memory s id answer = or_memory (refused_at s id ENOMEM) answer

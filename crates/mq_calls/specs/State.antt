@@ -5,8 +5,8 @@ use Rattle.mq_arena.specs.Text.{PlainText}
 use Rattle.mq_table.specs.Kept.{KeptSlot}
 use Rattle.mq_table.specs.SlotParts.{empty_kept}
 
--- what the arena has lent, what is kept of the slots, the keys of the live queues with their ids in
--- the order of making, and the seq with which a slot is used up
+-- what the arena has allocated, what is kept of the slots, the keys of the live queues with their
+-- ids in the order of creation, and the seq with which a slot is used up
 pub record QueuesState : Type 0 where
   pub arena : Lending
   pub slots : List (KeptSlot PlainText)

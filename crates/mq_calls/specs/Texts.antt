@@ -1,4 +1,4 @@
--- Texts that are drafted in blocks of the arena, cut for a receiver, and spent.
+-- Texts that are drafted in blocks of the arena, truncated for a receiver, and spent.
 use Rattle.std.specs.Prelude.{ℕ, ◌==◌, nat_lt, if◌then◌else◌, Bool, true, false, not}
 use Rattle.std.specs.Prelude.{List, length, take, filter, replicate, Option, Some, Result, Ok, Err}
 use Rattle.std.specs.List.{list_any}
@@ -24,7 +24,7 @@ use Rattle.mq_calls.specs.declared.errno.Errno.TheVariants.{EINVAL, ENOMEM}
 abbrev pub bytes_of : PlainText → List ℕ
 bytes_of text = text.bytes
 
--- a text of n zeros in a block that the arena lends
+-- a text of n zeros in a block that the arena allocates
 abbrev pub zeros_lent : QueuesState → ℕ → PlainBlock × Lending → PlainText × QueuesState
 zeros_lent s n lent =
     (record { bytes = replicate n 0; block = Some lent.0 }, with_arena s lent.1)
@@ -50,7 +50,7 @@ filled_with bytes (Err e) = Err e
 abbrev pub drafts_of : QueuesState → List ℕ → Result (PlainText × QueuesState) DraftError
 drafts_of s bytes = filled_with bytes (drafts s (length bytes))
 
--- the text that waits at a place
+-- the text of the message that is pending at a place
 abbrev pub text_at : ℕ → List (ℕ × Message PlainText) → PlainText
 text_at place messages = option_map_or (λ m. m.body) (message_at place messages) no_text
 
@@ -58,7 +58,7 @@ text_at place messages = option_map_or (λ m. m.body) (message_at place messages
 abbrev pub cut_to : ℕ → PlainText → PlainText
 cut_to size text = record { bytes = take size text.bytes; block = text.block }
 
--- the arena once the text's block, if it has one, is home
+-- the arena once the text's block, if it has one, is freed
 abbrev pub spends : PlainText → Lending → Lending
 spends text arena = option_map_or (λ b. gives_back b arena) text.block arena
 
@@ -66,7 +66,7 @@ spends text arena = option_map_or (λ b. gives_back b arena) text.block arena
 abbrev pub text_spent : PlainText → QueuesState → QueuesState
 text_spent text s = with_arena s (spends text s.arena)
 
--- a text comes home unless it has a block that is not lent
+-- a text is freed unless it has a block that is not allocated by the arena
 abbrev pub at_home : Bool → Homecoming
 at_home true = Home
 at_home false = Stray
@@ -79,7 +79,7 @@ comes_home text arena = at_home (option_map_or (λ b. is_lent b arena.lent) text
 abbrev pub lies_in : PlainBlock → PlainText → Bool
 lies_in b text = option_map_or (λ c. is_block c b) text.block false
 
--- the arena once the blocks of all these messages are home
+-- the arena once the blocks of all these messages are freed
 abbrev pub spends_all : List (ℕ × Message PlainText) → Lending → Lending
 spends_all messages arena =
     with_lent arena (filter (λ b. not (list_any (λ m. lies_in b m.1.body) messages)) arena.lent)
@@ -90,7 +90,7 @@ draft_errno TooLong = EINVAL
 draft_errno NoRun = ENOMEM
 draft_errno Memory = ENOMEM
 
--- why a draft is refused for which the arena lends no block
+-- why a draft is refused for which the arena allocates no block
 abbrev pub by_take : TakeError → DraftError
 by_take take.NoRun = NoRun
 by_take take.Memory = Memory

@@ -14,21 +14,21 @@ use std::sync::ledger::Ledger;
 /// What a slot leaves at the end.
 #[derive(Drop)]
 pub struct ClosedSlot {
-    /// How many entries of its list were cut off before.
+    /// How many entries of its list were drained before.
     pub first: u64,
     /// How many of these are makings.
     pub made: u32,
-    /// What is kept of the queue that they leave live, if they leave one.
+    /// The checkpoint of the queue that they leave live, if they leave one.
     pub base: Option<Base>,
     /// The events since then of the queues that were removed.
     pub past: Vec<Event>,
     /// Those of the live queue, if one was there.
     pub last: Vec<Event>,
-    /// How many messages were waiting in it.
+    /// How many messages were pending in it.
     pub left: u64,
 }
 
-/// What a system leaves at the end. The blocks of all texts that waited are home.
+/// What a system leaves at the end. The blocks of all pending texts are freed.
 #[derive(Drop)]
 pub struct Closed<L: Ledger> {
     /// In the order of their numbers.
@@ -36,15 +36,15 @@ pub struct Closed<L: Ledger> {
     pub arena: ArenaState<L>,
 }
 
-/// What is kept of the queue that the entries which were cut off leave live: the live queue, where
-/// that is one of which something was cut off, or else one that was removed since.
-fn base_told(own: Base, removed: Option<Base>) -> Option<Base>
+/// The checkpoint of the queue that the drained entries leave live: the live queue, where entries
+/// of it were drained, or else one that was removed since.
+fn base_shown(own: Base, removed: Option<Base>) -> Option<Base>
     ensures { result ≡ option_or (some_base own) removed }
 {
     if own.places == 0 { removed } else { Some(own) }
 }
 
-/// Ends a slot: what it leaves, and what waits in the queue that is in it, if one is there.
+/// Ends a slot: what it leaves, and the pending messages of its queue, if it has one.
 pub fn end_slot<B: Body, W: Waiting<B>>(slot: Slot<B, W>) -> (ClosedSlot, Option<W>)
     ensures slot { ending_of result.0 ≡ ends slot }
     ensures messages { IfSome result.1 (λ waiting. W.messages waiting ≡ slot.messages) }
@@ -64,7 +64,7 @@ pub fn end_slot<B: Body, W: Waiting<B>>(slot: Slot<B, W>) -> (ClosedSlot, Option
             let left = queue.figures().qnum;
             let (log, waiting) = queue.into_parts();
             let (own, last) = log.into_parts();
-            let base = base_told(own, base);
+            let base = base_shown(own, base);
             let closed = ClosedSlot {
                 first,
                 made,

@@ -18,7 +18,7 @@ pub struct Config {
     /// The number of queues at a time: 1 to `MAX_SLOTS`.
     pub slots: u8,
     /// The number of seats: 1 to `MAX_SEATS`. `OneThread` only checks it: its calls take any seat,
-    /// and where a queue's figures name the seat that sent or received last, 0 means nobody yet.
+    /// and where a queue's figures name the seat that sent or received last, 0 means none yet.
     pub seats: u16,
     /// The greatest seq of an id, 0 to `MAX_SEQ`: each slot has `last_seq + 1` queues, one after
     /// another, and is then used up.
@@ -34,8 +34,8 @@ pub enum SysError {
     Memory,
 }
 
-/// The size of a queue system for whoever needs no other. A text takes at least a page, however
-/// short it is, so the arena is the highest: 1,024 texts may be outside or wait.
+/// The size of a queue system where no other is needed. Each text but the empty one takes at
+/// least a page, so the arena is the highest: 1,024 such texts may be drafted or pending.
 pub const DEFAULTS: Config = Config {
     height: MAX_HEIGHT,
     slots: 16,

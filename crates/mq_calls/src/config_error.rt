@@ -1,3 +1,5 @@
+//! The error of the builder methods of `Config`, such as `with_height`.
+
 ghost use Rattle.std.specs.Prelude.{◌≡◌};
 ghost use Rattle.mq_calls.specs.declared.errno.Errno.TheVariants.{EINVAL};
 

@@ -1,3 +1,5 @@
+//! The error of drafting a text, and its errno.
+
 ghost use Rattle.std.specs.Prelude.{◌≡◌};
 ghost use Rattle.mq_calls.specs.Texts.{by_take, draft_errno};
 
@@ -5,7 +7,7 @@ use crate::Errno;
 use mq_arena::TakeError;
 use thiserror::Error;
 
-/// Why a text is not drafted, in the order in which the reasons are looked at.
+/// Why a text is not drafted, in the order in which the reasons are checked.
 #[derive(Clone, Copy, Debug, PartialEq, Eq, Error)]
 pub enum DraftError {
     /// The text would be longer than a message's: `EINVAL`.
@@ -14,8 +16,8 @@ pub enum DraftError {
     /// No run of free pages has room for it: `ENOMEM`.
     #[error("no run of pages is free")]
     NoRun,
-    /// There is no memory for the handles of its pages, which a text of over `INLINE_LEN` bytes
-    /// takes: `ENOMEM`.
+    /// Out of memory for the handles of its pages, which a text of over `INLINE_LEN` bytes needs:
+    /// `ENOMEM`.
     #[error("out of memory")]
     Memory,
 }

@@ -1,3 +1,5 @@
+//! The errors of calls by the manual's names (errno(3)), with the numbers and messages of Linux.
+
 ghost use Rattle.std.specs.Prelude.{◌≡◌};
 ghost use Rattle.mq_calls.specs.Answer.{errno_of, errno_of_id};
 ghost use Rattle.mq_calls.specs.Names.{errno_message, errno_name, errno_number};

@@ -1,4 +1,4 @@
-//! Texts that are spent: their blocks go home.
+//! Freeing of texts: their blocks go back to the arena.
 
 ghost use Rattle.std.specs.Prelude.{◌≡◌, []};
 ghost use Rattle.mq_calls.specs.Texts.{comes_home, spends, spends_all};
@@ -7,7 +7,7 @@ use mq_arena::{ArenaState, Homecoming, Text};
 use mq_message::Waiting;
 use std::sync::ledger::Ledger;
 
-/// Spends a text: its block goes home.
+/// Frees a text: its block goes back to the arena.
 // Inlined for the same reason as `ArenaState::put`.
 #[inline(always)]
 pub fn take_back<L: Ledger>(arena: &mut ArenaState<L>, text: Text<L>) -> Homecoming
@@ -20,7 +20,7 @@ pub fn take_back<L: Ledger>(arena: &mut ArenaState<L>, text: Text<L>) -> Homecom
     }
 }
 
-/// Spends the texts of all that waits, and leaves an empty list.
+/// Frees the texts of all pending messages, and leaves an empty list.
 pub fn take_home<L: Ledger, W: Waiting<Text<L>>>(arena: &mut ArenaState<L>, waiting: &mut W)
     ensures arena { arena.new ≡ spends_all (W.messages waiting.old) arena.old }
     ensures empty { W.messages waiting.new ≡ [] }

@@ -1,5 +1,5 @@
-//! What calls are told and answer: sizes, results, refusals by the manual's names, and how a slot
-//! ends; and the definitions of what each call answers and leaves.
+//! What calls take and return: sizes, results, errors by the manual's names, and how a slot ends;
+//! and the definitions of what each call returns and leaves.
 
 #![tactic(auto)]
 

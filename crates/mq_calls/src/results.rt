@@ -1,3 +1,6 @@
+//! The results of calls: what msgget(2), msgrcv (msgop(2)) and IPC_RMID (msgctl(2)) return, and the
+//! errors of calls.
+
 ghost use Rattle.std.specs.Prelude.{◌≡◌};
 
 use crate::Errno;
@@ -11,7 +14,7 @@ pub struct GetFlags {
     pub exclusive: bool,
 }
 
-/// What msgget answers. An entry is a position among all events of a slot, from 0.
+/// What msgget returns. An entry is the index of an event in its slot's list, from 0.
 #[derive(Clone, Copy, Debug, PartialEq, Eq)]
 pub struct Got {
     pub id: Id,
@@ -19,7 +22,7 @@ pub struct Got {
     pub made: Option<u64>,
 }
 
-/// What msgrcv hands out.
+/// What msgrcv returns.
 #[derive(Drop)]
 pub struct Delivered<B> {
     /// The entry of the receipt.
@@ -31,12 +34,12 @@ pub struct Delivered<B> {
     pub tag: u64,
     /// The number of bytes that were sent.
     pub length: u64,
-    /// The text, cut to the receiver's size.
+    /// The text, truncated to the receiver's size.
     pub text: B,
 }
 
 impl<B> Delivered<B> {
-    /// What is handed out of what was received.
+    /// What is returned of a received message.
     pub fn of(received: Received<B>) -> Delivered<B>
         ensures { result ≡ record {
           entry = received.entry;
@@ -85,7 +88,7 @@ pub struct Refused {
     pub entry: Option<u64>,
 }
 
-/// A text that is not sent: it is handed back.
+/// A text that is not sent: it is returned to the sender.
 #[derive(Drop)]
 pub struct SendRefused<B> {
     pub refused: Refused,

@@ -6,7 +6,7 @@ use crate::{Refused, SendRefused};
 use std::error::Error;
 use std::fmt;
 
-/// The errno, and after how many entries, where the slot was looked at: `EAGAIN after 5 entries`.
+/// The errno, and after how many entries, where the slot was read: `EAGAIN after 5 entries`.
 impl fmt::Display for Refused {
     fn fmt<W: fmt::Write>(&self, f: &mut fmt::Formatter<W>) -> fmt::Result {
         match self.entry {

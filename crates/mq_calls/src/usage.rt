@@ -5,8 +5,7 @@ ghost use Rattle.mq_calls.specs.Usages.{no_usage, plus, used};
 
 use mq_queue::BoardRow;
 
-/// What is in use, and of how much (msgctl(2), IPC_INFO and MSG_INFO). A sum stays at the greatest
-/// `u64`.
+/// What is in use, and of how much (msgctl(2), IPC_INFO and MSG_INFO). Its sums saturate.
 #[derive(Clone, Copy, Debug, PartialEq, Eq)]
 pub struct Usage {
     pub queues: u64,

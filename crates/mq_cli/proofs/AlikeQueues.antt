@@ -1,4 +1,4 @@
--- Queues whose slots keep parts of the same lists, and what calls answer in them.
+-- Queues whose slots keep parts of the same lists, and what calls return in them.
 use Rattle.std.proofs.Common.{◌≡◌, ℕ, ℤ, suc, zero, pos, ◌&&◌, nat_le, nat_lt, if◌then◌else◌, List}
 use Rattle.std.proofs.Common.{[], ◌∷◌, length, get_or, set, Option, None, Some, Result, Ok, Err}
 use Rattle.std.proofs.Common.{Bool, true, false, not, refl, rules, ap, sym, subst, ◌∙◌, arith}
@@ -48,7 +48,7 @@ pair_at R (a ∷ xs) (b ∷ ys) zero d all r = all.0
 pair_at R (a ∷ xs) (b ∷ ys) (suc k) d all r = pair_at R xs ys k d all.1 r
 pair_at R _ _ _ d all r = absurd all
 
--- where a test does not tell them apart it first holds at one place
+-- a test that does not distinguish them first holds at the same place
 first_place : {X : Type 0} (R : X → X → Type 0) (p : X → Bool) (xs ys : List X) → AllZip R xs ys
     → ((x y : X) → R x y → p x ≡ p y) → position_or_len p xs ≡ position_or_len p ys
 first_place R p [] [] all same = refl
@@ -56,7 +56,7 @@ first_place R p (a ∷ xs) (b ∷ ys) all same = rw (same a b all.0, first_place
     refl
 first_place R p _ _ all same = absurd all
 
--- both have lent the same, know the same keys, and have slots that are alike
+-- both have allocated the same, know the same keys, and have slots that are alike
 pub record AreLike (last_seq : ℕ) (s t : QueuesState) : Type 0 where
   pub arena : s.arena ≡ t.arena
   pub keys : s.keys ≡ t.keys
@@ -64,7 +64,7 @@ pub record AreLike (last_seq : ℕ) (s t : QueuesState) : Type 0 where
   pub other : t.last_seq ≡ last_seq
   pub slots : AllZip (AreAlike last_seq) s.slots t.slots
 
--- two answers that say the same, and leave queues that are alike
+-- two results that are the same, and leave queues that are alike
 abbrev pub AnswerAlike : {T E : Type 0} → ℕ → Result (T × QueuesState) E
     → Result (T × QueuesState) E → Type 0
 AnswerAlike last_seq (Ok t) (Ok u) = (t.0 ≡ u.0) × AreLike last_seq t.1 u.1
@@ -72,7 +72,7 @@ AnswerAlike last_seq (Ok t) (Err e) = ⊥
 AnswerAlike last_seq (Err e) (Ok u) = ⊥
 AnswerAlike last_seq (Err d) (Err e) = d ≡ e
 
--- answers by a test that goes the same way in both
+-- results by a test that has one value in both
 pub if_like : {T E : Type 0} (last_seq : ℕ) (b : Bool) (x y u v : Result (T × QueuesState) E)
     → AnswerAlike last_seq x y → AnswerAlike last_seq u v
     → AnswerAlike last_seq (if b then x else u) (if b then y else v)
@@ -94,7 +94,7 @@ empty_alike last_seq k =
     let none = none_kept {B = PlainText} (empty_kept k) refl refl refl refl refl refl in
     search (rules, none_listed last_seq, none)
 
--- an id that is there has a queue
+-- an id that is valid has a live queue
 live_there : (list : List Event) (seq : ℕ) → by_standing (standing list seq) ≡ Ok tt
     → is_live list ≡ true
 live_there list seq e = by (nat_le (made_count list) seq) (is_live list) refl refl
@@ -133,7 +133,7 @@ module _ (last_seq : ℕ) (s t : QueuesState) (k : AreLike last_seq s t) where
       named (Ok u) = refl
       named (Err refusal) = rw (entries_alike last_seq _ _ (slot_like (slot_of id))) refl
 
-  -- and one that is there has a queue
+  -- and one that is valid has a live queue
   pub look_live : (id : ℕ) → look s id ≡ Ok tt → is_live (slot_like (slot_of id)).list ≡ true
   look_live id e = by (nat_lt (slot_of id) (length s.slots)) refl
     where
@@ -182,7 +182,7 @@ module _ (last_seq : ℕ) (s t : QueuesState) (k : AreLike last_seq s t) where
             t.slots k.slots (free_alike last_seq),
       ) refl
 
-  -- a queue is made in it
+  -- a queue is created in it
   made_in_like : (key : ℤ) (seat moment : ℕ) (place : Option ℕ) → free_slot s ≡ place
       → AnswerAlike last_seq (made_in s key seat moment place) (made_in t key seat moment place)
   made_in_like key seat moment None is = refl

@@ -1,4 +1,4 @@
--- Two slots that keep parts of one list, and what calls answer in them.
+-- Two slots that keep parts of one list, and what calls return in them.
 use Rattle.std.proofs.Common.{◌≡◌, ℕ, ℤ, ◌≤◌, List, [], ◌∷◌, ◌++◌, length, Option, None, Some}
 use Rattle.std.proofs.Common.{Result, Ok, Err, Bool, true, false, refl, ap, rules, sym, ◌∙◌}
 use Rattle.mq_arena.specs.Text.{PlainText}
@@ -36,7 +36,7 @@ pub record AreAlike (last_seq : ℕ) (a b : KeptSlot PlainText) : Type 0 where
   pub number : a.number ≡ b.number
   pub messages : a.messages ≡ b.messages
 
--- two turns with the same answer, which leave slots that are alike
+-- two calls with the same result, which leave slots that are alike
 abbrev pub TurnAlike : {T : Type 0} → ℕ → KeptTurn PlainText T → KeptTurn PlainText T → Type 0
 TurnAlike last_seq (Ok t) (Ok u) = (t.0 ≡ u.0) × AreAlike last_seq t.1 u.1
 TurnAlike last_seq (Ok t) (Err e) = ⊥
@@ -75,7 +75,7 @@ module _ (last_seq : ℕ) (a b : KeptSlot PlainText) (k : AreAlike last_seq a b)
   pub last_id_alike : last_id_now a ≡ last_id_now b
   last_id_alike = cc (last_id_is k.list a k.one, last_id_is k.list b k.other, k.number)
 
-  -- a cut of the one
+  -- a drain of the one
   pub cut_alike : AreAlike last_seq (kept_cuts a) b
   cut_alike =
       let one = cut_kept k.list a k.one last_seq k.lawful in

@@ -60,7 +60,7 @@ pub record SaysAlike (last_seq : ℕ) (x y : Reply × QueuesState) : Type 0 wher
   pub left : AreLike last_seq x.1 y.1
 
 module _ (last_seq : ℕ) (s t : QueuesState) (k : AreLike last_seq s t) where
-  -- what is told of answers that are alike
+  -- the replies of results that are alike
   told_like : {T : Type 0} (one other : T × QueuesState → Reply × QueuesState)
       (x y : Result (T × QueuesState) Errno) → AnswerAlike last_seq x y
       → ((r : T) (u v : QueuesState) → AreLike last_seq u v → SaysAlike last_seq (one (r, u))
@@ -147,7 +147,7 @@ module _ (last_seq : ℕ) (s t : QueuesState) (k : AreLike last_seq s t) where
       (λ live. sets_alike last_seq _ _ (slot_like last_seq s t k (slot_of id)) live qbytes seat
       moment)
 
-  -- IPC_RMID: what is handed out tells where it was cut, the line does not
+  -- IPC_RMID: what is returned depends on where the log was drained, the line does not
   removed_like : (n seat id : ℕ) (live : is_live (slot_like last_seq s t k (slot_of id)).list
       ≡ true)
       → AreLike last_seq (removed s (slot_of id) seat n).1 (removed t (slot_of id) seat n).1
@@ -230,7 +230,7 @@ module _ (last_seq : ℕ) (s t : QueuesState) (k : AreLike last_seq s t) where
       by (Ok u) = ap Ok (figures_alike last_seq _ _ (slot_like last_seq s t k (slot_of id)))
       by (Err refusal) = refl
 
-  -- a cut on the one side alone
+  -- a drain on the one side alone
   cut_like : (slot : ℕ) → AreLike last_seq (cut_step s slot).1 t
   cut_like slot =
       let slots = put s.slots t.slots slot (empty_kept slot) k.slots in
@@ -297,7 +297,7 @@ pub record RunsAlike (last_seq : ℕ) (s t : SessionState) : Type 0 where
   pub queues : AreLike last_seq s.queues t.queues
   pub seat : s.seat ≡ t.seat
 
--- what is told of an arena
+-- what is reported of an arena
 abbrev arena_of : Lending → Reply
 arena_of a = arena_told (2 ^ a.height) (free_pages a.height a.lent) (largest a.height a.lent)
 

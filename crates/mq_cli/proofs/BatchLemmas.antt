@@ -30,7 +30,7 @@ no_longer xs ys p =
     let whole = ap length p.1 in
     omega (arith, whole, length-append xs p.0)
 
--- a message that was received after a look
+-- a message that was received after a read
 received_after : (slots id : ℕ) (msgtyp : ℤ) (moment : ℕ) (a b c : SeatState) (d : Delivered PlainText) → IsLook a b
     → IsReceived AreLetters slots id MSGMAX (selection_of msgtyp false) false moment b c d
     → IsReceived AreLetters slots id MSGMAX (selection_of msgtyp false) false moment a c d
@@ -89,7 +89,7 @@ still_refuses : (early ends some : Bool) (r : Refused) → (r.errno ≡ ENOMSG �
 still_refuses true ends some r none is = is
 still_refuses false ends some r none is = (is.0, still_may ends some r.errno none is.1)
 
--- a receipt that was refused after a look, and after others of its batch
+-- a receipt that was refused after a read, and after others of its batch
 turned_after : (slots id : ℕ) (msgtyp : ℤ) (ends some : Bool) (a c : SeatState) (r : Refused) → IsLook a c → (r.errno ≡ ENOMSG → some ≡ false)
     → IsTurnedAway (out_of_slots slots id) (MayReceive (ends || some) false) (slot_of id)
     (receive_verdict (seq_of id) MSGMAX (selection_of msgtyp false) false) c c r

@@ -1,4 +1,4 @@
--- The lines that are told at the end, one after another.
+-- The lines that are printed at the end, one after another.
 use Rattle.std.proofs.Common.{◌≡◌, ℕ, ◌+◌, ◌<◌, suc, List, ◌∷◌, ◌++◌, length, drop, refl, sym, ap, ◌∙◌, append_assoc, arith, add-one, drop-cons}
 use Rattle.std.proofs.Math.ListN.{get_or}
 use Rattle.mq_calls.specs.declared.close.ClosedSlot.{ClosedSlot}

@@ -5,10 +5,10 @@ use Rattle.mq_arena.specs.Text.{PlainText}
 use Rattle.mq_arena.specs.declared.order.TheConstants.{INLINE_LEN}
 use Rattle.mq_queue.specs.declared.limits.TheConstants.{MSGMAX}
 use Rattle.mq_queue.specs.Memory.{or_memory}
-use Rattle.mq_one_thread.proofs.DraftLemmas.{spent_after}
+use Rattle.mq_local.proofs.DraftLemmas.{spent_after}
 use Rattle.mq_calls.specs.Calls.{msgsnd}
 use Rattle.mq_calls.specs.Look.{Answer, refused_or_memory}
-use Rattle.mq_one_thread.specs.Outcome.{Answers}
+use Rattle.mq_local.specs.Outcome.{Answers}
 use Rattle.mq_calls.specs.State.{QueuesState}
 use Rattle.mq_calls.specs.Texts.{draft_errno, drafts_of, text_spent}
 use Rattle.mq_calls.specs.declared.draft_error.DraftError.{DraftError}
@@ -34,7 +34,7 @@ drafted_as : (d : Result (PlainText × QueuesState) DraftError) (p : PlainText �
 drafted_as (Ok made) p e = let same : made ≡ p = cc in ap Ok same
 drafted_as (Err error) p e = absurd (cc e)
 
--- what refuses a draft, but for want of memory, is told by the queues
+-- what refuses a draft, unless memory ran out, is determined by the queues
 pub refused_as : (q : QueuesState) (text : AskedText) (e : DraftError) → e ≡ or_memory Memory (drafts_of q (bytes_of_text text)) → e ≢ Memory
     → draft q text ≡ Err (draft_errno e)
 refused_as q text e is known = by_draft (drafts_of q (bytes_of_text text)) is
@@ -56,7 +56,7 @@ undrafted n seat q id mtype text e errno last old new is known named same line =
       refusal = ap (λ (t : Reply × QueuesState). refusal_in t.0) (sym told);
     }
 
--- a text that was drafted and given up leaves the queues as they were
+-- a text that was drafted and spent leaves the queues as they were
 drafted_home : (q : QueuesState) (text : AskedText) (made : PlainText) (after : QueuesState) → draft q text ≡ Ok (made, after) → text_spent made after ≡ q
 drafted_home q text made after e =
     let bytes : List ℕ = bytes_of_text text in
@@ -67,7 +67,7 @@ refused_at : (q p : QueuesState) (id : ℕ) (reply : ℕ × QueuesState → Repl
 refused_at q p id reply (Ok turn) r e memory = absurd (memory (ap (λ (x : Refused). x.errno) e))
 refused_at q p id reply (Err other) r e memory = ap (λ (x : Refused). (refused x.errno, q)) (sym e)
 
--- a send that is refused after its text was made leaves all
+-- a send that is refused after its text was drafted leaves all
 pub send_refused : (n seat : ℕ) (q : QueuesState) (id : ℕ) (mtype : ℤ) (text : AskedText) (made : PlainText) (after : QueuesState) (r : Refused) → draft q text ≡ Ok (made, after)
     → r ≡ refused_or_memory after id (msgsnd after seat id mtype n made n) → r.errno ≢ ENOMEM → send_step n seat q id mtype text ≡ (refused r.errno, q)
 send_refused n seat q id mtype text made after r e is memory =

@@ -73,7 +73,7 @@ never_begun config wanted now =
     let main = main_seat config in
     inl (wrote_first config.slots config.last_seq [] wanted.calls wanted.calls main main now now refl (wrote_nothing config.slots config.last_seq main now))
 
--- the first seat of a system that was just made is that of the main part
+-- the first seat of a system that was just created is that of the main part
 pub first_seat : (config : Config) (slots : ℕ) (seats : List SeatState) (main : SeatState) (others : List SeatState) → slots ≡ config.slots → seats ≡ main ∷ others → AreFresh slots seats
     → main ≡ main_seat config
 first_seat config slots seats main others same is fresh =
@@ -85,7 +85,7 @@ pub first_taken : (n : ℕ) (x : SeatState) (xs : List SeatState) → 0 < n → 
 first_taken zero x xs some = absurd (omega arith)
 first_taken (suc n) x xs some = ap (λ (m : ℕ). x ∷ take m xs) (omega arith)
 
--- what the parts of a run wrote and answered, of a system that was just made
+-- what the parts of a run wrote and returned, of a system that was just created
 abbrev pub RanFrom : Config → Wanted → SeatState → Option (List ℕ) → Option (List ℕ) → Result (Vec Outcome) RunFault → Type 0
 RanFrom config wanted now old new r = RanParts config.slots config.last_seq wanted (main_seat config) now old new r
 
@@ -122,7 +122,7 @@ end_kept mid end new told (Err Write) wrote kept = prefix_kept mid end new told 
 end_kept mid end new told (Err Memory) wrote kept = prefix_kept mid end new told wrote kept
 end_kept mid end new told _ wrote kept = absurd wrote
 
--- a run whose workers have ended, and a prefix of what it tells
+-- a run whose workers have ended, and a prefix of what it prints at the end
 whole_cut : (config : Config) (wanted : Wanted) (now : SeatState) (old mid new : Option (List ℕ)) (told : List ℕ) → WroteFrom config wanted now old mid
     → IsTold config wanted.sections now told → AppendsPrefix mid new told → WrotePart config wanted old new
 whole_cut config wanted now old mid new told so ending part =
@@ -143,7 +143,7 @@ told_of : (config : Config) (wanted : Wanted) (now : SeatState) (outcomes : List
 told_of config wanted now outcomes slots free done are =
     record { outcomes = outcomes; slots = slots; free = free; done = done; closed = are; text_is = refl }
 
--- a run, from what its parts wrote, what was told at the end and the last flush
+-- a run, from what its parts wrote, what was printed at the end and the last flush
 run_by : (config : Config) (wanted : Wanted) (now : SeatState) (old mid end new : Option (List ℕ)) (ran : Result (Vec Outcome) RunFault) (slots : List ClosedSlot) (pages free : ℕ)
     (told result : Result (Unit {0}) RunFault) → RanFrom config wanted now old mid ran → AreClosed config now slots → pages ≡ 2 ^ config.height
     → TellsEnd mid end slots pages free ran told → Keeps end new → (result ≡ told) ⊎ (result ≡ Err Write) → RanWanted config wanted old new result
@@ -192,7 +192,7 @@ pub unmade_tells : (config : Config) (script left : Option (List ℕ)) (all : Ve
     → RanThreads config script left now now (Err Memory)
 unmade_tells config script left all now read = record { reads = reads_few script left all read; writes = inl (Keeps-refl now) }
 
--- what is so of what the bytes that were read want is told of the script, where that is known
+-- what is so of what the bytes that were read ask for is so of the script, where that is known
 tells : (So : Wanted → Type 0) (wanted : Wanted) (script left : Option (List ℕ)) (all : Vec ℕ) (text : List ℕ) → HasRead script left all → text ≡ all.items
     → wanted_of text ≡ Ok wanted → So wanted → IfSome script (TellsWanted So)
 tells So wanted script left all text read same is so =

@@ -21,7 +21,7 @@ use Rattle.mq_cli.specs.Works.{AreCalled, HasWorked, Puts, Removals, Takes}
 use Rattle.mq_cli.proofs.MainLemmas.{taken_from}
 use Rattle.mq_cli.proofs.WorkLemmas.{called_then, called_within, calls_in_two, none_called, received_all, received_until}
 
--- what is told of a worker is how far it is
+-- what is reported of a worker is how far it is
 module _ (outcome : Outcome) (progress : Progress) (stop : Option Errno) (told : outcome ≡ outcome_of progress stop) where
   pub told_sent : outcome.sent ≡ progress.sent
   told_sent = ap (λ (o : Outcome). o.sent) told
@@ -50,7 +50,7 @@ noted_more eq same so_far one old new notes ordered updates =
           rw back (rw (← all, ← last) ordered);
     }
 
--- the next of the messages that came is noted
+-- the next of the messages that were received is noted
 pub noted_next : (eq : Stream → Stream → Bool) → ((a b : Stream) → eq a b ≡ same_stream a b) → (id : ℕ) (came : List Taken) (k : ℕ) (d : Taken) (start old new : Notes)
     → k < length came → NotesTag eq old new (stream_of (record { id = id; taken = get_or came k d })) (get_or came k d).tag
     → NotesAll eq start old (messages_of id (take k came)) → NotesAll eq start new (messages_of id (take (k + 1) came))

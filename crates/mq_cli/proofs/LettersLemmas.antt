@@ -1,4 +1,4 @@
--- Texts that are cut from a run of letters.
+-- Texts that are slices of a sequence of letters.
 use Rattle.std.proofs.Common.{◌≡◌, ℕ, ◌+◌, ◌-◌, ◌*◌, ◌/◌, ◌%◌, ◌≤◌, zero, suc, List, [], ◌∷◌, ◌++◌, map, length, take, drop, refl, sym, ap, ◌∙◌, arith}
 use Rattle.std.specs.List.{range_with_len}
 use Rattle.std.proofs.Math.Seq.{drop-append_seam}
@@ -7,7 +7,7 @@ use Rattle.std.proofs.lemmas.List.FromFn.{length-map-range_with_len, take-map-ra
 use Rattle.mq_cli.specs.Drafts.{letter}
 use Rattle.mq_cli.specs.Letters.{letters_from}
 
--- a run in two parts
+-- a sequence split in two
 pub in_two : {A : Type 0} (f : ℕ → A) (a s n : ℕ) → map f (range_with_len a (s + n)) ≡ map f (range_with_len a s) ++ map f (range_with_len (a + s) n)
 in_two f a zero n =
     let none : 0 + n ≡ n = omega arith in
@@ -18,13 +18,13 @@ in_two f a (suc s) n =
     let next : a + 1 + s ≡ a + suc s = omega arith in
     rw one (ap (λ l. f a ∷ l) (in_two f (a + 1) s n ∙ ap (λ k. map f (range_with_len (a + 1) s) ++ map f (range_with_len k n)) next))
 
--- a run without its first elements
+-- a sequence without its first elements
 dropped : (f : ℕ → ℕ) (a s n : ℕ) → drop s (map f (range_with_len a (s + n))) ≡ map f (range_with_len (a + s) n)
 dropped f a s n =
     let seam = drop-append_seam (map f (range_with_len a s)) (map f (range_with_len (a + s) n)) in
     rw (in_two f a s n) (rw (length-map-range_with_len f a s) at seam)
 
--- a run from a later number, by a function that adds the rest
+-- a sequence from a later number, by a function that adds the rest
 shifted : (f : ℕ → ℕ) (s a n : ℕ) → map f (range_with_len (s + a) n) ≡ map (λ i. f (s + i)) (range_with_len a n)
 shifted f s a zero = refl
 shifted f s a (suc n) =
@@ -43,7 +43,7 @@ place s t i =
     let whole : s + t + i ≡ (t % 26 + s) % 26 + i + 26 * ((t % 26 + s) / 26 + t / 26) = omega (arith, sum, tag) in
     sym (ap (λ n. n % 26) whole ∙ add-mul-mod_self_left ((t % 26 + s) % 26 + i) 26 ((t % 26 + s) / 26 + t / 26))
 
--- a part of a run of letters
+-- a slice of a sequence of letters
 letters_cut : (all : List ℕ) (total start count : ℕ) → all ≡ map letter (range_with_len 0 total) → start + count ≤ total
     → take count (drop start all) ≡ map (λ i. letter (start + i)) (range_with_len 0 count)
 letters_cut all total start count is fits =

@@ -50,7 +50,7 @@ none_at false n denied = refl
 one_at : (n k m : ℕ) → n ≤ k → k ≤ n → k < m → Some k ≡ cond (nat_lt n m) (Some n) None
 one_at n k m low high within = grind (arith, common_steps)
 
--- the first byte that passes, as a search of bytes tells it
+-- the first byte that passes, as a search of bytes returns it
 pub first_at : (p : ℕ → Bool) (xs : List ℕ) (r : Option ℕ) → IsFirstByte p xs r → r ≡ position p xs
 first_at p xs None nowhere =
     let n = position_or_len p xs in
@@ -65,5 +65,5 @@ first_at p xs (Some k) found =
     found.0.before n (omega arith) less (passes_at_first p xs 0 (omega (arith, less, found.0.high)))) in
     one_at n k (length xs) low high found.0.high
 
--- what cuts a text at its first separator, if there is one
+-- what splits a text at its first separator, if there is one
 pub ruleset cut_parts = (split_taken, split_where_none)

@@ -10,7 +10,7 @@ pub or_none : (ends : Bool) → (ends || false) ≡ ends
 or_none true = refl
 or_none false = refl
 
--- a call of the system was refused, and its errno alone is told
+-- a call of the system was refused, and its errno alone is returned
 pub refused_call : (early : Bool) (may : Errno → Type 0) (slot : ℕ) (verdict : Verdict) (old new : SeatState) (r : Refused) → IsTurnedAway early may slot verdict old new r
     → IsRefusal early may slot verdict old new r.errno
 refused_call early may slot verdict old new r turned = record { entry = r.entry; turned = turned }

@@ -97,7 +97,7 @@ few_read : (rest : List ℕ) (lines n : ℕ) → AreLeft rest lines n → n ≤ 
 few_read rest lines n (inl left) = omega (arith, left)
 few_read rest lines n (inr none) = none.1
 
--- a read that gave a byte had one to give
+-- a reader that returned a byte had one left
 pub some_read : (read : Option (List ℕ)) (before items : List ℕ) (count : ℕ) → before ≡ []
     → IfSome read (λ xs. items ≡ before ++ take_through 10 xs) → length items ≡ count → 0 < count
     → IfSome read (λ xs. 0 < length xs)
@@ -141,7 +141,7 @@ one_answered read left old now new all lines n s t so next =
       taken = Appends-trans old now new so.text turn.0 so.taken step.3;
     }
 
--- a front of an answer is a front of all answers
+-- a prefix of an answer is a prefix of all answers
 pub front_answered : (read left old now new : Option (List ℕ)) (all : List ℕ) (lines n : ℕ) (s t : SessionState) (e : RunFault) → SoFarAnswered read old now all lines n s
     → AnswersNext read left now new n s t (Err e) → AppendsPrefix old new all
 front_answered read left old now new all lines n s t e so next =
@@ -185,7 +185,7 @@ line_read (Some xs) before items line typed trimmed others empty given whole spl
     let same : typed ∷ others ≡ t.first ∷ t.none = sym split ∙ ap (parts_of 10) read ∙ t.front in
     cut ∙ ap (λ (ps : List (List ℕ)). without_return (slice_index_or ps 0 [])) same ∙ sym (first_line_is xs)
 
--- an answer that was not written whole is a front of it
+-- of an answer that was not written whole a prefix was
 pub next_failed : (read old new : Option (List ℕ)) (n : ℕ) (s t : SessionState) (line : List ℕ) (outcome : Result (Unit {0}) RunFault)
     → IfSome read (λ xs. line ≡ first_line_of xs)
     → WritesAnswer old new (answer_of n s line) t outcome

@@ -72,7 +72,7 @@ wanted_leaves config wanted now (Ok refusals) slots r parts closed left =
 wanted_leaves config wanted now (Err e) slots r parts closed left =
     subst (RecordsWanted config wanted) (sym left) (wanted_failed config.slots config.last_seq config wanted (main_seat config) now e parts)
 
--- what is told of a script that is not read, or for which memory ran out
+-- what is known of a script that is not read, or for which memory ran out
 of_none : (config : Config) (script : Option (List ℕ)) (fault : RunFault) → ((s : List ℕ) → KeepsThreads config (Err fault) s) → IfSome script (KeepsThreads config (Err fault))
 of_none config None fault so = tt
 of_none config (Some s) fault so = so s

@@ -1,4 +1,4 @@
--- A call that is refused, but for want of memory, replies its refusal and leaves all.
+-- A call that is refused, unless memory ran out, replies its refusal and leaves all.
 use Rattle.std.proofs.Common.{◌≡◌, ◌≢◌, ℕ, List, ◌++◌, Some, Result, Ok, Err, ap, ◌∙◌}
 use Rattle.mq_queue.specs.Memory.{or_memory}
 use Rattle.mq_calls.specs.Look.{Answer, refused_or_memory}
@@ -20,7 +20,7 @@ errno_replied q reply (Err r) e after old new is same line memory = record {
   refusal = ap (λ (x : Errno). Some x) is;
 }
 
--- by what is told of its queue too
+-- by the whole refusal
 pub refusal_replied : {T : Type 0} (q : QueuesState) (id : ℕ) (reply : T × QueuesState → Reply × QueuesState) (a : Answer T) (r : Refused) (after : QueuesState) (old new : List ℕ)
     → r ≡ refused_or_memory q id a → after ≡ q → new ≡ old ++ output (refused r.errno) → r.errno ≢ ENOMEM → Answered (replied q reply (by_errno a)) old new after (Some r.errno)
 refusal_replied q id reply (Ok turn) r after old new is same line memory = absurd (memory (ap (λ (x : Refused). x.errno) is))

@@ -48,7 +48,7 @@ unfolding run_from
 so_far_step old now new n s t whole line lines so ran =
     line_done old now new n t whole (λ u. run_from (n + 1) u lines) (said n s (reading line)) so ran
 
--- a front of what a line writes is a front of what the run writes
+-- a prefix of what a line writes is a prefix of what the run writes
 prefix_before : (old now new : Option (List ℕ)) (whole run : Run) (part : List ℕ)
     → SoFar old now whole (before part run) → AppendsPrefix now new part → AppendsPrefix old new whole.written
 prefix_before old now new whole run part so front =
@@ -81,7 +81,7 @@ so_far_end old now n s whole so = (
   subst (λ (w : List ℕ). Appends old now w) (sym (ap (λ (w : Run). w.written) so.whole_is ∙ append-nil so.text)) so.taken,
 )
 
--- however a run ended, a front of what it writes was written
+-- however a run ended, a prefix of what it writes was written
 pub runs_prefix : (old now : Option (List ℕ)) (run : Run) (r : Result (Unit {0}) RunFault) → Runs old now run r → AppendsPrefix old now run.written
 runs_prefix old now run (Ok _) ran = (run.written, ([], sym (append-nil run.written)), ran.1)
 runs_prefix old now run (Err (Script line cause)) ran = (run.written, ([], sym (append-nil run.written)), ran.1)
@@ -99,7 +99,7 @@ writes_prefix old new text _ wrote = absurd wrote
 pub prefix_kept : (old now new : Option (List ℕ)) (text : List ℕ) → AppendsPrefix old now text → Keeps now new → AppendsPrefix old new text
 prefix_kept old now new text front kept = (front.0, front.1, Appends-kept old now new front.0 front.2 kept)
 
--- of a script that was not read nothing is written, which is a front
+-- of a script that was not read nothing is written, which is a prefix
 nothing_of : (config : Config) (script now : Option (List ℕ)) → IfSome script (λ s. AppendsPrefix now now (run_of config s).written)
 nothing_of config None now = tt
 nothing_of config (Some s) now = nothing_yet now (run_of config s).written

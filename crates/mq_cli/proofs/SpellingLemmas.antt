@@ -158,7 +158,7 @@ integer_of-signed_decimal (negsuc n) fits =
     ∙ cond-true _ _ _ (and_from _ _ (le-leb 1 (suc n) (omega arith)) (le-leb (suc n) (2 ^ 63) (omega (arith, fits.sfits))))
     ∙ ap (λ m. Some (negsuc m)) (omega arith)
 
--- what follows from each way that a test can go
+-- what follows from each outcome of a test
 pub chosen : {T P : Type 0} (b : Bool) (x y z : T) → cond b x y ≡ z → (b ≡ true → x ≡ z → P) → (b ≡ false → y ≡ z → P) → P
 chosen true x y z e holds fails = holds refl e
 chosen false x y z e holds fails = fails refl e

@@ -14,7 +14,7 @@ use Rattle.mq_cli.specs.Plans.{puts_in, puts_of}
 use Rattle.mq_cli.specs.Works.{AllSucceed, AreCalled, Ends, Fails, Puts, Removals, Succeeds, Takes}
 use Rattle.mq_cli.proofs.LettersLemmas.{in_two}
 
--- how many of two runs of calls send
+-- how many of two sequences of calls send
 sends_counted : (a b : List PortCall) → count_by is_send (a ++ b) ≡ count_by is_send a + count_by is_send b
 sends_counted a b = sum_by-append (λ c. cond (is_send c) 1 0) a b
 

@@ -24,6 +24,6 @@ pub record TakesMany {Q : Type 0} (takes : Takes Q) (id : ℕ) (msgtyp : ℤ) (e
       (λ errno. takes mid id msgtyp ends moment (Err errno) new)
 
 -- how many messages the next call receives at most, behind these: a text that has bytes holds pages
--- until it is spent, so that behind one messages come one by one
+-- until it is spent, so that after one messages are received one by one
 abbrev pub most_behind : List Taken → ℕ
 most_behind came = if list_all (λ taken. taken.length == 0) came then MAX_BATCH else 1

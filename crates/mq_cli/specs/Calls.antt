@@ -1,4 +1,4 @@
--- The calls that a plan asks for, each with all that the port is told, and what was received.
+-- The calls that a plan asks for, each with all arguments of the port, and what was received.
 use Rattle.std.specs.Prelude.{ℕ, ◌+◌, ◌==◌, ℤ, Bool, true, false, ◌&&◌, if◌then◌else◌, is_some}
 use Rattle.std.specs.Prelude.{List, [], ◌∷◌, ◌++◌, map, replicate, Option, None, Some}
 use Rattle.std.specs.List.{range_with_len}
@@ -9,7 +9,7 @@ use Rattle.mq_cli.specs.declared.step.Step.TheVariants.{Put, Take, Remove}
 use Rattle.mq_cli.specs.declared.taken.Taken.{Taken}
 use Rattle.mq_cli.specs.Plans.{puts_of, rises}
 
--- a call of a port; `ends` tells whether its waits have an end
+-- a call of a port; `ends` says whether its waits have an end
 pub data PortCall : Type 0 where
   send : (id : ℕ) (mtype : ℤ) (tag n : ℕ) (ends : Bool) (moment : ℕ) → PortCall
   receive : (id : ℕ) (msgtyp : ℤ) (ends : Bool) (moment : ℕ) → PortCall
@@ -21,7 +21,7 @@ is_send (send id mtype tag n ends moment) = true
 is_send (receive id msgtyp ends moment) = false
 is_send (remove id moment) = false
 
--- so many messages of n bytes, where so many were sent before: the tags go on from there
+-- so many messages of n bytes, where so many were sent before: the tags continue from there
 abbrev pub sends_after : ℕ → ℕ → ℤ → ℕ → ℕ → Bool → ℕ → List PortCall
 sends_after sent id mtype count n ends moment =
     map (λ tag. send id mtype tag n ends moment) (range_with_len (sent + 1) count)
@@ -58,13 +58,13 @@ stream_of one = record { id = one.id; sender = one.taken.sender; mtype = one.tak
 abbrev pub same_stream : Stream → Stream → Bool
 same_stream a b = (a.id == b.id) && ((a.sender == b.sender) && int_eq a.mtype b.mtype)
 
--- the last tag of a stream, where what came last stands first
+-- the last tag of a stream, where the last received stands first
 abbrev pub last_tag : Stream → List TakenMessage → Option ℕ
 last_tag stream [] = None
 last_tag stream (one ∷ before) = if same_stream (stream_of one) stream then Some one.taken.tag
     else last_tag stream before
 
--- whether each tag is above the one before it in its stream, where what came last stands first
+-- whether each tag is above the one before it in its stream, where the last received stands first
 abbrev pub tags_rise : List TakenMessage → Bool
 tags_rise [] = true
 tags_rise (one ∷ before) = tags_rise before && rises (last_tag (stream_of one) before) one.taken.tag

@@ -1,4 +1,4 @@
--- What a threads script writes: the answers of its main part, and what is told at the end.
+-- What a threads script writes: the answers of its main part, and what is printed at the end.
 use Rattle.std.specs.Prelude.{ℕ, ◌+◌, ◌==◌, Bool, true, false, if◌then◌else◌, List, [], ◌∷◌, ◌++◌}
 use Rattle.std.specs.Prelude.{codes, count_by, Option, Some, None}
 use Rattle.std.specs.Fmt.{decimal}
@@ -19,7 +19,7 @@ abbrev pub end_name : Option Errno → List ℕ
 end_name None = codes "done"
 end_name (Some errno) = errno_name errno
 
--- what is told of the worker at a seat
+-- what is printed of the worker at a seat
 unfoldable pub counts_told : ℕ → Outcome → List ℕ
 counts_told seat o =
     codes "worker " ++ decimal seat ++ codes " sent " ++ decimal o.sent ++ codes " received "
@@ -54,15 +54,15 @@ sent_in events = count_by is_sent events
 abbrev pub received_in : List Event → ℕ
 received_in events = count_by is_receipt events
 
--- what is told of a slot
+-- what is printed of a slot
 unfoldable pub slot_told : (number events sent received left : ℕ) → List ℕ
 slot_told number events sent received left =
     codes "slot " ++ decimal number ++ codes " events " ++ decimal events ++ codes " sent "
     ++ decimal sent ++ codes " received " ++ decimal received ++ codes " left " ++ decimal left
     ++ 10 ∷ []
 
--- where a queue was ever made in it: how many entries it had, and how many messages were sent and
--- received by those that it leaves
+-- where it ever had a queue: how many entries it had, and how many messages were sent and received
+-- by those that it leaves
 abbrev pub slot_line : ℕ → ClosedSlot → List ℕ
 slot_line number slot =
     if entries_at_end slot == 0 then []
@@ -75,11 +75,11 @@ slot_lines number [] = []
 slot_lines number (slot ∷ slots) =
     slot_line number slot ++ slot_lines (number + 1) slots
 
--- what is told of the pages
+-- what is printed of the pages
 unfoldable pub page_line : ℕ → ℕ → List ℕ
 page_line pages free = codes "pages " ++ decimal pages ++ codes " free " ++ decimal free ++ 10 ∷ []
 
--- all that is told at the end: the workers sat at the seats from 2 on
+-- all that is printed at the end: the workers sat at the seats from 2 on
 abbrev pub closing : List Outcome → List ClosedSlot → ℕ → ℕ → List ℕ
 closing outcomes slots pages free =
     worker_lines 2 outcomes ++ slot_lines 0 slots ++ page_line pages free

@@ -41,7 +41,7 @@ abbrev pub ok_map : {A B : Type 0} → (A → B) → Result A Cause → Result B
 ok_map f (Ok x) = Ok (f x)
 ok_map f (Err cause) = Err cause
 
--- goes on with the number that a word spells, where it spells one in its range
+-- continues with the number that a word spells, where it spells one in its range
 infixl 10 ◌>>=◌
 abbrev pub ◌>>=◌ : {A B : Type 0} → Option A → (A → Result B Cause) → Result B Cause
 None >>= f = Err Number
@@ -50,7 +50,7 @@ None >>= f = Err Number
 abbrev pub is_filled : List ℕ → Bool
 is_filled word = nat_lt 0 (length word)
 
--- goes on with what words say, where they say something
+-- continues with what words say, where they say something
 abbrev pub worded : {A B : Type 0} → Option A → (A → Result B Cause) → Result B Cause
 worded None f = Err Words
 worded (Some x) f = f x
@@ -162,7 +162,7 @@ abbrev pub stat_asked : List (List ℕ) → Result AskedCall Cause
 stat_asked (id ∷ []) = under (2 ^ 32) (number_of id) >>= λ i. Ok (stat i)
 stat_asked _ = Err Words
 
--- the log of a slot is cut off
+-- the log of a slot is drained
 abbrev pub cutting_asked : List (List ℕ) → Result AskedCall Cause
 cutting_asked (slot ∷ []) = under MAX_SLOTS (number_of slot) >>= λ k. Ok (cut k)
 cutting_asked _ = Err Words
@@ -201,7 +201,7 @@ speaks line =
     else (if not (list_all is_printable line) then Err Byte
     else Ok (not (is_skipped line)))
 
--- what a line says where its words are looked at
+-- what a line says where its words are read
 abbrev pub spoken : {A : Type 0} → Result Bool Cause → Result A Cause → Result (Option A) Cause
 spoken (Ok true) said = ok_map Some said
 spoken (Ok false) said = Ok None

@@ -1,4 +1,4 @@
--- Texts that are made of what a line says.
+-- Texts that are drafted from what a line says.
 use Rattle.std.specs.Prelude.{◌≡◌, ℕ, ◌+◌, ◌%◌, ◌<◌, ◌↔◌, nat_lt, true, List, length, map, Result}
 use Rattle.std.specs.Prelude.{Ok, Err, IfOk, IsErrOf}
 use Rattle.std.specs.List.{range_with_len}
@@ -31,21 +31,21 @@ by_draft_errno (Err e) = Err (draft_errno e)
 abbrev pub draft : QueuesState → AskedText → Result (PlainText × QueuesState) Errno
 draft queues text = by_draft_errno (drafts_of queues (bytes_of_text text))
 
--- no text was made: the queues, which stay as they were, tell why; memory is wanted by none but a
--- text of many pages
+-- no text was drafted: the queues, which stay as they were, determine why; memory runs out only for
+-- a text that is longer than `INLINE_LEN`
 pub record HasNoDraft (before after : QueuesState) (text : AskedText) (refusal : DraftError)
     : Type 0 where
   pub refused : refusal ≡ or_memory Memory (drafts_of before (bytes_of_text text))
   pub memory : refusal ≡ Memory → INLINE_LEN < length (bytes_of_text text)
   pub unchanged : after ≡ before
 
--- a text was made of what the line says, or not
+-- a text was drafted from what the line says, or not
 abbrev pub Drafts : QueuesState → QueuesState → AskedText → Result PlainText DraftError → Type 0
 Drafts before after text (Ok made) = draft before text ≡ Ok (made, after)
 Drafts before after text (Err refusal) = HasNoDraft before after text refusal
 
--- a text of these bytes was made; or they are too many, or no pages or no memory were found for
--- those that want some
+-- a text of these bytes was drafted; or they are too many, or no pages or no memory were found for
+-- a text that is not empty
 pub record DraftsBytes (bytes : List ℕ) (result : Result PlainText DraftError) : Type 0 where
   pub ok : IfOk result (λ text. text.bytes ≡ bytes)
   pub too_long : IsErrOf result TooLong ↔ (nat_lt MSGMAX (length bytes) ≡ true)

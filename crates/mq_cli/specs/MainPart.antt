@@ -29,7 +29,7 @@ abbrev pub moment_of : MainCall → ℕ
 moment_of (Get key flags moment) = moment
 moment_of (Set id qbytes moment) = moment
 
--- msgget answered this id: of a queue that it found, or of one that it made
+-- msgget returned this id: of a queue that it found, or of one that it created
 abbrev pub Gives : ℕ → ℕ → ℤ → GetFlags → ℕ → ℕ → SeatState → SeatState → Type 0
 Gives slots last_seq key flags moment id old new =
     (got : Got) × (id ≡ got.id) × IsGot slots last_seq key flags moment old new got
@@ -59,7 +59,7 @@ AreReplies slots last_seq _ _ old new = ⊥
 abbrev pub lines_replied : List Reply → List ℕ
 lines_replied replies = flat_map output replies
 
--- one reply was written behind what the buffer held, and it is told what refused the call
+-- one reply was written after what the buffer held, and what refused the call is returned
 abbrev pub Replies : ℕ → ℕ → MainCall → List ℕ → List ℕ → SeatState → SeatState → Option Errno
     → Type 0
 Replies slots last_seq call held holds old new told =

@@ -1,4 +1,4 @@
--- What an iterator over lines or words has still to give.
+-- What an iterator over lines or words has still to yield.
 use Rattle.std.specs.Prelude.{ℕ, List, [], Option, map}
 use Rattle.std.specs.Option.{option_map_or}
 use Rattle.std.specs.Borrow.{Bor}

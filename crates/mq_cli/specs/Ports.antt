@@ -24,12 +24,12 @@ Sends slots old new id mtype tag n ends moment (Err errno) = ((new ≡ old) × M
     ⊎ IsRefusal (never_sent slots id mtype) (MaySend ends) (slot_of id)
     (send_verdict (seq_of id) mtype n) old new errno
 
--- what is told of a message that was received
+-- what is returned of a message that was received
 abbrev pub taken_of : Delivered PlainText → Taken
 taken_of d = record { sender = d.sender; tag = d.tag; mtype = d.mtype; length = d.length }
 
 -- the message that the selection names was received whole, its text is the letters of its sender
--- and its tag, and it is told; or the call was refused, with ENOMSG only where its waits end
+-- and its tag, and it is returned; or the call was refused, with ENOMSG only where its waits end
 abbrev pub Receives : ℕ → SeatState → SeatState → ℕ → ℤ → Bool → ℕ → Result Taken Errno → Type 0
 Receives slots old new id msgtyp ends moment (Ok taken) =
     (d : Delivered PlainText) × (taken ≡ taken_of d)
@@ -38,7 +38,7 @@ Receives slots old new id msgtyp ends moment (Err errno) =
     IsRefusal (out_of_slots slots id) (MayReceive ends false) (slot_of id)
     (receive_verdict (seq_of id) MSGMAX (selection_of msgtyp false) false) old new errno
 
--- the queue was removed, which tells its entry alone; or the call was refused
+-- the queue was removed, and its entry alone is returned; or the call was refused
 abbrev pub Removes : ℕ → ℕ → SeatState → SeatState → ℕ → ℕ → Result ℕ Errno → Type 0
 Removes slots last_seq old new id moment (Ok entry) =
     (r : Removal) × (entry ≡ r.entry) × IsRemoved slots last_seq id moment old new r

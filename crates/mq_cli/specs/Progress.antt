@@ -11,13 +11,13 @@ use Rattle.mq_cli.specs.Calls.{PortCall, TakenMessage, last_tag, tags_rise}
 use Rattle.mq_cli.specs.Plans.{rises}
 use Rattle.mq_cli.specs.Works.{AreCalled, Puts, Removals, Takes}
 
--- the notes tell the last tag of each stream, and whether all tags rose
+-- the notes have the last tag of each stream, and whether all tags rose
 pub record AreNotes (eq : Stream → Stream → Bool) (received : List TakenMessage) (notes : Notes)
     : Type 0 where
   pub last : (stream : Stream) → get eq notes.last stream ≡ last_tag stream (reverse received)
   pub ordered : notes.ordered ≡ tags_rise (reverse received)
 
--- two notes tell the same
+-- two notes hold the same
 pub record HoldSame (eq : Stream → Stream → Bool) (old new : Notes) : Type 0 where
   pub last : (stream : Stream) → get eq new.last stream ≡ get eq old.last stream
   pub ordered : new.ordered ≡ old.ordered
@@ -33,7 +33,7 @@ abbrev pub NotesAll : (Stream → Stream → Bool) → Notes → Notes → List 
 NotesAll eq old new received =
     (so_far : List TakenMessage) → AreNotes eq so_far old → AreNotes eq (so_far ++ received) new
 
--- what is told of a worker that ended so
+-- what is reported of a worker that ended so
 abbrev pub outcome_of : Progress → Option Errno → Outcome
 outcome_of p stop =
     record { sent = p.sent; received = p.received; ordered = p.notes.ordered; end = stop }
@@ -59,7 +59,7 @@ pub record HasCounted (puts takes removes old new : ℕ) (before after : Progres
   pub refused : OnErr result
       (new + (before.sent + before.received) ≡ old + (after.sent + after.received))
 
--- a worker came further by some of these calls
+-- a worker advanced by some of these calls
 pub record ComesFurther {Q : Type 0} (eq : Stream → Stream → Bool) (puts : Puts Q) (takes : Takes Q)
     (removes : Removals Q) (calls : List PortCall) (old new : Q) (before after : Progress)
     (end : Option Errno) : Type 0 where
@@ -71,8 +71,8 @@ pub record ComesFurther {Q : Type 0} (eq : Stream → Stream → Bool) (puts : P
   pub noted : (so_far : List TakenMessage) → AreNotes eq so_far before.notes
       → AreNotes eq (so_far ++ received) after.notes
 
--- a worker came further by one call that stands for up to n of these: it received one at least, and
--- as many as have come, or it was refused
+-- a worker advanced by one call that stands for up to n of these: it received at least one message,
+-- and no more than n, or it was refused after fewer than n
 pub record ComesBy {Q : Type 0} (eq : Stream → Stream → Bool) (puts : Puts Q) (takes : Takes Q)
     (removes : Removals Q) (call : PortCall) (n : ℕ) (old new : Q) (before after : Progress)
     (result : Result (Unit {0}) Errno) : Type 0 where

@@ -58,7 +58,7 @@ WritesAnswer old new turn s outcome = OnOk outcome (s ≡ turn.1) × Writes old 
 abbrev pub first_line_of : List ℕ → List ℕ
 first_line_of text = slice_index_or (lines_of text) 0 []
 
--- what a read that failed is told as
+-- the fault of a read that failed
 abbrev pub read_fault_of : ErrorKind → RunFault
 read_fault_of OutOfMemory = Memory
 read_fault_of _ = Read
@@ -87,7 +87,7 @@ AnswersNext read left old new n s t (Ok false) = IfSome read (λ text.
 AnswersNext read left old new n s t (Err fault) = IsLineFault fault × IfSome read (λ text.
     AppendsPrefix old new (answer_of n s (first_line_of text)).0)
 
--- all that was typed is read and answered so, or a front of the answers was written
+-- all that was typed is read and answered so, or a prefix of the answers was written
 abbrev pub AnswersAll : (List ℕ → List ℕ) → Option (List ℕ) → Option (List ℕ) → Option (List ℕ)
     → Option (List ℕ) → Result (Unit {0}) RunFault → Type 0
 AnswersAll answers typed left old new (Ok _) = IfSome typed (λ text.

@@ -1,4 +1,4 @@
--- What a run that is recorded reads and answers.
+-- What a run that is recorded reads and returns.
 use Rattle.std.specs.Prelude.{◌≡◌, ℕ, List, map, Option, None, Some, IfSome, Result, Ok, Err}
 use Rattle.std.specs.Global.{Vec}
 use Rattle.mq_calls.specs.Closed.{ending_of, ends}
@@ -14,7 +14,7 @@ use Rattle.mq_cli.specs.Recording.{Recording, recording, recording_of}
 use Rattle.mq_cli.specs.Session.{SessionState}
 use Rattle.mq_cli.specs.Transcript.{fault_of}
 
--- what line n recorded and answered
+-- what line n recorded and returned
 abbrev pub RecordsLine : ℕ → Result Recording Cause → Recording → Result (Unit {0}) RunFault
     → Type 0
 RecordsLine n (Ok r) now (Ok _) = now ≡ r
@@ -60,7 +60,7 @@ KeepsScript config (Err Read) script = Unit {0}
 KeepsScript config (Err Memory) script = Unit {0}
 KeepsScript config (Err _) script = ⊥
 
--- what a run in one thread that is recorded read, and what it answers of the script's bytes, where
+-- what a run in one thread that is recorded read, and what it returns of the script's bytes, where
 -- they are known
 pub record RecordedSerial (config : Config) (script left : Option (List ℕ))
     (result : Result Recorded RunFault) : Type 0 where

@@ -1,4 +1,4 @@
--- What a run of a threads script that is recorded reads and answers.
+-- What a run of a threads script that is recorded reads and returns.
 use Rattle.std.specs.Prelude.{◌≡◌, ℕ, List, [], ◌∷◌, Option, None, Some, IfSome, Result, Ok, Err}
 use Rattle.std.specs.Global.{Vec}
 use Rattle.mq_calls.specs.declared.config.Config.{Config}
@@ -65,7 +65,7 @@ KeepsThreads config (Err Memory) script = Unit {0}
 KeepsThreads config (Err Thread) script = Unit {0}
 KeepsThreads config (Err _) script = ⊥
 
--- what a run in several threads that is recorded read, and what it answers of the script's bytes,
+-- what a run in several threads that is recorded read, and what it returns of the script's bytes,
 -- where they are known
 pub record RecordedThreads (config : Config) (script left : Option (List ℕ))
     (result : Result Recorded RunFault) : Type 0 where

@@ -14,7 +14,7 @@ use Rattle.mq_cli.specs.Lines.{lines_of}
 use Rattle.mq_cli.specs.Session.{SessionState, first_session}
 use Rattle.mq_cli.specs.Transcript.{Reply, refusal_in, step}
 
--- a call of line n that a seat made was refused; an id is told where the call names one
+-- a call of line n that a seat made was refused; an id is recorded where the call names one
 abbrev pub refused_call : ℕ → ℕ → CallName → Option ℕ → Errno → Option Refusal
 refused_call n seat call id errno =
     Some (record { moment = n; seat = seat; call = call; id = id; errno = errno })
@@ -52,7 +52,7 @@ pub record Recording : Type 0 where
 abbrev pub recording : SessionState → List Refusal → Recording
 recording s refusals = record { state = s; refusals = refusals }
 
--- a cut of a slot that is there is as a comment, so that the logs stay whole
+-- a drain of the log of a slot in the table is skipped like a comment, so that the logs stay whole
 abbrev pub is_passed : QueuesState → AskedCall → Bool
 is_passed q (cut slot) = nat_lt slot (length q.slots)
 is_passed q _ = false

@@ -24,7 +24,7 @@ header =
     ++ right_aligned 8 (codes "qbytes") ++ right_aligned 6 (codes "lspid")
     ++ right_aligned 6 (codes "lrpid")
 
--- a row of a slot, of which an id can be told
+-- a row of a slot, whose numbers are in the range of an id
 pub record IsRow (number : ℕ) (row : BoardRow) : Type 0 where
   pub slot : number < MAX_SLOTS
   pub made : row.made ≤ MAX_SEQ + 1

@@ -1,4 +1,4 @@
--- What a run writes and answers.
+-- What a run writes and returns.
 use Rattle.std.specs.Prelude.{◌≡◌, ℕ, List, [], ◌++◌, Option, None, Some, IfSome, Result, Ok, Err}
 use Rattle.std.specs.Io.KnownBytes.{Appends, Keeps}
 use Rattle.mq_calls.specs.declared.config.Config.{Config}
@@ -52,7 +52,7 @@ pub record RanSerial (config : Config) (script left old new : Option (List ℕ))
   pub reads : ReadsBy script left result
   pub writes : WritesSerial config script old new result
 
--- what the line with this number wrote and answered, which leaves the state s
+-- what the line with this number wrote and returned, which leaves the state s
 abbrev pub RunsLine : Option (List ℕ) → Option (List ℕ) → ℕ → Result (List ℕ × SessionState) Cause
     → SessionState → Result (Unit {0}) RunFault → Type 0
 RunsLine old new number (Ok turn) s (Ok _) = (s ≡ turn.1) × Appends old new turn.0
@@ -62,8 +62,8 @@ RunsLine old new number (Err cause) s (Err (Script line named)) =
     (line ≡ number) × (named ≡ cause) × Appends old new []
 RunsLine old new number _ s _ = ⊥
 
--- the reply of a call follows what the buffer held, the call leaves this state, and it is told what
--- refused it
+-- the reply of a call follows what the buffer held, the call leaves this state, and what refused it
+-- is returned
 pub record Answered {S : Type 0} (turn : Reply × S) (old new : List ℕ) (s : S)
     (told : Option Errno) : Type 0 where
   pub line : new ≡ old ++ output turn.0

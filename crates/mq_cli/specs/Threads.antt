@@ -32,7 +32,7 @@ pub record AreClosed (config : Config) (main : SeatState) (slots : List ClosedSl
   pub others : List SeatState
   pub ends : IsEnd config.last_seq (main ∷ others) slots
 
--- what is told of workers that ran these sections, and of slots that were closed behind them
+-- what is printed of workers that ran these sections, and of slots that were closed after them
 pub record IsTold (config : Config) (sections : List (List Step)) (main : SeatState)
     (text : List ℕ) : Type 0 where
   pub outcomes : List Outcome
@@ -46,7 +46,7 @@ pub record IsTold (config : Config) (sections : List (List Step)) (main : SeatSt
 abbrev pub main_seat : Config → SeatState
 main_seat config = fresh_seat config.slots 1
 
--- what a whole run writes: the replies of the main part, and behind them what is told at the end
+-- what a whole run writes: the replies of the main part, and then what is printed at the end
 pub record IsWholeRun (config : Config) (wanted : Wanted) (text : List ℕ) : Type 0 where
   pub replies : List Reply
   pub main : SeatState
@@ -70,7 +70,7 @@ WrotePart config wanted old new =
     WroteSome config.slots config.last_seq wanted.calls (main_seat config) old new
     ⊎ ((text : List ℕ) × IsWholeRun config wanted text × AppendsPrefix old new text)
 
--- this is so of what the script wants, which is well formed
+-- the script is well formed, and this is so of what it asks for
 abbrev pub TellsWanted : (Wanted → Type 0) → List ℕ → Type 0
 TellsWanted so script = (wanted : Wanted) × (wanted_of script ≡ Ok wanted) × so wanted
 
@@ -99,7 +99,7 @@ RanWorkers plans (Ok outcomes) =
     AllZip (λ (plan : Vec Step) outcome. IsCarriedOut plan.items outcome) plans outcomes.items
 RanWorkers plans (Err fault) = IsMakingFault fault
 
--- what is told of workers that have ended; where they were not run, their fault stays
+-- what is printed of workers that have ended; where they were not run, their fault stays
 abbrev pub TellsEnd : Option (List ℕ) → Option (List ℕ) → List ClosedSlot → ℕ → ℕ
     → Result (Vec Outcome) RunFault → Result (Unit {0}) RunFault → Type 0
 TellsEnd old new slots pages free (Ok outcomes) result =

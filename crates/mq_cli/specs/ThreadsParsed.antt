@@ -11,8 +11,8 @@ use Rattle.mq_cli.specs.ThreadsScript.{Wanted}
 abbrev pub wanted_seen : ThreadsScript → Wanted
 wanted_seen s = record { calls = s.calls.items; sections = map (λ v. v.items) s.sections.items }
 
--- what was read is what the script wants, of no more sections than there may be, each of which can
--- be counted
+-- what was read is what the script asks for, of no more sections than there may be, each of which
+-- can be counted
 pub record IsParsed (wanted : Result Wanted (ℕ × Cause)) (script : ThreadsScript) : Type 0 where
   pub is : wanted ≡ Ok (wanted_seen script)
   pub few : vec_len script.sections ≤ MAX_WORKERS

@@ -1,4 +1,4 @@
--- What a run in several threads needs, and what it reads, writes and answers.
+-- What a run in several threads needs, and what it reads, writes and returns.
 use Rattle.std.specs.Prelude.{◌≡◌, ◌⊎◌, ◌+◌, ◌≤◌, ℕ, true, List, vec_len, Option, IfSome, Result}
 use Rattle.std.specs.Prelude.{Ok, Err}
 use Rattle.std.specs.Global.{Vec}
@@ -31,7 +31,7 @@ pub record CanRunScript (config : Config) (parts seats : ℕ) (sections : Vec (V
   pub few : vec_len sections ≤ MAX_WORKERS
   pub countable : AreCountable sections.items
 
--- what a run of a script that was read wrote and answered
+-- what a run of a script that was read wrote and returned
 abbrev pub RanWanted : Config → Wanted → Option (List ℕ) → Option (List ℕ)
     → Result (Unit {0}) RunFault → Type 0
 RanWanted config wanted old new (Ok _) = WroteWhole config wanted old new

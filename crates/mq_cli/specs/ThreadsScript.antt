@@ -1,4 +1,4 @@
--- The lines of a threads script, and what they want done together.
+-- The lines of a threads script, and what they ask for together.
 use Rattle.std.specs.Prelude.{ℕ, ◌+◌, ◌^◌, ◌==◌, nat_lt, if◌then◌else◌, List, [], ◌∷◌, ◌++◌}
 use Rattle.std.specs.Prelude.{length, codes, Option, Some, None, Result, Ok, Err}
 use Rattle.std.specs.List.{list_all}
@@ -103,7 +103,7 @@ line_said sections n (name ∷ words) =
 abbrev pub threads_reading : ℕ → ℕ → List ℕ → Result (Option ThreadsLine) Cause
 threads_reading sections n line = reading_by (line_said sections n) line
 
--- what a script wants done: the calls of the main part, and the steps of each section
+-- what a script asks for: the calls of the main part, and the steps of each section
 pub record Wanted : Type 0 where
   pub calls : List MainCall
   pub sections : List (List Step)
@@ -117,7 +117,7 @@ onto_last step [] = []
 onto_last step (section ∷ []) = (section ++ step ∷ []) ∷ []
 onto_last step (section ∷ next ∷ sections) = section ∷ onto_last step (next ∷ sections)
 
--- what is wanted with one line more
+-- what is asked for with one line more
 abbrev pub with_line : Wanted → ThreadsLine → Wanted
 with_line w Worker = record { calls = w.calls; sections = w.sections ++ [] ∷ [] }
 with_line w (Main call) = record { calls = w.calls ++ call ∷ []; sections = w.sections }
@@ -136,6 +136,6 @@ wanted_from n w (line ∷ lines) =
     reads_on n w (threads_reading (length w.sections) n line)
     (λ more. wanted_from (n + 1) more lines)
 
--- what a script wants done, or the first line of it that is not well formed, with its cause
+-- what a script asks for, or the first line of it that is not well formed, with its cause
 abbrev pub wanted_of : List ℕ → Result Wanted (ℕ × Cause)
 wanted_of script = wanted_from 1 nothing (lines_of script)

@@ -64,7 +64,7 @@ abbrev pub order_name : Option ℕ → List ℕ
 order_name None = codes "none"
 order_name (Some order) = decimal order
 
--- the answer of `stat`: what waits and the quota, who changed the queue last, and when
+-- the answer of `stat`: what is pending and the quota, the last sender and receiver, and the times
 unfoldable pub counts_of : Figures → List ℕ
 counts_of f =
     codes "qnum " ++ decimal f.qnum ++ codes " cbytes " ++ decimal f.cbytes ++ codes " qbytes "
@@ -119,13 +119,13 @@ replied q reply (Err e) = (refused e, q)
 abbrev pub get_step : ℕ → ℕ → QueuesState → ℤ → GetFlags → Reply × QueuesState
 get_step n seat q key flags = replied q (λ t. (given t.0.id, t.1)) (msgget q seat key flags n)
 
--- a text that cannot be made is refused whatever else the line says
+-- a text that cannot be drafted is refused whatever else the line says
 abbrev pub send_step : ℕ → ℕ → QueuesState → ℕ → ℤ → AskedText → Reply × QueuesState
 send_step n seat q id mtype text =
     replied q (λ d. replied q (λ t. (at t.0, t.1)) (by_errno (msgsnd d.1 seat id mtype n d.0 n)))
     (draft q text)
 
--- a text that was handed out gives its pages back once it is written
+-- a received text is freed once it is written
 abbrev pub receive_step : ℕ → ℕ → QueuesState → ℕ → ℕ → ℤ → Bool → Bool → Reply × QueuesState
 receive_step n seat q id size mtype except noerror =
     replied q (λ t. (message t.0, text_spent t.0.text t.1))
@@ -140,8 +140,8 @@ remove_step n seat q id =
     replied q (λ t. (gone t.0.entry (t.0.log.base.places + length t.0.log.tail), t.1))
     (by_errno (rmid q seat id n))
 
--- a slot's log is cut off where it ends: told are how many entries were cut off before, and how
--- many the slot ever had
+-- a slot's log is drained: the reply has how many entries were drained before, and how many the
+-- slot ever had
 abbrev pub cut_step : QueuesState → ℕ → Reply × QueuesState
 cut_step q slot =
     if nat_lt slot (length q.slots)

@@ -10,7 +10,7 @@ use Rattle.mq_cli.specs.declared.taken.Taken.{Taken}
 use Rattle.mq_cli.specs.Calls.{PortCall, send, receive, remove, TakenMessage, calls_in, is_send}
 use Rattle.mq_cli.specs.Calls.{tags_rise}
 
--- what the calls of a port do: before, what it was told, the answer, after
+-- what the calls of a port do: the state before, the arguments, the result, the state after
 abbrev pub Puts : Type 0 → Type 1
 Puts Q = Q → ℕ → ℤ → ℕ → ℕ → Bool → ℕ → Result ℕ Errno → Q → Type 0
 
@@ -32,7 +32,7 @@ Succeeds puts takes removes (receive id msgtyp ends moment) old received new = (
 Succeeds puts takes removes (remove id moment) old received new =
     (received ≡ []) × ((entry : ℕ) × removes old id moment (Ok entry) new)
 
--- a call was refused; one that receives may not be made, for want of memory for its note
+-- a call was refused; one that receives may not be made, since there is no memory for its note
 abbrev pub Fails : {Q : Type 0} → Puts Q → Takes Q → Removals Q → PortCall → Q → Errno → Q → Type 0
 Fails puts takes removes (send id mtype tag n ends moment) old errno new =
     puts old id mtype tag n ends moment (Err errno) new
@@ -80,7 +80,7 @@ pub record HasWorked {Q : Type 0} (puts : Puts Q) (takes : Takes Q) (removes : R
   pub count : outcome.received ≡ length received
   pub ordered : outcome.ordered ≡ tags_rise (reverse received)
 
--- the same of a port that is given up behind the calls
+-- the same of a port that is dropped after the calls
 abbrev pub WorksFrom : {Q : Type 0} → Puts Q → Takes Q → Removals Q → List Step → Outcome → Q
     → Type 0
 WorksFrom {Q} puts takes removes plan outcome old =

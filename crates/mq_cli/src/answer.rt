@@ -21,12 +21,12 @@ use crate::report::write_listing;
 use crate::session::Session;
 use mq_arena::Text;
 use mq_calls::{Cut, Delivered, DraftError, Errno, Removal, SendRefused};
-use mq_one_thread::OneThread;
+use mq_local::OneThread;
 use mq_table::Id;
 use std::alloc::AllocError;
 use std::sync::ledger::Ledger;
 
-/// Makes the call of the line with this number, appends its answer line to the buffer, and answers
+/// Makes the call of the line with this number, appends its answer line to the buffer, and returns
 /// what refused it. Out of memory has no line: it is the one `Err`.
 pub(crate) fn answer<L: Ledger>(
     session: &mut Session<L>,
@@ -161,7 +161,7 @@ fn receive<L: Ledger>(
     }
 }
 
-/// The text that was handed out.
+/// The text that was received.
 fn text_of<L: Ledger>(delivered: Delivered<Text<L>>) -> Text<L>
     ensures { result ≡ delivered.text }
 {

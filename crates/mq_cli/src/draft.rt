@@ -10,7 +10,7 @@ ghost use Rattle.mq_cli.specs.Seen.{text_seen};
 use crate::command::TextForm;
 use mq_arena::Text;
 use mq_calls::DraftError;
-use mq_one_thread::OneThread;
+use mq_local::OneThread;
 use mq_queue::MSGMAX;
 use std::alloc::{AllocError, Global};
 use std::sync::ledger::Ledger;
@@ -18,7 +18,7 @@ use std::sync::ledger::Ledger;
 /// The letters, in their order.
 const ALPHABET: [u8; 26] = *b"abcdefghijklmnopqrstuvwxyz";
 
-/// So many letters: `a` to `z`, over and over.
+/// `count` letters: `a` to `z`, over and over.
 pub(crate) fn letters(alloc: Global, count: u64) -> Result<Vec<u8>, AllocError>
     ensures { IfOk result (λ bytes. bytes.items ≡ map letter_at (range_with_len 0 count)) }
 {

@@ -41,7 +41,7 @@ pub(crate) fn run_main<P: Pledge, N: Names, R: Wait, W: Write>(
     Ok(())
 }
 
-/// Makes the calls of the main part one after the other, and answers which were refused. Out of
+/// Makes the calls of the main part one after the other, and returns which were refused. Out of
 /// memory is the one `Err`.
 pub(crate) fn record_main<P: Pledge, N: Names, R: Wait>(
     rt: &R,
@@ -63,8 +63,8 @@ pub(crate) fn record_main<P: Pledge, N: Names, R: Wait>(
     Ok(refusals)
 }
 
-/// Makes one call, appends its answer line to the buffer, and answers what refused it. Out of memory
-/// has no line: it is the one `Err`.
+/// Makes one call, appends its answer line to the buffer, and returns what refused it. Out of
+/// memory has no line: it is the one `Err`.
 fn answer_main<P: Pledge, N: Names, R: Wait>(
     rt: &R,
     system: &System<P, N>,

@@ -35,7 +35,7 @@ impl Stream {
 /// A worker's own notes of what it received.
 #[derive(Drop)]
 pub(crate) struct Notes {
-    /// The tag that came last of each stream.
+    /// The last tag of each stream.
     last: HashMap<Stream, u64>,
     ordered: bool,
 }
@@ -57,7 +57,7 @@ impl Notes {
         self.ordered
     }
 
-    /// Makes room for so many more notes. ENOMEM alone.
+    /// Makes room for `count` more notes. ENOMEM alone.
     pub(crate) fn reserve(&mut self, count: usize) -> Result<(), Errno>
         ensures same { HoldSame ⟦<Stream as PartialEq>⟧.eq self.old self.new }
         ensures room { MatchResult result (λ _. count ≤ spare self.new.last)

@@ -52,7 +52,7 @@ pub fn work<Q: Port, R: Wait, C: Clock>(
     progress.outcome(None)
 }
 
-/// The end of a step's waits: so many milliseconds from when one of its calls first has to wait.
+/// The end of a step's waits: `span` milliseconds from when one of its calls first has to wait.
 fn until_end<'a, C: Clock>(clock: &'a C, span: u64) -> Until<'a, C> {
     Until::within(clock, Duration::from_millis(span))
 }
@@ -139,7 +139,7 @@ impl Progress {
         }
     }
 
-    /// Sends so many messages, each with the next tag, until the patience ends.
+    /// Sends `count` messages, each with the next tag, until the patience ends.
     fn put_all<Q: Port, R: Wait, T: Patience>(
         &mut self,
         rt: &R,
@@ -179,7 +179,7 @@ impl Progress {
         Ok(())
     }
 
-    /// Receives so many messages, for each of which a note can be made before it comes, until the
+    /// Receives `count` messages, for each of which room for a note is reserved first, until the
     /// patience ends.
     fn take_all<Q: Port, R: Wait, T: Patience>(
         &mut self,
@@ -214,8 +214,8 @@ impl Progress {
         Ok(())
     }
 
-    /// Receives up to `n` messages by one call, for each of which a note can be made before it
-    /// comes.
+    /// Receives up to `n` messages by one call, for each of which room for a note is reserved
+    /// first.
     fn take_some<Q: Port, R: Wait, T: Patience>(
         &mut self,
         rt: &R,
@@ -246,7 +246,7 @@ impl Progress {
         answer
     }
 
-    /// Makes room for what so many calls receive, and for its notes. ENOMEM alone.
+    /// Makes room for what `count` calls receive, and for its notes. ENOMEM alone.
     fn reserve(&mut self, count: usize) -> Result<(), Errno>
         requires empty { self.old.came.items ≡ [] }
         ensures sent { self.new.sent ≡ self.old.sent }

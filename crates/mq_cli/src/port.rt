@@ -33,7 +33,7 @@ pub trait Port {
     /// By the id and the moment.
     ghost removes: { Self → ℕ → ℕ → Result ℕ Errno → Self → Type 0 };
 
-    /// Sends a message of this length, and answers its entry. It waits for room, and with `pages`
+    /// Sends a message of this length, and returns its entry. It waits for room, and with `pages`
     /// for pages too, until the patience ends.
     fn put<R: Wait, T: Patience>(
         &mut self,
@@ -51,8 +51,8 @@ pub trait Port {
             (λ _. calls self.new ≡ calls self.old) }
         ensures done { puts self.old id mtype tag length T.ends moment result self.new };
 
-    /// Receives up to `most` messages, whose texts are spent, as so many calls for one. It waits for
-    /// the first alone until the patience ends, and takes what is there.
+    /// Receives up to `most` messages, whose texts are spent, as that many calls for one. It waits
+    /// for the first alone until the patience ends, and takes what is there.
     fn take_many<R: Wait, T: Patience>(
         &mut self,
         rt: &R,
@@ -71,7 +71,7 @@ pub trait Port {
         ensures done { TakesMany takes id msgtyp T.ends moment most self.old out.new.items result
             self.new };
 
-    /// Removes a queue, and answers the entry.
+    /// Removes a queue, and returns the entry.
     fn remove<R: Wait>(
         &mut self,
         rt: &R,

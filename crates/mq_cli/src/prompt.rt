@@ -30,7 +30,7 @@ const PROMPT: &[u8] = b"> ";
 
 /// Reads a line at a time, and answers each before the next is read. A line that is not well
 /// formed is named, and changes nothing. Before each line `prompts` is given a prompt; where that
-/// fails the run goes on.
+/// fails the run continues.
 pub fn run_prompt<R: BufRead, W: Write, P: Write>(
     alloc: Global,
     reader: &mut R,

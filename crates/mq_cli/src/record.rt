@@ -20,15 +20,15 @@ use crate::session::Session;
 use crate::{Recorded, RunFault, SCRIPT_LIMIT};
 use mq_arena::LEDGER_PARTS;
 use mq_calls::Config;
-use mq_one_thread::OneThread;
+use mq_local::OneThread;
 use mq_trace::Refusal;
 use std::alloc::{AllocError, Global};
 use std::io::Read;
 use std::marker::Brand;
 use std::sync::ledger::{Blank, Ledger};
 
-/// Reads a script whole, then makes the calls of its lines as `run_serial` does, but for cuts of
-/// slots that are there, which take nothing off, and answers what they leave.
+/// Reads a script whole, then makes the calls of its lines as `run_serial` does, except that cuts
+/// of existing slots drain nothing, and returns what they leave.
 pub fn record_serial<R: Read>(
     alloc: Global,
     reader: &mut R,
@@ -130,7 +130,7 @@ fn record_call<L: Ledger>(
     Ok(())
 }
 
-/// Whether a line is skipped, since it drains the log of a slot that is there.
+/// Whether a line is skipped, since it drains the log of an existing slot.
 fn is_passed<L: Ledger>(queues: &OneThread<L>, command: Command<'_>) -> bool
     ensures { result ≡ passes queues.now (asked_by command.entry) }
 {

@@ -9,7 +9,7 @@ ghost use Rattle.mq_trace.specs.Ipcs.{queue_row};
 
 use crate::listing::Listing;
 use itoa::{Buffer, Integer};
-use mq_one_thread::OneThread;
+use mq_local::OneThread;
 use mq_queue::BoardRow;
 use mq_table::Id;
 use mq_trace::ipcs::{Keys, write_limits, write_queue, write_queues_head};

@@ -6,7 +6,7 @@ ghost use Rattle.mq_cli.specs.Session.{CanOpen, first_session};
 
 use crate::draft::letters;
 use mq_calls::{Closed, ClosedSlot, Config};
-use mq_one_thread::OneThread;
+use mq_local::OneThread;
 use mq_queue::MSGMAX;
 use std::alloc::{AllocError, Global};
 use std::marker::Model;
@@ -55,7 +55,7 @@ impl<L: Ledger> Session<L> {
         }
     }
 
-    /// Ends the run: each waiting text gives its pages back. What the slots leave.
+    /// Ends the run, and frees the texts of pending messages. Returns what the slots leave.
     pub(crate) fn close(self) -> Vec<ClosedSlot>
         ensures { map ending_of result.items ≡ map ends self.queues.slots }
     {

@@ -2,12 +2,12 @@
 
 use mq_table::Id;
 
-/// A line of a worker's section. The moment of each of its calls is the number of the line. They
-/// wait `within` so many milliseconds together, from when one of them first has to wait.
+/// A line of a worker's section. The moment of each of its calls is the number of the line.
+/// `within` milliseconds is one timeout for all its calls, from when one of them first has to wait.
 #[derive(Clone, Copy, Debug, PartialEq, Eq)]
 pub enum Step {
-    /// Sends so many messages of this type and length, and waits where the queue is full; within
-    /// an end it waits for pages too.
+    /// Sends `count` messages of this type and length, and blocks while the queue is full; with a
+    /// timeout it waits for pages too.
     Put {
         id: Id,
         mtype: i64,
@@ -16,7 +16,7 @@ pub enum Step {
         within: Option<u64>,
         moment: u64,
     },
-    /// Receives so many messages, and waits where none fits.
+    /// Receives `count` messages, and blocks while none matches.
     Take {
         id: Id,
         msgtyp: i64,

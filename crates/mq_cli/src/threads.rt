@@ -48,7 +48,7 @@ pub fn run_threads<T: Threads + Wait + Clock + Sync, R: Read, W: Write>(
     run_wanted::<Brand, T, W>(rt, alloc, config, seats, blanks, &wanted, writer)
 }
 
-/// Runs a script that has been read, on a system of so many seats, and flushes the writer. However
+/// Runs a script that has been read, on a system of `seats` seats, and flushes the writer. However
 /// the run ends, all texts have then given their pages back.
 fn run_wanted<N: Names + Send + Sync, T: Threads + Wait + Clock + Sync, W: Write>(
     rt: &T,

@@ -18,8 +18,8 @@ use crate::words::Words;
 use crate::{Cause, Step};
 use mq_table::Id;
 
-/// What the line with this number says, where so many sections were begun before: `None` where it
-/// is empty or a comment.
+/// What the line with this number says, where `sections` sections were begun before: `None` where
+/// it is empty or a comment.
 pub(crate) fn read_threads_line(
     sections: usize,
     line_number: u64,

@@ -24,7 +24,7 @@ use std::sync::Wait;
 use std::thread::Threads;
 use std::time::Clock;
 
-/// Reads a threads script whole and runs it as `run_threads` does, and answers what it leaves: the
+/// Reads a threads script whole and runs it as `run_threads` does, and returns what it leaves: the
 /// refusals are those of the main part.
 pub fn record_threads<T: Threads + Wait + Clock + Sync, R: Read>(
     rt: &T,
@@ -46,7 +46,7 @@ pub fn record_threads<T: Threads + Wait + Clock + Sync, R: Read>(
     record_wanted::<Brand, T>(rt, alloc, config, seats, blanks, &wanted)
 }
 
-/// Runs a script that has been read, on a system of so many seats.
+/// Runs a script that has been read, on a system of `seats` seats.
 fn record_wanted<N: Names + Send + Sync, T: Threads + Wait + Clock + Sync>(
     rt: &T,
     alloc: Global,

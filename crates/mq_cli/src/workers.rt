@@ -12,7 +12,7 @@ use std::sync::Wait;
 use std::thread::Threads;
 use std::time::Clock;
 
-/// Runs each plan on a thread of its own, through the port of its place, and answers the outcomes
+/// Runs each plan on a thread of its own, through the port of its place, and returns the outcomes
 /// in the order of the plans. No plan begins before there is a thread for each; where the answer is
 /// `Err`, none has begun. `Memory`, then `Thread`.
 pub fn run_workers<Q: Port + Send, R: Threads + Wait + Clock + Sync>(

@@ -1,8 +1,10 @@
+//! Fake readers and writers: short reads and writes, failures at a chosen call, counted flushes.
+
 ghost use Rattle.std.specs.Prelude.{◌≡◌, IfOk, length};
 
 use std::io::{ErrorKind, Read, Result, Write};
 
-/// Keeps these bytes, and tells how many they are.
+/// Keeps these bytes, and returns how many they are.
 fn kept(taken: &mut Vec<u8>, bytes: &[u8]) -> Result<usize>
     ensures { IfOk result (λ n. n ≡ length bytes.now) }
 {

@@ -1,3 +1,6 @@
+//! I/O errors of `run_serial`: a failed read leaves nothing written, and a failed write leaves a
+//! prefix of the output. A script over the limit is not run.
+
 use crate::fakes::{Narrow, Trickle};
 use crate::sizes::ONE_PAGE;
 use mq_cli::{RunFault, SCRIPT_LIMIT, run_serial};

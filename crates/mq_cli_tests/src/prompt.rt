@@ -125,7 +125,7 @@ fn an_answer_is_flushed_before_the_next_line_is_read(
     Ok(())
 }
 
-/// Somebody who types one line of `get`, looks at what is shown, and types the next.
+/// A user who types one line of `get`, reads what is shown, and types the next.
 #[derive(Drop)]
 struct Typist<'a> {
     lines: u64,
@@ -167,7 +167,7 @@ impl BufRead for Typist<'_> {
     }
 }
 
-/// A writer that counts how often it is given something.
+/// A writer that counts its calls.
 #[derive(Drop)]
 struct Counted<'a>(&'a AtomicU64);
 

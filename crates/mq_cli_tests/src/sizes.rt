@@ -1,7 +1,9 @@
+//! The configurations that the tests run scripts with.
+
 use mq_calls::Config;
 pub use mq_calls::DEFAULTS;
 
-/// The same over one page, for runs that are repeated often.
+/// The defaults over one page, for runs that are repeated often.
 pub const ONE_PAGE: Config = Config {
     height: 0,
     ..DEFAULTS

@@ -15,7 +15,7 @@ use Rattle.mq_face.specs.Turns.{received_message, receive_turn, send_turn, told}
 use Rattle.mq_face.specs.declared.call.Call.{Call}
 use Rattle.mq_face.specs.declared.manual.TheConstants.{IPC_NOWAIT, MSG_EXCEPT, MSG_NOERROR, SEAT}
 
--- want of memory does not wait, whatever the flags are
+-- a call that is out of memory does not wait, whatever the flags are
 memory_named : (nowait waited : Bool) (slot : ℕ)
     → (if nowait then refusal (named waited ENOMEM) else waits slot (named waited ENOMEM)) ≡ refusal ENOMEM
 memory_named true true slot = refl
@@ -48,7 +48,7 @@ receive_refused s call id r named none e =
     (blocked_as s call id (received_message id)
     (msgrcv s SEAT id call.size call.mtype (has call.flags MSG_EXCEPT) (has call.flags MSG_NOERROR) call.moment) r e)
 
--- a receipt that the queues answer
+-- a receipt that the queues do not refuse
 pub receive_done : (s after : QueuesState) (call : Call) (id : ℕ) (d : Delivered PlainText) → Ok id ≡ id_named call.number → None ≡ receive_fault call
     → msgrcv s SEAT id call.size call.mtype (has call.flags MSG_EXCEPT) (has call.flags MSG_NOERROR) call.moment ≡ Ok (d, after)
     → receive_turn s call ≡ Ok (received_message id d, after)

@@ -1,17 +1,17 @@
--- When a slot's log is cut off.
+-- When a slot's log is drained.
 use Rattle.std.specs.Prelude.{◌≡◌, ℕ, ◌==◌, ◌%◌, ◌-◌, nat_lt, Bool, true, false, ◌&&◌, length}
 use Rattle.std.specs.Prelude.{Option, Some, None, Result, Ok, Err}
 use Rattle.mq_calls.specs.Calls.{cut_log}
 use Rattle.mq_calls.specs.State.{QueuesState}
 use Rattle.mq_face.specs.declared.log.TheConstants.{LOG_BOUND}
 
--- after each so many entries of a slot that is there
+-- after every LOG_BOUND entries of a slot that is there
 abbrev pub is_due : QueuesState → ℕ → Option ℕ → Bool
 is_due s slot (Some entry) =
     (entry % LOG_BOUND == LOG_BOUND - 1) && nat_lt slot (length s.slots)
 is_due s slot None = false
 
--- the log is cut off where that is due, and else all stays; where memory ran out it stays too
+-- the log is drained where that is due, and else all stays; where memory ran out it stays too
 abbrev pub CutsWhereDue : {E : Type 0} → QueuesState → ℕ → Option ℕ → QueuesState → Result Bool E
     → Type 0
 CutsWhereDue before slot entry after (Ok true) =

@@ -47,7 +47,7 @@ abbrev pub id_named : ℤ → Result ℕ Refusal
 id_named (pos n) = Ok n
 id_named (negsuc n) = Err (refusal EINVAL)
 
--- MSG_COPY, as a kernel answers that was built without checkpoints
+-- the errno of MSG_COPY in a kernel without CONFIG_CHECKPOINT_RESTORE (msgop(2), ENOSYS)
 abbrev pub copy_fault : Call → ℤ
 copy_fault call =
     if has call.flags MSG_EXCEPT || not (has call.flags IPC_NOWAIT) then errno_number EINVAL

@@ -9,7 +9,7 @@ use Rattle.mq_calls.specs.Calls.{msgsnd, msgrcv, rmid, set, stat}
 use Rattle.mq_calls.specs.Get.{msgget}
 use Rattle.mq_calls.specs.Look.{Answer}
 use Rattle.mq_calls.specs.Names.{errno_number}
-use Rattle.mq_one_thread.specs.Outcome.{Answers}
+use Rattle.mq_local.specs.Outcome.{Answers}
 use Rattle.mq_calls.specs.State.{QueuesState}
 use Rattle.mq_calls.specs.Texts.{drafts}
 use Rattle.mq_calls.specs.declared.draft_error.DraftError.{DraftError}
@@ -53,7 +53,7 @@ abbrev pub with_id : {T : Type 0} → Result ℕ Refusal → (ℕ → Result T R
 with_id (Ok id) call = call id
 with_id (Err r) call = Err r
 
--- an answer of the queues, as the call tells it
+-- an answer of the queues, as the call returns it
 abbrev pub told : {T U : Type 0} → (Errno → Refusal) → (T → U) → Answer T → Turn U
 told refuse tell (Ok turn) = Ok (tell turn.0, turn.1)
 told refuse tell (Err r) = Err (refuse r.errno)
@@ -78,15 +78,15 @@ get_turn s call = gets (msgget s SEAT call.number (get_flags call.flags) call.mo
 abbrev pub never_fits : QueuesState → ℕ → Bool
 never_fits s size = nat_lt (2 ^ s.arena.height * PAGE_LEN) size
 
--- a text for which no pages are free: a queue that is not there is told first; without IPC_NOWAIT
--- the call waits for pages, unless there are never enough
+-- a text for which no pages are free: a queue that is not there is reported first; without
+-- IPC_NOWAIT the call waits for pages, unless there are never enough
 abbrev pub without_pages : QueuesState → Call → Result Figures Errno → Refusal
 without_pages s call (Err errno) = gone call errno
 without_pages s call (Ok _) =
     if has call.flags IPC_NOWAIT || never_fits s call.size then refusal ENOMEM
     else record { errno = errno_number ENOMEM; wait = wait.Pages }
 
--- a draft, as the call tells it
+-- a draft, as the call returns it
 abbrev pub drafted : QueuesState → Call → ℕ → Result (PlainText × QueuesState) DraftError
     → Turn PlainText
 drafted s call id (Ok turn) = Ok turn

@@ -1,3 +1,5 @@
+//! The results of calls, and their layout as the numbers that C reads.
+
 ghost use Rattle.std.specs.Prelude.{◌≡◌};
 ghost use Rattle.mq_face.specs.Answers.{changed, done_numbers, received_numbers};
 ghost use Rattle.mq_face.specs.Answers.{refusal_numbers, shown_kind, shown_numbers};
@@ -35,7 +37,7 @@ pub struct Done {
     pub shown: ControlShown,
 }
 
-/// A message that is received. It returns the number of bytes that are handed out.
+/// A message that is received. The call returns the length of its text.
 #[derive(Drop)]
 pub struct ReceivedMessage<B> {
     pub slot: u8,

@@ -1,3 +1,5 @@
+//! Little-endian encoding of eight numbers, as which calls and answers are passed to and from C.
+
 ghost use Rattle.std.specs.Prelude.{◌≡◌, ◌+◌, ◌*◌, ◌≤◌, length};
 ghost use Rattle.mq_face.specs.Bytes.{bytes_of_numbers, number_at, numbers_in};
 

@@ -1,3 +1,5 @@
+//! A call of msgget(2), msgop(2) or msgctl(2), and its layout as the numbers that C writes.
+
 ghost use Rattle.std.specs.Prelude.{◌≡◌, ◌%◌, ◌^◌};
 ghost use Rattle.mq_face.specs.Flags.{has};
 ghost use Rattle.mq_face.specs.Layout.{call_of, kind_number, kind_of, numbers_of};

@@ -1,3 +1,5 @@
+//! The commands of msgctl(2), by the numbers that Linux has for them.
+
 ghost use Rattle.std.specs.Prelude.{◌≡◌};
 ghost use Rattle.mq_face.specs.Commands.{command_of};
 

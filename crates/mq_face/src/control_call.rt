@@ -1,3 +1,5 @@
+//! msgctl(2) for C: each command as a call of `OneThread`.
+
 ghost use Rattle.std.specs.Prelude.{◌≡◌, ◌<◌, ◌≤◌, ◌+◌, OnErr};
 ghost use Rattle.mq_table.specs.declared.limits.TheConstants.{MAX_SEQ, MAX_SLOTS};
 ghost use Rattle.mq_calls.specs.Calls.{stat as stat_answer};
@@ -8,7 +10,7 @@ use crate::manual::{EFAULT, SEAT};
 use crate::refusal::{gone, id_of};
 use crate::{Call, ControlCommand, ControlShown, Done, Refusal};
 use mq_calls::{Errno, Removal};
-use mq_one_thread::OneThread;
+use mq_local::OneThread;
 use mq_queue::BoardRow;
 use mq_table::{Id, MAX_SEQ, MAX_SLOTS};
 use std::sync::ledger::Ledger;
@@ -86,7 +88,7 @@ fn stat_slot<L: Ledger>(queues: &OneThread<L>, call: Call, number: Id) -> Result
     stat_row(call, slot, queues.row(slot))
 }
 
-/// A slot in which no queue is shows none.
+/// What is shown of a slot's queue by its row. EINVAL where the slot has none.
 fn stat_row(call: Call, slot: u8, row: BoardRow) -> Result<Done, Refusal>
     requires slot { slot < MAX_SLOTS }
     requires made { row.made ≤ MAX_SEQ + 1 }

@@ -1,3 +1,5 @@
+//! msgget(2) for C: its flags as `GetFlags`, its result as `Done`.
+
 ghost use Rattle.std.specs.Prelude.{◌≡◌, OnErr};
 ghost use Rattle.mq_face.specs.Turns.{AnswersTurn, WantsMemory, get_turn, got};
 ghost use Rattle.mq_face.specs.Flags.{get_flags};
@@ -5,7 +7,7 @@ ghost use Rattle.mq_face.specs.Flags.{get_flags};
 use crate::manual::{IPC_CREAT, IPC_EXCL, SEAT};
 use crate::{Call, ControlShown, Done, Refusal};
 use mq_calls::{GetFlags, Got};
-use mq_one_thread::OneThread;
+use mq_local::OneThread;
 use std::sync::ledger::Ledger;
 
 /// The id of the queue with this key, or of a new queue (msgget(2)).

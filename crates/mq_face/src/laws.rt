@@ -1,4 +1,4 @@
-//! The layout of calls and answers.
+//! Laws of the layout: calls and answers are read back from their bytes.
 ghost use Rattle.std.specs.Prelude.{◌≡◌};
 ghost use Rattle.mq_face.specs.Answers.{done_numbers, figure_numbers, refusal_numbers};
 ghost use Rattle.mq_face.specs.Answers.{usage_numbers};

@@ -1,6 +1,6 @@
-//! The calls of C: numbers as a C program gives them become a call of `OneThread`, and its answer
-//! becomes numbers: what the call returns, its errno, and what is shown. No call waits: one that
-//! has to is told for what, and is made again.
+//! The calls of C: numbers as a C program gives them become a call of `OneThread`, and its result
+//! becomes numbers: return value, errno, and what is shown. No call blocks: one that would returns
+//! what it waits for, and is retried.
 
 #![tactic(auto)]
 

@@ -1,18 +1,20 @@
+//! The bound on the logs behind C, which has no call to drain them.
+
 ghost use Rattle.std.specs.Prelude.{Some};
 ghost use Rattle.mq_calls.specs.Texts.{text_spent};
 ghost use Rattle.mq_face.specs.Logs.{CutsWhereDue};
 
 use crate::ReceivedMessage;
 use mq_arena::Text;
-use mq_one_thread::OneThread;
+use mq_local::OneThread;
 use std::alloc::AllocError;
 use std::sync::ledger::Ledger;
 
-/// After how many entries a slot's log is cut off: nobody behind C asks for it.
+/// After how many entries a slot's log is drained: no call of C does it.
 pub const LOG_BOUND: u64 = 1024;
 
-/// Cuts a slot's log off where the entry is the last of as many, and answers whether it is. An
-/// `Err` means that memory ran out: the log stays, and is cut at the next.
+/// Drains a slot's log where the entry is the last of as many, and returns whether it is. An `Err`
+/// means that memory ran out: the log stays, and is drained at the next.
 pub fn cut_where_due<L: Ledger>(
     queues: &mut OneThread<L>,
     slot: u8,
@@ -31,7 +33,7 @@ pub fn cut_where_due<L: Ledger>(
     }
 }
 
-/// Spends the text of a message that was received, and cuts the slot's log off where the receipt is
+/// Spends the text of a message that was received, and drains the slot's log where the receipt is
 /// the last of as many entries.
 pub fn spend_received<L: Ledger>(
     queues: &mut OneThread<L>,

@@ -9,7 +9,7 @@ pub const IPC_EXCL: u32 = 0o2000;
 /// msgop(2): the call is refused where it would wait.
 pub const IPC_NOWAIT: u32 = 0o4000;
 
-/// msgop(2): a text that is longer than the room for it is cut.
+/// msgop(2): a text that is longer than the room for it is truncated.
 pub const MSG_NOERROR: u32 = 0o10000;
 
 /// msgop(2): with a type above 0, the first message of another type is received.
@@ -33,10 +33,10 @@ pub const MSG_INFO: u32 = 12;
 
 pub const MSG_STAT_ANY: u32 = 13;
 
-/// errno(3): a buffer that is not there.
+/// errno(3): a null buffer.
 pub const EFAULT: i32 = 14;
 
-/// errno(3): a call that is not there.
+/// errno(3): an unknown call.
 pub const ENOSYS: i32 = 38;
 
 /// The greatest room for a text.

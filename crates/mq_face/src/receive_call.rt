@@ -1,3 +1,5 @@
+//! msgrcv of msgop(2) for C: the faults of its arguments, then a call of `OneThread`.
+
 ghost use Rattle.std.specs.Prelude.{◌≡◌};
 ghost use Rattle.mq_face.specs.Turns.{AnswersTurn, receive_turn, received_message};
 ghost use Rattle.mq_face.specs.Refusals.{copy_fault, receive_fault};
@@ -9,7 +11,7 @@ use crate::refusal::{blocked, id_of};
 use crate::{Call, ReceivedMessage, Refusal};
 use mq_arena::Text;
 use mq_calls::{Delivered, Errno};
-use mq_one_thread::OneThread;
+use mq_local::OneThread;
 use mq_table::Id;
 use std::sync::ledger::Ledger;
 

@@ -1,3 +1,5 @@
+//! Failed calls: the errno that C gets, and what the call waits for before it is made again.
+
 ghost use Rattle.std.specs.Prelude.{◌≡◌, Err};
 ghost use Rattle.mq_table.specs.Ids.{slot_of};
 ghost use Rattle.mq_face.specs.Flags.{has};
@@ -44,15 +46,15 @@ impl Refusal {
     }
 }
 
-/// A call of a kind that is not there.
+/// A call of an unknown kind.
 pub fn unknown() -> Refusal
     ensures { result ≡ fault ENOSYS }
 {
     Refusal::fault(ENOSYS)
 }
 
-/// The refusal's name: a queue that was removed before the call is none, and one that was removed
-/// while the call waited is EIDRM.
+/// The errno that C gets: EINVAL for a queue that was removed before the call, EIDRM for one that
+/// was removed while the call waited.
 fn named(waited: bool, errno: Errno) -> Errno
     ensures { result ≡ named waited errno }
 {

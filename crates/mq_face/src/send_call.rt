@@ -1,3 +1,6 @@
+//! msgsnd of msgop(2) for C, in two steps: a text is drafted, which the caller writes in place, and
+//! then it is sent.
+
 ghost use Rattle.std.specs.Prelude.{◌≡◌, ◌<◌, OnErr, OnOk};
 ghost use Rattle.mq_arena.specs.declared.order.TheConstants.{INLINE_LEN};
 ghost use Rattle.mq_calls.specs.Calls.{stat as stat_answer};
@@ -10,7 +13,7 @@ use crate::refusal::{blocked, gone, id_of};
 use crate::{Call, Done, Refusal, Wait};
 use mq_arena::{PAGE_LEN, Text};
 use mq_calls::{DraftError, Errno, SendRefused};
-use mq_one_thread::OneThread;
+use mq_local::OneThread;
 use mq_table::Id;
 use std::sync::ledger::Ledger;
 
@@ -34,8 +37,8 @@ pub fn draft<L: Ledger>(queues: &mut OneThread<L>, call: Call) -> Result<Text<L>
     }
 }
 
-/// Why a text for which no pages are free is not drafted: a queue that is not there is told first,
-/// and a text for which there are never pages does not wait.
+/// Why a text for which no pages are free is not drafted: the error of the id is returned first,
+/// and a text that is longer than all pages does not wait.
 fn without_pages<L: Ledger>(queues: &OneThread<L>, call: Call, id: Id) -> Refusal
     ensures { result ≡ without_pages queues.now call (stat_answer queues.now id) }
 {
@@ -59,7 +62,7 @@ fn never_fits<L: Ledger>(queues: &OneThread<L>, size: u64) -> bool
 }
 
 /// Sends a text that was drafted for this call (msgop(2), msgsnd). Where it is refused, its pages
-/// are free again.
+/// are freed.
 pub fn send<L: Ledger>(
     queues: &mut OneThread<L>,
     call: Call,

@@ -1,4 +1,4 @@
-//! The numbers of Linux, and when a log is cut off: proved of the constants alone.
+//! The numbers of Linux, and when a log is drained: proved of the constants alone.
 
 ghost use Rattle.std.specs.Prelude.{◌≡◌, ◌-◌, ◌^◌, pos};
 
@@ -35,7 +35,7 @@ pub fn the_faults()
     ensures no_call { ENOSYS ≡ pos 38 }
 {}
 
-/// The greatest room for a text, and after how many entries a log is cut off.
+/// The greatest room for a text, and after how many entries a log is drained.
 pub fn the_bounds()
     ensures room { SSIZE_MAX ≡ 2 ^ 63 - 1 }
     ensures log { LOG_BOUND ≡ 1024 }

@@ -1,6 +1,8 @@
+//! The start barrier of jobs: no thread runs its job before all threads are spawned.
+
 use std::sync::{Condvar, Mutex, Wait};
 
-/// What is said to those who wait at a gate.
+/// The state of a gate.
 #[derive(Clone, Copy, PartialEq, Eq)]
 enum Word {
     Wait,
@@ -8,7 +10,7 @@ enum Word {
     End,
 }
 
-/// Where threads wait until all of them are made.
+/// A start barrier: threads wait at it until all of them are spawned.
 #[derive(Drop)]
 pub(crate) struct Gate {
     word: Mutex<Word>,
@@ -23,12 +25,12 @@ impl Gate {
         }
     }
 
-    /// Lets all through.
+    /// Wakes all waiters: each runs its job.
     pub(crate) fn open<R: Wait>(&self, rt: &R) {
         self.say(rt, Word::Go);
     }
 
-    /// Sends all home.
+    /// Wakes all waiters: none runs its job.
     pub(crate) fn shut<R: Wait>(&self, rt: &R) {
         self.say(rt, Word::End);
     }
@@ -40,7 +42,7 @@ impl Gate {
         self.said.notify_all();
     }
 
-    /// Waits until the gate is opened or shut, and answers whether it was opened.
+    /// Waits until the gate is opened or shut, and returns whether it was opened.
     pub(crate) fn lets_through<R: Wait>(&self, rt: &R) -> bool {
         let held = self
             .said

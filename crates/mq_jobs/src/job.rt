@@ -1,9 +1,11 @@
+//! The trait of what `run_jobs` runs, with its precondition and its postcondition.
+
 use std::sync::Wait;
 
 /// What is done once, on a thread of its own. What must hold of it before is `before`, and what is
 /// known of its answer is `after`; a job that asks or promises nothing leaves them out.
 pub trait Job: Drop {
-    /// What all jobs that run beside one another have in common.
+    /// The data that all jobs of a run share.
     type Shared;
 
     type Answer: Drop + Send;

@@ -1,3 +1,5 @@
+//! Spawning and joining of jobs on scoped threads, behind a start barrier.
+
 ghost use Rattle.std.specs.Prelude.{◌≡◌, ◌<◌, length, All, IfOk, IfSome, IsSome, IsErrOf};
 ghost use Rattle.std.specs.Prelude.{vec_capacity, vec_len};
 ghost use Rattle.mq_jobs.specs.Jobs.{AreAfter, CanRun};
@@ -10,9 +12,9 @@ use std::sync::Wait;
 use std::thread;
 use std::thread::{Promise, PromisedHandle, Scope, Threads};
 
-/// Runs each job on a thread of its own, and answers what they answer, in their order, once all
-/// have ended. No job begins before there is a thread for each; where the answer is `Err`, none has
-/// begun.
+/// Runs each job on a thread of its own, and returns their answers, in the order of the jobs, once
+/// all have ended. No job begins before there is a thread for each; where the result is `Err`, none
+/// has begun.
 pub fn run_jobs<J: Job + Send, R: Threads + Wait + Sync>(
     rt: &R,
     alloc: Global,
@@ -60,8 +62,8 @@ where
     )
 }
 
-/// Starts a thread for each of the jobs that are left, the last first, lets all go once all are
-/// there, and answers what they answer, in their order.
+/// Spawns a thread for each of the jobs that are left, the last first, opens the gate once all are
+/// spawned, and joins them: their answers, in the order of the jobs.
 #[tactic(auto, using(crate::proofs::JobLemmas::one_more))]
 fn start_rest<'s, E, J: Job + Send + 's, R: Threads + Wait + Sync + 's>(
     rt: &'s R,
@@ -93,7 +95,7 @@ where
     Some(answers)
 }
 
-/// Starts a job's thread, which waits at the gate.
+/// Spawns a job's thread, which waits at the gate.
 fn start<'s, E, J: Job + Send + 's, R: Threads + Wait + Sync + 's>(
     rt: &'s R,
     scope: &Scope<'s, E>,

@@ -1,3 +1,5 @@
+//! The error of `run_jobs`.
+
 use thiserror::Error;
 
 /// Why no job has begun.

@@ -1,3 +1,6 @@
+//! The errors of a caller's calls: each has the errno of msgop(2), whatever the length of the text
+//! or the size that the receiver asks for.
+
 use crate::seat_calls::{Nothing, SeatCalls};
 use mq::{
     Caller, Clock, Config, Errno, Id, Names, RecvFlags, SendFlags, SysError, SystemProgram, Wait,
@@ -38,7 +41,7 @@ const SENDS: [(u32, i64, Errno); 5] = [
     (REMOVED, 1, Errno::EIDRM),
 ];
 
-/// Receipts that are refused whatever there is room for, while no message waits.
+/// Receipts that are refused whatever there is room for, while no message is pending.
 const RECEIPTS: [(u32, Errno); 4] = [
     (PAST, Errno::EINVAL),
     (NEVER, Errno::EINVAL),
@@ -46,7 +49,7 @@ const RECEIPTS: [(u32, Errno); 4] = [
     (HERE, Errno::ENOMSG),
 ];
 
-/// What a call answered in place of what was wanted.
+/// What a call answered in place of what was expected.
 #[derive(Drop)]
 struct Wrong {
     id: u32,
@@ -76,7 +79,7 @@ fn sent<C: SeatCalls>(
     }
 }
 
-/// Receives at once, and answers how many bytes came.
+/// Receives at once, and answers how many bytes were received.
 fn received<C: SeatCalls>(calls: &mut C, id: u32, size: usize) -> Result<u64, Errno> {
     let flags = RecvFlags {
         nowait: true,
@@ -219,8 +222,8 @@ impl SystemProgram<Nothing> for Refusals {
 }
 
 #[test]
-fn a_caller_is_told_each_refusal_by_its_name_whatever_its_size(rt: HostRuntime) {
-    // Once more, where memory was wanted.
+fn a_caller_gets_each_errno_whatever_its_size(rt: HostRuntime) {
+    // Once more, when out of memory.
     for _ in 0..2 {
         match with_system(&rt, rt.alloc(), ROOMY, Refusals) {
             Err(SysError::Memory) => (),
@@ -237,7 +240,7 @@ fn a_caller_is_told_each_refusal_by_its_name_whatever_its_size(rt: HostRuntime) 
     panic!(rt; "no memory");
 }
 
-/// Nothing was wrong but that memory was wanted.
+/// Nothing was wrong but that a call was out of memory.
 fn wanted_memory(rt: &impl Abort, wrong: Wrong) {
     let Wrong { id, len, answered } = wrong;
     if !matches!(answered, Err(Errno::ENOMEM)) {

@@ -1,5 +1,5 @@
-//! Tests that calls succeed while there is enough memory, that each refusal has its name, and of
-//! programs over the queues of one thread.
+//! Tests that calls succeed while there is enough memory, that each error is the documented one,
+//! and of programs over the queues of one thread.
 
 #![tactic(auto)]
 

@@ -1,3 +1,6 @@
+//! Programs over the queues of one thread: each runs once, and its answer and all that it left are
+//! returned. Each call must leave the right number of free pages.
+
 ghost use Rattle.std.specs.Prelude.{◌≡◌, ◌^◌, IfOk};
 
 use mq::{
@@ -35,7 +38,7 @@ fn left<L: Ledger>(queues: &mut LocalQueues<L>, key: i32, len: u64) -> Result<()
     }
 }
 
-/// Counts its runs, and leaves two texts that wait.
+/// Counts its runs, and leaves two pending texts.
 #[derive(Drop)]
 struct TwoLeft<'a> {
     runs: &'a Cell<u32>,
@@ -91,7 +94,7 @@ fn are_left(slots: &[ClosedSlot]) -> bool {
 }
 
 #[test]
-fn a_program_runs_once_and_all_that_it_left_comes_back(rt: HostRuntime) {
+fn a_program_runs_once_and_all_that_it_left_is_returned(rt: HostRuntime) {
     let runs = Cell::new(0);
     let Ok(ended) = ended(rt.alloc(), SMALL, &runs) else {
         panic!(rt; "no answer");
@@ -160,8 +163,8 @@ fn what_a_program_proves_of_its_answer_reaches_the_caller(rt: HostRuntime) {
 /// are free afterwards.
 type Sending = (u32, i64, usize, Result<u64, Errno>, u32);
 
-/// A size that is received or cut, the type, the whole length and how many bytes come, or the
-/// refusal, and how many pages are free afterwards.
+/// A size, whether MSG_NOERROR truncates, the type, the whole length and how many bytes are
+/// received, or the refusal, and how many pages are free afterwards.
 type Receipt = (u64, bool, Result<(i64, u64, usize), Errno>, u32);
 
 fn same(answer: Result<u64, Errno>, wanted: Result<u64, Errno>) -> bool {
@@ -229,7 +232,7 @@ impl<'a> QueueProgram for Exchange<'a> {
     }
 }
 
-/// All is answered so, once more where memory was wanted.
+/// All is answered so, at the second try when out of memory.
 fn exchanges(
     rt: &impl Abort,
     alloc: Global,

@@ -15,7 +15,7 @@ impl Pledge for Nothing {
 
 /// The calls of `mq::Caller`, by names of one form each.
 pub(crate) trait SeatCalls {
-    /// Its calls tell this moment from now on.
+    /// Its calls have this moment from now on.
     fn tell(&mut self, moment: u64);
 
     fn queue(&mut self, key: i32) -> Result<Id, Errno>;

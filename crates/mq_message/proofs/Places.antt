@@ -35,7 +35,7 @@ pub find_none : {X : Type 0} (xs : List X) → find (λ _. false) xs ≡ None
 find_none [] = refl
 find_none (x ∷ xs) = find_none xs
 
--- a place at which a message waits has an index
+-- a place at which a message is pending has an index
 pub has_index : {X : Type 0} (place : ℕ) (xs : List (ℕ × X)) → IsSome (message_at place xs) → IsSome (position (λ m. m.0 == place) xs)
 has_index {X} place xs h = by (nat_lt at (length xs)) refl
   where
@@ -86,7 +86,7 @@ rising_push {X} xs place x rising above = all_pairs_push (λ (a b : ℕ × X). a
 pub rising_remove : {X : Type 0} (place : ℕ) (xs : List (ℕ × X)) (i : ℕ) → position (λ m. m.0 == place) xs ≡ Some i → AllPairs (λ a b. a.0 < b.0) xs → AllPairs (λ a b. a.0 < b.0) (remove xs i)
 rising_remove {X} place xs i h rising = all_pairs_remove (λ (a b : ℕ × X). a.0 < b.0) xs i (inside place xs i h) rising
 
--- where a test finds a message, one waits at its place
+-- where a test finds a message, one is pending at its place
 found_waits : {X : Type 0} (p : ℕ × X → Bool) (xs : List (ℕ × X)) (place : ℕ) → option_map (λ m. m.0) (find p xs) ≡ Some place → IsSome (message_at place xs)
 found_waits p [] place h = absurd (none-some place h)
 found_waits p (x ∷ xs) place h = by (p x) refl (x.0 == place) refl h (found_waits p xs place)
@@ -96,7 +96,7 @@ found_waits p (x ∷ xs) place h = by (p x) refl (x.0 == place) refl h (found_wa
     by true e false f k later = absurd (eqb-false _ _ f (same_Some _ _ k))
     by false e false f k later = later k
 
--- where a selection picks a message, one waits at its place
+-- where a selection picks a message, one is pending at its place
 pub picked_waits : {X : Type 0} (type_of : ℕ × X → ℤ) (xs : List (ℕ × X)) (selection : Selection) (place : ℕ) → option_map (λ m. m.0) (pick type_of xs selection) ≡ Some place → IsSome (message_at place xs)
 picked_waits type_of xs selection place h = found_waits (λ m. eligible (map type_of xs) selection (type_of m)) xs place h
 
@@ -115,7 +115,7 @@ index_absent {X} place xs d others =
     let first : position_or_len (λ (m : ℕ × X). m.0 == place) xs ≡ length xs = position_or_len_is (λ m. m.0 == place) xs (length xs) d (omega arith) (λ k l. ne_eqb _ _ (others k l)) (λ l. absurd (omega arith)) in
     rw (first, le-ltb (length xs) (length xs) (omega arith)) refl
 
--- a search by halves finds the index of a place, where places rise
+-- a binary search finds the index of a place, where places rise
 pub searched_is : {X : Type 0} (place : ℕ) (xs : List (ℕ × X)) (r : Result ℕ ℕ) → AllPairs (λ a b. a.0 < b.0) xs → IsSearchInRange r (length xs) → IsBinarySearchResult (λ m. nat_cmp m.0 place) xs r → result_ok r ≡ position (λ m. m.0 == place) xs
 searched_is place [] (Ok i) rising within h = absurd (omega (arith, within))
 searched_is place [] (Err i) rising within h = refl

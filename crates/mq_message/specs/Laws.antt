@@ -1,4 +1,4 @@
--- What holds of the lowest type within a bound, whatever types wait.
+-- What holds of the lowest type within a bound, whatever types are pending.
 use Rattle.std.specs.Prelude.{ℕ, ℤ, pos, ◌≤ℤ◌, ◌<ℤ◌, Option, Some, None, List, All, Contains}
 use Rattle.mq_message.specs.Selection.{least_of}
 

@@ -1,4 +1,4 @@
--- Which of the waiting messages a receiver is handed (msgop(2), msgrcv).
+-- Which of the pending messages a receive returns (msgop(2), msgrcv).
 use Rattle.std.specs.Prelude.{ℕ, ℤ, pos, int_lt, int_le, unsigned_abs, Option, Some, None}
 use Rattle.std.specs.Prelude.{Bool, true, false, not, if◌then◌else◌, List, map, filter, fold, find}
 use Rattle.std.specs.Option.{option_map_or}
@@ -21,7 +21,7 @@ lower_of (Some least) mtype = Some (if int_lt mtype least then mtype else least)
 abbrev pub least_of : ℕ → List ℤ → Option ℤ
 least_of bound types = fold lower_of None (filter (λ mtype. int_le mtype (pos bound)) types)
 
--- whether a message of this type is eligible, where messages of these types wait (msgop(2),
+-- whether a message of this type is eligible, where messages of these types are pending (msgop(2),
 -- msgrcv)
 abbrev pub eligible : List ℤ → Selection → ℤ → Bool
 eligible types Any mtype = true

@@ -1,16 +1,16 @@
--- Waiting messages, each at its place: the position of its sending in the log of its queue.
+-- Pending messages, each at its place: the index of its send in the log of its queue.
 use Rattle.std.specs.Prelude.{ℕ, ℤ, Option, not, ◌==◌, List, length, map, filter, find}
 use Rattle.std.specs.Option.{option_map}
 use Rattle.mq_message.specs.declared.message.Message.{Message}
 use Rattle.mq_message.specs.declared.header.Header.{Header}
 
--- the waiting messages with their places, in the order of sending, and the type for which room
--- was prepared, if there is one
+-- the pending messages with their places, in the order of sending, and the type for which room was
+-- prepared, if there is one
 pub record Listed (B : Type 0) : Type 0 where
   pub messages : List (ℕ × Message B)
   pub prepared : Option ℤ
 
--- the message at a place, if one waits there
+-- the message at a place, if one is pending there
 abbrev pub message_at : {X : Type 0} → ℕ → List (ℕ × X) → Option X
 message_at place messages = option_map (λ m. m.1) (find (λ m. m.0 == place) messages)
 
@@ -18,7 +18,7 @@ message_at place messages = option_map (λ m. m.1) (find (λ m. m.0 == place) me
 abbrev pub without : {X : Type 0} → ℕ → List (ℕ × X) → List (ℕ × X)
 without place messages = filter (λ m. not (m.0 == place)) messages
 
--- the header of a waiting message
+-- the header of a pending message
 abbrev pub header_of : {B : Type 0} → (B → List ℕ) → ℕ × Message B → Header
 header_of bytes m = record {
   place = m.0;
@@ -28,6 +28,6 @@ header_of bytes m = record {
   length = length (bytes m.1.body);
 }
 
--- the headers of the waiting messages, in their order
+-- the headers of the pending messages, in their order
 abbrev pub headers_of : {B : Type 0} → (B → List ℕ) → List (ℕ × Message B) → List Header
 headers_of bytes messages = map (header_of bytes) messages

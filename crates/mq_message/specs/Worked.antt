@@ -1,15 +1,16 @@
--- The lists of the examples, in which a waiting message is its place and its type.
+-- The lists of the examples, in which a pending message is its place and its type.
 use Rattle.std.specs.Prelude.{ℕ, ℤ, Option, unwrap_or, pos, negsuc, ◌^◌, ◌-◌, List, [], ◌∷◌}
 use Rattle.std.specs.Option.{option_map}
 use Rattle.mq_message.specs.declared.selection.Selection.{Selection}
 use Rattle.mq_message.specs.Selection.{pick}
 use Rattle.mq_message.specs.Waiting.{without}
 
--- the place of the message that a receiver is handed
+-- the place of the message that a receive returns
 abbrev pub picked : List (ℕ × ℤ) → Selection → Option ℕ
 picked messages selection = option_map (λ m. m.0) (pick (λ m. m.1) messages selection)
 
--- the places that receives with these selections hand out in turn, each from what is left
+-- the places of the messages that consecutive receives with these selections return, each from what
+-- is left
 abbrev pub places_handed_out : List (ℕ × ℤ) → List Selection → List (Option ℕ)
 places_handed_out messages [] = []
 places_handed_out messages (s ∷ selections) =

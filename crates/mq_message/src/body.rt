@@ -1,6 +1,8 @@
+//! The trait of message bodies, in which queues are generic.
+
 ghost use Rattle.std.specs.Prelude.{◌≡◌, List, ℕ, length, take};
 
-/// What a queue hands from sender to receiver: a list of bytes that can be cut short.
+/// What a queue passes from sender to receiver: a list of bytes that can be truncated.
 pub trait Body {
     ghost bytes: { Self → List ℕ };
 

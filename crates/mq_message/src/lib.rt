@@ -1,5 +1,5 @@
 //! Messages: a type, a sender, a tag and a body, which contracts see as a list of bytes; which of
-//! those that wait a selection names, and what a list of these does.
+//! the pending messages a selection picks; and the trait of a list of them.
 
 #![tactic(auto)]
 

@@ -1,3 +1,5 @@
+//! The message that a send adds to a queue and a receive takes out (msgop(2)).
+
 ghost use Rattle.std.specs.Prelude.{◌≡◌};
 
 /// A message as its sender sends it. It can be dropped only where its body can.

@@ -1,9 +1,11 @@
+//! The selection rule of msgrcv (msgop(2)): `msgtyp` with MSG_EXCEPT, and how it is printed.
+
 ghost use Rattle.std.specs.Prelude.{◌≡◌, Some};
 ghost use Rattle.mq_message.specs.Shown.{selection_text};
 
 use std::fmt;
 
-/// Which of the waiting messages a receiver wants, by their types (msgop(2), msgrcv).
+/// Which of the pending messages a receiver asks for, by their types (msgop(2), msgrcv).
 #[derive(Clone, Copy, Debug, PartialEq, Eq)]
 pub enum Selection {
     /// The first message.

@@ -1,3 +1,5 @@
+//! A body on the heap, for queues without an arena.
+
 ghost use Rattle.std.specs.Prelude.{◌≡◌, IfOk, take};
 
 use crate::Body;

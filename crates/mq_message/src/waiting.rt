@@ -1,3 +1,5 @@
+//! The trait of a queue's list of pending messages, which `mq_select` implements.
+
 ghost use Rattle.std.specs.Prelude.{◌≡◌, ◌++◌, ◌∷◌, [], ◌<◌, ℕ, ℤ, Option, List, length};
 ghost use Rattle.std.specs.Prelude.{All, AllPairs, IfNone, IfOk, IfSome, IsSome, OnErr, OnOk};
 ghost use Rattle.std.specs.List.Sorted.{IsPermutation};
@@ -9,14 +11,14 @@ ghost use Rattle.mq_message.specs.Waiting.{headers_of, message_at, without};
 use crate::{Body, Header, Message, Selection};
 use std::alloc::{AllocError, Global};
 
-/// The messages of a queue that wait for a receiver, each at its place: the position of its sending
-/// in the queue's log. A list takes memory in `prepare` alone.
+/// The pending messages of a queue, each at its place: the index of its send in the queue's log. A
+/// list allocates memory of its own in `prepare` alone.
 pub trait Waiting<B: Body> {
     ghost messages: { Self → List (ℕ × Message B) };
 
     ghost prepared: { Self → Option ℤ };
 
-    /// A list in which nothing waits. It keeps the allocator for later.
+    /// An empty list. It keeps the allocator for later.
     fn fresh(alloc: Global) -> Self
         ensures empty { messages result ≡ [] }
         ensures unprepared { prepared result ≡ None };
@@ -31,7 +33,7 @@ pub trait Waiting<B: Body> {
         ensures { result ≡ option_map (λ m. m.0)
             (pick (λ m. m.1.mtype) (messages self.now) selection) };
 
-    /// Takes the memory that one more message of this type needs. `Err` means out of memory.
+    /// Allocates what one more message of this type needs. `Err` means out of memory.
     fn prepare(&mut self, mtype: i64) -> Result<(), AllocError>
         ensures unchanged { messages self.new ≡ messages self.old }
         ensures ok { OnOk result (prepared self.new ≡ Some mtype) }
@@ -57,20 +59,20 @@ pub trait Waiting<B: Body> {
         ensures { IfSome (message_at place (messages self.now)) (λ m.
             result ≡ length (B.bytes m.body)) };
 
-    /// The headers of the waiting messages, in the order of sending. `Err` means out of memory.
+    /// The headers of the pending messages, in the order of sending. `Err` means out of memory.
     fn headers(&self, alloc: Global) -> Result<Vec<Header>, AllocError>
         ensures { IfOk result (λ headers. headers.items
             ≡ headers_of B.bytes (messages self.now)) };
 
-    /// Takes out some message, or answers `None` where nothing waits: so a list is emptied whose
-    /// bodies can't be dropped.
+    /// Takes out some message, or returns `None` where the list is empty: so a list is emptied
+    /// whose bodies can't be dropped.
     fn pop_any(&mut self) -> Option<Message<B>>
         ensures none { IfNone result ((messages self.old ≡ []) × (messages self.new ≡ [])) }
         ensures some { IfSome result (λ m.
             (place : ℕ) × IsPermutation ((place, m) ∷ messages self.new) (messages self.old)) }
         ensures unprepared { prepared self.new ≡ None };
 
-    /// Ends an empty list, and gives its memory back.
+    /// Ends an empty list, and frees its memory.
     fn end(self)
         requires { messages self ≡ [] };
 }

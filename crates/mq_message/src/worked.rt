@@ -1,4 +1,4 @@
-//! Examples of what receives hand out: each is proved of the definitions alone.
+//! Examples of what receives return: each is proved of the definitions alone.
 
 ghost use Rattle.std.specs.Prelude.{◌≡◌, ◌-◌, ◌^◌, ◌∷◌, [], pos, negsuc, true, false, codes, map};
 ghost use Rattle.mq_message.specs.declared.selection.Selection.TheVariants.{Any, Exact};
@@ -8,7 +8,7 @@ ghost use Rattle.mq_message.specs.Shown.{selection_text};
 ghost use Rattle.mq_message.specs.Worked.{places_handed_out, two_of_type_1, two_of_type_7};
 ghost use Rattle.mq_message.specs.Worked.{greatest_then_8, msgtyps};
 
-/// The places of the messages that such receives hand out, one after another.
+/// The places of the messages that such receives return, one after another.
 pub fn worked_receives()
     // With types up to 2, both messages of type 1 come first, in their order.
     ensures lowest_type_first { places_handed_out two_of_type_1
@@ -20,7 +20,7 @@ pub fn worked_receives()
         (Except (pos 7) ∷ Except (pos 7) ∷ Except (pos 7) ∷ Any ∷ UpTo 7 ∷ [])
         ≡ Some 2 ∷ Some 4 ∷ None ∷ Some 1 ∷ Some 3 ∷ [] }
 
-    // With one type selected, the first message of that type comes.
+    // With one type selected, the first message of that type is received.
     ensures one_type_alone { places_handed_out two_of_type_7
         (Exact (pos 6) ∷ Exact (pos 7) ∷ Exact (pos 7) ∷ Exact (pos 5) ∷ [])
         ≡ None ∷ Some 1 ∷ Some 3 ∷ Some 2 ∷ [] }

@@ -1,4 +1,4 @@
--- A log whose beginning is cut off.
+-- A log whose beginning is drained.
 use Rattle.std.proofs.Common.{◌≡◌, suc, List, [], ◌∷◌, ◌++◌, length, length-append, Bool, false, refl, sym, ◌∙◌, arith, append_assoc, append-nil}
 use Rattle.std.proofs.Math.Logic.{⊎_elim}
 use Rattle.std.proofs.lemmas.Bool.{ne_eqb}
@@ -17,20 +17,20 @@ use Rattle.mq_queue.proofs.Steps.{none_ahead, told-append, waits_more}
 pub removed-append : (cut tail : List Event) → ends_with_removed cut ≡ false → ends_with_removed (cut ++ tail) ≡ ends_with_removed tail
 removed-append cut tail live = rw (fold-append (λ (_ : Bool) event. is_removed event) false cut tail, live) refl
 
--- a log that may be cut off follows
+-- each event of a log that may be drained can follow those before it
 open_follows : (cut : List Event) → IsOpenLog cut → AllFollow [] cut
 open_follows cut opened =
     ⊎_elim (λ (none : cut ≡ []). rw none tt) (λ (lawful : Lawful cut). lawful.each) opened.lawful
 
--- what waits is found from the base
+-- the pending messages follow from the base
 waits_on : (cut tail : List Event) → IsOpenLog cut → waiting (cut ++ tail) ≡ waiting_from (base_of cut) tail
 waits_on cut tail opened = waits_more cut tail (none_ahead cut (open_follows cut opened))
 
--- so is the quota
+-- so does the quota
 pub quota_on : (cut tail : List Event) → ends_with_removed cut ≡ false → quota (cut ++ tail) ≡ quota_from (base_of cut) tail
 quota_on cut tail live = rw (live, told-append qbytes_told 0 cut tail) refl
 
--- and the figures that are shown
+-- and so do the figures that are shown
 figures_on : (cut tail : List Event) → IsOpenLog cut → figures (cut ++ tail) ≡ figures_from (base_of cut) tail
 figures_on cut tail opened =
     rw (removed-append cut tail opened.live, waits_on cut tail opened, opened.live, told-append qbytes_told 0 cut tail, told-append sending_told 0 cut tail, told-append receipt_told 0 cut tail, told-append change_told 0 cut tail, told-append sender_told 0 cut tail, told-append receiver_told 0 cut tail) refl

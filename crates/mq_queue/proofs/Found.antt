@@ -56,7 +56,8 @@ found_there : {X : Type 0} (o : Option (ℕ × X)) (place : ℕ) → Some place 
 found_there None place e = cc
 found_there (Some (n, m)) place e = (m, cc)
 
--- the message that is found is picked by what waits, where its text has this length
+-- the message that is found is the one picked of the pending headers, where its text has this
+-- length
 pub picked_header : {B : Type 0} (bytes : B → List ℕ) (log : List Event) (messages : List (ℕ × Message B)) (selection : Selection) (place n : ℕ) → IsSound bytes log messages → Some place ≡ option_map (λ m. m.0) (pick (λ m. m.1.mtype) messages selection) → IfSome (message_at place messages) (λ m. n ≡ length (bytes m.body)) → (m : Message B) × (message_at place messages ≡ Some m) × (pick (λ m. m.mtype) (waiting log) selection ≡ Some (record { place = place; seat = m.sender; tag = m.tag; mtype = m.mtype; length = n }))
 picked_header {B} bytes log messages selection place n sound found long =
     let there = found_there (pick (λ (m : ℕ × Message B). m.1.mtype) messages selection) place found in
@@ -68,7 +69,7 @@ pub none_found : {B : Type 0} (bytes : B → List ℕ) (messages : List (ℕ × 
 none_found bytes messages waits size selection noerror same found =
     rw (← same, pick-headers bytes messages selection) (grind (arith, found))
 
--- the message is the one that the selection picks, and it is handed out to this receiver
+-- the message is the one that the selection picks, and it fits the size or may be truncated
 pub record IsTaken (log : List Event) (selection : Selection) (size : ℕ) (noerror : Bool) (m : Header) : Type 0 where
   pub picked : pick (λ m. m.mtype) (waiting log) selection ≡ Some m
   pub fits : (noerror || nat_le m.length size) ≡ true
@@ -79,13 +80,13 @@ taken_is bytes log messages selection size noerror found place n m sound picked 
     let there = picked_header bytes log messages selection place n sound (rw (← same) at picked) long in
     record { picked = cc (there.1, there.2, at); fits = sym fits }
 
--- without it one message fewer waits, and its bytes
+-- without it one message fewer is pending, and fewer bytes by its length
 pub taken_left : (log : List Event) (kept : Figures) (selection : Selection) (m : Header) → kept ≡ live_figures log → pick (λ m. m.mtype) (waiting log) selection ≡ Some m → (1 + length (filter (λ x. not (x.place == m.place)) (waiting log)) ≡ kept.qnum) × (m.length + bytes_waiting (filter (λ x. not (x.place == m.place)) (waiting log)) ≡ kept.cbytes)
 taken_left log kept selection m same picked =
     let p : Header → Bool = λ x. eligible (map (λ m. m.mtype) (waiting log)) selection x.mtype in
     rw same (length-without (λ (x : Header). x.place) p (waiting log) m (waits_rising log) picked, sum_by-without (λ (x : Header). x.place) p (λ (x : Header). x.length) (waiting log) m (waits_rising log) picked)
 
--- its bytes are among those that wait
+-- its bytes are among the pending ones
 pub found_within : {B : Type 0} (bytes : B → List ℕ) (log : List Event) (messages : List (ℕ × Message B)) (kept : Figures) (selection : Selection) (found n : ℕ) → IsSound bytes log messages → AreFigures log kept → Some found ≡ option_map (λ m. m.0) (pick (λ m. m.1.mtype) messages selection) → IfSome (message_at found messages) (λ m. n ≡ length (bytes m.body)) → (n ≤ kept.cbytes) × (1 ≤ kept.qnum)
 found_within bytes log messages kept selection found n sound are picked long =
     let there = picked_header bytes log messages selection found n sound picked long in

@@ -1,4 +1,4 @@
--- A queue whose log may be cut off: it is kept as one with some whole log is.
+-- A queue whose log may be drained: it is kept as one with some whole log is.
 use Rattle.std.proofs.Common.{◌≡◌, inl, inr, ℕ, ℤ, pos, ◌+◌, ◌-◌, ◌<◌, ◌≤◌, ◌≤ℤ◌, nat_le, List, [], ◌∷◌, ◌++◌, length, length-append, filter, ◌==◌, not, Some, None, Ok, Err, IfSome, All, Bool, true, false, if◌then◌else◌, int_lt, ◌&&◌, ◌||◌, refl, ap, sym, ◌∙◌, arith, append_assoc, append-nil}
 use Rattle.std.specs.Option.{option_map}
 use Rattle.std.proofs.lemmas.Bool.{le-ltb}
@@ -32,7 +32,7 @@ use Rattle.mq_queue.proofs.Sends.{map_push, not_refused}
 use Rattle.mq_queue.proofs.Sound.{figures_after, figures_more, lawful_more, messages_within, sound_more}
 use Rattle.mq_queue.proofs.Steps.{state_of}
 
--- what a queue is kept as, callers see
+-- a kept queue is sound from its base
 pub sound_kept : {B : Type 0} (bytes : B → List ℕ) (base : Base) (tail : List Event) (messages : List (ℕ × Message B)) (kept : Figures) → IsKeptQueue bytes base tail messages kept → IsSoundFrom bytes base tail messages
 sound_kept bytes base tail messages kept k =
     let on = goes_on k.cut tail k.opened in
@@ -135,7 +135,7 @@ taken_kept bytes base tail tail' messages messages' kept kept' selection size no
     let shown = ap (λ (f : Figures). record f { qnum = length rest; cbytes = bytes_waiting rest; rtime = moment; lrpid = seat }) k.figures.same in
     rw same (kept_more bytes base tail tail' (Received seat moment m.place selection size noerror) messages messages' kept _ k grown refl refl (rw taken.picked (refl, taken.fits)) waits (rw (counted, added) shown) (omega (arith, k.figures.count)) (omega (arith, k.figures.bytes)) k.figures.limit)
 
--- it is the receiver's answer
+-- it is what the receiver gets
 pub taken_shown : {B : Type 0} (bytes : B → List ℕ) (base : Base) (tail : List Event) (messages : List (ℕ × Message B)) (kept : Figures) (selection : Selection) (size : ℕ) (noerror : Bool) (m : Header) (k : IsKeptQueue bytes base tail messages kept) → IsTaken (k.cut ++ tail) selection size noerror m → receive_answer (waiting_from base tail) size selection noerror ≡ Ok m
 taken_shown bytes base tail messages kept selection size noerror m k taken =
     rw (k.known, ← (goes_on k.cut tail k.opened).waits, taken.picked, taken.fits) refl
@@ -157,7 +157,7 @@ pub none_from : (base : Base) (tail tail' : List Event) (seat moment : ℕ) → 
 none_from base tail tail' seat moment grown =
     rw (grown, fold-append (λ (_ : Bool) event. is_removed event) false tail (Removed seat moment ∷ [])) refl
 
--- the log is cut off
+-- the log is drained
 pub cut_base : {B : Type 0} (bytes : B → List ℕ) (base base' : Base) (tail : List Event) (messages : List (ℕ × Message B)) (kept : Figures) (places : ℕ) (waits : List Header) → base' ≡ record { places = places; figures = kept; waiting = waits } → places ≡ base.places + length tail → waits ≡ headers_of bytes messages → base' ≡ record { places = base.places + length tail; figures = kept; waiting = headers_of bytes messages }
 cut_base bytes base base' tail messages kept places waits after counted held = rw (after, counted, held) refl
 

@@ -8,7 +8,7 @@ slice_get_front [] ys k within = absurd (omega arith)
 slice_get_front (x ∷ xs) ys zero within = refl
 slice_get_front (x ∷ xs) ys (suc k) within = slice_get_front xs ys k (omega arith)
 
--- a list is cut before and after the element at an index
+-- a list is split before and after the element at an index
 pub cut_at : {X : Type 0} (xs : List X) (k : ℕ) (x : X) → slice_get xs k ≡ Some x → (front : List X) × (rest : List X) × (xs ≡ front ++ x ∷ rest) × (length front ≡ k)
 cut_at [] k x there = absurd (none-some x there)
 cut_at (y ∷ ys) zero x there = ([], ys, ap (λ z. z ∷ ys) (same_Some y x there), refl)

@@ -1,4 +1,4 @@
--- A log that is played from its start.
+-- A log that is replayed from its start.
 use Rattle.std.proofs.Common.{◌≡◌, List, [], ◌∷◌, ◌++◌, length, length-append, map, refl, append_assoc, append-nil, arith, slice_get, Some}
 use Rattle.std.proofs.lemmas.Grind.{common_steps}
 use Rattle.mq_queue.specs.declared.event.Event.{Event}
@@ -13,7 +13,7 @@ use Rattle.mq_queue.proofs.Order.{picked_was_sent}
 use Rattle.mq_queue.proofs.Sendings.{some_and}
 use Rattle.mq_queue.proofs.Steps.{NoneAhead, none_ahead_more, picked_there, state_of, state_of_more}
 
--- an event that can follow tells the answer that was given
+-- of an event that can follow, a replay finds the result that was returned
 reply_given : (before : List Event) (event : Event) (rest : List Event) → CanFollow before event → reply_to (state_of before) event ≡ given (before ++ rest) event
 reply_given before (Made seat moment key) rest next = refl
 reply_given before (Sent seat moment tag mtype n) rest next = grind (arith, common_steps, next.allowed)
@@ -25,7 +25,7 @@ reply_given before (Received seat moment place selection size noerror) rest next
 reply_given before (Changed seat moment qbytes) rest next = grind (arith, common_steps, next.allowed)
 reply_given before (Removed seat moment) rest next = refl
 
--- what a player knows and answers from this place of the log on
+-- the state and the results of a replay from this place of the log on
 record IsPlayed (before events : List Event) : Type 0 where
   state : played (length before) (state_of before) events ≡ state_of (before ++ events)
   replies : replies_from (length before) (state_of before) events ≡ map (given (before ++ events)) events

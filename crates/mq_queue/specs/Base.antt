@@ -1,5 +1,4 @@
--- A log whose beginning is cut off: what is kept of the beginning, and what it and the events since
--- then leave.
+-- A log whose beginning is drained: its base, and what the base and the events since then leave.
 use Rattle.std.specs.Prelude.{ℕ, ◌+◌, ◌-◌, nat_lt, not, if◌then◌else◌, Option, None}
 use Rattle.std.specs.Prelude.{List, ◌++◌, length, filter, slice_get}
 use Rattle.mq_message.specs.declared.header.Header.{Header}
@@ -12,20 +11,20 @@ use Rattle.mq_queue.specs.Log.{ends_with_removed, last_told}
 use Rattle.mq_queue.specs.Room.{bytes_waiting, qbytes_told}
 use Rattle.mq_queue.specs.Waiting.{is_received, sent_from, waiting}
 
--- what is kept of a log that is cut off: how many events it has, its figures and what waits
+-- the base of a log that is drained: how many events it has, its figures and its pending messages
 abbrev pub base_of : List Event → Base
 base_of log = record { places = length log; figures = figures log; waiting = waiting log }
 
--- what waits: what waited then and what was sent since, but for what these events receive
+-- the pending messages: those of the base and those sent since, but for what these events receive
 abbrev pub waiting_from : Base → List Event → List Header
 waiting_from base tail =
     filter (λ m. not (is_received tail m)) (base.waiting ++ sent_from base.places tail)
 
--- how many bytes may wait, and how many messages
+-- the quota: how many bytes may be pending, and how many messages
 abbrev pub quota_from : Base → List Event → ℕ
 quota_from base tail = last_told qbytes_told base.figures.qbytes tail
 
--- the figures of a queue that is not removed: where these events tell none, those of the base
+-- the figures of a queue that is not removed: where these events state none, those of the base
 abbrev pub live_figures_from : Base → List Event → Figures
 live_figures_from base tail = record {
   qnum = length (waiting_from base tail);
@@ -42,7 +41,7 @@ live_figures_from base tail = record {
 abbrev pub figures_from : Base → List Event → Figures
 figures_from base tail = if ends_with_removed tail then no_figures else live_figures_from base tail
 
--- what is kept once these events are cut off too
+-- the base once these events are drained too
 abbrev pub base_after : Base → List Event → Base
 base_after base tail = record {
   places = base.places + length tail;
@@ -50,6 +49,6 @@ base_after base tail = record {
   waiting = waiting_from base tail;
 }
 
--- the event at this place, where it is not cut off
+-- the event at this place, where it is not drained
 abbrev pub event_from : ℕ → List Event → ℕ → Option Event
 event_from first tail i = if nat_lt i first then None else slice_get tail (i - first)

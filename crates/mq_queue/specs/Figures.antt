@@ -7,17 +7,17 @@ use Rattle.mq_queue.specs.Log.{ends_with_removed, last_told}
 use Rattle.mq_queue.specs.Room.{bytes_waiting, quota}
 use Rattle.mq_queue.specs.Waiting.{waiting}
 
--- who sent, if the event is a sending
+-- the seat that sent, if the event is a send
 abbrev pub sender_told : Event → Option ℕ
 sender_told (Sent seat moment tag mtype n) = Some seat
 sender_told _ = None
 
--- when a message was sent, if the event is a sending
+-- when a message was sent, if the event is a send
 abbrev pub sending_told : Event → Option ℕ
 sending_told (Sent seat moment tag mtype n) = Some moment
 sending_told _ = None
 
--- who received, if the event is a receipt
+-- the seat that received, if the event is a receipt
 abbrev pub receiver_told : Event → Option ℕ
 receiver_told (Received seat moment place selection size noerror) = Some seat
 receiver_told _ = None
@@ -27,7 +27,7 @@ abbrev pub receipt_told : Event → Option ℕ
 receipt_told (Received seat moment place selection size noerror) = Some moment
 receipt_told _ = None
 
--- when the queue was made or its quota set, if the event is one of these
+-- when the queue was created or its quota set, if the event is one of these
 abbrev pub change_told : Event → Option ℕ
 change_told (Made seat moment key) = Some moment
 change_told (Changed seat moment qbytes) = Some moment

@@ -8,7 +8,7 @@ abbrev pub is_empty : List Event → Bool
 is_empty [] = true
 is_empty (event ∷ events) = false
 
--- whether an event is the making of its queue
+-- whether an event is the creation of its queue
 abbrev pub is_made : Event → Bool
 is_made (Made seat moment key) = true
 is_made _ = false
@@ -22,15 +22,15 @@ is_removed _ = false
 abbrev pub ends_with_removed : List Event → Bool
 ends_with_removed log = fold (λ _ event. is_removed event) false log
 
--- what the last event told that told anything, or `first` where none did
+-- the value of the last event that states one, or `first` where none does
 abbrev pub last_told : {X : Type 0} → (Event → Option X) → X → List Event → X
 last_told told first log = fold (λ before event. unwrap_or (told event) before) first log
 
--- the key that an event tells, if it is a making
+-- the key that an event states, if it is a creation
 abbrev pub key_told : Event → Option ℤ
 key_told (Made seat moment key) = Some key
 key_told _ = None
 
--- the key that a queue was made with
+-- the key that a queue was created with
 abbrev pub made_key : List Event → ℤ
 made_key log = last_told key_told (pos 0) log

@@ -13,31 +13,31 @@ use Rattle.mq_queue.specs.LawfulFrom.{IsOpenLog, LawfulFrom}
 use Rattle.mq_queue.specs.Log.{ends_with_removed}
 use Rattle.mq_queue.specs.Waiting.{waiting}
 
--- a queue: what is kept of the events that were cut off, the events since then, and the messages
--- that wait, each with the place of its sending in the whole log
+-- a queue: the base of the events that were drained, the events since then, and the pending
+-- messages, each with the place of its send in the whole log
 pub record Queue (B : Type 0) : Type 0 where
   pub base : Base
   pub tail : List Event
   pub messages : List (ℕ × Message B)
 
--- a log whose beginning may be cut off: what is kept of it, and the events since then
+-- a log whose beginning may be drained: the base of it, and the events since then
 pub record CutLog : Type 0 where
   pub base : Base
   pub tail : List Event
 
--- a log of which so many events were cut off
+-- a log of which so many events were drained
 abbrev pub rest_of : ℕ → List Event → CutLog
 rest_of places log = record { base = base_of (take places log); tail = drop places log }
 
--- by what is kept of the log, it is that of a queue which is not removed, and the messages are
--- those that wait
+-- by its base and the events since, the log is that of a queue which is not removed, and the
+-- messages are its pending ones
 pub record IsSoundFrom {B : Type 0} (bytes : B → List ℕ) (base : Base)
     (tail : List Event) (messages : List (ℕ × Message B)) : Type 0 where
   pub lawful : LawfulFrom base tail
   pub live : ends_with_removed tail ≡ false
   pub waits : headers_of bytes messages ≡ waiting_from base tail
 
--- the log is that of a queue which is not removed, and the messages are those that wait by it
+-- the log is that of a queue which is not removed, and the messages are its pending ones
 pub record IsSound {B : Type 0} (bytes : B → List ℕ)
     (log : List Event) (messages : List (ℕ × Message B)) : Type 0 where
   pub lawful : Lawful log
@@ -53,7 +53,7 @@ pub record AreFigures (log : List Event) (kept : Figures) : Type 0 where
   pub limit : kept.qbytes ≤ MSGMNB
 
 -- the base is that of some log, with which the queue is sound and the figures are its figures, and
--- not too much of the log is cut off
+-- at most MAX_CUT events of the log are drained
 pub record IsKeptQueue {B : Type 0} (bytes : B → List ℕ) (base : Base) (tail : List Event)
     (messages : List (ℕ × Message B)) (kept : Figures) : Type 0 where
   pub cut : List Event

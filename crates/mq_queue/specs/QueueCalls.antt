@@ -1,4 +1,4 @@
--- How the calls of a queue end: what they answer, and the queue that they leave (msgget(2),
+-- How the calls of a queue end: what they return, and the queue that they leave (msgget(2),
 -- msgop(2), msgctl(2)).
 use Rattle.std.specs.Prelude.{◌≡◌, ℕ, ℤ, ◌+◌, Bool, None, Ok, List, [], ◌∷◌, ◌++◌, length, min, take, IsSomeAnd}
 use Rattle.mq_message.specs.declared.message.Message.{Message}
@@ -18,24 +18,25 @@ pub record IsRefusedBy {Q : Type 0} (why : QueueError) (old new : Q) (e : QueueE
   pub refused : e ≡ why
   pub unchanged : new ≡ old
 
--- so was the sending of this message, which is handed back
+-- so was the send of this message, which is returned
 pub record IsHandedBack {B Q : Type 0} (why : QueueError) (message : Message B) (old new : Q)
     (r : QueueError × Message B) : Type 0 where
   pub refused : r.0 ≡ why
   pub handed_back : r.1 ≡ message
   pub unchanged : new ≡ old
 
--- a new queue: its making is all that happened, and nothing waits
+-- a new queue: its creation is its only event, and no message is pending
 pub record IsNewQueue {B : Type 0} (seat moment : ℕ) (key : ℤ) (q : Queue B) : Type 0 where
   pub base : q.base ≡ base_of []
   pub tail : q.tail ≡ event.Made seat moment key ∷ []
   pub messages : q.messages ≡ []
 
--- the event that a message is sent by
+-- the event of the send of a message
 abbrev pub sending : {B : Type 0} → (B → List ℕ) → Message B → ℕ → Event
 sending bytes m moment = event.Sent m.sender moment m.tag m.mtype (length (bytes m.body))
 
--- a message was sent, which nothing refuses: it waits last, at the next place of the whole log
+-- a message was sent, which nothing refuses: it is the last pending one, at the next place of the
+-- whole log
 pub record IsQueued {B : Type 0} (bytes : B → List ℕ) (m : Message B) (moment : ℕ)
     (old new : Queue B) (answer : ℕ) : Type 0 where
   pub accepted : send_refusal (waiting_from old.base old.tail) (quota_from old.base old.tail)
@@ -45,7 +46,8 @@ pub record IsQueued {B : Type 0} (bytes : B → List ℕ) (m : Message B) (momen
   pub tail : new.tail ≡ old.tail ++ sending bytes m moment ∷ []
   pub messages : new.messages ≡ old.messages ++ (old.base.places + length old.tail, m) ∷ []
 
--- the message that is picked was received, by the next event of the whole log: it waits no more
+-- the message that is picked was received, by the next event of the whole log: it is no longer
+-- pending
 pub record IsHandedOut {B : Type 0} (size : ℕ) (selection : Selection) (noerror : Bool)
     (seat moment : ℕ) (old new : Queue B) (r : Received B) : Type 0 where
   pub accepted : receive_answer (waiting_from old.base old.tail) size selection noerror
@@ -56,8 +58,8 @@ pub record IsHandedOut {B : Type 0} (size : ℕ) (selection : Selection) (noerro
       ≡ old.tail ++ event.Received seat moment r.place selection size noerror ∷ []
   pub messages : new.messages ≡ without r.place old.messages
 
--- what a receiver of this size was handed is the message that waited: the beginning of its text,
--- with what a cut keeps of it, and how long it was, who sent it and as what
+-- what a receiver of this size got is the message that was pending: its text, truncated to the
+-- size, with what a truncation keeps of it, and its whole header
 pub record IsWhatWaited {B : Type 0} (bytes : B → List ℕ) (keeps : B → B → Type 0) (size : ℕ)
     (messages : List (ℕ × Message B)) (r : Received B) : Type 0 where
   pub body : IsSomeAnd (message_at r.place messages) (λ m.
@@ -75,15 +77,15 @@ pub record IsQuotaSet {B : Type 0} (qbytes seat moment : ℕ) (old new : Queue B
   pub tail : new.tail ≡ old.tail ++ event.Changed seat moment qbytes ∷ []
   pub messages : new.messages ≡ old.messages
 
--- a queue was removed: its log, with the removal, and what waited are handed out
+-- a queue was removed: its log, with the removal, and its pending messages are returned
 pub record IsEndedQueue {B : Type 0} (seat moment : ℕ) (q : Queue B) (log : CutLog)
     (left : List (ℕ × Message B)) : Type 0 where
   pub base : log.base ≡ q.base
   pub tail : log.tail ≡ q.tail ++ event.Removed seat moment ∷ []
   pub messages : left ≡ q.messages
 
--- a log was cut off where it ends: what was kept of the events before the last cut and those since
--- then are handed out, none is left, and what waits stays
+-- a log was drained to its end: its base and the events since are returned, no event is left, and
+-- the pending messages stay
 pub record IsCutOff {B : Type 0} (old new : Queue B) (before : Base) (since : List Event)
     : Type 0 where
   pub base : before ≡ old.base

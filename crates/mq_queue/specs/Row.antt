@@ -7,19 +7,19 @@ use Rattle.mq_queue.specs.declared.figures.Figures.{Figures}
 use Rattle.mq_queue.specs.Figures.{figures, no_figures}
 use Rattle.mq_queue.specs.Log.{is_empty, is_made, ends_with_removed, made_key}
 
--- how many queues were made in the slot
+-- how many queues were created in the slot
 abbrev pub made_count : List Event → ℕ
 made_count events = count_by is_made events
 
--- whether a queue is in the slot now: one was made, and it was not removed
+-- whether a queue is in the slot now: one was created, and it was not removed
 abbrev pub is_live : List Event → Bool
 is_live events = not (is_empty events) && not (ends_with_removed events)
 
--- the log after one more event: a making begins a new one
+-- the log after one more event: a creation begins a new one
 abbrev pub log_after : List Event → Event → List Event
 log_after log event = if is_made event then event ∷ [] else log ++ event ∷ []
 
--- the log of the queue that was made last
+-- the log of the queue that was created last
 abbrev pub last_log : List Event → List Event
 last_log events = fold log_after [] events
 

@@ -1,3 +1,5 @@
+//! Checkpoints of drained logs: a replay of the events after a drain starts from one.
+
 ghost use Rattle.std.specs.Prelude.{◌≡◌, ◌<◌, ◌^◌, [], length, slice_get, IfOk};
 ghost use Rattle.mq_queue.specs.Base.{base_of};
 
@@ -5,7 +7,7 @@ use crate::{BaseEntry, Figures, NO_FIGURES};
 use std::alloc::{AllocError, Global};
 use std::marker::Model;
 
-/// What waited where a log was cut, in the order of sending.
+/// The messages that were pending where a log was drained, in the order of sending.
 #[derive(Drop)]
 pub struct BaseEntries {
     entries: Vec<BaseEntry>,
@@ -21,14 +23,14 @@ impl Model for BaseEntries {
 }
 
 impl BaseEntries {
-    /// The list of these entries. This takes no memory.
+    /// The list of these entries. It allocates nothing.
     pub fn of(entries: Vec<BaseEntry>) -> BaseEntries
         ensures { result ≡ entries.items }
     {
         BaseEntries { entries }
     }
 
-    /// How many messages waited.
+    /// How many messages were pending.
     pub fn len(&self) -> u64
         ensures value { result ≡ length self.now }
         ensures small { result < 2 ^ 63 }
@@ -36,7 +38,7 @@ impl BaseEntries {
         self.entries.len() as u64
     }
 
-    /// The message at an index, or `None` where the list has ended.
+    /// The message at an index, or `None` past the end of the list.
     pub fn get(&self, i: u64) -> Option<BaseEntry>
         ensures { result ≡ slice_get self.now i }
     {
@@ -52,20 +54,20 @@ impl BaseEntries {
     }
 }
 
-/// What is known of the events of a log that were cut off: how many they are, and the figures and
-/// what waits that they leave.
+/// What is known of the drained events of a log: how many they are, and the figures and the pending
+/// messages that they leave.
 #[derive(Drop)]
 pub struct Base {
-    /// How many events were cut off, so that the place of the next one is known.
+    /// How many events were drained, so that the place of the next one is known.
     pub places: u64,
-    /// The figures after them, all 0 where none was cut off.
+    /// The figures after them, all 0 where none was drained.
     pub figures: Figures,
-    /// What waited after them.
+    /// The messages that were pending after them.
     pub waiting: BaseEntries,
 }
 
 impl Base {
-    /// That of a log of which nothing was cut off.
+    /// The base of a log of which nothing was drained.
     pub(crate) fn empty(alloc: Global) -> Base
         ensures { result ≡ base_of [] }
     {

@@ -1,3 +1,5 @@
+//! msgctl(2) on one queue: IPC_SET of the quota, and IPC_RMID.
+
 ghost use Rattle.std.specs.Prelude.{◌≡◌, unwrap_or, IfOk, MatchResult};
 ghost use Rattle.mq_queue.specs.Answer.{set_refusal};
 ghost use Rattle.mq_queue.specs.Base.{figures_from};
@@ -9,9 +11,9 @@ use crate::{Event, Figures, Log, MSGMNB, NO_FIGURES, Notice, QueueError, QueueSt
 use mq_message::{Body, Waiting};
 
 impl<B: Body, W: Waiting<B>> QueueState<B, W> {
-    /// Sets the quota, and answers the place of the event (msgctl(2), IPC_SET of msg_qbytes). What
-    /// waits stays, also where it is more than the new quota. The notice takes the event in, with
-    /// the figures after it.
+    /// Sets the quota, and returns the place of the event (msgctl(2), IPC_SET of msg_qbytes). The
+    /// pending messages stay, also where they are more than the new quota. The notice is given the
+    /// event, with the figures after it.
     pub fn set<N: Notice>(
         &mut self,
         qbytes: u64,
@@ -50,9 +52,9 @@ impl<B: Body, W: Waiting<B>> QueueState<B, W> {
         Ok(place)
     }
 
-    /// Removes the queue, and hands out its log and what waited (msgctl(2), IPC_RMID). `Err` means
-    /// out of memory, and hands the queue back. The notice takes the event in, and no figures with
-    /// it.
+    /// Removes the queue, and returns its log and the pending messages (msgctl(2), IPC_RMID). `Err`
+    /// means out of memory, and returns the queue. The notice is given the event, with figures that
+    /// are all 0.
     pub fn remove<N: Notice>(
         self,
         seat: u16,

@@ -1,6 +1,8 @@
+//! The errors of a queue's calls, with the errno that msgop(2) or msgctl(2) has for each.
+
 use thiserror::Error;
 
-/// Why a queue refuses a call, in the order in which the reasons are looked at.
+/// Why a queue refuses a call, in the order in which the reasons are checked.
 #[derive(Clone, Copy, Debug, PartialEq, Eq, Error)]
 pub enum QueueError {
     /// The message's type is below 1: `EINVAL`.
@@ -12,10 +14,10 @@ pub enum QueueError {
     /// The bytes or the count of the messages would pass the queue's quota: `EAGAIN`.
     #[error("the queue is full")]
     Full,
-    /// No eligible message waits: `ENOMSG`.
+    /// No eligible message is pending: `ENOMSG`.
     #[error("no message waits")]
     NoMessage,
-    /// The text is longer than the receiver's size, and is not to be cut: `E2BIG`.
+    /// The text is longer than the receiver's size, and may not be truncated: `E2BIG`.
     #[error("the text is longer than the size")]
     TooBig,
     /// The quota is above [`MSGMNB`](crate::MSGMNB): `EPERM`.

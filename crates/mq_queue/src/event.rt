@@ -1,11 +1,13 @@
+//! The events of a queue's log: one for each call that changed the queue.
+
 ghost use Rattle.std.specs.Prelude.{Some};
 ghost use Rattle.mq_queue.specs.Shown.{event_text};
 
 use mq_message::Selection;
 use std::fmt;
 
-/// A change of a queue, by the seat that called and at the moment that the caller named. A place
-/// is a position in the queue's log, from 0.
+/// A change of a queue, by the seat that called and at the moment that the caller named. A place is
+/// an index in the queue's log, from 0.
 #[derive(Clone, Copy, Debug, PartialEq, Eq)]
 pub enum Event {
     /// The queue was made.

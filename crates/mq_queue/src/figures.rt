@@ -1,3 +1,5 @@
+//! The statistics of a queue, as IPC_STAT of msgctl(2) returns them, and those of a slot.
+
 ghost use Rattle.std.specs.Prelude.{Some};
 ghost use Rattle.mq_queue.specs.Shown.{figures_text, row_text};
 
@@ -6,11 +8,11 @@ use std::fmt;
 /// What IPC_STAT shows of a queue, by the names of msgctl(2).
 #[derive(Clone, Copy, Debug, PartialEq, Eq)]
 pub struct Figures {
-    /// How many messages wait.
+    /// How many messages are pending.
     pub qnum: u64,
-    /// How many bytes wait.
+    /// How many bytes are pending.
     pub cbytes: u64,
-    /// How many bytes may wait, and as many messages.
+    /// The quota: the most bytes that may be pending, and the most messages.
     pub qbytes: u64,
     /// The moment of the last sending, or 0.
     pub stime: u64,

@@ -19,13 +19,13 @@ pub fn each_prefix_is_lawful()
     ensures { PrefixesAreLawful }
 {}
 
-/// A replay of the log finds what waits, and what each call was answered.
+/// A replay of the log finds the pending messages, and the result of each call.
 pub fn a_log_is_replayed()
     ensures { IsReplayed }
 {}
 
-/// A log whose beginning is cut off is lawful just where the events since then are by the base of
-/// that beginning, and what waits and the figures are found from it.
-pub fn a_cut_log_goes_on()
+/// A log whose beginning was drained is lawful exactly where the events since then are from the
+/// base of that beginning, and the pending messages and the figures are found from it.
+pub fn a_drained_log_continues()
     ensures { GoesOnFromBase }
 {}

@@ -1,3 +1,6 @@
+//! Logs of events. An append is in two steps: room is reserved before the queue changes, so that
+//! out of memory changes nothing.
+
 ghost use Rattle.std.specs.Prelude.{◌≡◌, ◌<◌, ◌≤◌, ◌+◌, ◌++◌, ◌∷◌, [], length, vec_len, vec_capacity};
 ghost use Rattle.std.specs.Prelude.{MatchResult, OnOk};
 ghost use Rattle.mq_queue.specs.Base.{event_from};
@@ -7,8 +10,8 @@ use crate::{Base, Event, Figures, Notice};
 use std::alloc::AllocError;
 use std::marker::Model;
 
-/// The log of a queue that was taken apart, seen as what is kept of the events that were cut off,
-/// and the list of those since then.
+/// The log of a queue that was taken apart, seen as the base of the drained events, and the list of
+/// those since then.
 #[derive(Drop)]
 pub struct Log {
     base: Base,
@@ -42,30 +45,28 @@ impl Log {
         whole_count(self.base.places, &self.tail)
     }
 
-    /// How many of them were cut off.
+    /// How many of them were drained.
     pub fn first(&self) -> u64
         ensures { result ≡ self.now.base.places }
     {
         self.base.places
     }
 
-    /// The event at this place of the whole log, or `None` where it was cut off or the log has
-    /// ended.
+    /// The event at this place of the whole log, or `None` where it was drained or is past the end.
     pub fn get(&self, i: u64) -> Option<Event>
         ensures { result ≡ event_from self.now.base.places self.now.tail i }
     {
         event_at(self.base.places, &self.tail, i)
     }
 
-    /// The events since then, of which the first is at the place `first`.
+    /// The events that were not drained, of which the first is at the place `first`.
     pub fn events(&self) -> &[Event]
         ensures { result.now ≡ self.now.tail }
     {
         self.tail.as_slice()
     }
 
-    /// What is kept of the events that were cut off, and the events since then. This takes no
-    /// memory.
+    /// The base of the drained events, and the events since then. It allocates nothing.
     pub fn into_parts(self) -> (Base, Vec<Event>)
         ensures base { result.0 ≡ self.base }
         ensures tail { result.1.items ≡ self.tail }
@@ -75,7 +76,7 @@ impl Log {
     }
 }
 
-/// How many events there are with those that were cut off.
+/// How many events there are with those that were drained.
 pub(crate) fn whole_count(first: u64, events: &Vec<Event>) -> u64
     requires { first ≤ MAX_CUT }
     ensures { result ≡ first + length events.now.items }
@@ -83,7 +84,7 @@ pub(crate) fn whole_count(first: u64, events: &Vec<Event>) -> u64
     first + events.len() as u64
 }
 
-/// The event at this place, where so many were cut off.
+/// The event at this place, where `first` events were drained.
 pub(crate) fn event_at(first: u64, events: &Vec<Event>, i: u64) -> Option<Event>
     ensures { result ≡ event_from first events.now.items i }
 {
@@ -93,7 +94,7 @@ pub(crate) fn event_at(first: u64, events: &Vec<Event>, i: u64) -> Option<Event>
     events.get((i - first) as usize).copied()
 }
 
-/// Makes room for one more event, and then tells the notice of it. `Err` means out of memory.
+/// Reserves room for one more event, and then gives it to the notice. `Err` means out of memory.
 pub(crate) fn reserve<N: Notice>(
     events: &mut Vec<Event>,
     event: Event,

@@ -1,3 +1,5 @@
+//! msgrcv with IPC_NOWAIT on one queue (msgop(2)).
+
 ghost use Rattle.std.specs.Prelude.{◌≡◌, ◌||◌, length, nat_le, true, Err, Some, None};
 ghost use Rattle.std.specs.Prelude.{IfErr, IfOk, IfSome, MatchResult, OnOk};
 ghost use Rattle.std.specs.Option.{option_map};
@@ -12,14 +14,14 @@ use crate::log::{append, reserve, whole_count};
 use crate::{Event, Figures, Notice, QueueError, QueueState, Received};
 use mq_message::{Body, Selection, Waiting};
 
-/// Whether a receiver of this size is handed a text of this length.
-fn is_handed_out(length: u64, size: u64, noerror: bool) -> bool
+/// Whether a receiver of this size gets a text of this length, be it truncated.
+fn is_accepted(length: u64, size: u64, noerror: bool) -> bool
     ensures { result ≡ (noerror || nat_le length size) }
 {
     noerror || length <= size
 }
 
-/// A message that is handed out: the place of its sending, and its length.
+/// The message that a receive picks: the place of its sending, and its length.
 #[derive(Drop)]
 struct Chosen {
     place: u64,
@@ -27,7 +29,7 @@ struct Chosen {
 }
 
 impl<B: Body, W: Waiting<B>> QueueState<B, W> {
-    /// The message that this receiver is handed, or why it gets none.
+    /// The message that this receiver gets, or why it gets none.
     fn choose(&self, size: u64, selection: Selection, noerror: bool) -> Result<Chosen, QueueError>
         ensures refused { IfErr result (λ e.
             receive_answer (waiting_from self.now.base self.now.tail) size selection noerror
@@ -44,14 +46,14 @@ impl<B: Body, W: Waiting<B>> QueueState<B, W> {
             return Err(QueueError::NoMessage);
         };
         let length = self.waiting.length_of(place);
-        if !is_handed_out(length, size, noerror) {
+        if !is_accepted(length, size, noerror) {
             return Err(QueueError::TooBig);
         }
         Ok(Chosen { place, length })
     }
 
     /// Why this receiver would be refused now (msgop(2), msgrcv with IPC_NOWAIT), or `None` where
-    /// at most memory could be wanted.
+    /// it could at most be out of memory.
     pub fn refuses_receive(
         &self,
         size: u64,
@@ -64,10 +66,10 @@ impl<B: Body, W: Waiting<B>> QueueState<B, W> {
         self.choose(size, selection, noerror).err()
     }
 
-    /// Takes out the message that the selection picks (msgop(2), msgrcv with IPC_NOWAIT). With
-    /// `noerror`, the flag MSG_NOERROR, a longer text is cut to `size` bytes. A receive adds an
-    /// event to the log, for which there may be no memory. The notice takes the event in, with the
-    /// figures after it.
+    /// Removes and returns the message that the selection picks (msgop(2), msgrcv with IPC_NOWAIT).
+    /// With `noerror`, the flag MSG_NOERROR, a longer text is truncated to `size` bytes. A receive
+    /// adds an event to the log, for which there may be no memory. The notice is given the event,
+    /// with the figures after it.
     pub fn receive<N: Notice>(
         &mut self,
         size: u64,

@@ -1,3 +1,5 @@
+//! The result of a receive: the message, with the places of its send and its receipt in the log.
+
 /// What a receiver gets.
 #[derive(Drop)]
 pub struct Received<B> {

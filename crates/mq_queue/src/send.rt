@@ -1,3 +1,5 @@
+//! msgsnd with IPC_NOWAIT on one queue (msgop(2)).
+
 ghost use Rattle.std.specs.Prelude.{◌≡◌, ◌+◌, ◌<◌, ◌^◌, ◌&&◌, length, nat_le, unwrap_or, MatchResult};
 ghost use Rattle.mq_queue.specs.Answer.{send_refusal};
 ghost use Rattle.mq_queue.specs.Base.{figures_from, quota_from, waiting_from};
@@ -7,7 +9,8 @@ use crate::log::{append, reserve, whole_count};
 use crate::{Event, Figures, MSGMAX, Notice, QueueError, QueueState};
 use mq_message::{Body, Message, Waiting};
 
-/// Whether a queue in which so many messages and bytes wait has room for a text of this length.
+/// Whether a queue in which so many messages and bytes are pending has room for a text of this
+/// length.
 fn has_room(count: u64, bytes: u64, length: u64, quota: u64) -> bool
     requires messages { count + 1 < 2 ^ 64 }
     requires sum { bytes + length < 2 ^ 64 }
@@ -18,7 +21,7 @@ fn has_room(count: u64, bytes: u64, length: u64, quota: u64) -> bool
 
 impl<B: Body, W: Waiting<B>> QueueState<B, W> {
     /// Why a message of this type and length would be refused now (msgop(2), msgsnd with
-    /// IPC_NOWAIT), or `None` where at most memory could be wanted.
+    /// IPC_NOWAIT), or `None` where it could at most be out of memory.
     #[tactic(auto, using(crate::proofs::Keeps::room_shown))]
     pub fn refuses_send(&self, mtype: i64, length: u64) -> Option<QueueError>
         ensures { result ≡ send_refusal (waiting_from self.now.base self.now.tail)
@@ -36,9 +39,9 @@ impl<B: Body, W: Waiting<B>> QueueState<B, W> {
         None
     }
 
-    /// Adds a message at the end, and answers its place (msgop(2), msgsnd with IPC_NOWAIT). A
-    /// message that is refused is handed back. The notice takes the event in, with the figures
-    /// after it.
+    /// Adds a message at the end, and returns its place (msgop(2), msgsnd with IPC_NOWAIT). A
+    /// message that is refused is returned. The notice is given the event, with the figures after
+    /// it.
     pub fn send<N: Notice>(
         &mut self,
         message: Message<B>,

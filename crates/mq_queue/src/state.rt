@@ -1,3 +1,6 @@
+//! The state of one queue: its log and the pending messages. They always agree: a replay of the log
+//! leaves just these messages pending.
+
 ghost use Rattle.std.specs.Prelude.{◌≡◌, ◌<◌, ◌≤◌, ◌+◌, ◌^◌, length, IfOk, MatchResult};
 ghost use Rattle.mq_queue.specs.Base.{event_from, figures_from};
 ghost use Rattle.mq_queue.specs.Queue.{IsSoundFrom};
@@ -10,14 +13,14 @@ use mq_message::{Body, Waiting};
 use std::alloc::{AllocError, Global};
 use std::marker::{Model, PhantomData};
 
-/// A queue, seen as what is kept of the events of its log that were cut off, the events since then,
-/// and the messages that wait, each with the place of its sending in the whole log. A queue can't
-/// be dropped: `remove` or `into_parts` takes it.
+/// A queue, seen as the base of the drained events of its log, the events since then, and the
+/// pending messages, each with the place of its sending in the whole log. A queue can't be dropped:
+/// `remove` or `into_parts` takes it.
 pub struct QueueState<B: Body, W: Waiting<B>> {
     pub(crate) base: Base,
     pub(crate) tail: Vec<Event>,
     pub(crate) waiting: W,
-    /// The figures of the whole log, so that no call goes through it.
+    /// The figures of the whole log, so that no call replays it.
     pub(crate) kept: Figures,
     pub(crate) body: PhantomData<B>,
 }
@@ -39,7 +42,7 @@ impl<B: Body, W: Waiting<B>> Model for QueueState<B, W> {
 
 impl<B: Body, W: Waiting<B>> QueueState<B, W> {
     /// A new queue, with no message and the greatest quota (msgget(2)). `Err` means out of memory.
-    /// The notice takes the event in, with the figures after it.
+    /// The notice is given the event, with the figures after it.
     #[tactic(auto, using(crate::proofs::Keeps::made_kept, crate::proofs::Keeps::shown_kept))]
     pub fn made<N: Notice>(
         alloc: Global,
@@ -77,14 +80,15 @@ impl<B: Body, W: Waiting<B>> QueueState<B, W> {
         })
     }
 
-    /// What holds of each queue: it is not removed, and what waits is what its log leaves waiting.
+    /// What holds of each queue: it is not removed, and the pending messages are those that its log
+    /// leaves pending.
     pub fn holds(&self)
         ensures { IsSoundFrom B.bytes self.now.base self.now.tail self.now.messages }
     {
         let _ = &self.base;
     }
 
-    /// What IPC_STAT shows (msgctl(2)). No call goes through the log for it.
+    /// What IPC_STAT shows (msgctl(2)). It does not replay the log.
     pub fn figures(&self) -> Figures
         ensures { result ≡ figures_from self.now.base self.now.tail }
     {
@@ -99,7 +103,7 @@ impl<B: Body, W: Waiting<B>> QueueState<B, W> {
         whole_count(self.base.places, &self.tail)
     }
 
-    /// How many of them there are since the last cut.
+    /// How many of them there are since the last drain.
     pub fn tail_len(&self) -> u64
         ensures value { result ≡ length self.now.tail }
         ensures small { result < 2 ^ 63 }
@@ -107,7 +111,7 @@ impl<B: Body, W: Waiting<B>> QueueState<B, W> {
         self.tail.len() as u64
     }
 
-    /// How many of them were cut off.
+    /// How many of them were drained.
     pub fn first(&self) -> u64
         ensures value { result ≡ self.now.base.places }
         ensures few { result ≤ MAX_CUT }
@@ -115,22 +119,21 @@ impl<B: Body, W: Waiting<B>> QueueState<B, W> {
         self.base.places
     }
 
-    /// What is kept of the events that were cut off.
+    /// The base of the drained events.
     pub fn base(&self) -> &Base
         ensures { result.now ≡ self.now.base }
     {
         &self.base
     }
 
-    /// The event at this place of the whole log, or `None` where it was cut off or the log has
-    /// ended.
+    /// The event at this place of the whole log, or `None` where it was drained or is past the end.
     pub fn event(&self, i: u64) -> Option<Event>
         ensures { result ≡ event_from self.now.base.places self.now.tail i }
     {
         event_at(self.base.places, &self.tail, i)
     }
 
-    /// The log and the messages that wait. It adds no event, and takes no memory.
+    /// The log and the pending messages. It adds no event, and allocates nothing.
     pub fn into_parts(self) -> (Log, W)
         ensures base { result.0.base ≡ self.base }
         ensures tail { result.0.tail ≡ self.tail }

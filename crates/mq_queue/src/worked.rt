@@ -27,7 +27,7 @@ pub(crate) fn room_by_quota()
     ensures fifth { send_refusal (text 3 1 0 ∷ text 4 1 0 ∷ ab_and_cd) 4 (pos 1) 0 ≡ Some Full }
 {}
 
-/// The type is looked at first, then the length, then the room.
+/// The type is checked first, then the length, then the room.
 pub(crate) fn first_refusal()
     ensures mtype { send_refusal [] 4 (pos 0) 65537 ≡ Some TypeInvalid }
     ensures length { send_refusal [] 4 (pos 1) 65537 ≡ Some TooLong }
@@ -36,7 +36,7 @@ pub(crate) fn first_refusal()
 {}
 
 /// A text that is too long for the receiver is refused, though a later one would fit, or it is
-/// cut, to nothing too.
+/// truncated, to nothing too.
 pub(crate) fn too_big()
     ensures shorter { receive_answer hello_and_hi 4 Any false ≡ Err TooBig }
     ensures same { receive_answer hello_and_hi 5 Any false ≡ Ok (text 1 5 5) }
@@ -46,7 +46,7 @@ pub(crate) fn too_big()
     ensures none { receive_answer [] 4 Any false ≡ Err NoMessage }
 {}
 
-/// With types up to 2 the lowest type comes first, and with type 1 excepted the first other.
+/// With types up to 2 the lowest type is received first, and with type 1 excepted the first other.
 pub(crate) fn selected()
     ensures lowest { receive_answer four_types 9 (UpTo 2) false ≡ Ok (text 2 1 1) }
     ensures then { receive_answer (drop 2 four_types) 9 (UpTo 2) false ≡ Ok (text 4 1 1) }
@@ -54,7 +54,8 @@ pub(crate) fn selected()
     ensures missing { receive_answer four_types 9 (Exact (pos 4)) true ≡ Err NoMessage }
 {}
 
-/// "ab" and "cd" wait under a quota of 4: there is room for two empty texts, and then for none.
+/// "ab" and "cd" are pending under a quota of 4: there is room for two empty texts, and then for
+/// none.
 pub(crate) fn full_by_bytes_and_by_count()
     ensures waits { waiting quota_of_4 ≡ ab_and_cd }
     ensures quota { quota quota_of_4 ≡ 4 }
@@ -109,7 +110,7 @@ pub(crate) fn played_again()
         ≡ Ok (Some (text 2 1 1)) ∷ Ok (Some (text 4 1 1)) ∷ [] }
 {}
 
-/// The log of "ab", "cd" and the quota of 4 is cut off, and then "ef" is sent for "ab".
+/// The log of "ab", "cd" and the quota of 4 is drained, and then "ef" is sent for "ab".
 pub(crate) fn cut_and_gone_on()
     ensures places { (base_of quota_of_4).places ≡ 4 }
     ensures figures { (base_of quota_of_4).figures ≡ figures quota_of_4 }

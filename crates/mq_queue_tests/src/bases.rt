@@ -1,8 +1,10 @@
+//! The pending messages of a base, read by index: past the last one there is none.
+
 use mq_queue::{BaseEntries, BaseEntry};
 use std::process::Abort;
 use std::test::Fail;
 
-/// Checks that a base tells these messages, and none behind them.
+/// Checks that a base has these messages, and none behind them.
 fn told(rt: &impl Abort, entries: &BaseEntries, wanted: &[BaseEntry]) {
     let count = wanted.len() as u64;
     holds!(rt; entries.len() == count);

@@ -1,6 +1,9 @@
-use mq_index::ListWaiting;
+//! The calls of a queue, each retried once when out of memory. A send or a receive must be refused
+//! just as the queue predicts. Also the text of each error, and a text that is too long.
+
 use mq_message::{Body, Message, Selection, VecBody, discard};
 use mq_queue::{Log, NoNotice, QueueError, QueueState};
+use mq_select::ListWaiting;
 use std::alloc::{AllocError, Global};
 use std::process::Abort;
 use std::test::Fail;
@@ -23,7 +26,7 @@ pub(crate) enum Answer {
     /// The places of the receipt and of the sending, the whole length, and the length that is left.
     Got(u64, u64, u64, u64),
     Refused(QueueError),
-    /// The call was not refused as the queue had foretold.
+    /// The call was not refused as the queue had predicted.
     Unforetold,
 }
 
@@ -116,7 +119,7 @@ pub(crate) fn check(
     Ok(())
 }
 
-/// Ends a queue with all that waits: its log.
+/// Ends a queue with all its pending messages, and returns its log.
 pub(crate) fn close(queue: Queue) -> Log {
     let (log, waiting) = queue.into_parts();
     discard(waiting);
@@ -152,7 +155,7 @@ fn check_whole(rt: &impl Abort, back: &Message<VecBody>) {
 }
 
 #[test]
-fn a_text_that_is_too_long_is_handed_back(rt: HostRuntime) -> Result<(), Fail> {
+fn a_text_that_is_too_long_is_returned(rt: HostRuntime) -> Result<(), Fail> {
     let long = message(rt.alloc(), 5, 65_537)?;
     let mut queue = Queue::made(rt.alloc(), 7, 2, 50, &mut NoNotice)?;
     let back = handed_back(&mut queue, long);

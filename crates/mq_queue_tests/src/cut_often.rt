@@ -1,4 +1,4 @@
-//! The same calls to two queues, of which the log of one is cut again and again.
+//! The same calls to two queues, of which the log of one is drained again and again.
 
 use crate::calls::{Answer, Queue, close, message, receive, send, set};
 use mq_message::Selection;
@@ -7,7 +7,7 @@ use std::alloc::{AllocError, Global};
 use std::process::Abort;
 use std::test::Fail;
 
-/// The next number of a row that looks random.
+/// The next number of a pseudorandom sequence.
 fn next(number: u64) -> u64 {
     number
         .wrapping_mul(6_364_136_223_846_793_005)
@@ -29,7 +29,7 @@ fn call(alloc: Global, queue: &mut Queue, number: u64, moment: u64) -> Result<An
     })
 }
 
-/// Adds the events of a cut to those of the cuts before it.
+/// Adds the events of a drain to those of the drains before it.
 fn keep(all: &mut Vec<Event>, tail: Vec<Event>) -> Result<(), AllocError> {
     for event in tail.as_slice() {
         all.push(*event)?;
@@ -37,8 +37,8 @@ fn keep(all: &mut Vec<Event>, tail: Vec<Event>) -> Result<(), AllocError> {
     Ok(())
 }
 
-/// Cuts the log, and adds what is cut off to what was before. Answers whether it stood right behind
-/// that.
+/// Drains the log, and appends its events to those drained before. Whether it began right behind
+/// them.
 fn cut_off(queue: &mut Queue, all: &mut Vec<Event>) -> Result<bool, AllocError> {
     let (base, tail) = queue.cut()?;
     let follows = base.places == all.len() as u64;
@@ -51,8 +51,8 @@ fn same(whole: &Queue, cut: &Queue, first: u64) -> bool {
     cut.figures() == whole.figures() && cut.log_len() == whole.log_len() && cut.first() == first
 }
 
-/// Makes 300 calls of both queues, cuts the log of the second after each so many, and gathers what
-/// is cut off. Answers at which call the two differ, or `None`.
+/// Makes 300 calls of both queues, drains the log of the second after each so many, and gathers
+/// what is drained. Returns the call at which the two differ, or `None`.
 fn differ(
     alloc: Global,
     queues: (&mut Queue, &mut Queue),
@@ -87,7 +87,7 @@ fn two_queues(alloc: Global) -> Result<(Queue, Queue), AllocError> {
     }
 }
 
-/// Checks the answers of a queue that is cut after every so many calls, and all its events.
+/// Checks the answers of a queue that is drained after every so many calls, and all its events.
 fn check(rt: &impl Abort, alloc: Global, every: u64) -> Result<(), AllocError> {
     let (mut whole, mut cut) = two_queues(alloc)?;
     let mut all = Vec::new(alloc);

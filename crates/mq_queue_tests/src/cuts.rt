@@ -1,9 +1,9 @@
-//! A queue whose log is cut: what is handed out, and what is answered afterwards.
+//! A queue whose log is drained: what is returned, and what later calls answer.
 
 use crate::calls::{Answer, Queue, close, message, receive, removed, send, set};
-use mq_index::ListWaiting;
 use mq_message::{Selection, VecBody};
 use mq_queue::{Base, BaseEntries, Event, Figures, Log, NO_FIGURES, NoNotice, QueueState};
+use mq_select::ListWaiting;
 use std::alloc::{AllocError, Global};
 use std::process::Abort;
 use std::test::Fail;
@@ -11,7 +11,7 @@ use std::test::Fail;
 /// The waiting list of a `Queue`.
 type List = ListWaiting<VecBody>;
 
-/// Cuts the log, at the second try where there was no memory: then nothing has changed.
+/// Drains the log, at the second try when out of memory: then nothing has changed.
 fn cut(rt: &impl Abort, queue: &mut QueueState<VecBody, List>) -> (Base, Vec<Event>) {
     let before = (queue.first(), queue.log_len(), queue.figures());
     if let Ok(cut) = queue.cut() {
@@ -25,7 +25,7 @@ fn cut(rt: &impl Abort, queue: &mut QueueState<VecBody, List>) -> (Base, Vec<Eve
     }
 }
 
-/// Checks the place and the length of each message that a base tells.
+/// Checks the place and the length of each message of a base.
 fn check_waiting(rt: &impl Abort, waiting: &BaseEntries, wanted: &[(u64, u64)]) {
     holds!(rt; waiting.len() == wanted.len() as u64);
     for i in 0..wanted.len() {
@@ -44,14 +44,14 @@ fn check_begun(rt: &impl Abort, base: &Base) {
     check_waiting(rt, &base.waiting, &[(1, 1), (3, 3)]);
 }
 
-/// Checks what a cut hands out of a queue after its beginning, with so many events since then.
+/// Checks what a drain returns of a queue after its beginning, with so many events since then.
 fn check_cut(rt: &impl Abort, cut: &(Base, Vec<Event>), events: usize) {
     let (base, tail) = cut;
     check_begun(rt, base);
     holds!(rt; tail.len() == events);
 }
 
-/// Checks what the first cut hands out: all events, and nothing before them.
+/// Checks what the first drain returns: all events, and nothing before them.
 fn check_first(rt: &impl Abort, cut: &(Base, Vec<Event>)) {
     let (base, tail) = cut;
     holds!(rt; base.places == 0);
@@ -106,7 +106,7 @@ fn begun(rt: &impl Abort, alloc: Global) -> Result<Queue, AllocError> {
     }
 }
 
-/// Checks what a queue shows once its beginning was cut off.
+/// Checks what a queue shows once its beginning was drained.
 fn check_kept(rt: &impl Abort, queue: &Queue) {
     check_begun(rt, queue.base());
     holds!(rt; (queue.first(), queue.log_len()) == (5, 5));
@@ -140,7 +140,7 @@ fn a_second_cut_at_once_hands_out_no_event(rt: HostRuntime) -> Result<(), Fail> 
     Ok(())
 }
 
-/// Checks the log of a queue that is removed after its beginning was cut off and a quota set.
+/// Checks the log of a queue that is removed after its beginning was drained and a quota set.
 fn check_removed(rt: &impl Abort, log: Log) {
     holds!(rt; (log.first(), log.len()) == (5, 7));
     holds!(rt; log.get(4) == None);

@@ -1,6 +1,9 @@
+//! The waiting lists, compared with the plain one on fixed and pseudorandom steps; and a full queue
+//! in which each message has a type of its own.
+
 use crate::steps::{Step, places};
-use mq_index::{ByType, IndexWaiting, Layered, ListWaiting};
 use mq_message::{Selection, VecBody, Waiting};
+use mq_select::{ByType, IndexWaiting, Layered, ListWaiting};
 use std::alloc::{AllocError, Global};
 use std::process::Abort;
 use std::test::Fail;
@@ -16,7 +19,7 @@ type Index = IndexWaiting<VecBody>;
 /// The quota of a queue that is filled with empty messages: how many fit into it.
 const MOST: u64 = 16_384;
 
-/// Checks what one form tells, step by step.
+/// Checks the answers of one form, step by step.
 fn check_form<W: Waiting<VecBody>>(
     rt: &impl Abort,
     alloc: Global,
@@ -28,7 +31,7 @@ fn check_form<W: Waiting<VecBody>>(
     Ok(())
 }
 
-/// Checks what each form tells.
+/// Checks the answers of each form.
 fn check(
     rt: &impl Abort,
     alloc: Global,
@@ -42,7 +45,7 @@ fn check(
 }
 
 #[test]
-fn with_types_up_to_a_bound_the_lowest_comes_first(rt: HostRuntime) -> Result<(), Fail> {
+fn with_types_up_to_a_bound_the_lowest_is_received_first(rt: HostRuntime) -> Result<(), Fail> {
     let lowest = Step::Receive(Selection::UpTo(2));
     let steps = [
         Step::Send(3),
@@ -71,7 +74,9 @@ fn with_types_up_to_a_bound_the_lowest_comes_first(rt: HostRuntime) -> Result<()
 }
 
 #[test]
-fn with_a_type_excepted_the_others_come_in_their_order(rt: HostRuntime) -> Result<(), Fail> {
+fn with_a_type_excepted_the_others_are_received_in_their_order(
+    rt: HostRuntime,
+) -> Result<(), Fail> {
     let other = Step::Receive(Selection::Except(7));
     let steps = [
         other,
@@ -106,7 +111,7 @@ fn with_a_type_excepted_the_others_come_in_their_order(rt: HostRuntime) -> Resul
 }
 
 #[test]
-fn with_one_type_wanted_its_first_message_comes(rt: HostRuntime) -> Result<(), Fail> {
+fn with_one_type_its_first_message_is_received(rt: HostRuntime) -> Result<(), Fail> {
     let fives = Step::Receive(Selection::Exact(5));
     let widest = Step::Receive(Selection::UpTo(1 << 63));
     let steps = [
@@ -137,7 +142,7 @@ fn with_one_type_wanted_its_first_message_comes(rt: HostRuntime) -> Result<(), F
     Ok(())
 }
 
-/// A number that follows from the one before it, for choices that look like chance.
+/// The next number of a pseudorandom sequence.
 fn next(seed: u64) -> u64 {
     seed.wrapping_mul(6364136223846793005)
         .wrapping_add(1442695040888963407)
@@ -159,7 +164,7 @@ fn step(seed: u64, types: u64, sends: u64) -> Step {
 }
 
 /// A list of steps on up to that many types: at first most of them send, then few, then half of
-/// them. It ends with messages that wait.
+/// them. It ends with pending messages.
 fn generated(alloc: Global, seed: u64, types: u64) -> Result<Vec<Step>, AllocError> {
     let mut steps = Vec::new(alloc);
     let mut seed = next(seed);
@@ -177,7 +182,8 @@ fn generated(alloc: Global, seed: u64, types: u64) -> Result<Vec<Step>, AllocErr
     Ok(steps)
 }
 
-/// Whether more than 32 messages wait after one of the steps, and 8 or fewer after a later one.
+/// Whether more than 32 messages are pending after one of the steps, and at most 8 after a later
+/// one.
 fn crosses(steps: &[Step], answers: &[Option<u64>]) -> bool {
     let mut waiting = 0u64;
     let mut many = false;
@@ -197,8 +203,8 @@ fn crosses(steps: &[Step], answers: &[Option<u64>]) -> bool {
     false
 }
 
-/// Whether the forms tell the same from that list of steps, and the list crosses to many messages
-/// and back; or nothing where they differ.
+/// Whether the list of steps crosses to many messages and back, where the forms give the same
+/// answers; `None` where they differ.
 fn agree(alloc: Global, steps: &[Step]) -> Result<Option<bool>, AllocError> {
     let wanted = places::<List>(alloc, steps)?;
     let typed = places::<Typed>(alloc, steps)?;
@@ -224,8 +230,8 @@ fn the_forms_give_the_same_answers(rt: HostRuntime) -> Result<(), Fail> {
 }
 
 /// A list of steps that sends messages of the type 2, and then some of three types between
-/// receipts: at first as many as these, then few, then most of them. It ends with messages that
-/// wait.
+/// receipts: at first as many as these, then few, then most of them. It ends with pending
+/// messages.
 fn layered(alloc: Global, seed: u64, first: u64) -> Result<Vec<Step>, AllocError> {
     let mut steps = Vec::new(alloc);
     for _ in 0..first {
@@ -246,7 +252,7 @@ fn layered(alloc: Global, seed: u64, first: u64) -> Result<Vec<Step>, AllocError
     Ok(steps)
 }
 
-/// Of messages of one type and those of others that come behind them, whatever is selected.
+/// Messages of one type and those of others behind them, whatever is selected.
 #[test]
 fn behind_one_type_the_forms_give_the_same_answers(rt: HostRuntime) -> Result<(), Fail> {
     let mut crossed = 0u64;
@@ -263,7 +269,7 @@ fn behind_one_type_the_forms_give_the_same_answers(rt: HostRuntime) -> Result<()
     Ok(())
 }
 
-/// So many messages are sent, all but some received, and so on: twice over to many and back.
+/// Forty messages are sent, and all but some received by selections that except a type: twice.
 fn there_and_back(alloc: Global) -> Result<Vec<Step>, AllocError> {
     let mut steps = Vec::new(alloc);
     for i in 0..160u32 {
@@ -278,9 +284,9 @@ fn there_and_back(alloc: Global) -> Result<Vec<Step>, AllocError> {
     Ok(steps)
 }
 
-/// Run with each allocation refused in turn: what is refused at a crossing is asked once more.
+/// Run with each allocation refused in turn: a call that is refused at a crossing is retried.
 #[test]
-fn a_refused_crossing_goes_on_where_it_was(rt: HostRuntime) -> Result<(), Fail> {
+fn a_refused_crossing_continues_where_it_was(rt: HostRuntime) -> Result<(), Fail> {
     let steps = there_and_back(rt.alloc())?;
     holds!(rt; agree(rt.alloc(), &steps)? == Some(true));
     Ok(())
@@ -304,15 +310,15 @@ fn layer_upon_layer(alloc: Global) -> Result<Vec<Step>, AllocError> {
     Ok(steps)
 }
 
-/// Run with each allocation refused in turn: what is refused in one layer leaves both.
+/// Run with each allocation refused in turn: a refusal in one layer leaves both unchanged.
 #[test]
-fn a_refused_layer_goes_on_where_it_was(rt: HostRuntime) -> Result<(), Fail> {
+fn a_refused_layer_continues_where_it_was(rt: HostRuntime) -> Result<(), Fail> {
     let steps = layer_upon_layer(rt.alloc())?;
     holds!(rt; agree(rt.alloc(), &steps)? == Some(true));
     Ok(())
 }
 
-/// The type of a message, of which no other is; its text is empty.
+/// The type of a message, which no other message has; its text is empty.
 fn type_of(place: u64) -> i64 {
     ((place % MOST * 5 % MOST + 1) * 8) as i64
 }
@@ -350,7 +356,7 @@ fn each_type(alloc: Global) -> Result<Vec<Selection>, AllocError> {
     Ok(selections)
 }
 
-/// Checks that the quota is set and each of these messages sent, and not the one more.
+/// Checks that the quota is set and each of these messages sent, but not the one more.
 fn all_sent(rt: &impl Abort, told: &[Option<u64>]) {
     for i in 0..MOST + 1 {
         holds!(rt; told.get(i as usize).copied() == Some(Some(i + 1)));

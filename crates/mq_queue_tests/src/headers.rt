@@ -1,6 +1,9 @@
-use mq_index::{ByType, IndexWaiting, ListWaiting};
+//! The headers of the pending messages, from each waiting list: they are in the order of sending,
+//! and are those that the log implies (sent and not received).
+
 use mq_message::{Header, Message, Selection, VecBody, Waiting, discard};
 use mq_queue::{Event, Log, NoNotice, QueueError, QueueState};
+use mq_select::{ByType, IndexWaiting, ListWaiting};
 use std::alloc::{AllocError, Global};
 use std::process::Abort;
 use std::test::Fail;
@@ -17,7 +20,7 @@ fn message(alloc: Global, index: usize, mtype: i64) -> Result<Message<VecBody>, 
     })
 }
 
-/// Sends a message for each type. What finds no memory is sent once more.
+/// Sends a message for each type, at the second try when out of memory.
 fn send_each<W: Waiting<VecBody>>(
     alloc: Global,
     queue: &mut Queue<W>,
@@ -32,7 +35,7 @@ fn send_each<W: Waiting<VecBody>>(
     Ok(())
 }
 
-/// Receives a message by each selection. What finds no memory is received once more.
+/// Receives a message by each selection, at the second try when out of memory.
 fn receive_each<W: Waiting<VecBody>>(queue: &mut Queue<W>, selections: &[Selection]) {
     for selection in selections {
         let answer = queue.receive(8192, *selection, false, 4, 80, &mut NoNotice);
@@ -42,7 +45,7 @@ fn receive_each<W: Waiting<VecBody>>(queue: &mut Queue<W>, selections: &[Selecti
     }
 }
 
-/// The headers that a waiting list tells at its end, at the second try where there was no memory.
+/// The headers of a waiting list at its end, at the second try when out of memory.
 fn headers_of<W: Waiting<VecBody>>(alloc: Global, waiting: W) -> Result<Vec<Header>, AllocError> {
     let headers = match waiting.headers(alloc) {
         Err(AllocError) => waiting.headers(alloc),
@@ -53,7 +56,7 @@ fn headers_of<W: Waiting<VecBody>>(alloc: Global, waiting: W) -> Result<Vec<Head
 }
 
 /// The log of a queue to which a message of each type is sent and out of which one is received by
-/// each selection, and the headers that its waiting list tells then.
+/// each selection, and the headers of its waiting list then.
 fn left<W: Waiting<VecBody>>(
     alloc: Global,
     types: &[i64],
@@ -68,7 +71,7 @@ fn left<W: Waiting<VecBody>>(
     Ok((log, headers?))
 }
 
-/// Checks the headers that a list tells.
+/// Checks the headers of a list.
 fn check<W: Waiting<VecBody>>(
     rt: &impl Abort,
     alloc: Global,
@@ -81,7 +84,7 @@ fn check<W: Waiting<VecBody>>(
     Ok(())
 }
 
-/// Checks those of each list.
+/// Checks the headers of each list.
 fn check_each(
     rt: &impl Abort,
     alloc: Global,
@@ -135,7 +138,7 @@ fn is_received(log: &Log, sent: u64) -> bool {
     false
 }
 
-/// The headers of the messages that a log leaves waiting, found from the log alone.
+/// The headers of the messages that a log leaves pending, found from the log alone.
 fn by_log(alloc: Global, log: &Log) -> Result<Vec<Header>, AllocError> {
     let mut headers = Vec::new(alloc);
     for place in 0..log.len() {
@@ -161,7 +164,7 @@ fn by_log(alloc: Global, log: &Log) -> Result<Vec<Header>, AllocError> {
     Ok(headers)
 }
 
-/// Whether a list tells just as many headers as wanted, those that the log leaves waiting.
+/// Whether a list has just as many headers as expected, those that the log leaves pending.
 fn agrees<W: Waiting<VecBody>>(
     alloc: Global,
     types: &[i64],
@@ -197,7 +200,7 @@ fn picking(alloc: Global, count: u32) -> Result<Vec<Selection>, AllocError> {
     Ok(selections)
 }
 
-/// Checks that after so many receipts each list tells just as many headers as wanted.
+/// Checks that after so many receipts each list has just as many headers as expected.
 fn check_left(
     rt: &impl Abort,
     alloc: Global,

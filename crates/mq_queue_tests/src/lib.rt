@@ -1,5 +1,5 @@
-//! Tests of waiting lists, plain and found by type, of one queue, and of texts on their way through
-//! queues.
+//! Tests of pending lists, plain and indexed by type, of one queue, and of texts on their way
+//! through queues.
 
 #![tactic(auto)]
 

@@ -1,8 +1,11 @@
+//! The plain waiting list: which message each selection of msgop(2) picks, that a message is
+//! returned whole, and that a failed allocation leaves the list unchanged.
+
 ghost use Rattle.std.specs.Prelude.{◌+◌, ◌<◌, All, OnOk};
 
-use mq_index::ListWaiting;
 use mq_message::Selection::{Any, Exact, Except, UpTo};
 use mq_message::{Body, Message, Selection, VecBody, Waiting, discard};
+use mq_select::ListWaiting;
 use std::alloc::{AllocError, Global};
 use std::process::Abort;
 use std::test::Fail;
@@ -30,7 +33,7 @@ fn put<W: Waiting<VecBody>>(
     Ok(())
 }
 
-/// A list in which messages of these types wait, at the places from 0 on.
+/// A list of pending messages of these types, at the places from 0 on.
 fn filled<W: Waiting<VecBody>>(alloc: Global, types: &[i64]) -> Result<W, AllocError> {
     let mut list = W::fresh(alloc);
     for i in 0..types.len() {
@@ -47,7 +50,7 @@ fn receive<W: Waiting<VecBody>>(list: &mut W, selection: Selection) -> Option<Me
     Some(list.take(place))
 }
 
-/// Which messages the selections hand out, one after another, by their tags.
+/// Which messages the selections return, one after another, by their tags.
 fn handed_out<W: Waiting<VecBody>>(
     alloc: Global,
     list: &mut W,
@@ -64,7 +67,7 @@ fn handed_out<W: Waiting<VecBody>>(
     Ok(tags)
 }
 
-/// Which of the messages of these types the selections hand out, by their places.
+/// Which of the messages of these types the selections return, by their places.
 fn places_of<W: Waiting<VecBody>>(
     alloc: Global,
     types: &[i64],
@@ -76,7 +79,7 @@ fn places_of<W: Waiting<VecBody>>(
     places
 }
 
-/// The length of the message that a receive would hand out.
+/// The length of the message that a receive would return.
 fn length_ahead<W: Waiting<VecBody>>(list: &W, selection: Selection) -> Option<u64> {
     let place = list.find(selection)?;
     Some(list.length_of(place))
@@ -92,7 +95,7 @@ fn popped<W: Waiting<VecBody>>(alloc: Global, list: &mut W) -> Result<Vec<u64>, 
     Ok(tags)
 }
 
-/// The types of messages, selections, and which of the messages these hand out by their places.
+/// The types of messages, selections, and the places of the messages that these return.
 const CASES: [(&[i64], &[Selection], &[Option<u64>]); 9] = [
     (
         &[],
@@ -183,7 +186,7 @@ fn check_first(rt: &impl Abort, message: &Message<VecBody>) {
 }
 
 #[test]
-fn a_message_comes_back_whole(rt: HostRuntime) -> Result<(), Fail> {
+fn a_message_is_returned_whole(rt: HostRuntime) -> Result<(), Fail> {
     let mut list = ListWaiting::<VecBody>::fresh(rt.alloc());
     let put = put(rt.alloc(), &mut list, 3, 5, b"first");
     let length = length_ahead(&list, Selection::Any);

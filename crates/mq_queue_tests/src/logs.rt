@@ -1,3 +1,6 @@
+//! The log and the figures of a queue: which events calls append, and that a refused call changes
+//! neither. Also a queue with as many messages as its quota has bytes, and a log of many events.
+
 use crate::calls::{Answer, Queue, Step, check, close, message, receive, removed, send, set};
 use mq_message::Selection;
 use mq_queue::{Event, Figures, Log, NoNotice, QueueError};
@@ -63,13 +66,13 @@ fn figures_show_the_last_moment_whatever_it_is(rt: HostRuntime) -> Result<(), Fa
     Ok(())
 }
 
-/// A queue of at most three bytes, which wait.
+/// A queue of at most three bytes, which are pending.
 const FILLED: [(Step, Answer); 2] = [
     (Step::Set(3), Answer::At(1)),
     (Step::Send(1, 3), Answer::At(2)),
 ];
 
-/// Each refusal of such a queue, and the first in order of those that come together.
+/// Each refusal of such a queue, and the first in order where several apply.
 const REFUSED: [(Step, Answer); 7] = [
     (
         Step::Send(0, 65_537),
@@ -160,7 +163,7 @@ fn check_log(rt: &impl Abort, log: Log) {
 }
 
 #[test]
-fn the_log_of_a_removed_queue_tells_all(rt: HostRuntime) -> Result<(), Fail> {
+fn the_log_of_a_removed_queue_has_all(rt: HostRuntime) -> Result<(), Fail> {
     let mut queue = Queue::made(rt.alloc(), 7, 2, 50, &mut NoNotice)?;
     let visited = visit(rt.alloc(), &mut queue, [60, 70, 80]);
     let last = queue.event(4);
@@ -173,7 +176,8 @@ fn the_log_of_a_removed_queue_tells_all(rt: HostRuntime) -> Result<(), Fail> {
     Ok(())
 }
 
-/// Sends so many empty texts of changing types, and answers the last place. No memory ends it.
+/// Sends so many empty texts of changing types, and returns the last place. It ends when out of
+/// memory.
 fn fill(alloc: Global, queue: &mut Queue, count: u64) -> Result<u64, Fail> {
     let mut last = 0;
     for i in 0..count {
@@ -186,8 +190,8 @@ fn fill(alloc: Global, queue: &mut Queue, count: u64) -> Result<u64, Fail> {
     Ok(last)
 }
 
-/// Fills the queue with 100 messages and receives them by their types, so many times. No memory
-/// ends it.
+/// Fills the queue with 100 messages and receives them by their types, so many times. It ends when
+/// out of memory.
 fn fill_and_drain(alloc: Global, queue: &mut Queue, rounds: u64) -> Result<(), Fail> {
     for moment in 0..rounds {
         fill(alloc, queue, 100)?;

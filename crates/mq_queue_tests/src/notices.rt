@@ -1,4 +1,5 @@
-//! A notice takes in each event with the figures after it, or the call is refused and leaves all.
+//! A notice observes each event with the figures after it, or the call is refused and changes
+//! nothing.
 
 use crate::calls::{Queue, close, message};
 use mq_message::{Message, Selection, VecBody, discard};
@@ -14,7 +15,7 @@ struct Taken {
     after: Figures,
 }
 
-/// A notice that keeps what it took in last, or takes nothing in.
+/// A notice that keeps the last event that it observed, or refuses each event.
 #[derive(Clone, Copy)]
 struct Last {
     taken: Option<Taken>,
@@ -46,7 +47,7 @@ const REFUSES: Last = Last {
     refuses: true,
 };
 
-/// Whether the notice took in the queue's last event, with the queue's figures.
+/// Whether the notice observed the queue's last event, with the queue's figures.
 fn is_told(queue: &Queue, notice: &Last) -> bool {
     match (notice.taken, queue.event(queue.log_len().saturating_sub(1))) {
         (Some(taken), Some(event)) => taken.event == event && taken.after == queue.figures(),
@@ -54,7 +55,7 @@ fn is_told(queue: &Queue, notice: &Last) -> bool {
     }
 }
 
-/// Whether a new queue's notice took in its making, and then takes in each change.
+/// Whether a new queue's notice observes its making, and then each change.
 fn tells_each(
     queue: &mut Queue,
     text: Message<VecBody>,
@@ -71,7 +72,7 @@ fn tells_each(
     Ok(made && sent && received && is_told(queue, notice))
 }
 
-/// Removes the queue, as the notice takes in.
+/// Removes the queue, which the notice observes.
 fn remove(rt: &impl Abort, queue: Queue, notice: &mut Last) {
     match queue.remove(2, 90, notice) {
         Ok((_log, waiting)) => discard(waiting),
@@ -142,7 +143,7 @@ fn not_removed(rt: &impl Abort, queue: Queue) -> Queue {
     }
 }
 
-/// Where the notice refuses, the call answers that there is no memory, and nothing has changed.
+/// Where the notice refuses, the call is out of memory, and nothing has changed.
 #[test]
 fn a_notice_that_refuses_leaves_the_queue(rt: HostRuntime) -> Result<(), Fail> {
     let first = message(rt.alloc(), 5, 3)?;

@@ -1,9 +1,12 @@
+//! The parts of the index of pending messages: the least place over all types, compared with a
+//! linear search, and the FIFO queue of one type.
+
 ghost use Rattle.std.specs.Prelude.{◌≡◌, ◌+◌, ◌<◌, ◌≤◌, ◌++◌, ◌∷◌, [], ℕ, ℤ, All, Some};
 ghost use Rattle.std.specs.Prelude.{IfNone, IfSome, OnOk, length, map};
-ghost use Rattle.mq_index.specs.FirstPlaces.{first_of};
+ghost use Rattle.mq_select.specs.FirstPlaces.{first_of};
 
-use mq_index::{FirstPlaces, Room, TypeQueue};
 use mq_message::{Message, VecBody};
+use mq_select::{FirstPlaces, Room, TypeQueue};
 use std::alloc::{AllocError, Global};
 use std::process::Abort;
 use std::test::Fail;
@@ -11,7 +14,7 @@ use std::test::Fail;
 /// How many types there are in a test.
 const TYPES: usize = 16;
 
-/// A number that follows from the one before it, for choices that look like chance.
+/// The next number of a pseudorandom sequence.
 fn next(seed: u64) -> u64 {
     seed.wrapping_mul(6364136223846793005)
         .wrapping_add(1442695040888963407)
@@ -33,7 +36,7 @@ fn step(fronts: &mut FirstPlaces, mtype: i64, place: u64, leaves: bool) -> Resul
     Ok(())
 }
 
-/// The least of these places, by a search through all but one.
+/// The least of these places but for one type's, by a linear search.
 fn least(places: &[Option<u64>; TYPES], other: usize) -> Option<u64> {
     let mut least = None;
     for i in 0..TYPES {
@@ -46,7 +49,7 @@ fn least(places: &[Option<u64>; TYPES], other: usize) -> Option<u64> {
     least
 }
 
-/// Checks what the fronts tell of each type, and of all.
+/// Checks the first place of each type, and the least of all.
 fn told(rt: &impl Abort, fronts: &FirstPlaces, places: &[Option<u64>; TYPES]) {
     holds!(rt; fronts.least() == least(places, TYPES));
     for mtype in 0..TYPES {
@@ -133,7 +136,7 @@ fn put_three(
     put(alloc, queue, room, 2)
 }
 
-/// Takes out the first message, and tells its tag.
+/// Takes out the first message, and returns its tag.
 fn pop(queue: &mut TypeQueue<VecBody>) -> Option<u64>
     ensures none { IfNone result (queue.new ≡ []) }
     ensures some { IfSome result (λ _. length queue.new < length queue.old) }
@@ -161,7 +164,7 @@ fn left_of_three(alloc: Global, middle: bool) -> Result<Vec<u64>, AllocError> {
     let mut room = Room::new(alloc);
     let put = put_three(alloc, &mut queue, &mut room);
     room.end();
-    // The message leaves only where its length is told right.
+    // The message leaves only where its length is right.
     if put.is_ok() && middle && queue.length_of(1) == 4 {
         let _message = queue.take(1);
     }

@@ -1,3 +1,5 @@
+//! Runs a list of steps on a queue over any waiting list, for the tests that compare them.
+
 use mq_message::{Message, Selection, VecBody, Waiting, discard};
 use mq_queue::{NoNotice, QueueError, QueueState};
 use std::alloc::{AllocError, Global};
@@ -12,7 +14,7 @@ pub(crate) enum Step {
     Set(u64),
 }
 
-/// A message of this type, with a text of as many bytes as its type tells, below 8.
+/// A message of this type, with a text of as many bytes as the type modulo 8.
 fn message(alloc: Global, mtype: i64) -> Result<Message<VecBody>, AllocError> {
     let bytes = vec![in alloc; b'a'; (mtype & 7) as usize]?;
     Ok(Message {
@@ -65,7 +67,7 @@ fn set<W: Waiting<VecBody>>(queue: &mut QueueState<VecBody, W>, qbytes: u64) -> 
     }
 }
 
-/// Makes the steps, and writes down the place that each tells.
+/// Makes the steps, and records the place that each answers.
 fn made<W: Waiting<VecBody>>(
     alloc: Global,
     queue: &mut QueueState<VecBody, W>,
@@ -83,8 +85,7 @@ fn made<W: Waiting<VecBody>>(
     Ok(places)
 }
 
-/// The places that a new queue tells, step by step; what waits after the last of them leaves by
-/// itself.
+/// The places that a new queue answers, step by step; the pending messages are then discarded.
 pub(crate) fn places<W: Waiting<VecBody>>(
     alloc: Global,
     steps: &[Step],

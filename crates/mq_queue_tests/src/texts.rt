@@ -1,11 +1,11 @@
-//! A text that is sent on and on stays in its own block.
+//! A text that is sent again and again stays in its own block.
 ghost use Rattle.std.specs.Prelude.{◌≡◌, ◌^◌, ◌<◌, length};
 ghost use Rattle.mq_arena.specs.Text.{count_of};
 
 use mq_arena::{ArenaState, Homecoming, LEDGER_PARTS, PAGE_LEN, Page, Text, Unopened, fill};
-use mq_index::ListWaiting;
 use mq_message::{Body, Message, Selection, Waiting};
 use mq_queue::{NoNotice, QueueError, QueueState, Received};
+use mq_select::ListWaiting;
 use std::alloc::Global;
 use std::marker::Brand;
 use std::process::Abort;

@@ -9,7 +9,7 @@ use mq::{
 use std::sync::Wait;
 use std::time::Clock;
 
-/// Nothing is pledged: what comes is looked at when it came.
+/// Nothing is pledged: a message is checked once it was received.
 pub(crate) struct Nothing;
 
 impl Pledge for Nothing {
@@ -91,7 +91,7 @@ fn send<N: Names, R: Wait>(
     }
 }
 
-/// What came, with a look at each byte.
+/// The received message, with each byte checked.
 pub(crate) fn handed<N: Names>(delivered: &Delivered<TextOf<N>>) -> Handed {
     let mut came = 0u64;
     let mut as_sent = true;
@@ -261,8 +261,8 @@ fn answer_of_text<N: Names, R: Wait>(
     }
 }
 
-/// The answer to a call of no text; the log of a queue that it removes is kept, and what it cuts
-/// off.
+/// The answer to a call of no text; the log of a queue that it removes is kept, and what it
+/// drains.
 fn answer_of_queue<N: Names, R: Wait>(
     rt: &R,
     system: &System<Nothing, N>,

@@ -79,7 +79,7 @@ impl Chooser {
         }
     }
 
-    /// A call of several texts, which waits for nobody, or not long.
+    /// A call of several texts, which does not wait, or not long.
     pub(crate) fn batch(&mut self, alloc: Global, step: u64, tag: u64) -> Option<Asked> {
         let how_long = if self.one_of(4) {
             HowLong::Within(self.below(1_000))

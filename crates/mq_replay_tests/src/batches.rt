@@ -136,7 +136,7 @@ fn received<N: Names, R: Wait + Clock>(
     }
 }
 
-/// Spends the texts that came, and says which they are.
+/// Spends the texts that were received, and says which they are.
 fn spend_handed<N: Names, R: Wait + Clock>(
     caller: &Caller<'_, Nothing, N, R>,
     texts: &mut VecDeque<Delivered<TextOf<N>>>,

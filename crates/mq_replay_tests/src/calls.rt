@@ -23,7 +23,7 @@ pub(crate) enum HowLong {
     Within(u64),
 }
 
-/// What a call asks for. An id is its number, and a text is told by its length and its tag.
+/// What a call asks for. An id is its number, and a text is given by its length and its tag.
 #[derive(Debug, Drop)]
 pub(crate) enum Asked {
     Get {
@@ -83,7 +83,7 @@ pub(crate) struct Handed {
     pub(crate) tag: u64,
     /// How many bytes were sent.
     pub(crate) length: u64,
-    /// How many bytes came.
+    /// How many bytes were received.
     pub(crate) came: u64,
     /// Whether each of them is the one that the tag says.
     pub(crate) as_sent: bool,
@@ -94,7 +94,7 @@ pub(crate) struct Handed {
 pub(crate) enum BatchEnd {
     /// It did as many as it was asked for, or as one call does.
     All,
-    /// Why the next one was refused, and after how many entries, where that is told.
+    /// Why the next one was refused, and after how many entries, where that is known.
     Refused(Errno, Option<u64>),
 }
 
@@ -106,16 +106,16 @@ pub(crate) enum Answer {
     /// The entry of a sending or of a new quota.
     Done(u64),
     Handed(Handed),
-    /// The entry of the first letter that was sent, and the letters that came back.
+    /// The entry of the first letter that was sent, and the letters that were returned.
     SentTexts(Option<u64>, Vec<KeptLetter>, BatchEnd),
     HandedTexts(Vec<Handed>, BatchEnd),
     /// The entry of a removal.
     Removed(u64),
     Shown(Figures),
     Rows([BoardRow; SLOTS]),
-    /// How many entries the slot had when it was cut.
+    /// How many entries the slot had when it was drained.
     Cut(u64),
-    /// Why, and after how many entries, where that is told.
+    /// Why, and after how many entries, where that is known.
     Refused(Errno, Option<u64>),
 }
 
@@ -126,7 +126,7 @@ pub(crate) struct Call {
     pub(crate) answer: Answer,
 }
 
-/// The log of a queue that was removed: what was cut off of it, and the rest.
+/// The log of a queue that was removed: the checkpoint of what was drained, and the rest.
 #[derive(Drop)]
 pub(crate) struct KeptLog {
     pub(crate) base: Base,
@@ -145,13 +145,13 @@ pub(crate) struct Kept {
     pub(crate) calls: Vec<Call>,
     /// The logs of the queues that it removed.
     pub(crate) logs: Vec<KeptLog>,
-    /// What it was handed when it cut a slot.
+    /// What was returned when it drained a slot.
     pub(crate) cuts: Vec<KeptCut>,
     /// Where the bytes of a text stand before it is drafted.
     pub(crate) text: Vec<u8>,
 }
 
-/// What a seat tells at the end.
+/// What a seat reports at the end.
 #[derive(Drop)]
 pub(crate) struct Told {
     pub(crate) seat: u16,

@@ -1,4 +1,4 @@
-//! What a seat asks for next: numbers that look random and are the same in each run.
+//! What a seat asks for next: pseudorandom choices, which are the same in each run.
 ghost use Rattle.std.specs.Prelude.{◌<◌};
 
 use crate::calls::{Answer, Asked, BatchEnd, SLOTS};
@@ -17,7 +17,7 @@ const REMOVALS: u64 = 1;
 
 const STATS: u64 = 6;
 
-/// Of how many calls about one cuts a slot's list.
+/// Of how many calls about one drains a slot's list.
 const TO_A_CUT: u64 = 200;
 
 /// Of how many calls about one is of several texts.
@@ -234,7 +234,7 @@ impl Chooser {
         }
     }
 
-    /// Takes in what was answered.
+    /// Learns what was answered.
     pub(crate) fn learn(&mut self, answer: &Answer) {
         match answer {
             Answer::Got(id, _) => {

@@ -1,5 +1,5 @@
-//! Many calls of sixteen threads, each of which `tests/replay.py` finds again in what the slots
-//! list at the end.
+//! Many calls of sixteen threads, whose results `tests/replay.py` checks against the slots' final
+//! logs.
 
 #![tactic(auto)]
 

@@ -4,7 +4,7 @@ use crate::calls::{KeptCut, KeptLog, Told};
 use mq::{Base, ClosedSlot, Ended};
 use std::io;
 
-/// What a log had where it was cut, which belongs to the line behind it.
+/// What a log had where it was drained, which belongs to the line behind it.
 fn print_base(rt: &impl Print, base: &Base) -> io::Result<()> {
     for index in 0..base.waiting.len() {
         println!(rt; "{:?}", base.waiting.get(index))?;
@@ -39,7 +39,7 @@ fn print_slot(rt: &impl Print, slot: usize, end: &ClosedSlot) -> io::Result<()> 
     )
 }
 
-/// What a seat tells: its number and counts, then its calls, the logs and the cuts.
+/// What a seat reports: its number and counts, then its calls, the logs and the drains.
 fn print_told(rt: &impl Print, told: &Told) -> io::Result<()> {
     println!(rt; "Seat({}, {:?})", told.seat, told.counts)?;
     for call in told.kept.calls.iter() {

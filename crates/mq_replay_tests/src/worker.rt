@@ -56,8 +56,8 @@ fn stamp(number: u16, step: u64) -> u64 {
     u64::from(number).wrapping_mul(10_000).wrapping_add(step)
 }
 
-/// The calls between these numbers, which wait for nobody, or not long. Now and then others are let
-/// go first.
+/// The calls between these numbers, which do not wait, or not long. Now and then the thread
+/// yields.
 fn steps<N: Names, R: Wait + Clock>(
     caller: &mut Caller<'_, Nothing, N, R>,
     chooser: &mut Chooser,

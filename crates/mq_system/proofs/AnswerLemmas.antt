@@ -1,4 +1,4 @@
--- What a call under a slot's lock answers, where its queue answered so.
+-- What a call under a slot's lock answers, by what its queue returned.
 use Rattle.std.proofs.Common.{◌≡◌, ℕ, ℤ, if◌then◌else◌, ◌&&◌, Bool, List, length, Option, None, Some, Result, Ok, Err, refl, ap, sym, ◌∙◌}
 use Rattle.std.specs.Ordering.{int_eq}
 use Rattle.mq_arena.specs.Text.{PlainText}
@@ -53,7 +53,7 @@ not_delivered messages size entry (Err refusal) = refl
 abbrev pub id_where : Bool → Bool → ℕ → Option ℕ
 id_where live same id = if live && same then Some id else None
 
--- what the kept part of a slot tells of it
+-- the kept part of a slot determines the id of its queue by this key
 pub with_key_is : (list : List Event) (s : KeptSlot PlainText) → IsKeptPart list s → (key : ℤ)
     (found : Option ℕ) → found ≡ id_where (is_live_kept s) (int_eq s.key key) (last_id_now s)
     → found ≡ id_with_key (whole list s) key

@@ -13,7 +13,7 @@ use Rattle.mq_system.specs.Seat.{SeatState, front_of}
 use Rattle.mq_system.specs.Closed.{AreEnds, entries_in}
 use Rattle.mq_system.proofs.StartLemmas.{Each, each_push}
 
--- a cut of a list has its whole length
+-- what was drained of a list and what its slot leaves have its whole length
 pub whole_length : (list : List Event) (closed : ClosedSlot) → IsCutOf list (cut_in closed)
     → entries_at_end closed ≡ length list
 whole_length list closed h =
@@ -82,7 +82,7 @@ module _ (slots last_seq : ℕ) (seats : List SeatState) (closed : List ClosedSl
         (h.ends.each (length closed - 1 - k) d e (omega (arith, inside)));
   }
 
--- the lists have as many entries as the slots tell
+-- the lists have as many entries as the slots state
 pub sums_agree : (last_seq : ℕ) (lists : List (List Event)) (slots : List ClosedSlot)
     → AreEnds last_seq lists slots → sum_by length lists ≡ entries_in slots
 sums_agree last_seq [] [] h = refl

@@ -1,4 +1,4 @@
--- The queue that a slot list ends with: its log, its making, and its key.
+-- The queue that a slot list ends with: its log, its creation, and its key.
 use Rattle.std.proofs.Common.{◌≡◌, ℕ, ℤ, pos, ◌+◌, ◌-◌, ◌==◌, ◌<◌, ◌≤◌, ◌≢◌, ◌⊎◌, inl, inr, ◌&&◌, if◌then◌else◌, nat_le, Bool, true, false, not, List, [], ◌∷◌, ◌++◌, append_assoc, fold, length, slice_get, Option, Some, None, unwrap_or, refl, ap, sym, subst, ◌∙◌, true≢false, arith, All}
 use Rattle.std.specs.Prelude.{MatchOption}
 use Rattle.std.specs.Ordering.{int_eq}
@@ -69,7 +69,7 @@ ends_with last_seq events h live =
       lawful = last.lawful;
     }
 
--- an event that is no making tells no key
+-- an event that is no creation states no key
 untold : (e : Event) → is_made e ≡ false → key_told e ≡ None
 untold (Made seat moment key) unmade = absurd (true≢false unmade)
 untold (Sent seat moment tag mtype n) unmade = refl
@@ -77,7 +77,7 @@ untold (Received seat moment place selection size noerror) unmade = refl
 untold (Changed seat moment qbytes) unmade = refl
 untold (Removed seat moment) unmade = refl
 
--- and so the key stays that of the making
+-- and so the key stays that of the creation
 key_kept : (before rest : List Event) (key : ℤ) → is_empty before ≡ false → AllFollow before rest
     → fold (λ b e. unwrap_or (key_told e) b) key rest ≡ key
 key_kept before [] key more each = refl
@@ -85,7 +85,7 @@ key_kept before (e ∷ es) key more each =
     rw (untold e (each.0.made_first ∙ more))
     (key_kept (before ++ e ∷ []) es key (begun before e) each.1)
 
--- a making, with what it tells
+-- a creation, with what it states
 record Makes (e : Event) (key : ℤ) : Type 0 where
   seat : ℕ
   moment : ℕ
@@ -103,7 +103,7 @@ makes (Received seat moment place selection size noerror) rest h each = absurd (
 makes (Changed seat moment qbytes) rest h each = absurd (true≢false (sym h))
 makes (Removed seat moment) rest h each = absurd (true≢false (sym h))
 
--- a log begins with a making
+-- a log begins with a creation
 begins : (log : List Event) → Lawful log → (past : List Event) → HoldsMade (made_count past) (made_key log) (past ++ log)
 begins [] h past = absurd (true≢false h.begun)
 begins (e ∷ es) h past =
@@ -135,7 +135,7 @@ standing_live events n count live =
     same (inl p) = p.0
     same (inr p) = absurd (p.1 refl)
 
--- the queue that is in a slot is the one with the last seq, and its making told its key
+-- the queue that is in a slot is the one with the last seq, and its creation stated its key
 pub keyed : (last_seq : ℕ) (events : List Event) (key : ℤ) → IsSlotList last_seq events
     → is_live events ≡ true → live_key events ≡ key
     → IsKeyed (made_count events - 1) key events × HoldsMade (made_count events - 1) key events
@@ -157,7 +157,7 @@ keyed last_seq events key h live named =
 module _ (s : SlotState PlainText) (key : ℤ) (last_seq slot : ℕ) (events : List Event)
     (lawful : IsSlotList last_seq s.events) (few : s.number < MAX_SLOTS) (number : s.number ≡ slot)
     (known : events ≡ s.events) where
-  -- what is found in a slot that is looked at by its key
+  -- what is found in a slot that is checked for a key
   found_there : (id : ℕ) → Some id ≡ id_with_key s key → IsThere slot key events id
   found_there id is = by (is_live s.events) refl (int_eq (live_key s.events) key) refl is
     where

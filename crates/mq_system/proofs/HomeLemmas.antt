@@ -1,4 +1,4 @@
--- How the seats of a system are taken apart, and how their readers come home, the last slot's first.
+-- How the seats of a system are taken apart, and their readers returned, the last slot's first.
 use Rattle.std.proofs.Common.{◌≡◌, ◌≢◌, ◌⊎◌, inl, inr, ℕ, zero, suc, ◌+◌, ◌-◌, ◌<◌, ◌≤◌, ◌==◌, true, false, List, [], ◌∷◌, ◌++◌, length, map, reverse, take, drop, slice_index_or, slice_set, refl, sym, ap, ◌∙◌, subst, arith, length-append}
 use Rattle.std.specs.List.{All, AllPairs, Contains, sum_by}
 use mathlib.Core.List.{IsPrefix}
@@ -60,7 +60,7 @@ all_apart slots all seats fronts h none =
     let same : all ≡ h.gone = h.whole ∙ ap (λ s. s ++ h.gone) none in
     (h.known ∙ ap (map known_by) (sym same), subst (All (IsRecorded slots)) (sym same) h.recorded)
 
--- of the first fronts, so many, the last slot's were handed out, and their places are at home
+-- of the first fronts, so many, the last slot's were returned, and their places are in `home`
 pub record AreHandedOut (events : List Event) (count : ℕ) (old new : List FrontsState)
     (home : List ℕ) : Type 0 where
   pub same : length new ≡ length old
@@ -89,7 +89,7 @@ item [] k d e low = absurd (omega (arith, low))
 item (x ∷ xs) zero d e low = refl
 item (x ∷ xs) (suc k) d e low = item xs k d e (omega (arith, low))
 
--- one more was handed out
+-- one more was returned
 pub one_out : (events : List Event) (count place : ℕ) (old new : List FrontsState)
     (home later : List ℕ) (e has : FrontsState) (front : List Event)
     → AreHandedOut events count old new home → count < length old
@@ -241,7 +241,7 @@ one_fewer slots slot events seats old new recorded low h out = record {
         (sym (h.known k d e within) ∙ (gone k e within).fronts)
         (omega (arith, low, (recorded k d within).fronts))
 
--- readers that came home have different places, and so their seats different numbers
+-- readers that were returned have different places, and so their seats different numbers
 pub all_distinct : (slots : ℕ) (seats : List SeatState) (fronts : List FrontsState)
     → AreLeft slots seats fronts → AllPairs (λ f g. f.place ≢ g.place) fronts → AreDistinct seats
 all_distinct slots seats fronts h apart j k d less low = λ e.

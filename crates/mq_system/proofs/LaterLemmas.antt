@@ -36,7 +36,7 @@ look_trans a b c p q = record {
   later = later_trans a b c p.later q.later;
 }
 
--- a change of a seat that looked before
+-- a change of a seat that only read before
 pub step_after : (a b c : SeatState) (slot : ℕ) → IsLook a b → IsCounted b c slot → IsLater b c
     → IsStep a c slot
 step_after a b c slot look counted later =

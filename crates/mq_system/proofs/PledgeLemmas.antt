@@ -24,7 +24,7 @@ use Rattle.mq_calls.specs.Texts.{bytes_of, cut_to}
 use Rattle.mq_calls.specs.declared.results.Delivered.{Delivered}
 use Rattle.mq_system.specs.Pledge.{IsPledged, MeetsPledge, MeetsWhole, Pledged}
 
--- what is handed out of what was received
+-- what is returned of what was received
 abbrev pub delivery : Received PlainText → Delivered PlainText
 delivery r = record {
   entry = r.entry;
@@ -35,7 +35,7 @@ delivery r = record {
   text = r.body;
 }
 
--- what is handed out is the text that waited, cut to the size
+-- what is returned is the text that was pending, truncated to the size
 delivered_is : (messages : List (ℕ × Message PlainText)) (size : ℕ) (r : Received PlainText)
     → IsSomeAnd (message_at r.place messages) (λ m. (r.body.bytes ≡ take size m.body.bytes) × (r.body.block ≡ m.body.block))
     → delivered messages size r.entry (received_header r) ≡ delivery r
@@ -108,12 +108,12 @@ abbrev header : Result (Header × SlotState PlainText) QueueError → Header →
 header (Ok turn) other = turn.0
 header (Err refusal) other = other
 
--- the header that is handed out, or this one
+-- the header that is returned, or this one
 abbrev handed : Result Header QueueError → Header → Header
 handed (Ok m) other = m
 handed (Err refusal) other = other
 
--- what is handed out where it may not be cut fits
+-- what is returned where it may not be truncated fits
 handed_fits : (size : ℕ) (o : Option Header) (m : Header) → handed_out size false o ≡ Ok m
     → m.length ≤ size
 handed_fits size None m e = cc

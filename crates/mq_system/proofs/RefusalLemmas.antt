@@ -136,7 +136,7 @@ module _ (s : SlotState PlainText) (nowait : Bool) where
   abbrev ReceiveMay : Bool → Refused → Type 0
   ReceiveMay noerror r = IsSome r.entry × MayReceive nowait noerror r.errno
 
-  -- what a receiver is answered where its selection picks this
+  -- how a receiver is refused where its selection picks this
   abbrev picked : Result (Unit {0}) IdRefusal → (Header → Event) → ℕ → Bool → Option Header → Refused
   picked looked e size noerror o =
       refused_or_memory_in_slot s

@@ -14,7 +14,7 @@ abbrev pub AreRows : List (List Event) → List BoardRow → ℕ → Type 0
 AreRows fronts rows n =
     (k : ℕ) (d : BoardRow) → k < n → slice_index_or rows k d ≡ row (slice_index_or fronts k [])
 
--- and so is one more, of a front that was looked at once more
+-- and so is one more, of a front that was read once more
 pub rows_more : (old new : SeatState) (rows : List BoardRow) (n : ℕ) (next : BoardRow)
     → n < length rows → n < length old.fronts
     → new.fronts ≡ slice_set old.fronts n (front_of new n) → next ≡ row (front_of new n)
@@ -44,7 +44,7 @@ all_rows (f ∷ fs) (r ∷ rs) same each =
     ∙ ap (λ (xs : List BoardRow). row f ∷ xs)
     (all_rows fs rs (omega (arith, same)) (λ k d less. each (suc k) d (omega (arith, less))))
 
--- the front of a slot below one that was looked at once more is as it was
+-- the front of a slot below one that was read once more is as it was
 front_below : (old new : SeatState) (n k : ℕ) → new.fronts ≡ slice_set old.fronts n (front_of new n)
     → k < n → front_of old k ≡ front_of new k
 front_below old new n k sees less = by (eqb_tells k n)
@@ -55,7 +55,7 @@ front_below old new n k sees less = by (eqb_tells k n)
         sym (ap (λ (fronts : List (List Event)). slice_index_or fronts k []) sees
         ∙ get_or-set_other old.fronts n k (front_of new n) [] p.1)
 
--- what is in use, with one slot more, which was looked at once more
+-- what is in use, with one slot more, which was read once more
 pub usage_known : (slots height : ℕ) (old new : SeatState) (n : ℕ) (next : BoardRow)
     → new.fronts ≡ slice_set old.fronts n (front_of new n) → next ≡ row (front_of new n)
     → used (known_usage slots height old n) n next ≡ known_usage slots height new (n + 1)

@@ -17,7 +17,7 @@ use Rattle.mq_system.specs.Seat.{AreKnown, IsLater, IsNext, IsSeat, SeatState, e
 use Rattle.mq_system.specs.declared.seat.TheConstants.{MAX_COUNT}
 use Rattle.mq_system.proofs.LaterLemmas.{later_set}
 
--- counts come to the greatest count each, at most
+-- counts sum to the greatest count each, at most
 most : (counts : List ℕ) → All (λ count. count ≤ MAX_COUNT) counts
     → sum counts ≤ length counts * MAX_COUNT
 most [] h = omega (arith)
@@ -34,7 +34,7 @@ room_left (c ∷ cs) zero h low less =
 room_left (c ∷ cs) (suc k) h low less =
     omega (arith, All-head (λ count. count ≤ MAX_COUNT) c cs h, room_left cs k (All-tail (λ count. count ≤ MAX_COUNT) c cs h) (omega (arith, low)) less, sum_by-cons (λ x. x) c cs, suc-mul (length cs) MAX_COUNT)
 
--- counts of nothing are small, come to nothing, and are known
+-- counts of nothing are small, sum to 0, and are known
 pub none_great : (n : ℕ) → All (λ count. count ≤ MAX_COUNT) (replicate n 0)
 none_great zero k d less = absurd (omega (arith, less))
 none_great (suc n) zero d less = omega arith
@@ -126,7 +126,7 @@ abbrev pub state : ℕ → List ℕ → List ReaderState → SeatState
 state number by_slot readers =
     record { number = number; by_slot = by_slot; fronts = fronts_of readers }
 
--- a seat whose reader of one slot learned or looked
+-- a seat whose reader of one slot learned or read
 module _ (seats slots number : ℕ) (readers : List ReaderState) (by_slot : List ℕ)
     (parts amount slot : ℕ) (before after : ReaderState) (low : slot < slots)
     (h : IsSeat seats slots number readers by_slot parts amount)

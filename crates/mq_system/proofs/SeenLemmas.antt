@@ -56,7 +56,7 @@ abbrev why : {T : Type 0} → SlotTurn PlainText T → Option QueueError
 why (Ok turn) = None
 why (Err refusal) = Some refusal
 
--- what is answered where the slot answers so, by where the id's queue stands
+-- what a call answers where the slot's queue returns this, by where the id's queue stands
 abbrev answers : {T : Type 0} → SlotState PlainText → Standing → SlotTurn PlainText T → answer.SlotAnswer T
 answers s stands turn =
     once (answer.by_id_in_slot s (by_standing stands)) (answer.answered_in_slot s turn)
@@ -93,7 +93,7 @@ why_unless : (refusal : Option QueueError) (s after : SlotState PlainText)
 why_unless None s after = refl
 why_unless (Some refusal) s after = refl
 
--- what is told of a change: its entry, and the slot that it leaves
+-- what a change returns: its entry, and the slot that it leaves
 unless_ok : (refusal : Option QueueError) (s after t : SlotState PlainText) (entry : ℕ)
     → changed_unless refusal s after ≡ Ok (entry, t) → (entry ≡ length s.events) × (t ≡ after)
 unless_ok None s after t entry is =

@@ -32,7 +32,7 @@ use Rattle.mq_system.specs.Pledge.{IsPledged, Pledged}
 use Rattle.mq_system.specs.Seat.{IsNext, SeatState, seat_of}
 use Rattle.mq_system.specs.Shared.{IsDue, IsShared, locked, with_pending}
 
--- the pledge holds of all that waits
+-- the pledge holds of all pending messages
 abbrev pub AllPledged : Pledged → List (ℕ × Message PlainText) → Type 0
 AllPledged kept messages = All (λ m. IsPledged kept m.1) messages
 
@@ -42,7 +42,7 @@ abbrev left : Result (Header × SlotState PlainText) QueueError → SlotState Pl
 left (Ok turn) s = turn.1
 left (Err refusal) s = s
 
--- what a call leaves waiting keeps the pledge
+-- the messages that a call leaves pending keep the pledge
 module _ (kept : Pledged) (s t : SlotState PlainText) (h : AllPledged kept s.messages) where
   send_pledged : (m : Message PlainText) (moment entry : ℕ) → IsPledged kept m
       → sends bytes_of s m moment ≡ Ok (entry, t) → AllPledged kept t.messages

@@ -38,7 +38,7 @@ by_id_in_slot s there = call.by_id (length s.events) there
 abbrev pub looks_in_slot : SlotState PlainText → ℕ → Result (Unit {0}) Refused
 looks_in_slot s id = by_id_in_slot s (by_standing (standing s.events (seq_of id)))
 
--- what is answered where the slot's queue answers so
+-- what a call answers where the slot's queue returns this
 abbrev pub answered_in_slot : {T : Type 0} → SlotState PlainText → SlotTurn PlainText T
     → SlotAnswer T
 answered_in_slot s turn = call.answered (length s.events) turn
@@ -64,7 +64,7 @@ receive_in_slot s id size selection noerror seat moment =
 abbrev pub set_in_slot : SlotState PlainText → ℕ → ℕ → ℕ → ℕ → SlotAnswer ℕ
 set_in_slot s id qbytes seat moment = in_slot_queue s id (sets s qbytes seat moment)
 
--- the entry of a removal, and the removed queue's own log, of which so many events were cut off
+-- the entry of a removal, and the removed queue's own log, of which so many events were drained
 abbrev pub removal : SlotState PlainText → SlotState PlainText → ℕ → Removal
 removal s after places =
     record { entry = length s.events; log = rest_of places (last_log after.events) }
@@ -75,7 +75,7 @@ remove_in_slot s id seat moment places =
     let after = removes s seat moment in
     call.once (looks_in_slot s id) (Ok (removal s after places, after))
 
--- where nothing refuses a call that failed, memory did
+-- where nothing refuses a call that failed, it was out of memory
 abbrev pub refused_or_memory_in_slot : {T : Type 0} → SlotState PlainText → SlotAnswer T → Refused
 refused_or_memory_in_slot s answer = or_memory (refused_here s ENOMEM) answer
 

@@ -58,7 +58,7 @@ pub record IsRecorded (slots : ℕ) (seat : SeatState) : Type 0 where
   pub fronts : length seat.fronts ≡ slots
   pub known : AreKnown slots seat.number seat.fronts seat.by_slot
 
--- of some fronts the last slot's was handed out, a prefix of what happened there
+-- of some fronts the last slot's was returned, a prefix of what happened there
 pub record IsWithout (events : List Event) (old new : FrontsState) : Type 0 where
   pub front : List Event
   pub seen : IsPrefix front events

@@ -21,12 +21,12 @@ is_private key = int_eq key (pos 0)
 abbrev pub may_make : ℤ → GetFlags → Bool
 may_make key flags = is_private key || flags.create
 
--- whether a call wants a queue that is not there yet
+-- whether a call requires a queue that is not there yet
 abbrev pub wants_new : GetFlags → Bool
 wants_new flags = flags.create && flags.exclusive
 
--- a queue was made only where it may be; one that was there is answered only by its key, and not
--- where a new one is wanted
+-- a queue was made only where it may be; one that was there is returned only by its key, and not
+-- where a new one is required
 abbrev pub MayGet : ℤ → GetFlags → Option ℕ → Type 0
 MayGet key flags (Some entry) = may_make key flags ≡ true
 MayGet key flags None = (is_private key ≡ false) × (wants_new flags ≡ false)
@@ -36,7 +36,7 @@ abbrev pub CountsGet : SeatState → SeatState → Got → Type 0
 CountsGet old new got =
     MatchOption got.made (IsSame old new) (λ _. IsCounted old new (slot_of got.id))
 
--- the refusals of msgget, each with the keys and flags that it wants
+-- the refusals of msgget, each with the keys and flags that it requires
 abbrev pub MayRefuse : ℤ → GetFlags → Errno → Type 0
 MayRefuse key flags EEXIST = (is_private key ≡ false) × (wants_new flags ≡ true)
 MayRefuse key flags ENOENT = (is_private key ≡ false) × (flags.create ≡ false)
@@ -66,7 +66,7 @@ IsFree last_seq events = is_free last_seq events ≡ true
 abbrev pub IsNotFree : ℕ → List Event → Type 0
 IsNotFree last_seq events = is_free last_seq events ≡ false
 
--- a queue was found: it was there with its key, and the front holds its making
+-- a queue was found: it was there with its key, and the front holds its creation
 pub record IsFound (key : ℤ) (old new : SeatState) (id : ℕ) : Type 0 where
   pub was : WasAt (IsKeyed (seq_of id) key) old new (slot_of id)
   pub made : HoldsMade (seq_of id) key (front_of new (slot_of id))
@@ -101,7 +101,7 @@ IsFoundOrNew slots last_seq key moment old new got =
     MatchOption got.made ((slot_of got.id < slots) × IsFound key old new got.id)
     (λ _. IsNew slots last_seq key moment old new got × WasLacked slots key old new)
 
--- msgget answered a queue
+-- msgget returned a queue
 pub record IsGot (slots last_seq : ℕ) (key : ℤ) (flags : GetFlags) (moment : ℕ)
     (old new : SeatState) (got : Got) : Type 0 where
   pub allowed : MayGet key flags got.made
@@ -116,7 +116,7 @@ pub record IsAnyFound (slots : ℕ) (key : ℤ) (old new : SeatState) : Type 0 w
   pub within : slot_of id < slots
   pub found : IsFound key old new id
 
--- why none is answered: a queue was found; or none was and, if one was to be made, why it was not
+-- why none is returned: a queue was found; or none was and, if one was to be made, why it was not
 abbrev pub WhyNotGot : ℕ → ℕ → ℤ → SeatState → SeatState → Errno → Type 0
 WhyNotGot slots last_seq key old new EEXIST = IsAnyFound slots key old new
 WhyNotGot slots last_seq key old new ENOENT = WasLacked slots key old new
@@ -126,7 +126,7 @@ WhyNotGot slots last_seq key old new ENOMEM =
     IsNotNew slots last_seq old new ENOMEM × WasLacked slots key old new
 WhyNotGot slots last_seq key old new _ = ⊥
 
--- msgget answered none
+-- msgget returned none
 pub record IsNotGot (slots last_seq : ℕ) (key : ℤ) (flags : GetFlags) (old new : SeatState)
     (errno : Errno) : Type 0 where
   pub allowed : MayRefuse key flags errno

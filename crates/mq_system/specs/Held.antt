@@ -22,7 +22,7 @@ pub record HasNoted (old new : SeatState) (slot : ℕ) (events : List Event) : T
   pub counted : IsCounted old new slot
   pub learned : new.fronts ≡ slice_set old.fronts slot events
 
--- a call answers what was decided for it, its seat has noted its change, and no entry was cut off
+-- a call answers what was decided for it, its seat has noted its change, and no entry was drained
 pub record HasChanged {T : Type 0} (decided : SlotAnswer T) (held left : LockedSlot)
     (old new : SeatState) (value : T) : Type 0 where
   pub ok : decided ≡ Ok (value, left.whole)
@@ -37,7 +37,7 @@ pub record HasRefused {T : Type 0} (decided : SlotAnswer T) (held left : LockedS
   pub unchanged : left ≡ held
   pub same : new ≡ old
 
--- msgget made a queue, its key is entered among the keys, and no entry was cut off
+-- msgget made a queue, its key is entered among the keys, and no entry was drained
 pub record HasMade (key : ℤ) (moment : ℕ) (held left : LockedSlot)
     (keys_before keys_after : List (ℤ × ℕ)) (old new : SeatState) (got : Got) : Type 0 where
   pub is : got ≡ record { id = next_id held.whole; made = Some (length held.whole.events) }

@@ -17,7 +17,7 @@ pub record IsKeyed (seq : ℕ) (key : ℤ) (events : List Event) : Type 0 where
   pub live : standing events seq ≡ Live
   pub named : live_key events ≡ key
 
--- the events hold the making of the queue with this seq, which told this key
+-- the events hold the creation of the queue with this seq and this key
 pub record HoldsMade (seq : ℕ) (key : ℤ) (events : List Event) : Type 0 where
   pub entry : ℕ
   pub seat : ℕ
@@ -25,7 +25,7 @@ pub record HoldsMade (seq : ℕ) (key : ℤ) (events : List Event) : Type 0 wher
   pub there : slice_get events entry ≡ Some (Made seat moment key)
   pub before : made_count (take entry events) ≡ seq
 
--- the queue with this id is in this slot and has this key, and the events hold its making
+-- the queue with this id is in this slot and has this key, and the events hold its creation
 pub record IsThere (slot : ℕ) (key : ℤ) (events : List Event) (id : ℕ) : Type 0 where
   pub slot_is : slot_of id ≡ slot
   pub keyed : IsKeyed (seq_of id) key events

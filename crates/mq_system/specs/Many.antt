@@ -18,7 +18,7 @@ pub record Under : Type 0 where
   pub slot : LockedSlot
   pub seat : SeatState
 
--- what is decided for a call, by what stands when its turn comes
+-- what is decided for a call, by the state when it is called
 abbrev pub Decides : Type 0 → Type 0
 Decides T = Under → SlotAnswer T
 
@@ -31,7 +31,7 @@ Changes decides before value after =
 abbrev pub IsRefusedBy : {T : Type 0} → Decides T → Under → Refused → Type 0
 IsRefusedBy decides u r = r ≡ refused_or_memory_in_slot u.slot.whole (decides u)
 
--- msgrcv, of what stands
+-- msgrcv, of the state when it is called
 abbrev pub receive_of : ℕ → ℕ → Selection → Bool → ℕ → Decides (Delivered PlainText)
 receive_of id size selection noerror moment u =
     receive_in_slot u.slot.whole id size selection noerror u.seat.number moment
@@ -49,7 +49,7 @@ pub record HasReceivedMany (id size : ℕ) (selection : Selection) (noerror : Bo
 abbrev pub message_of : ℕ → Letter PlainText → Message PlainText
 message_of seat l = record { mtype = l.mtype; sender = seat; tag = l.tag; body = l.text }
 
--- msgsnd of a letter, of what stands
+-- msgsnd of a letter, of the state when it is called
 abbrev pub send_of : ℕ → ℕ → Letter PlainText → Decides ℕ
 send_of id moment l u = send_in_slot u.slot.whole id (message_of u.seat.number l) moment
 

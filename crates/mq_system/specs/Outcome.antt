@@ -18,7 +18,7 @@ use Rattle.mq_system.specs.Refusals.{MayReceive, MayRemove, MaySend, MaySet, Ref
 use Rattle.mq_system.specs.Seat.{IsCounted, IsLater, IsSame, SeatState, front_of}
 use Rattle.mq_system.specs.Seen.{IsDecided, IsDone, IsReceipt, Verdict, receive_verdict, remove_verdict, send_verdict, set_verdict}
 
--- a call looked: it changed nothing, and its seat may know more now
+-- a call only read: it changed nothing, and its seat may know more now
 pub record IsLook (old new : SeatState) : Type 0 where
   pub same : IsSame old new
   pub later : IsLater old new
@@ -42,7 +42,7 @@ pub record IsTurnedAway (early : Bool) (may : Errno → Type 0) (slot : ℕ) (ve
   pub refuses : Refuses early may r
   pub decided : IsDecided old new slot verdict r
 
--- the same where the errno alone is told
+-- the same where the errno alone is given
 pub record IsRefusal (early : Bool) (may : Errno → Type 0) (slot : ℕ) (verdict : Verdict)
     (old new : SeatState) (errno : Errno) : Type 0 where
   pub entry : Option ℕ
@@ -62,7 +62,7 @@ IsNotSent slots id mtype n nowait old new r =
     IsTurnedAway (never_sent slots id mtype) (MaySend nowait) (slot_of id)
     (send_verdict (seq_of id) mtype n) old new r
 
--- msgrcv handed out a message, of which the pledge holds
+-- msgrcv returned a message that meets the pledge
 pub record IsReceived (kept : Pledged) (slots id size : ℕ) (selection : Selection) (noerror : Bool)
     (moment : ℕ) (old new : SeatState) (d : Delivered PlainText) : Type 0 where
   pub early : out_of_slots slots id ≡ false
@@ -71,7 +71,7 @@ pub record IsReceived (kept : Pledged) (slots id size : ℕ) (selection : Select
   pub pledge : MeetsPledge kept size d
   pub whole : noerror ≡ false → MeetsWhole kept d
 
--- msgrcv handed out nothing
+-- msgrcv was refused
 abbrev pub IsNotReceived : ℕ → ℕ → ℕ → Selection → Bool → Bool → SeatState → SeatState → Refused
     → Type 0
 IsNotReceived slots id size selection noerror nowait old new r =
@@ -92,7 +92,7 @@ IsNotSet slots id qbytes old new r =
     IsTurnedAway (out_of_slots slots id) (MaySet qbytes) (slot_of id)
     (set_verdict (seq_of id) qbytes) old new r
 
--- IPC_RMID removed the queue, and hands out what is kept of its log; the front up to its event is a
+-- IPC_RMID removed the queue, and returns what is kept of its log; the front up to its event is a
 -- slot list
 pub record IsRemoved (slots last_seq id moment : ℕ) (old new : SeatState) (r : Removal)
     : Type 0 where

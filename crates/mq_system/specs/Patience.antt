@@ -23,7 +23,7 @@ abbrev pub end_nanos : ℕ → End → ℕ
 end_nanos now (At time) = instant_nanos time
 end_nanos now (After span) = now + as_nanos span
 
--- what is left at a time until then: nothing where it has come, else just what the clock lacks
+-- what is left at a time until then: nothing where it is reached, else just what the clock lacks
 abbrev pub IsLeftAt : ℕ → End → Option Duration → Type 0
 IsLeftAt now end None = end_nanos now end ≤ now
 IsLeftAt now end (Some left) = (0 < as_nanos left) × (as_nanos left + now ≡ end_nanos now end)

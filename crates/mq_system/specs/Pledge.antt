@@ -12,7 +12,7 @@ Pledged = ℕ → ℕ → ℤ → List ℕ → Type 0
 abbrev pub IsPledged : Pledged → Message PlainText → Type 0
 IsPledged kept m = kept m.sender m.tag m.mtype m.body.bytes
 
--- the text that is handed out is the beginning, up to the receiver's size, of a text of which the
+-- the text that is returned is the beginning, up to the receiver's size, of a text of which the
 -- pledge holds
 pub record MeetsPledge (kept : Pledged) (size : ℕ) (d : Delivered PlainText) : Type 0 where
   pub whole : List ℕ
@@ -20,11 +20,11 @@ pub record MeetsPledge (kept : Pledged) (size : ℕ) (d : Delivered PlainText) :
   pub pledge : kept d.sender d.tag d.mtype whole
   pub cut : d.text.bytes ≡ take size whole
 
--- the pledge holds of the very text that is handed out
+-- the pledge holds of the very text that is returned
 abbrev pub MeetsWhole : Pledged → Delivered PlainText → Type 0
 MeetsWhole kept d = kept d.sender d.tag d.mtype d.text.bytes
 
--- the pledge holds of what is handed out, and of the very text where none may be cut
+-- the pledge is met by what is returned, and by the very text where none may be truncated
 pub record MeetsItsPledge (kept : Pledged) (size : ℕ) (noerror : Bool) (d : Delivered PlainText)
     : Type 0 where
   pub part : MeetsPledge kept size d

@@ -19,7 +19,7 @@ use Rattle.mq_calls.specs.declared.results.Delivered.{Delivered}
 use Rattle.mq_calls.specs.declared.results.Refused.{Refused}
 use Rattle.mq_system.specs.Seat.{SeatState, front_of}
 
--- why a call is refused after some events of its slot, or None where at most memory can be wanted
+-- why a call is refused after some events of its slot, or None where at most memory can run out
 abbrev pub Verdict : Type 0
 Verdict = List Event → Option Errno
 
@@ -71,8 +71,8 @@ abbrev pub IsDecided : SeatState → SeatState → ℕ → Verdict → Refused �
 IsDecided old new slot verdict r =
     MatchOption r.entry (Unit {0}) (λ entry. IsRefused old new slot verdict entry r.errno)
 
--- a receipt: the slot's event at its entry is that of the message that the selection names among
--- those that wait after the events before it, and that message is handed out
+-- a receipt: the slot's event at its entry is that of the message that the selection picks of those
+-- that are pending after the events before it, and that message is returned
 pub record IsReceipt (old new : SeatState) (slot seq size : ℕ) (selection : Selection)
     (noerror : Bool) (moment : ℕ) (d : Delivered PlainText) : Type 0 where
   pub message : Header

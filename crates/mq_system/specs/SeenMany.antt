@@ -12,7 +12,7 @@ use Rattle.mq_system.specs.Pledge.{Pledged}
 use Rattle.mq_system.specs.Seat.{SeatState, front_of}
 use Rattle.mq_system.specs.declared.many.Letter.{Letter}
 
--- a change of a seat that knew all of the slot, at the entry that came next, and it knows all again
+-- a change of a seat that knew all of the slot, at the next entry, and it knows all again
 pub record IsNextThere (slot : ℕ) (old new : SeatState) (entry : ℕ) : Type 0 where
   pub before : length (front_of old slot) ≡ entry
   pub after : length (front_of new slot) ≡ entry + 1
@@ -24,8 +24,8 @@ pub record IsNextReceived (kept : Pledged) (slots id size : ℕ) (selection : Se
   pub received : IsReceived kept slots id size selection noerror moment old new d
   pub next : IsNextThere (slot_of id) old new d.entry
 
--- up to n messages were received: the seat looked, and then so many calls of msgrcv handed them out
--- one after another at consecutive entries; the first refusal ended it
+-- up to n messages were received: the seat read, and then so many calls of msgrcv returned them one
+-- after another at consecutive entries; the first refusal ended it
 pub record AreReceived (kept : Pledged) (slots id size : ℕ) (selection : Selection)
     (noerror nowait : Bool) (moment n : ℕ) (old new : SeatState) (ds : List (Delivered PlainText))
     (ended : Result (Unit {0}) Refused) : Type 0 where
@@ -36,7 +36,7 @@ pub record AreReceived (kept : Pledged) (slots id size : ℕ) (selection : Selec
   pub refused : MatchResult ended (λ _. Unit {0})
       (IsNotReceived slots id size selection noerror (nowait || nat_lt 0 (length ds)) new new)
 
--- one letter of several was sent, at the entry that came next
+-- one letter of several was sent, at the next entry
 pub record IsNextSent (slots id moment : ℕ) (old : SeatState) (l : Letter PlainText)
     (new : SeatState) : Type 0 where
   pub entry : ℕ
@@ -56,7 +56,7 @@ abbrev pub IsFirstEntry : ℕ → List (Letter PlainText) → Option ℕ → Typ
 IsFirstEntry next [] first = first ≡ None
 IsFirstEntry next (l ∷ ls) first = first ≡ Some next
 
--- up to so many letters were sent: the seat looked, and then so many calls of msgsnd sent them one
+-- up to so many letters were sent: the seat read, and then so many calls of msgsnd sent them one
 -- after another at consecutive entries; the first refusal ended it, and the rest is left
 pub record AreSent (slots id : ℕ) (nowait : Bool) (moment most : ℕ) (old new : SeatState)
     (letters left : List (Letter PlainText)) (first : Option ℕ) (ended : Result (Unit {0}) Refused)

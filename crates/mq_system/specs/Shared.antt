@@ -21,7 +21,7 @@ pub record IsPublished {B : Type 0} (board : ℕ) (events : List Event) (pending
   pub kept : IsKeptPart events slot
   pub none : pending ≡ []
 
--- a slot under its lock: the whole slot, and how many entries of its list were cut off
+-- a slot under its lock: the whole slot, and how many entries of its list were drained
 pub record LockedSlot : Type 0 where
   pub whole : SlotState PlainText
   pub first : ℕ
@@ -34,7 +34,7 @@ locked events slot = record { whole = whole events slot; first = slot.first }
 abbrev pub empty_locked : ℕ → LockedSlot
 empty_locked number = record { whole = empty_slot number; first = 0 }
 
--- the slot once its list was cut where it ends
+-- the slot once its list was drained to its end
 abbrev pub cut_at_end : LockedSlot → LockedSlot
 cut_at_end slot = record slot { first = length slot.whole.events }
 
@@ -42,13 +42,13 @@ cut_at_end slot = record slot { first = length slot.whole.events }
 abbrev pub keeps_from : ℕ → LockedSlot → Bool
 keeps_from entries slot = nat_le entries (length slot.whole.events - slot.first)
 
--- the slot, once its list was cut where it ends if that was to be
+-- the slot, once its list was drained to its end if that was to be
 abbrev pub cut_where : Bool → LockedSlot → LockedSlot
 cut_where is slot = if is then cut_at_end slot else slot
 
 -- a slot under its lock, with its board: it is one of the system's, its list has no more queues
--- than ids allow, the pledge holds of each message that waits, and its part of the ledger of
--- entries has as much as its list has entries
+-- than ids allow, the pledge holds of each pending message, and its part of the ledger of entries
+-- has as much as its list has entries
 pub record IsShared (kept : Pledged) (slots last_seq board : ℕ) (events : List Event)
     (pending : List Posting) (slot : KeptSlot PlainText) (parts amount : ℕ) : Type 0 where
   pub published : IsPublished board events pending slot

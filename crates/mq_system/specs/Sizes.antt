@@ -28,7 +28,7 @@ abbrev pub all_changes : ℕ → ℕ → ℕ
 all_changes slots seats = seats * (slots * MAX_COUNT)
 
 -- a place for each slot, of which there is one at least, and as many as ids have numbers for at
--- most; room for what the end answers; and what all parts of the ledger of entries have together is
+-- most; room for what `close` returns; and what all parts of the ledger of entries have together is
 -- all that the seats can make
 pub record IsSystem {C : Type 0} (slots seats last_seq height places stored_seq pages : ℕ)
     (closed : List C) (room parts amount : ℕ) : Type 0 where

@@ -1,3 +1,6 @@
+//! What `System::new` is given: the ledgers and boards of a valid `Config`, which have no brand
+//! yet.
+
 ghost use Rattle.std.specs.Prelude.{◌≡◌, ◌↔◌, ◌+◌, false, vec_len, IfOk, IsErrOf};
 ghost use Rattle.mq_calls.specs.Limits.{keeps_limits};
 
@@ -7,7 +10,8 @@ use mq_calls::{Config, SysError};
 use std::alloc::Global;
 use std::sync::ledger::Blank;
 
-/// What a system's ledgers and boards are opened of, before there are names for them.
+/// The unbranded resources of which a system's ledgers and boards are made, before its brand is
+/// chosen.
 #[derive(Drop)]
 pub struct Blanks {
     pub pages: Blank,
@@ -17,7 +21,7 @@ pub struct Blanks {
 }
 
 impl Blanks {
-    /// As many as a system of this size wants. `Config` where a number is out of its limits, then
+    /// As many as a system of this size needs. `Config` where a number is out of its limits, then
     /// `Memory`.
     pub fn of(alloc: Global, config: Config) -> Result<Blanks, SysError>
         ensures pages { IfOk result (λ blanks. blanks.pages.parts ≡ LEDGER_PARTS) }

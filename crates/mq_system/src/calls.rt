@@ -22,8 +22,8 @@ use std::sync::Wait;
 use std::sync::ledger::Share;
 
 impl<P: Pledge, N: Names> SharedSlot<P, N> {
-    /// Sends a text as this seat (msgop(2), msgsnd with IPC_NOWAIT), and answers the entry. EINVAL
-    /// for the type, EINVAL for the id, EIDRM, EAGAIN, then ENOMEM; the text is then handed back.
+    /// Sends a text as this seat (msgop(2), msgsnd with IPC_NOWAIT), and returns the entry. EINVAL
+    /// for the type, EINVAL for the id, EIDRM, EAGAIN, then ENOMEM; the text is then returned.
     pub fn send<R: Wait>(
         &mut self,
         rt: &R,
@@ -53,8 +53,8 @@ impl<P: Pledge, N: Names> SharedSlot<P, N> {
     }
 
     /// Receives the first message that the selection names (msgop(2), msgrcv with IPC_NOWAIT).
-    /// With `noerror`, the flag MSG_NOERROR, a longer text is cut to `size` bytes. EINVAL, EIDRM,
-    /// ENOMSG, E2BIG, then ENOMEM.
+    /// With `noerror`, the flag MSG_NOERROR, a longer text is truncated to `size` bytes. EINVAL,
+    /// EIDRM, ENOMSG, E2BIG, then ENOMEM.
     pub fn receive<R: Wait>(
         &mut self,
         rt: &R,
@@ -82,7 +82,7 @@ impl<P: Pledge, N: Names> SharedSlot<P, N> {
         answer
     }
 
-    /// Sets the quota (msgctl(2), IPC_SET of msg_qbytes), and answers the entry. EINVAL, EIDRM,
+    /// Sets the quota (msgctl(2), IPC_SET of msg_qbytes), and returns the entry. EINVAL, EIDRM,
     /// EPERM over MSGMNB, then ENOMEM.
     pub fn set<R: Wait>(
         &mut self,
@@ -143,8 +143,8 @@ impl<P: Pledge, N: Names> SharedSlot<P, N> {
         })
     }
 
-    /// Removes the queue, and forgets its key (msgctl(2), IPC_RMID). What waited is handed out.
-    /// EINVAL, EIDRM, then ENOMEM.
+    /// Removes the queue, and forgets its key (msgctl(2), IPC_RMID). The pending messages are
+    /// returned. EINVAL, EIDRM, then ENOMEM.
     pub fn remove<R: Wait>(
         &mut self,
         rt: &R,

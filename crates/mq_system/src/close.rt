@@ -1,3 +1,6 @@
+//! The end of a system: its seats are taken apart, its boards closed, its texts freed, and the
+//! counts of seats and slots compared.
+
 ghost use Rattle.std.specs.Prelude.{◌≡◌, ◌≢◌, ◌+◌, ◌≤◌, All, length, map, vec_capacity, vec_len};
 ghost use Rattle.std.specs.List.{AllPairs};
 ghost use Rattle.mq_system.specs.Seat.{counted_by};
@@ -43,7 +46,7 @@ impl<N: Names> Model for Rest<N> {
 
 /// The rest while the system is in use: threads share the system, and none of them reaches it.
 pub(crate) struct AtClose<N: Names> {
-    /// Locked by nobody: a share of a ledger is not shared among threads otherwise.
+    /// Never locked: a share of a ledger is not shared among threads otherwise.
     rest: Mutex<Rest<N>>,
 }
 
@@ -61,9 +64,9 @@ impl<N: Names> AtClose<N> {
 }
 
 impl<P: Pledge, N: Names> System<P, N> {
-    /// Ends the system, once all seats are back. It takes no memory. What the seats kept back goes
-    /// home, and so do the texts that waited; one that is still outside is put into the arena by
-    /// its block.
+    /// Ends the system, once all seats are back. It takes no memory. The blocks of the magazines
+    /// are freed, and so are the texts of pending messages; one that is still outside is put into
+    /// the arena by its block.
     pub fn close<R: Wait>(self, rt: &R, seats: Vec<Seat<N>>) -> Closed<Pages<N>>
         requires seats { vec_len seats ≡ N.seats }
         ensures slots { length result.slots.items ≡ N.slots }
@@ -98,7 +101,7 @@ impl<P: Pledge, N: Names> System<P, N> {
                 mut writer,
                 entries,
             } = with_number(rt, monitor.into_slot(), monitors.len() as u8).into_parts();
-            come_home(rt, &mut writer, &mut fronts);
+            take_readers(rt, &mut writer, &mut fronts);
             parts.merge(entries);
             closed.push_reserved(end_shared_slot(rt, &mut arena, slot, writer));
         }
@@ -131,7 +134,7 @@ fn gather<N: Names>(seats: Vec<Seat<N>>, parts: &mut Share<Entries<N>>, fronts: 
     fronts.reverse();
 }
 
-/// The slot, which has this number: no run meets one of another.
+/// The slot, which has this number: another is not reachable (argued, not proved).
 fn with_number<P: Pledge, N: Names, R: Wait>(
     rt: &R,
     slot: SharedSlot<P, N>,
@@ -149,8 +152,8 @@ fn with_number<P: Pledge, N: Names, R: Wait>(
     unreachable!()
 }
 
-/// The readers of this board, the last in each seat's fronts, come home.
-fn come_home<N: Names, R: Wait>(rt: &R, writer: &mut BoardWriter<N>, fronts: &mut Vec<Fronts<N>>)
+/// Takes back the readers of this board, the last in each seat's fronts.
+fn take_readers<N: Names, R: Wait>(rt: &R, writer: &mut BoardWriter<N>, fronts: &mut Vec<Fronts<N>>)
     requires number { All (λ f. length f.fronts ≡ writer.old.board + 1) fronts.old.items }
     ensures same { writer.new ≡ record writer.old { home = writer.new.home } }
     ensures left { AreWithout writer.old.events fronts.old.items fronts.new.items }
@@ -164,7 +167,7 @@ fn come_home<N: Names, R: Wait>(rt: &R, writer: &mut BoardWriter<N>, fronts: &mu
     }
 }
 
-/// Ends a slot, and spends the texts that wait in it.
+/// Ends a slot, and spends the texts of its pending messages.
 // Not in `mq_calls`: the checker does not follow calls of a function that is generic in the list
 // of texts and takes the slot by value.
 pub(crate) fn end_texts<N: Names>(arena: &mut ArenaState<Pages<N>>, slot: SlotOf<N>) -> ClosedSlot
@@ -182,8 +185,8 @@ pub(crate) fn end_texts<N: Names>(arena: &mut ArenaState<Pages<N>>, slot: SlotOf
     closed
 }
 
-/// Gives up the board of a slot that nobody uses any more, ends the slot, and spends the texts that
-/// wait in it.
+/// Closes the board of a slot that is no longer used, ends the slot, and spends the texts of its
+/// pending messages.
 fn end_shared_slot<N: Names, R: Wait>(
     rt: &R,
     arena: &mut ArenaState<Pages<N>>,
@@ -201,7 +204,7 @@ fn end_shared_slot<N: Names, R: Wait>(
     end_texts(arena, slot)
 }
 
-/// Tells what all parts have, once they are together.
+/// Proves how much all parts have, once they are together.
 fn settle<N: Names>(total: &Total<Entries<N>>, parts: &mut Share<Entries<N>>)
     requires { parts.old.parts ≡ total.now.parts }
     ensures { parts.old.amount ≡ total.now.amount }

@@ -15,7 +15,7 @@ use mq_table::Id;
 use std::sync::{MutexGuard, Wait};
 
 impl<P: Pledge, N: Names> System<P, N> {
-    /// Sets the quota (msgctl(2), IPC_SET of msg_qbytes), and answers the entry. EINVAL, EIDRM,
+    /// Sets the quota (msgctl(2), IPC_SET of msg_qbytes), and returns the entry. EINVAL, EIDRM,
     /// EPERM over MSGMNB, then ENOMEM.
     #[tactic(auto, using(crate::proofs::LaterLemmas::look_self))]
     pub fn set<R: Wait>(
@@ -46,8 +46,8 @@ impl<P: Pledge, N: Names> System<P, N> {
         }
     }
 
-    /// Removes the queue (msgctl(2), IPC_RMID). Who waits in it answers EIDRM, and the texts that
-    /// waited in it go home. EINVAL, EIDRM, then ENOMEM.
+    /// Removes the queue (msgctl(2), IPC_RMID). The calls that wait in it fail with EIDRM, and the
+    /// texts of its pending messages are freed. EINVAL, EIDRM, then ENOMEM.
     #[tactic(auto, using(crate::proofs::LaterLemmas::look_self))]
     pub fn rmid<R: Wait>(
         &self,
@@ -80,7 +80,7 @@ impl<P: Pledge, N: Names> System<P, N> {
         }
     }
 
-    /// Spends the texts of all that waits.
+    /// Spends the texts of all pending messages.
     fn take_home<R: Wait>(&self, rt: &R, mut waiting: WaitingOf<N>) {
         while let Some(message) = waiting.pop_any() {
             self.spend(rt, message.into_body());
@@ -88,8 +88,8 @@ impl<P: Pledge, N: Names> System<P, N> {
         waiting.end();
     }
 
-    /// The figures of the queue (msgctl(2), IPC_STAT), by `Seat::stat`. It waits for nobody, and
-    /// takes no lock and no memory. EINVAL, then EIDRM.
+    /// The figures of the queue (msgctl(2), IPC_STAT), by `Seat::stat`. It never blocks, takes
+    /// no lock and allocates nothing. EINVAL, then EIDRM.
     pub fn stat(&self, seat: &mut Seat<N>, id: Id) -> Result<Figures, Errno>
         ensures answer { result ≡ stat_of N.slots (front_of seat.new (slot_of id)) id }
         ensures look { IsLook seat.old seat.new }
@@ -97,8 +97,8 @@ impl<P: Pledge, N: Names> System<P, N> {
         seat.stat(id)
     }
 
-    /// A row for each slot, by `Seat::report`. It waits for nobody, and takes no lock and no
-    /// memory.
+    /// A row for each slot, by `Seat::report`. It never blocks, takes no lock and allocates
+    /// nothing.
     pub fn report(&self, seat: &mut Seat<N>, rows: &mut [BoardRow])
         requires { length rows.old ≡ N.slots }
         ensures rows { rows.new ≡ map row seat.new.fronts }
@@ -107,8 +107,8 @@ impl<P: Pledge, N: Names> System<P, N> {
         seat.report(rows);
     }
 
-    /// What is in use, of all slots together (msgctl(2), IPC_INFO and MSG_INFO), by `Seat::info`. It
-    /// waits for nobody, and takes no lock and no memory.
+    /// What is in use, of all slots together (msgctl(2), IPC_INFO and MSG_INFO), by `Seat::info`.
+    /// It never blocks, takes no lock and allocates nothing.
     pub fn info(&self, seat: &mut Seat<N>) -> Usage
         ensures answer { result ≡ known_usage N.slots N.height seat.new N.slots }
         ensures look { IsLook seat.old seat.new }

@@ -1,4 +1,4 @@
-//! The call that cuts a slot's list off.
+//! The call that drains a slot's log.
 
 ghost use Rattle.std.specs.Prelude.{◌≡◌, ◌<◌, Some, length, MatchResult};
 ghost use Rattle.mq_table.specs.Cut.{IsCutOf, cut_shown};
@@ -10,10 +10,10 @@ use crate::{Cut, Names, Pledge, Refused, Seat, System};
 use std::sync::{MutexGuard, Wait};
 
 impl<P: Pledge, N: Names> System<P, N> {
-    /// Cuts the slot's list off where it ends now, and hands out what was kept of it, to be stored
-    /// or dropped: of the front that the seat then has, the entries from the cut's `first` to the
-    /// end, with what is known of those before. All calls go on as before, and count on from
-    /// the whole list. It is no change, adds to no count and publishes nothing. ENOMEM alone.
+    /// Drains the slot's list, and returns what was retained of it, to be stored or dropped: of the
+    /// front that the seat then has, the entries from the cut's `first` to the end, with what is
+    /// known of those before. No other call is affected: all count on from the whole list. It is no
+    /// change, adds to no count and publishes nothing. ENOMEM alone.
     pub fn cut_log<R: Wait>(&self, rt: &R, seat: &mut Seat<N>, slot: u8) -> Result<Cut, Refused>
         requires within { slot < N.slots }
         ensures answer { MatchResult result

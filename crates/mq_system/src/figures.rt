@@ -14,7 +14,7 @@ use mq_table::Id;
 
 impl<N: Names> Seat<N> {
     /// The figures of the id's queue (msgctl(2), IPC_STAT), as its slot's board has them. It takes
-    /// no memory. EINVAL for an id that was never given, then EIDRM.
+    /// no memory. EINVAL for an id that was never issued, then EIDRM.
     #[tactic(auto, using(crate::proofs::LaterLemmas::look_self))]
     pub fn stat(&mut self, id: Id) -> Result<Figures, Errno>
         ensures answer { result ≡ stat_of N.slots (front_of self.new (slot_of id)) id }
@@ -45,7 +45,7 @@ impl<N: Names> Seat<N> {
         }
     }
 
-    /// What is in use of so many pages, and of all slots together (msgctl(2), IPC_INFO and
+    /// What is in use of `pages` pages, and of all slots together (msgctl(2), IPC_INFO and
     /// MSG_INFO), each as its board has it. It takes no memory.
     pub fn info(&mut self, pages: u32) -> Usage
         requires { pages ≡ 2 ^ N.height }

@@ -1,3 +1,5 @@
+//! A seat's views of all slots: what a seat is made of, and what it leaves at the end.
+
 ghost use Rattle.std.specs.Prelude.{◌≡◌, ◌-◌, ◌<◌, ◌++◌, ◌∷◌, [], length, replicate};
 ghost use Rattle.std.specs.Prelude.{IfOk, IfSome, IfNone, OnOk, OnErr};
 ghost use Rattle.mq_board.specs.Readers.{new_reader, new_readers};
@@ -7,8 +9,8 @@ use mq_board::{BoardReader, Naming};
 use std::alloc::{AllocError, Global};
 use std::marker::Model;
 
-/// What one seat has seen of each slot, before it sits and once it is taken apart, seen as its
-/// place and its fronts: a reader of each board, all at the same place.
+/// What one seat has observed of each slot, before the seat is made and once it is taken apart,
+/// seen as its place and its fronts: a reader of each board, all at the same place.
 #[derive(Drop)]
 pub struct Fronts<J: Naming> {
     pub(crate) place: u16,
@@ -48,7 +50,7 @@ impl<J: Naming> Fronts<J> {
         Ok(Fronts { place, readers })
     }
 
-    /// Hands out the reader of the last slot.
+    /// Takes out the reader of the last slot.
     pub fn hand_out(&mut self) -> Option<BoardReader<J>>
         ensures last { IfSome result (λ reader.
             self.old.fronts ≡ self.new.fronts ++ reader.events ∷ []) }

@@ -1,3 +1,5 @@
+//! msgget(2): the lookup of a key, and a new queue in the first free slot, under the keys' lock.
+
 ghost use Rattle.std.specs.Prelude.{◌≡◌, ◌≢◌, ◌<◌, None, pos, IfSome, IfNone, OnErr, MatchResult};
 ghost use Rattle.mq_table.specs.Ids.{slot_of};
 ghost use Rattle.mq_table.specs.Keys.{id_of_key};
@@ -60,8 +62,8 @@ impl<P: Pledge, N: Names> System<P, N> {
     }
 
     /// The id of the queue with this key, which is not 0, as the table and then its slot have it. A
-    /// pair without its queue would be forgotten, and a queue without its pair found in its slot:
-    /// no run meets either.
+    /// pair without its queue would be forgotten, and a queue without its pair found in its slot;
+    /// neither is reachable (argued, not proved).
     #[tactic(auto, using(crate::proofs::LaterLemmas::look_self, crate::proofs::LaterLemmas::look_trans))]
     fn find<R: Wait>(&self, rt: &R, keys: &mut Keys<N>, seat: &mut Seat<N>, key: i32) -> Option<Id>
         requires some { key ≢ pos 0 }

@@ -1,3 +1,6 @@
+//! The key table and its lock. msgget(2) and IPC_RMID hold it throughout, so that a key is entered
+//! with its queue and forgotten with it.
+
 ghost use Rattle.std.specs.Prelude.{◌≡◌, ◌<◌, [], None, IfSome, All};
 ghost use Rattle.mq_table.specs.Ids.{slot_of};
 ghost use Rattle.mq_table.specs.Keys.{id_of_key, forget_key, AreKeys};

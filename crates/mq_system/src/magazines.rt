@@ -1,4 +1,4 @@
-//! What the seats have spent, kept back for their next drafts.
+//! The seats' magazines: caches of spent blocks, from which a seat drafts without the arena's lock.
 ghost use Rattle.std.specs.Prelude.{◌≡◌, ◌<◌, ◌≤◌, ◌⊎◌, true, IfErr, IfOk, IfSome, IsErrOf};
 ghost use Rattle.mq_tree.specs.declared.limits.TheConstants.{MAX_HEIGHT};
 
@@ -11,16 +11,16 @@ use std::marker::Model;
 use std::sync::atomic::{AtomicU16, Ordering};
 use std::sync::{Mutex, MutexGuard, Wait};
 
-/// The drafter of a block with which no seat has drafted.
+/// Marks a block with which no seat has drafted.
 const NOBODY: u16 = u16::MAX;
 
-/// A magazine for each seat. The lock of a magazine is taken before the arena's; who takes those of
+/// A magazine for each seat. The lock of a magazine is taken before the arena's; a call that takes
 /// several takes them in the order of their seats.
 pub(crate) struct Magazines<N: Names> {
     each: Vec<Own<N>>,
-    /// At the page that a block begins at, the index of the seat that last drafted with it, if one
-    /// did. Who spends what another has drafted gives it back to that one, so that neither takes
-    /// the arena's lock.
+    /// At the index of a block's first page, the index of the seat that last drafted with it, if
+    /// one did. A seat whose magazine is full returns a block to that seat's magazine, so that
+    /// neither takes the arena's lock.
     drafters: Vec<AtomicU16>,
     waiters: PageWaiters,
     /// The order of a block that has all pages.
@@ -38,7 +38,7 @@ impl<N: Names> Model for Magazines<N> {
 }
 
 impl<N: Names> Magazines<N> {
-    /// That many empty ones. An `Err` means that memory ran out.
+    /// That many empty magazines. An `Err` means that memory ran out.
     pub(crate) fn new<R: Wait>(
         alloc: Global,
         rt: &R,
@@ -72,7 +72,7 @@ impl<N: Names> Magazines<N> {
         })
     }
 
-    /// Ends them: all that they keep goes home.
+    /// Ends them: all their blocks are freed.
     pub(crate) fn end<R: Wait>(self, rt: &R, arena: &Arena<Pages<N>>) {
         let Magazines {
             mut each,
@@ -88,7 +88,7 @@ impl<N: Names> Magazines<N> {
         each.destroy_empty();
     }
 
-    /// A block of the magazine of the seat with this number, else as `take_any` answers it.
+    /// A block of the magazine of the seat with this number, else as `take_any` returns it.
     pub(crate) fn take<R: Wait, T: Patience>(
         &self,
         rt: &R,
@@ -113,7 +113,8 @@ impl<N: Names> Magazines<N> {
         Ok(block)
     }
 
-    /// Notes who drafts with the block that begins there. What is so already is not written.
+    /// Notes which seat drafts with the block that begins there. It writes only a change, so that
+    /// the cache line stays shared.
     fn note(&self, start: u32, seat: u16) {
         if let Some(drafter) = self.drafters.get(start as usize) {
             if drafter.load(Ordering::Relaxed) != seat {
@@ -122,7 +123,7 @@ impl<N: Names> Magazines<N> {
         }
     }
 
-    /// Who last drafted with the block that begins there.
+    /// The seat that last drafted with the block that begins there.
     fn drafter(&self, start: u32) -> u16 {
         match self.drafters.get(start as usize) {
             Some(drafter) => drafter.load(Ordering::Relaxed),
@@ -130,7 +131,7 @@ impl<N: Names> Magazines<N> {
         }
     }
 
-    /// A block of that order that the seat at this index keeps back.
+    /// A block of that order from the magazine of the seat at this index.
     fn take_kept<R: Wait>(&self, rt: &R, seat: u16, order: u8) -> Option<Unwritten<Pages<N>>>
         requires { order ≤ MAX_ORDER }
         ensures { IfSome result (λ b. b.order ≡ order) }
@@ -143,7 +144,7 @@ impl<N: Names> Magazines<N> {
     }
 
     /// A block of the arena. Where there is none it waits for one until the patience ends, if the
-    /// arena could ever lend it. `NoRun`, then `Memory`.
+    /// arena could ever allocate it. `NoRun`, then `Memory`.
     pub(crate) fn take_any<R: Wait, T: Patience>(
         &self,
         rt: &R,
@@ -194,7 +195,7 @@ impl<N: Names> Magazines<N> {
         unreachable!()
     }
 
-    /// Gives a block back to the arena, and wakes who waits for pages.
+    /// Frees a block, and wakes the waiters for pages.
     pub(crate) fn put_home<R: Wait>(
         &self,
         rt: &R,
@@ -207,7 +208,7 @@ impl<N: Names> Magazines<N> {
     }
 
     /// Keeps a block in the magazine of the seat with this number, while it has room, or of the
-    /// seat that drafted with it; else the block goes home.
+    /// seat that drafted with it; else the block is freed.
     pub(crate) fn put<R: Wait>(
         &self,
         rt: &R,
@@ -225,7 +226,7 @@ impl<N: Names> Magazines<N> {
     }
 
     /// Keeps a block in the magazine of the seat that drafted with it, while it has room; else the
-    /// block goes home.
+    /// block is freed.
     fn put_back<R: Wait>(
         &self,
         rt: &R,
@@ -242,7 +243,7 @@ impl<N: Names> Magazines<N> {
         }
     }
 
-    /// Keeps a block in the magazine of the seat at this index, or hands it back where that has no
+    /// Keeps a block in the magazine of the seat at this index, or returns it where that has no
     /// room.
     fn keep<R: Wait>(
         &self,
@@ -259,7 +260,7 @@ impl<N: Names> Magazines<N> {
     }
 }
 
-/// Nobody has drafted with a block of these pages. An `Err` means that memory ran out.
+/// The drafters of the blocks of these pages: none yet. An `Err` means that memory ran out.
 fn no_drafters(alloc: Global, pages: usize) -> Result<Vec<AtomicU16>, AllocError> {
     let mut drafters = Vec::with_capacity(alloc, pages)?;
     for _ in 0..pages {

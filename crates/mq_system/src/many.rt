@@ -104,7 +104,7 @@ impl<P: Pledge, N: Names> SharedSlot<P, N> {
 
 impl<P: Pledge, N: Names> System<P, N> {
     /// Receives up to `n` messages, at most `MAX_BATCH`, as so many calls of `msgrcv`, one after
-    /// another at consecutive entries. It waits for the first alone, and not for so many. The first
+    /// another at consecutive entries. It waits for the first alone, and not for `n`. The first
     /// refusal ends it.
     #[tactic(auto, using(crate::proofs::LaterLemmas::look_self))]
     pub fn msgrcv_many_within<R: Wait, T: Patience>(

@@ -14,9 +14,9 @@ use mq_table::Id;
 use std::sync::{MutexGuard, Wait};
 
 impl<P: Pledge, N: Names> System<P, N> {
-    /// Sends a text (msgop(2), msgsnd), and answers the entry. Where the queue is full it waits for
+    /// Sends a text (msgop(2), msgsnd), and returns the entry. Where the queue is full it waits for
     /// room, unless the flags say not to. EINVAL for the type, EINVAL for the id, EIDRM, EAGAIN,
-    /// then ENOMEM; the text is then handed back.
+    /// then ENOMEM; the text is then returned.
     pub fn msgsnd<R: Wait>(
         &self,
         rt: &R,
@@ -40,7 +40,7 @@ impl<P: Pledge, N: Names> System<P, N> {
     }
 
     /// Sends a text as `msgsnd` does, and waits for room no longer than until the patience ends.
-    /// Then it answers EAGAIN, which is what it saw last, as with IPC_NOWAIT.
+    /// Then it returns EAGAIN, which is what it saw last, as with IPC_NOWAIT.
     #[tactic(auto, using(crate::proofs::LaterLemmas::look_self))]
     pub fn msgsnd_within<R: Wait, T: Patience>(
         &self,
@@ -117,7 +117,7 @@ impl<P: Pledge, N: Names> System<P, N> {
     }
 
     /// Receives a message as `msgrcv` does, and waits for one no longer than until the patience
-    /// ends. Then it answers ENOMSG, which is what it saw last, as with IPC_NOWAIT.
+    /// ends. Then it returns ENOMSG, which is what it saw last, as with IPC_NOWAIT.
     #[tactic(auto, using(crate::proofs::LaterLemmas::look_self))]
     pub fn msgrcv_within<R: Wait, T: Patience>(
         &self,

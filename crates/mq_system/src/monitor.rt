@@ -1,3 +1,6 @@
+//! A slot's monitor: its lock, and its waiters for room and for messages. A call spins with backoff
+//! before it parks for the lock.
+
 ghost use Rattle.std.specs.Prelude.{◌≡◌, ◌<◌, IsTrue, MatchOption, Some, length};
 ghost use Rattle.std.specs.Sync.Mutex.{mutex_guard_value};
 ghost use Rattle.mq_calls.specs.declared.errno.Errno.TheVariants.{EAGAIN, ENOMSG};
@@ -14,28 +17,28 @@ use std::hint::spin_loop;
 use std::sync::{Mutex, MutexGuard, Wait};
 use std::time::Duration;
 
-/// How often a call tries to take a slot's lock before it sleeps for it. Each try takes the lock's
-/// line away from who holds it, so there are pauses between them.
-const TRIES: u32 = 30;
+/// How often a call tries to acquire a slot's lock before it parks for it. Each try takes the
+/// lock's cache line from its holder, so the call backs off between them.
+const LOCK_ATTEMPTS: u32 = 30;
 
-/// The fewest messages that are plenty.
+/// The least number of pending messages at which backoff takes long pauses.
 const PLENTY: u64 = 32;
 
-/// How long a pause is where plenty waits and there is room.
+/// Spins of a long pause.
 const LONG_PAUSE: u32 = 512;
 
-/// How long a call keeps away from a slot's lock that another holds.
+/// How a call backs off from a slot's lock that another holds.
 #[derive(Drop)]
 enum Pauses {
-    /// For long: it misses nothing, and who holds the lock can do several calls meanwhile.
+    /// By many spins: it misses nothing, and the lock's holder can do several calls meanwhile.
     Long,
-    /// Longer each time, and then it gives its processor away.
+    /// Longer each time, and then it yields.
     Growing(Backoff),
 }
 
 impl Pauses {
-    /// Those of a seat: long where plenty waited in the slot and there was room, as far as it
-    /// knows.
+    /// Those of a seat: long where at least `PLENTY` messages were pending and there was room, when
+    /// it last observed the slot.
     fn of<N: Names>(seat: &Seat<N>, slot: u8) -> Pauses
         requires { slot < N.slots }
     {
@@ -60,18 +63,18 @@ impl Pauses {
     }
 }
 
-/// A slot's lock, and those who wait: senders for room, receivers for what arrives. They look at
-/// lines of their own, which no change of the slot takes away from them.
+/// A slot's lock and its waiters: senders for room, receivers for messages. They poll cache lines
+/// of their own, which no change of the slot takes away from them.
 pub(crate) struct SlotMonitor<P: Pledge, N: Names> {
     held: Mutex<SharedSlot<P, N>>,
-    room: CachePadded<Waiters>,
-    arrived: CachePadded<Waiters>,
-    /// How many entries are kept of the slot's list before the next call cuts it off.
+    not_full: CachePadded<Waiters>,
+    not_empty: CachePadded<Waiters>,
+    /// How many entries of the slot's list are retained before the next call drains it.
     log_limit: u64,
 }
 
-/// A call that is among those who wait in a slot, since it held the slot's lock and found that it
-/// has to wait: no wake after that is lost to it.
+/// A call that registered as a waiter of a slot while it held the slot's lock and found that it has
+/// to wait: it misses no wake after that.
 #[derive(Drop)]
 pub(crate) struct SlotWaiter<'m> {
     waiters: &'m Waiters,
@@ -89,13 +92,14 @@ impl<P: Pledge, N: Names> SlotMonitor<P, N> {
     pub(crate) fn new(slot: SharedSlot<P, N>) -> SlotMonitor<P, N> {
         SlotMonitor {
             held: Mutex::new(slot),
-            room: CachePadded::new(Waiters::new()),
-            arrived: CachePadded::new(Waiters::new()),
+            not_full: CachePadded::new(Waiters::new()),
+            not_empty: CachePadded::new(Waiters::new()),
             log_limit: u64::MAX,
         }
     }
 
-    /// From now on a call cuts the slot's list off where so many entries are kept of it.
+    /// From now on a call drains the slot's list where at least `entries` entries of it are
+    /// retained.
     pub(crate) fn limit_log(&mut self, entries: u64) {
         self.log_limit = entries;
     }
@@ -104,15 +108,15 @@ impl<P: Pledge, N: Names> SlotMonitor<P, N> {
     pub(crate) fn into_slot(self) -> SharedSlot<P, N> {
         let SlotMonitor {
             held,
-            room: _,
-            arrived: _,
+            not_full: _,
+            not_empty: _,
             log_limit: _,
         } = self;
         held.into_inner()
     }
 
-    /// The seat learns what happened in the slot, whose list is cut off where it is to be. Where
-    /// there is no memory for that, the next call does it.
+    /// The seat learns what happened in the slot, whose list is drained where it has reached the
+    /// limit. Where that runs out of memory, the next call does it.
     fn admit(&self, held: &mut SharedSlot<P, N>, seat: &mut Seat<N>, number: u8) -> bool
         requires within { number < N.slots }
         ensures look { IsLook seat.old seat.new }
@@ -128,7 +132,7 @@ impl<P: Pledge, N: Names> SlotMonitor<P, N> {
         true
     }
 
-    /// Takes the lock for a seat as `enter` does, if nobody has it.
+    /// Acquires the lock for a seat as `enter` does, if it is free.
     #[inline(always)]
     #[tactic(auto, using(crate::proofs::LaterLemmas::look_self))]
     fn try_enter<'s>(
@@ -149,9 +153,9 @@ impl<P: Pledge, N: Names> SlotMonitor<P, N> {
         None
     }
 
-    /// Takes the lock for a seat, which then knows all that happened in the slot. A slot of another
-    /// number, or one of which the seat knew more, would be let go, and looked at again: no run
-    /// meets either.
+    /// Acquires the lock for a seat, which then has observed all that happened in the slot. A slot
+    /// of another number, or a view newer than the slot, would be released and acquired again;
+    /// neither is reachable (argued, not proved).
     #[tactic(auto, using(crate::proofs::LaterLemmas::look_self, crate::proofs::LaterLemmas::look_trans))]
     pub(crate) fn enter<'s, R: Wait>(
         &'s self,
@@ -167,7 +171,7 @@ impl<P: Pledge, N: Names> SlotMonitor<P, N> {
             return held;
         }
         let pauses = Pauses::of(seat, number);
-        for _try in 1..TRIES {
+        for _try in 1..LOCK_ATTEMPTS {
             pauses.pause();
             if let Some(held) = self.try_enter(seat, number) {
                 return held;
@@ -183,7 +187,7 @@ impl<P: Pledge, N: Names> SlotMonitor<P, N> {
         unreachable!()
     }
 
-    /// Adds a sender to those who wait for room. The slot under its lock has none for its text.
+    /// Registers a sender that waits for room. The slot under its lock has none for its text.
     pub(crate) fn add_sender(
         &self,
         _held: &SharedSlot<P, N>,
@@ -194,13 +198,13 @@ impl<P: Pledge, N: Names> SlotMonitor<P, N> {
         requires full { send_verdict (seq_of _id) _mtype (length _text.now.bytes)
             _held.now.whole.events ≡ Some EAGAIN }
     {
-        let waiters = &*self.room;
-        let seen = waiters.come();
+        let waiters = &*self.not_full;
+        let seen = waiters.register();
         SlotWaiter { waiters, seen }
     }
 
-    /// Adds a receiver to those who wait for what arrives. The slot under its lock has no message
-    /// that this selection names.
+    /// Registers a receiver that waits for a message. The slot under its lock has none that this
+    /// selection names.
     pub(crate) fn add_receiver(
         &self,
         _held: &SharedSlot<P, N>,
@@ -212,22 +216,22 @@ impl<P: Pledge, N: Names> SlotMonitor<P, N> {
         requires none { receive_verdict (seq_of _id) _size _selection _noerror
             _held.now.whole.events ≡ Some ENOMSG }
     {
-        let waiters = &*self.arrived;
-        let seen = waiters.come();
+        let waiters = &*self.not_empty;
+        let seen = waiters.register();
         SlotWaiter { waiters, seen }
     }
 
-    /// Wakes those who wait for room.
+    /// Wakes the senders that wait for room.
     pub(crate) fn wake_senders(&self) {
-        self.room.wake();
+        self.not_full.wake();
     }
 
-    /// Wakes those who wait for what arrives.
+    /// Wakes the receivers that wait for a message.
     pub(crate) fn wake_receivers(&self) {
-        self.arrived.wake();
+        self.not_empty.wake();
     }
 
-    /// Wakes all who wait in the slot: they look at it once more.
+    /// Wakes all waiters of the slot: they check it once more.
     pub(crate) fn wake(&self) {
         self.wake_receivers();
         self.wake_senders();

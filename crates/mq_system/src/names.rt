@@ -1,14 +1,16 @@
+//! The type-level brand of a system, and the types of its parts under that brand.
+
 ghost use Rattle.std.specs.Prelude.{ℕ, ◌+◌};
 
 use mq_arena::{OfHeight, Text};
 use mq_board::Naming;
-use mq_index::IndexWaiting;
+use mq_select::IndexWaiting;
 use mq_table::Slot;
 use std::marker::{Brand, PhantomData};
 use std::sync::ledger::Ledger;
 
-/// What tells the parts of one system from those of another, and the sizes that they share. None of
-/// it is there when the program runs.
+/// The brand of the parts of one system, and the sizes that they share. None of
+/// it exists at run time.
 pub trait Names: Naming {
     /// The ledger of the arena's pages, and its parts.
     ghost pages: { ℕ };
@@ -25,7 +27,7 @@ pub trait Names: Naming {
 
     ghost seats: { ℕ };
 
-    /// The seq with which a slot is used up.
+    /// The last generation of a slot, after which it is retired.
     ghost last_seq: { ℕ };
 }
 
@@ -74,7 +76,7 @@ impl<N: Names> Ledger for Entries<N> {
 /// A text of a system.
 pub type TextOf<N> = Text<Pages<N>>;
 
-/// What waits in a queue of a system.
+/// The pending messages of a queue of a system.
 pub type WaitingOf<N> = IndexWaiting<TextOf<N>>;
 
 /// A slot of a system.

@@ -1,6 +1,6 @@
-//! How a draft looks for pages and waits for some, and how they come back. A draft waits only once
-//! it has looked after it was added to those who wait; and who brings pages back wakes them, for
-//! what says so can't be dropped.
+//! How a draft allocates pages or waits for some, and how they are returned. A draft waits only
+//! once it has tried after it registered as a waiter; and a call that returns pages wakes the
+//! waiters, for the token that says so can't be dropped.
 ghost use Rattle.std.specs.Prelude.{◌≡◌, ◌<◌, ◌≤◌, IfErr, IfOk, IsErrOf};
 
 use crate::{Names, Pages, Waiters};
@@ -9,26 +9,27 @@ use mq_arena::{Arena, Block, Homecoming, INLINE_ORDER, MAX_ORDER, Magazine, Take
 use std::sync::{Mutex, MutexGuard, Wait};
 use std::time::Duration;
 
-/// A seat's magazine under its lock, which another seat takes only where the arena has no run.
+/// A seat's magazine under its lock, which another seat takes only to return a block that this one
+/// drafted, or where no free block of the arena has room.
 pub(crate) type Own<N> = CachePadded<Mutex<Magazine<Pages<N>>>>;
 
-/// Pages that came back, for which who waits for some is not woken yet.
+/// A token of pages that were returned, whose waiters are not woken yet.
 pub(crate) struct Returned {
     unwoken: (),
 }
 
 impl Returned {
-    /// Gives a block back to the arena.
+    /// Frees a block.
     pub(crate) fn home<N: Names, R: Wait>(
         rt: &R,
         arena: &Arena<Pages<N>>,
         block: Block<Pages<N>>,
     ) -> (Homecoming, Returned) {
-        let came = arena.put(rt, block);
-        (came, Returned { unwoken: () })
+        let homecoming = arena.put(rt, block);
+        (homecoming, Returned { unwoken: () })
     }
 
-    /// Keeps a block back in this magazine, or hands it back where that has no room.
+    /// Keeps a block in this magazine, or returns it where that has no room.
     pub(crate) fn kept<N: Names, R: Wait>(
         rt: &R,
         own: &Own<N>,
@@ -46,8 +47,8 @@ impl Returned {
     }
 }
 
-/// Those who wait for pages: woken where a text was spent, whether its pages went home or are kept
-/// back.
+/// The drafts that wait for pages: woken where a text was spent, whether its pages were freed or
+/// are kept in a magazine.
 #[derive(Drop)]
 pub(crate) struct PageWaiters {
     waiters: CachePadded<Waiters>,
@@ -60,21 +61,21 @@ impl PageWaiters {
         }
     }
 
-    /// Wakes all that wait for pages, once some came back.
+    /// Wakes all waiters for pages, once some were returned.
     pub(crate) fn wake(&self, returned: Returned) {
         let Returned { unwoken: () } = returned;
         self.waiters.wake();
     }
 
-    /// Adds a draft to those who wait.
+    /// Registers a draft as a waiter.
     pub(crate) fn add(&self) -> PageWaiter<'_> {
         let waiters = &*self.waiters;
-        let seen = waiters.come();
+        let seen = waiters.register();
         PageWaiter { waiters, seen }
     }
 }
 
-/// A draft among those who wait for pages, which has not looked for some since.
+/// A draft that registered as a waiter for pages, and has not tried to allocate since.
 #[derive(Drop)]
 pub(crate) struct PageWaiter<'w> {
     waiters: &'w Waiters,
@@ -82,7 +83,7 @@ pub(crate) struct PageWaiter<'w> {
 }
 
 impl<'w> PageWaiter<'w> {
-    /// A block as `take_now` answers it, or that the draft missed one.
+    /// A block as `take_now` returns it, or that the draft missed one.
     pub(crate) fn take<N: Names, R: Wait>(
         self,
         rt: &R,
@@ -103,7 +104,7 @@ impl<'w> PageWaiter<'w> {
     }
 }
 
-/// One that has looked since, and found none: it misses no wake after that.
+/// One that has tried since, and found none: it misses no wake after that.
 #[derive(Drop)]
 pub(crate) struct Missed<'w> {
     waiter: PageWaiter<'w>,
@@ -135,8 +136,8 @@ pub(crate) fn take_now<N: Names, R: Wait>(
     }
 }
 
-/// A block of the arena, once what these magazines keep is home. Their locks are held until it is
-/// taken, so that `NoRun` says what is so: no seat can keep a page back meanwhile.
+/// A block of the arena, once the blocks of these magazines are freed. Their locks are held until
+/// it is allocated, so that `NoRun` is true: no seat can keep a block meanwhile.
 fn take_emptied<N: Names, R: Wait>(
     rt: &R,
     arena: &Arena<Pages<N>>,

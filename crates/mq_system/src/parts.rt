@@ -1,4 +1,4 @@
-//! The parts of a system that were not used yet.
+//! How a system's slots and seats are made, and given up again where memory runs out.
 ghost use Rattle.std.specs.Prelude.{◌≡◌, ◌+◌, ◌-◌, ◌<◌, ◌≤◌, IfOk, OnOk, length, vec_len, vec_capacity};
 ghost use Rattle.mq_board.specs.Named.{AreNamed};
 ghost use Rattle.mq_system.specs.Fronts.{AreRows};

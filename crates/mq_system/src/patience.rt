@@ -1,10 +1,12 @@
+//! Timeout policies of the calls that wait: for ever, not at all, or until a deadline.
+
 ghost use Rattle.std.specs.Prelude.{◌≡◌, true, false, Bool, IsNone, IfSome, None, Some};
 ghost use Rattle.std.specs.Option.{option_map};
 ghost use Rattle.core.specs.Duration.{as_nanos, max_nanos};
 
 use std::time::{Clock, Duration, Instant};
 
-/// How long a call waits. A call whose patience does not end is not refused for want of time.
+/// How long a call waits. A call whose patience does not end does not fail by a timeout.
 pub trait Patience {
     ghost ends: { Bool };
 

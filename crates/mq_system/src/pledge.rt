@@ -1,3 +1,5 @@
+//! Message invariants: preconditions of sends, which receivers may assume.
+
 ghost use Rattle.std.specs.Prelude.{ℕ, ℤ, List};
 
 /// What every sender of a system keeps of what it sends: a fact of the sender's seat, its tag, the

@@ -1,3 +1,6 @@
+//! A thread's handle of a system: its number, its counts, and a reader of each slot's board, by
+//! which it reads statistics without a lock.
+
 ghost use Rattle.std.specs.Prelude.{◌≡◌, ◌+◌, ◌*◌, ◌<◌, ◌≤◌, [], IfOk, MatchBool, length, replicate, slice_index, slice_set};
 ghost use Rattle.std.specs.List.{sum};
 ghost use Rattle.mq_queue.specs.Row.{row};
@@ -11,9 +14,9 @@ use std::alloc::{AllocError, Global};
 use std::marker::Model;
 use std::sync::ledger::Share;
 
-/// The place of one caller at a time, in place of the manual's process, with how many changes it
-/// made in each slot and what it knows of each. It goes back to the system when that is closed, and
-/// so it can't be dropped.
+/// A participant, which stands for the manual's process and is used by one caller at a time, with
+/// how many changes it made in each slot and its view of each. It goes back to the system when that
+/// is closed, and so it can't be dropped.
 pub struct Seat<N: Names> {
     number: u16,
     /// A reader of each slot's board, at the place of this number.
@@ -95,7 +98,7 @@ impl<N: Names> Seat<N> {
     }
 
     /// What holds of each seat: it has a front for each slot, and each of its counts is at most the
-    /// number of its own changes that it knows there.
+    /// number of its own changes that it has observed there.
     pub fn holds(&self)
         ensures number { (1 ≤ self.now.number) × (self.now.number ≤ N.seats) }
         ensures each { length self.now.by_slot ≡ N.slots }
@@ -105,7 +108,7 @@ impl<N: Names> Seat<N> {
         let _ = &self.number;
     }
 
-    /// Learns what happened in the slot, if it is at least as much as the seat knows.
+    /// Learns what happened in the slot, if it is at least as much as the seat has observed.
     pub fn learn(&mut self, slot: u8, told: ToldList<N>) -> bool
         requires slot { slot < N.slots }
         requires told { told.board ≡ slot }
@@ -117,7 +120,7 @@ impl<N: Names> Seat<N> {
         self.readers[slot as usize].learn(told)
     }
 
-    /// What the seat knows of the slot: it reads nothing that others write.
+    /// What the seat has observed of the slot: it reads nothing that others write.
     pub fn known(&self, slot: u8) -> BoardRow
         requires { slot < N.slots }
         ensures { result ≡ row (front_of self.now slot) }
@@ -126,8 +129,8 @@ impl<N: Names> Seat<N> {
     }
 
     /// What a report shows of the slot: what is published on its board, or the row of the front
-    /// where other readers have all places there. It waits for nobody, and takes no lock, of which a
-    /// seat has none, and no memory.
+    /// where other readers have all places there. It never blocks, takes no lock, of which a seat
+    /// has none, and allocates nothing.
     pub fn row(&mut self, slot: u8) -> BoardRow
         requires slot { slot < N.slots }
         ensures same { IsSame self.old self.new }
@@ -158,8 +161,8 @@ impl<N: Names> Seat<N> {
         }
     }
 
-    /// Ends the seat: adds what is left of its part to these, and hands out its fronts. A system
-    /// hands out no part, so its seats end where it is closed.
+    /// Ends the seat: adds what is left of its part to these, and returns its fronts. A system lets
+    /// no part out, so its seats end where it is closed.
     pub fn end(self, parts: &mut Share<Entries<N>>) -> Fronts<N>
         ensures parts { parts.new.parts ≡ parts.old.parts + 1 }
         ensures left { parts.new.amount + sum self.by_slot

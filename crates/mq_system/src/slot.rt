@@ -1,3 +1,6 @@
+//! What a slot's mutex protects: the slot and the writer of its board. The calls that change them
+//! are in `calls`, `turns` and `many`.
+
 ghost use Rattle.std.specs.Prelude.{◌≡◌, ◌≢◌, ◌⊎◌, ◌<◌, ◌≤◌, ◌+◌, ◌-◌, ◌^◌, ◌==◌, [], true};
 ghost use Rattle.std.specs.Prelude.{All, IfOk, IfSome, IsFalse, IsTrue, MatchResult, OnOk, length};
 ghost use Rattle.mq_queue.specs.Row.{is_live, made_count};
@@ -24,15 +27,15 @@ use std::marker::{Model, PhantomData};
 use std::sync::ledger::Share;
 
 /// A slot of a system, under its lock, with the writer of its board, which has published all that
-/// happened in the slot and nothing else, also what was cut off of the slot's list since then. It
-/// is seen as the whole slot and the number of entries that were cut off; the pledge holds of each
-/// message that waits in it.
+/// happened in the slot and nothing else, also what was drained from the slot's list since then. It
+/// is seen as the whole slot and the number of entries that were drained; the pledge holds of each
+/// pending message.
 pub struct SharedSlot<P: Pledge, N: Names> {
     pub(crate) parts: SlotParts<N>,
     pledge: PhantomData<P>,
 }
 
-/// What a slot under its lock is made of. Between two calls of several, the board's copies do not
+/// What a slot under its lock is made of. Between two calls of a batch, the board's copies do not
 /// show all of its list.
 pub struct SlotParts<N: Names> {
     pub slot: SlotOf<N>,
@@ -102,9 +105,9 @@ impl<P: Pledge, N: Names> SharedSlot<P, N> {
         self.parts.slot.number() == number
     }
 
-    /// The seat learns what happened in this slot. Whether this is its number, and the seat did not
-    /// know more: no run meets a slot of another number, or of which a seat knows more than that
-    /// under its lock.
+    /// The seat observes what happened in this slot. Whether this is its number, and the seat's
+    /// view was not newer than the slot: under its lock a slot of another number, or a newer view,
+    /// is not reachable (argued, not proved).
     pub fn enter(&mut self, seat: &mut Seat<N>, number: u8) -> bool
         requires within { number < N.slots }
         ensures look { IsLook seat.old seat.new }
@@ -154,8 +157,8 @@ impl<P: Pledge, N: Names> SharedSlot<P, N> {
         self.parts.slot.is_free(last_seq)
     }
 
-    /// Cuts the slot's list off where it ends now, and hands out what was kept of it, from the last
-    /// cut on. This is no event: the whole list, the board and the counts stay. ENOMEM alone.
+    /// Drains the slot's list, and returns the entries that were retained of it since the last
+    /// drain. This is no event: the whole list, the board and the counts stay. ENOMEM alone.
     pub fn cut(&mut self) -> Result<Cut, Refused>
         ensures answer { MatchResult result (λ cut. IsCutOf self.old.whole.events (cut_shown cut))
             (λ r. r ≡ refused_here self.old.whole ENOMEM) }
@@ -169,8 +172,8 @@ impl<P: Pledge, N: Names> SharedSlot<P, N> {
         }
     }
 
-    /// Cuts the slot's list off as `cut` does where at least so many entries are kept of it, and
-    /// drops these. Whether they were as many. ENOMEM alone.
+    /// Drains the slot's list as `cut` does where at least `entries` entries of it are retained,
+    /// and drops these. Whether at least that many were. ENOMEM alone.
     pub fn cut_from(&mut self, entries: u64) -> Result<bool, Refused>
         ensures answer { MatchResult result
             (λ cut. (cut ≡ keeps_from entries self.old) × (self.new ≡ cut_where cut self.old))

@@ -1,3 +1,6 @@
+//! The system that threads share: how it is made, and how texts are drafted and spent. The calls of
+//! queues are in `get`, `messages`, `many`, `control` and `cut`, and its end is in `close`.
+
 ghost use Rattle.std.specs.Prelude.{◌≡◌, ◌↔◌, ◌⊎◌, ◌<◌, ◌≤◌, ◌-◌, ◌*◌, ◌^◌, ℕ, true, false};
 ghost use Rattle.std.specs.Prelude.{◌++◌, None, length, nat_lt, replicate, vec_len, IfOk, IsErrOf};
 ghost use Rattle.std.specs.List.{concat};
@@ -41,7 +44,7 @@ pub struct System<P: Pledge, N: Names> {
     pub(crate) last_seq: u32,
     /// How many pages the arena has.
     pub(crate) pages: u32,
-    /// Room for what `close` answers.
+    /// Room for what `close` returns.
     pub(crate) closed: Vec<ClosedSlot>,
 }
 
@@ -58,9 +61,9 @@ impl<P: Pledge, N: Names> Model for System<P, N> {
 }
 
 impl<P: Pledge, N: Names> System<P, N> {
-    /// A system in which no queue is made and nothing is lent, and its seats in the order of their
-    /// numbers. `Blanks::of` has the ledgers and boards that it wants. `Config` where a number is
-    /// out of its limits, then `Memory`.
+    /// A system in which no queue is made and no page is allocated, and its seats in the order of
+    /// their numbers. `Blanks::of` has the ledgers and boards that it needs. `Config` where a
+    /// number is out of its limits, then `Memory`.
     pub fn new<R: Wait>(
         alloc: Global,
         rt: &R,
@@ -125,10 +128,10 @@ impl<P: Pledge, N: Names> System<P, N> {
         Ok((system, seats))
     }
 
-    /// The same system, whose logs need not grow: a call that finds so many entries of its slot
-    /// kept, or more, cuts them off before it looks, and drops them. What `cut_log` and `close`
-    /// hand out is what is kept then. Where there is no memory for a cut, the next call makes it.
-    /// Without this the logs are kept.
+    /// The same system, with bounded logs: a call that finds at least `entries` entries of its slot
+    /// retained drains and drops them before it acts. `cut_log` and `close` return what is retained
+    /// then. Where a drain runs out of memory, the next call does it. Without this the logs are
+    /// kept.
     pub fn with_log_limit(self, entries: u64) -> System<P, N>
         ensures { result ≡ self }
     {
@@ -147,8 +150,8 @@ impl<P: Pledge, N: Names> System<P, N> {
         self.monitors.len() as u8
     }
 
-    /// A text of so many zero bytes, to be filled in place. A text over MSGMAX is too long; one of
-    /// some bytes may find no run of free pages, and one over `INLINE_LEN` no memory.
+    /// A zeroed text of `len` bytes, to be filled in place. A text over MSGMAX is too long; one of
+    /// some bytes may find that no free block has room, and one over `INLINE_LEN` no memory.
     pub fn draft<R: Wait>(&self, rt: &R, len: u64) -> Result<TextOf<N>, DraftError>
         ensures ok { IfOk result (λ text. text.bytes ≡ replicate len 0) }
         ensures block { IfOk result (IsInLeast len) }
@@ -159,7 +162,7 @@ impl<P: Pledge, N: Names> System<P, N> {
         self.draft_within(rt, len, &mut NoWait)
     }
 
-    /// A text as `draft` makes it. Where no run of pages is free it waits until one is, or the
+    /// A text as `draft` makes it. Where no free block has room it waits until one has, or the
     /// patience ends; a text that is greater than the arena is not waited for.
     pub fn draft_within<R: Wait, T: Patience>(
         &self,
@@ -231,8 +234,8 @@ impl<P: Pledge, N: Names> System<P, N> {
         filled(found, bytes)
     }
 
-    /// A text of these bytes as `draft_of` makes it, in a block that this seat has spent, if it
-    /// keeps one back that fits.
+    /// A text of these bytes as `draft_of` makes it, in a block of this seat's magazine, if that
+    /// has one that fits.
     pub fn draft_by<R: Wait>(
         &self,
         rt: &R,
@@ -280,8 +283,8 @@ impl<P: Pledge, N: Names> System<P, N> {
         filled(taken, bytes)
     }
 
-    /// Spends a text: its block goes home, and who waits for pages is woken. A text without a block
-    /// is at home.
+    /// Spends a text: its block is freed, and the waiters for pages are woken. A text without a
+    /// block is `Home`.
     pub fn spend<R: Wait>(&self, rt: &R, text: TextOf<N>) -> Homecoming
         ensures none { text.block ≡ None → result ≡ Homecoming.Home }
     {
@@ -291,8 +294,9 @@ impl<P: Pledge, N: Names> System<P, N> {
         }
     }
 
-    /// Spends a text, whose block this seat keeps back for its next drafts, up to `MAGAZINE_PAGES`
-    /// pages. A draft that finds no run takes what all seats keep back, before it is refused.
+    /// Frees a text, whose block goes into this seat's magazine for its next drafts, up to
+    /// `MAGAZINE_PAGES` pages. A draft that finds no free block empties all magazines before it
+    /// fails.
     pub fn spend_by<R: Wait>(&self, rt: &R, seat: &Seat<N>, text: TextOf<N>) {
         seat.holds();
         match text.into_block() {

@@ -1,3 +1,6 @@
+//! The ghost resource by which `close` proves that the slots have as many entries as the seats have
+//! counted, without a shared counter.
+
 ghost use Rattle.std.specs.Prelude.{◌≡◌, ◌+◌, ◌*◌, ◌<◌};
 ghost use Rattle.mq_system.specs.declared.seat.TheConstants.{MAX_COUNT};
 
@@ -5,10 +8,10 @@ use crate::seat::MAX_COUNT;
 use crate::{Entries, Names};
 use std::sync::ledger::{Blank, Book, Share, Total};
 
-/// The book of a system's entries while the system is made, and the parts that no slot and no seat
-/// has yet. A slot's part has as much as its list has entries, and a seat's as much as its counts
-/// can still grow: an entry moves one from a seat's part to a slot's, which wants no lock. Nothing
-/// of it is there when the program runs.
+/// Ghost accounting of a system's entries during construction: the total, and the shares that have
+/// not been given to a slot or seat yet. A slot's share is as much as its list has entries, and a
+/// seat's as much as its counts can still grow: an entry moves one from a seat's share to a slot's,
+/// which needs no lock. Nothing of it exists at run time.
 #[derive(Drop)]
 pub struct Tally<N: Names> {
     pub book: Book<Entries<N>>,
@@ -17,7 +20,7 @@ pub struct Tally<N: Names> {
 }
 
 impl<N: Names> Tally<N> {
-    /// The book in which nothing stands.
+    /// Accounting of no entries.
     pub fn new(blank: Blank) -> Tally<N>
         requires name { blank.name ≡ N.entries }
         requires parts { blank.parts ≡ N.slots + N.seats }

@@ -1,65 +1,72 @@
+//! Poll, then park: an eventcount over a condition variable, by which a call waits for a change of
+//! one kind. A wake without waiters writes nothing.
+
 use crossbeam_utils::Backoff;
 use std::sync::atomic::{AtomicBool, Ordering};
 use std::sync::{Condvar, Wait};
 use std::time::Duration;
 
-/// How often a call that waits looks for a change before it sleeps.
-const LOOKS: u32 = 60;
+/// How often a call that waits polls for a change before it parks.
+const SPIN_LIMIT: u32 = 60;
 
-/// How often it looks where the wait ends soon. Each look beyond these gives the processor away, on
-/// a busy machine for milliseconds.
-const FEW_LOOKS: u32 = 8;
+/// How often it polls where the timeout is short. Each poll beyond these yields the processor, on a
+/// busy machine for milliseconds.
+const SHORT_SPIN_LIMIT: u32 = 8;
 
-/// The milliseconds of a wait that ends soon.
-const SOON: u64 = 250;
+/// A timeout of fewer milliseconds is short.
+const SHORT_TIMEOUT_MS: u64 = 250;
 
-/// Those who wait for one kind of change.
+/// The waiters for one kind of change.
 #[derive(Drop)]
 pub struct Waiters {
     changes: Condvar,
-    /// Whether anyone came since all were last woken.
-    came: AtomicBool,
+    /// Whether any registered since all were last woken.
+    any: AtomicBool,
 }
 
 impl Waiters {
     pub const fn new() -> Waiters {
         Waiters {
             changes: Condvar::new(),
-            came: AtomicBool::new(false),
+            any: AtomicBool::new(false),
         }
     }
 
-    /// Wakes all that wait, once the change is made and its lock was let go, and answers whether
-    /// anyone came since they were last woken. Where nobody did, this writes nothing: who comes
-    /// later finds the change.
+    /// Wakes all waiters, once the change is made and its lock is released, and returns whether any
+    /// registered since they were last woken. Where none did, this writes nothing: one that
+    /// registers later finds the change.
     pub fn wake(&self) -> bool {
-        let came = self.came.load(Ordering::SeqCst) && self.came.swap(false, Ordering::SeqCst);
-        if came {
+        let any = self.any.load(Ordering::SeqCst) && self.any.swap(false, Ordering::SeqCst);
+        if any {
             self.changes.notify_all();
         }
-        came
+        any
     }
 
-    /// Comes, and answers what `wait` is told. What is changed from now on wakes the caller: it
-    /// comes with the lock held under which it has looked, or looks once more.
-    pub fn come(&self) -> u64 {
+    /// Registers the caller, and returns what `wait` is given. Each change from now on wakes it: it
+    /// registers with the lock held under which it has checked, or checks once more.
+    pub fn register(&self) -> u64 {
         self.announce(self.changes.notifications())
     }
 
-    /// Says that one came who has read this count. Were it read later, a wake between would take
-    /// back what was said, and its caller would sleep past the next.
+    /// Sets the flag for a waiter that has read this count. Were the count read later, a wake
+    /// between would clear the flag, and the waiter would sleep past the next.
     fn announce(&self, seen: u64) -> u64 {
-        self.came.store(true, Ordering::SeqCst);
+        self.any.store(true, Ordering::SeqCst);
         seen
     }
 
-    /// Waits, for no longer than this, until all are woken after the caller came. It looks for a
-    /// while before it sleeps, and may end with no change.
+    /// Waits, for no longer than this, until all are woken after the caller registered. It polls
+    /// for a while before it parks, and may return with no change.
     pub fn wait<R: Wait>(&self, rt: &R, seen: u64, longest: Duration) {
         let backoff = Backoff::new();
-        let ends_soon = longest < Duration::from_millis(SOON);
-        let looks = if ends_soon { FEW_LOOKS } else { LOOKS };
-        for _look in 0..looks {
+        let is_short = longest < Duration::from_millis(SHORT_TIMEOUT_MS);
+        let polls = if is_short {
+            SHORT_SPIN_LIMIT
+        } else {
+            SPIN_LIMIT
+        };
+        for _poll in 0..polls {
             if self.changes.notifications() != seen {
                 return;
             }

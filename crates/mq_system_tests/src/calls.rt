@@ -1,5 +1,5 @@
 //! The calls of a system, each made once more where there was no memory. Seat 1 makes, sends, sets
-//! and removes, and seat 2 receives and cuts.
+//! and removes, and seat 2 receives and drains.
 
 use crate::holds;
 use crate::system::Calls;
@@ -209,13 +209,14 @@ pub(crate) fn remove<S: Calls, R: Abort + Wait>(
     }
 }
 
-/// How many entries there are up to the end of a cut.
+/// How many entries there are up to the end of a drain.
 fn end_of(cut: &Cut) -> u64 {
     let entries = (cut.past.len() as u64).saturating_add(cut.last.len() as u64);
     cut.first.saturating_add(entries)
 }
 
-/// What is cut off of a slot. Where that is refused at first, the refusal tells all entries.
+/// What is drained of a slot. Where that is refused at first, the refusal has the number of all
+/// entries.
 pub(crate) fn cut<S: Calls, R: Abort + Wait>(
     rt: &R,
     system: &S,
@@ -235,15 +236,15 @@ pub(crate) fn cut<S: Calls, R: Abort + Wait>(
     }
 }
 
-/// It is the first cut of a slot, in which no queue was removed.
+/// It is the first drain of a slot, in which no queue was removed.
 pub(crate) fn is_first(rt: &impl Abort, cut: &Cut) {
     holds(rt, cut.first == 0 && cut.made == 0, "nothing was before");
     holds(rt, cut.base.is_none(), "nothing waited before");
     holds(rt, cut.past.is_empty(), "no queue was removed");
 }
 
-/// It is a cut behind another one, of a queue that is there. So many entries were before, of which
-/// one message waits, and nothing happened since.
+/// It is a drain behind another one, of a queue that is there. So many entries were before, of
+/// which one message is pending, and nothing happened since.
 pub(crate) fn is_second(rt: &impl Abort, cut: &Cut, entries: u64) {
     holds(
         rt,

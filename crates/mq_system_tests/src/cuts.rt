@@ -1,4 +1,4 @@
-//! Cuts of a slot's list, after which all calls answer as before.
+//! Drains of a slot's list, after which all calls answer as before.
 
 use crate::calls::{CREATE, NEW, NO_FLAG, TAG, counts, cut, first, is_first, seat};
 use crate::day::{Day, config, left_by};
@@ -64,7 +64,7 @@ const FOUR: BaseEntry = BaseEntry {
     ..ONE
 };
 
-/// What is shown while both wait.
+/// What is shown while both are pending.
 const BOTH: Figures = Figures {
     qnum: 2,
     cbytes: 7,
@@ -76,7 +76,7 @@ const BOTH: Figures = Figures {
     lrpid: 0,
 };
 
-/// What is shown while the second waits.
+/// What is shown while the second is pending.
 const LEFT: Figures = Figures {
     qnum: 1,
     cbytes: 4,
@@ -98,7 +98,7 @@ fn sent<S: Calls, R: Abort + Wait>(
     holds(rt, entry == at, "it is sent by its entry");
 }
 
-/// A queue with a key, in which two messages wait.
+/// A queue with a key, in which two messages are pending.
 fn filled<S: Calls, R: Abort + Wait>(rt: &R, system: &S, seats: &mut [S::Seat]) {
     granted::made(rt, system, seats, 9, NEW, 4, 0, 0);
     sent(rt, system, seats, 1, b"one", 1);
@@ -118,7 +118,7 @@ fn is_shown<S: Calls, R: Abort + Wait>(rt: &R, system: &S, seat: &mut S::Seat, f
     granted::is_only_row(rt, system, seat, row);
 }
 
-/// The queue is found and shown, by both seats, as if nothing had been cut off.
+/// The queue is found and shown, by both seats, as if nothing had been drained.
 fn is_there<S: Calls, R: Abort + Wait>(
     rt: &R,
     system: &S,
@@ -139,7 +139,7 @@ fn receives<S: Calls, R: Abort + Wait>(rt: &R, system: &S, seats: &mut [S::Seat]
     system.spend(rt, text);
 }
 
-/// These messages wait.
+/// These messages are pending.
 fn waits(rt: &impl Abort, base: &Base, waiting: &[BaseEntry]) {
     let count = waiting.len() as u64;
     holds(
@@ -153,7 +153,7 @@ fn waits(rt: &impl Abort, base: &Base, waiting: &[BaseEntry]) {
     }
 }
 
-/// Three entries are before a cut, by which both messages wait.
+/// Three entries are before a drain, by which both messages are pending.
 fn known(rt: &impl Abort, base: &Option<Base>) {
     match base {
         Some(base) => {
@@ -165,20 +165,20 @@ fn known(rt: &impl Abort, base: &Option<Base>) {
     }
 }
 
-/// Nothing happened in the slot by this cut.
+/// Nothing happened in the slot by this drain.
 fn is_new(rt: &impl Abort, cut: &Cut) {
     is_first(rt, cut);
     holds(rt, cut.last.is_empty(), "nothing is");
 }
 
-/// The first cut hands out what was sent.
+/// The first drain returns what was sent.
 fn hands_out_all(rt: &impl Abort, cut: &Cut) {
     is_first(rt, cut);
     let sent = cut.last.as_slice() == SENT.as_slice();
     holds(rt, sent, "all that was sent");
 }
 
-/// A cut right behind the first hands out nothing.
+/// A drain right behind the first returns nothing.
 fn hands_out_none(rt: &impl Abort, cut: &Cut) {
     holds(rt, cut.first == 3 && cut.made == 1, "behind the first");
     known(rt, &cut.base);
@@ -186,7 +186,7 @@ fn hands_out_none(rt: &impl Abort, cut: &Cut) {
     holds(rt, cut.last.is_empty(), "nothing twice");
 }
 
-/// Slot 0 is cut while both messages wait, and at once again.
+/// Slot 0 is drained while both messages are pending, and at once again.
 fn cut_twice<S: Calls, R: Abort + Wait>(rt: &R, system: &S, seats: &mut [S::Seat]) {
     hands_out_all(rt, &cut(rt, system, seats, 0));
     is_there(rt, system, seats, BOTH);
@@ -194,7 +194,7 @@ fn cut_twice<S: Calls, R: Abort + Wait>(rt: &R, system: &S, seats: &mut [S::Seat
     is_there(rt, system, seats, BOTH);
 }
 
-/// The log of the queue tells what was cut off and the rest.
+/// The log of the queue has the drained events' checkpoint and the rest.
 fn tells_all(rt: &impl Abort, log: Log) {
     holds(rt, log.len() == 5, "its whole log");
     let (base, tail) = log.into_parts();
@@ -231,7 +231,7 @@ impl Day for CutDay {
     }
 }
 
-/// At the end only what is kept is told.
+/// At the end only the kept events are listed.
 fn kept(rt: &impl Abort, slot: &ClosedSlot) {
     holds(rt, slot.first == 3 && slot.made == 1, "as much was cut off");
     known(rt, &slot.base);

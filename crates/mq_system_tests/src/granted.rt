@@ -102,7 +102,7 @@ pub(crate) fn text_of<T>(
     text
 }
 
-/// The first message that is wanted.
+/// The first message that is asked for.
 pub(crate) fn received<S: Calls, R: Abort + Wait>(
     rt: &R,
     system: &S,
@@ -139,7 +139,7 @@ pub(crate) fn removed<S: Calls, R: Abort + Wait>(
     remove(rt, system, seats, id, moment).expect(rt, "a queue is removed")
 }
 
-/// A queue is removed, whatever its log tells.
+/// A queue is removed, whatever its log has.
 pub(crate) fn gone<S: Calls, R: Abort + Wait>(
     rt: &R,
     system: &S,

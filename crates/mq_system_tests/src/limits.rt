@@ -6,7 +6,7 @@ use crate::table::{Answer, Step, plays};
 use mq_system::Errno;
 
 #[test]
-fn a_refusal_tells_how_much_had_happened(rt: HostRuntime) {
+fn an_error_reports_how_much_had_happened(rt: HostRuntime) {
     let gone = Answer::Refused(Errno::EIDRM, Some(5));
     let never = Answer::Refused(Errno::EINVAL, Some(5));
     let untyped = Answer::Refused(Errno::EINVAL, None);
@@ -41,7 +41,7 @@ fn a_refusal_tells_how_much_had_happened(rt: HostRuntime) {
         (Step::Send(64, 1, b"ab"), never),
         (Step::Receive(64, first(2), b""), never),
         (Step::Remove(u32::MAX - 63), never),
-        // The type is looked at before the id.
+        // The type is checked before the id.
         (Step::Send(0, 0, b"ab"), untyped),
         (Step::Send(0, i64::MIN, b"ab"), untyped),
     ];

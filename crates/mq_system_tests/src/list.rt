@@ -17,7 +17,7 @@ use std::thread::Threads;
 /// The messages, eight of each of five types.
 const MESSAGES: u64 = 40;
 
-/// After so many receipts the list is cut.
+/// After so many receipts the list is drained.
 const HALF: u64 = 20;
 
 /// The type of the message at this place of those that are sent: the types come in turn.
@@ -36,7 +36,7 @@ fn sends<S: Calls, R: Abort + Wait>(rt: &R, system: &S, seats: &mut [S::Seat], p
     holds(rt, entry == place.saturating_add(1), "sent at its entry");
 }
 
-/// A text is drafted whose block wants memory, and spent.
+/// A text is drafted whose block allocates memory, and spent.
 fn drafts<S: Calls, R: Abort + Wait>(rt: &R, system: &S) {
     match draft(rt, system, 8193) {
         Ok(text) => holds(
@@ -69,7 +69,7 @@ fn receives_all<S: Calls, R: Abort + Wait>(
     }
 }
 
-/// The queue's own log tells how much was cut off of it.
+/// The queue's own log has the number of events that were drained of it.
 fn tells_of_cuts(rt: &impl Abort, log: Log) {
     holds(rt, log.len() == 83, "its own log");
     let (base, tail) = log.into_parts();
@@ -96,7 +96,7 @@ fn changes<S: Calls, R: Abort + Wait>(rt: &R, system: &S, seats: &mut [S::Seat])
     removes(rt, system, seats);
 }
 
-/// What is known of the entries before a cut is that so many messages were waiting, if it is known.
+/// By the checkpoint of a drain so many messages were pending, if it is known.
 fn is_base(rt: &impl Abort, base: Option<Base>, first: u64, waiting: Option<u64>) {
     match base {
         Some(base) => {
@@ -107,8 +107,8 @@ fn is_base(rt: &impl Abort, base: Option<Base>, first: u64, waiting: Option<u64>
     }
 }
 
-/// Slot 0 is cut: so many entries were cut off before, of which so many messages were waiting if
-/// they left a queue, and so many are handed out of a removed queue and of the one that is there.
+/// Slot 0 is drained: so many entries were drained before, of which so many messages were pending
+/// if they left a queue, and so many are returned of a removed queue and of the one that is there.
 fn cuts<S: Calls, R: Abort + Wait>(
     rt: &R,
     system: &S,
@@ -123,7 +123,7 @@ fn cuts<S: Calls, R: Abort + Wait>(
     is_base(rt, cut.base, first, waiting);
 }
 
-/// A cut counts so many entries before it, and hands out so many of removed queues and of the last.
+/// A drain counts so many entries before it, and returns so many of removed queues and of the last.
 fn counts(rt: &impl Abort, cut: &Cut, first: u64, past: usize, last: usize) {
     holds(rt, cut.first == first, "as much was cut off before");
     holds(
@@ -162,7 +162,7 @@ impl Day for Listed {
     }
 }
 
-/// All that happened in these slots, in which nothing waits.
+/// All that happened in these slots, in which nothing is pending.
 fn entries_of(rt: &impl Abort, slots: &[ClosedSlot]) -> u64 {
     let mut entries = 0u64;
     for slot in slots.iter() {

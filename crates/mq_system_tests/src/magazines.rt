@@ -1,5 +1,5 @@
-//! Texts that a seat has spent: it keeps their pages back for its next drafts, and withholds them
-//! from nobody.
+//! Texts that a seat has spent: its magazine caches their pages for its next drafts, and other
+//! seats can allocate them all the same.
 
 use crate::calls::seat;
 use crate::day::{Day, config, left_by};
@@ -68,7 +68,7 @@ fn stands_elsewhere<S: Calls, R: Abort>(rt: &R, system: &S, text: &S::Text, star
     holds(rt, its_start != start, "a block of another seat is taken");
 }
 
-/// Each page is kept back by seat 1, or one in the first half and one in the second.
+/// Seat 1 caches each page, or one in the first half and one in the second.
 fn seat_1_keeps_pages<S: Calls, R: Abort + Wait>(rt: &R, system: &S, seats: &mut [S::Seat]) {
     let half = drafted(rt, system, seats, 1, front(4096));
     let page = drafted(rt, system, seats, 1, b"page");
@@ -76,7 +76,7 @@ fn seat_1_keeps_pages<S: Calls, R: Abort + Wait>(rt: &R, system: &S, seats: &mut
     spent(rt, system, seats, 1, page);
 }
 
-/// What one seat keeps back another one drafts, and so does who has no seat.
+/// What one seat caches another one drafts, and so does a thread without a seat.
 struct Withholds;
 
 impl Day for Withholds {
@@ -106,7 +106,7 @@ impl Day for Withholds {
 }
 
 #[test]
-fn what_a_seat_keeps_back_is_withheld_from_nobody(rt: HostRuntime) -> Result<(), Fail> {
+fn what_a_magazine_caches_is_withheld_from_no_seat(rt: HostRuntime) -> Result<(), Fail> {
     let left = left_by(&rt, rt.alloc(), config(3, 1, 9), &Withholds);
     holds(&rt, left.free_pages == 8, "all pages are home");
     Ok(())
@@ -156,7 +156,7 @@ fn a_seat_drafts_the_block_that_it_has_spent(rt: HostRuntime) -> Result<(), Fail
     Ok(())
 }
 
-/// A seat keeps back what it spends of another, and gives it back where its magazine is full.
+/// A seat caches what it spends of another, and frees it where its magazine is full.
 struct GoesBack;
 
 impl Day for GoesBack {
@@ -184,14 +184,14 @@ impl Day for GoesBack {
 }
 
 #[test]
-fn what_another_seat_spends_goes_back_where_it_has_no_room(rt: HostRuntime) -> Result<(), Fail> {
+fn what_another_seat_spends_is_returned_where_it_has_no_room(rt: HostRuntime) -> Result<(), Fail> {
     let left = left_by(&rt, rt.alloc(), config(4, 1, 9), &GoesBack);
     holds(&rt, left.free_pages == 16, "all pages are home");
     Ok(())
 }
 
 /// The last of nine seats gets a block of the arena's upper half back that another has spent, and
-/// not the page before it, which is home.
+/// not the page before it, which is free.
 struct GoesBackToTheLast;
 
 impl Day for GoesBackToTheLast {

@@ -27,7 +27,7 @@ enum Plot {
     Gone,
 }
 
-/// Two batches are sent, and received by three calls, with cuts between.
+/// Two batches are sent, and received by three calls, with drains between.
 fn through<S: Calls, R: Abort + Wait>(rt: &R, alloc: Global, system: &S, seats: &mut [S::Seat]) {
     let sending = Sending {
         bytes: b"x",
@@ -221,7 +221,7 @@ fn chosen<S: Calls, R: Abort + Wait>(rt: &R, alloc: Global, system: &S, seats: &
     receives(rt, alloc, system, seats, others);
 }
 
-/// A message with more bytes than are wanted ends a receipt, and waits on.
+/// A message with more bytes than are asked for ends a receipt, and stays pending.
 fn short<S: Calls, R: Abort + Wait>(rt: &R, alloc: Global, system: &S, seats: &mut [S::Seat]) {
     let one = Sending {
         bytes: b"x",
@@ -256,7 +256,7 @@ fn short<S: Calls, R: Abort + Wait>(rt: &R, alloc: Global, system: &S, seats: &m
     receives(rt, alloc, system, seats, rest);
 }
 
-/// The queue is removed while two messages wait.
+/// The queue is removed while two messages are pending.
 fn gone<S: Calls, R: Abort + Wait>(rt: &R, alloc: Global, system: &S, seats: &mut [S::Seat]) {
     let two = Sending {
         bytes: b"x",
@@ -339,7 +339,7 @@ fn a_batch_has_at_most_64_messages(rt: HostRuntime) {
 }
 
 #[test]
-fn a_batch_has_no_message_that_is_not_wanted(rt: HostRuntime) {
+fn a_batch_has_only_messages_of_its_selection(rt: HostRuntime) {
     plays(&rt, rt.alloc(), Plot::Chosen);
     plays(&rt, rt.alloc(), Plot::Short);
 }

@@ -1,4 +1,4 @@
-//! Several messages by one call that waits, and those whom it wakes.
+//! Several messages by one call that waits, and the waiters that it wakes.
 
 ghost use Rattle.std.specs.Prelude.{true};
 
@@ -26,7 +26,7 @@ enum Does<'a> {
     Removes,
 }
 
-/// Waits until another seat has done something, once: where that wakes nobody, for a day.
+/// Waits until another seat has done something, once: where that wakes no thread, for a day.
 #[derive(Drop)]
 struct Meanwhile<'a, S: Calls, R: Abort + Wait> {
     rt: &'a R,

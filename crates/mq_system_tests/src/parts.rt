@@ -22,7 +22,7 @@ pub(crate) fn drafted<N: Names>(rt: &impl Abort, arena: &mut ArenaState<Pages<N>
     }
 }
 
-/// The text comes home.
+/// The text is freed.
 pub(crate) fn spent<N: Names>(rt: &impl Abort, arena: &mut ArenaState<Pages<N>>, text: TextOf<N>) {
     match text.into_block() {
         Some(block) => holds(
@@ -34,7 +34,7 @@ pub(crate) fn spent<N: Names>(rt: &impl Abort, arena: &mut ArenaState<Pages<N>>,
     }
 }
 
-/// Nothing waits.
+/// No message is pending.
 pub(crate) fn emptied<N: Names>(rt: &impl Abort, waiting: WaitingOf<N>) {
     let mut waiting = waiting;
     match waiting.pop_any() {
@@ -112,7 +112,7 @@ pub(crate) fn told<N: Names>(rt: &impl Abort, writer: &mut BoardWriter<N>, seat:
     not_shown(rt, seat, Errno::EIDRM);
 }
 
-/// The seat's only reader comes home.
+/// The seat's only reader is given back.
 pub(crate) fn come_home<N: Names, R: Abort + Wait>(
     rt: &R,
     writer: &mut BoardWriter<N>,

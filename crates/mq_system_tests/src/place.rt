@@ -19,7 +19,7 @@ const AT_ONCE: RecvFlags = RecvFlags {
     except: false,
 };
 
-/// The first message, which is waited for and may be cut to a byte.
+/// The first message, which is waited for and may be truncated to a byte.
 const CUT: Wanted = Wanted {
     size: 1,
     msgtyp: 0,
@@ -105,7 +105,7 @@ fn sent<S: Calls, R: Abort + Wait>(
     }
 }
 
-/// A text is not sent by a sender that does not wait, and is handed back.
+/// A text is not sent by a sender that does not wait, and is returned.
 fn handed_back<S: Calls, R: Abort + Wait>(
     rt: &R,
     system: &S,
@@ -143,7 +143,7 @@ fn not_received<S: Calls, R: Abort + Wait>(
     }
 }
 
-/// What was sent is received, cut to a byte.
+/// What was sent is received, truncated to a byte.
 fn received<S: Calls, R: Abort + Wait>(rt: &R, system: &S, seats: &mut [S::Seat]) {
     let delivered = granted::received(rt, system, seats, 0, CUT, 7);
     let text = granted::text_of(rt, delivered, 3, 1, 2);
@@ -151,7 +151,7 @@ fn received<S: Calls, R: Abort + Wait>(rt: &R, system: &S, seats: &mut [S::Seat]
     system.spend(rt, text);
 }
 
-/// A cut while the text waits hands out all that happened, and a second one nothing more.
+/// A drain while the text is pending returns all that happened, and a second one nothing more.
 fn cut_twice<S: Calls, R: Abort + Wait>(rt: &R, system: &S, seats: &mut [S::Seat]) {
     let first = cut(rt, system, seats, 0);
     is_first(rt, &first);
@@ -195,7 +195,7 @@ fn none_is_there<S: Calls, R: Abort + Wait>(rt: &R, system: &S, seats: &mut [S::
     not_got(rt, system, seats, 6, NO_FLAG, Errno::ENOENT);
 }
 
-/// A text is sent, and a second one finds no room and is handed back.
+/// A text is sent, and a second one finds no room and is returned.
 fn filled<S: Calls, R: Abort + Wait>(rt: &R, system: &S, seats: &mut [S::Seat]) -> S::Text {
     let text = granted::drafted(rt, system, b"hi");
     let entry = sent(rt, system, seats, text);
@@ -204,7 +204,7 @@ fn filled<S: Calls, R: Abort + Wait>(rt: &R, system: &S, seats: &mut [S::Seat]) 
     handed_back(rt, system, seat(rt, seats, 0), text, Errno::EAGAIN, 3)
 }
 
-/// What waits is shown, cut off and received, and then nothing waits.
+/// The pending message is shown, drained from the log and received, and then none is pending.
 fn emptied<S: Calls, R: Abort + Wait>(rt: &R, system: &S, seats: &mut [S::Seat]) {
     not_received(rt, system, seats, Errno::E2BIG, 3);
     shown(rt, system, seats, 1);

@@ -1,5 +1,5 @@
-//! What a seat sees of a queue that comes and goes in a slot whose changes are published, while it
-//! makes them or another does. Seat 1 makes, sends, sets and removes, and seat 2 receives.
+//! What a seat sees of a queue that is made and removed in a slot whose changes are published, by
+//! itself or by another. Seat 1 makes, sends, sets and removes, and seat 2 receives.
 ghost use Rattle.std.specs.Prelude.{◌≡◌, ◌<◌, ◌≤◌};
 
 use crate::day::Anything;
@@ -39,8 +39,8 @@ fn narrowed<N: Names, R: Abort + Wait>(
     }
 }
 
-/// What the first seat sees of a queue that comes and goes, by its own changes and by the other's
-/// receipt.
+/// What the first seat sees of a queue that is made and removed, by its own changes and by the
+/// other's receipt.
 pub(crate) fn followed<N: Names, R: Abort + Wait>(
     rt: &R,
     slot: SharedSlot<Anything, N>,

@@ -36,8 +36,8 @@ fn is_over<N: Names>(rt: &impl Abort, slot: SlotOf<N>) {
     holds(rt, cut.made == 1, "one queue was made");
 }
 
-/// All is over: the queue is removed, both readers come home, and what the slot's entries and the
-/// seats' counts are of is whole.
+/// All is over: the queue is removed, both readers are given back, and what the slot's entries and
+/// the seats' counts are of is whole.
 fn taken_apart<N: Names, R: Abort + Wait>(
     rt: &R,
     slot: SharedSlot<Anything, N>,

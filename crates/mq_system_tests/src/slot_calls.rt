@@ -15,7 +15,7 @@ use mq_table::{Cut, Id, MAX_SEQ};
 use std::process::Abort;
 use std::sync::Wait;
 
-/// A cut, made once more where it is refused.
+/// A drain, retried once where it is refused.
 fn cut_once<N: Names>(rt: &impl Abort, slot: &mut SharedSlot<Anything, N>) -> Cut
     ensures number { slot.new.whole.number ≡ slot.old.whole.number }
 {
@@ -52,7 +52,7 @@ pub(crate) fn entered<N: Names>(
     }
 }
 
-/// No queue was made yet, whoever asks.
+/// No queue was made yet, whichever seat asks.
 pub(crate) fn nothing_shown<N: Names>(
     rt: &impl Abort,
     slot: &SharedSlot<Anything, N>,
@@ -126,7 +126,7 @@ pub(crate) fn sent<N: Names, R: Abort + Wait>(
     holds(rt, figures.qnum == 1 && figures.cbytes == 2, "it waits");
 }
 
-/// A cut while the text waits hands out the making and the sending, and a second one nothing more.
+/// A drain while the text is pending returns the making and the sending, and a second one nothing.
 pub(crate) fn cut<N: Names>(rt: &impl Abort, slot: &mut SharedSlot<Anything, N>)
     requires number { slot.old.whole.number ≡ 0 }
     ensures number { slot.new.whole.number ≡ 0 }
@@ -160,7 +160,7 @@ pub(crate) fn shown<N: Names>(
     );
 }
 
-/// It is the row of the queue with key 5, in which one message waits.
+/// It is the row of the queue with key 5, in which one message is pending.
 fn is_row(rt: &impl Abort, row: BoardRow, figures: Figures) {
     holds(
         rt,

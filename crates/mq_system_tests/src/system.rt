@@ -28,8 +28,8 @@ pub(crate) struct Shape {
     pub(crate) order: Option<u8>,
 }
 
-/// The calls of `mq_system::System`, of its seats and of its texts, by the same names. What must
-/// hold at a call of theirs is looked at when it is called, and ends the test where it does not.
+/// The calls of `mq_system::System`, of its seats and of its texts, by the same names. The
+/// preconditions of a call are checked when it is made, and end the test where they do not hold.
 pub(crate) trait Calls {
     type Seat;
 

@@ -18,7 +18,7 @@ pub(crate) enum Step {
     Get(i32, GetFlags),
     /// An id, a type and the text.
     Send(u32, i64, &'static [u8]),
-    /// An id, what is wanted, and the text that is received.
+    /// An id, what is expected, and the text that is received.
     Receive(u32, Wanted, &'static [u8]),
     /// An id and a quota.
     Set(u32, u64),
@@ -42,13 +42,13 @@ pub(crate) enum Answer {
     /// The entry, and the number of events in the queue's log.
     Removed(u64, u64),
     Refused(Errno, Option<u64>),
-    /// How many messages and bytes wait, and may wait.
+    /// How many messages and bytes are pending, and the quota.
     Shown(u64, u64, u64),
-    /// How many entries were cut off before, and how many of these are makings and are of the queue
-    /// that they leave; how many are handed out of removed queues, and of the one that is there.
+    /// How many entries were drained before, and how many of these are makings and are of the queue
+    /// that they leave; how many are returned of removed queues, and of the one that is there.
     Cut(u64, u32, Option<u64>, usize, usize),
     Drafted,
-    /// A text is another one, or did not come home.
+    /// A text is another one, or was not freed.
     Astray,
 }
 
@@ -280,7 +280,7 @@ impl<'t> Day for Table<'t> {
     }
 }
 
-/// A new system answers these calls so, and all its pages are home at the end.
+/// A new system answers these calls so, and all its pages are free at the end.
 pub(crate) fn plays<R: Abort + Threads + Wait>(
     rt: &R,
     alloc: Global,

@@ -26,7 +26,7 @@ fn letters(alloc: Global, len: usize) -> Result<Vec<u8>, AllocError> {
 struct Halves<'t> {
     bytes: &'t [u8],
     at: usize,
-    /// How many pages the bytes want.
+    /// How many pages the bytes need.
     count: usize,
 }
 
@@ -130,8 +130,8 @@ fn drafted<S: Calls, R: Wait>(
     }
 }
 
-/// All 16 pages are free: each half of them is a block that wants no memory. While one is lent,
-/// these bytes find no run, and memory is not asked for.
+/// All 16 pages are free: each half of them is a block that allocates no memory. While one is lent,
+/// no run is free for these bytes, and no memory is allocated.
 fn all_are_free<S: Calls, R: Abort + Wait>(rt: &R, system: &S, bytes: &[u8], of_bytes: bool) {
     let one = granted::zeros(rt, system, 8192);
     match drafted(rt, system, bytes, of_bytes) {
@@ -201,7 +201,7 @@ fn a_draft_that_found_no_memory_took_no_page_and_can_be_made_again(
     Ok(())
 }
 
-/// Texts wait at the removal of a queue and at the end.
+/// Texts are pending at the removal of a queue and at the end.
 #[derive(Drop)]
 struct Leaves;
 
@@ -238,7 +238,7 @@ impl Day for Leaves {
     }
 }
 
-/// The slot tells its whole list, has so many events of removed queues and of its last one, and
+/// The slot returns its whole list, has so many events of removed queues and of its last one, and
 /// left so many messages.
 fn slot_leaves(rt: &impl Abort, slot: &ClosedSlot, past: usize, last: usize, waited: u64) {
     holds(
@@ -269,7 +269,7 @@ fn slots_leave(rt: &impl Abort, slots: &[ClosedSlot]) {
 }
 
 #[test]
-fn texts_that_wait_at_the_end_come_home(rt: HostRuntime) {
+fn texts_pending_at_the_end_are_freed(rt: HostRuntime) {
     let left = left_by(&rt, rt.alloc(), config(3, 4, 9), &Leaves);
     holds(&rt, left.free_pages == 8, "all pages are home");
     slots_leave(&rt, left.slots.as_slice());

@@ -1,4 +1,4 @@
-//! Those who wait, by themselves.
+//! Waiters and timeout policies, without a system.
 
 use crate::holds;
 use mq_system::{Forever, NoWait, Patience, Until, Waiters};
@@ -35,21 +35,21 @@ impl Clock for Ticks {
 }
 
 #[test]
-fn who_waited_until_its_time_is_not_woken_twice(rt: HostRuntime) {
+fn a_wait_that_timed_out_is_not_woken_twice(rt: HostRuntime) {
     let waiters = Waiters::new();
-    holds(&rt, !waiters.wake(), "nobody came");
+    holds(&rt, !waiters.wake(), "none registered");
     for _ in 0..2 {
-        let seen = waiters.come();
+        let seen = waiters.register();
         waiters.wait(&rt, seen, Duration::from_millis(1));
-        holds(&rt, waiters.wake(), "one came");
+        holds(&rt, waiters.wake(), "one registered");
         holds(&rt, !waiters.wake(), "it has gone");
     }
 }
 
 #[test]
-fn who_is_woken_before_it_sleeps_does_not_sleep(rt: HostRuntime) {
+fn a_waiter_woken_before_it_parks_does_not_park(rt: HostRuntime) {
     let waiters = Waiters::new();
-    let seen = waiters.come();
+    let seen = waiters.register();
     waiters.wake();
     // It would sleep for a day.
     waiters.wait(&rt, seen, Duration::from_secs(86400));
@@ -105,7 +105,7 @@ fn a_wait_does_not_take_twice_its_time(rt: HostRuntime) {
     let Ok(began) = Instant::now(&rt) else {
         panic!(rt; "no clock");
     };
-    let seen = waiters.come();
+    let seen = waiters.register();
     waiters.wait(&rt, seen, Duration::from_secs(3));
     let Ok(took) = began.elapsed(&rt) else {
         panic!(rt; "no clock");

@@ -37,7 +37,7 @@ const LOG: [Event; 3] = [
     Event::Removed { seat: 1, moment: 6 },
 ];
 
-/// What is sent with type 0 is handed back.
+/// A text that is sent with type 0 is returned.
 fn handed_back<S: Calls, R: Abort + Wait>(rt: &R, system: &S, seats: &mut [S::Seat]) -> S::Text {
     let text = granted::drafted(rt, system, b"hi");
     match send(rt, system, seats, 0, 0, text, 5) {
@@ -57,7 +57,7 @@ fn sent<S: Calls, R: Abort + Wait>(rt: &R, system: &S, seats: &mut [S::Seat], te
     holds(rt, figures == FIGURES, "one message of two bytes waits");
 }
 
-/// The log tells all that happened in the queue.
+/// The log has all that happened in the queue.
 fn tells_all(rt: &impl Abort, log: Log) {
     let (_base, tail) = log.into_parts();
     holds(rt, tail.as_slice() == LOG.as_slice(), "its own log");

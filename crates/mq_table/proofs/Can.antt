@@ -1,4 +1,4 @@
--- What is answered can happen.
+-- The event of a call that is not refused can happen.
 use Rattle.std.proofs.Common.{◌≡◌, ℕ, ℤ, None, Ok, List, Bool, sym, arith}
 use Rattle.std.proofs.lemmas.Grind.{common_steps}
 use Rattle.mq_message.specs.declared.header.Header.{Header}
@@ -9,7 +9,7 @@ use Rattle.mq_queue.specs.Lawful.{CanHappen}
 use Rattle.mq_queue.proofs.Sends.{not_refused}
 
 module _ (headers : List Header) (quota seat moment : ℕ) where
-  -- a sending that is not refused
+  -- a send that is not refused
   pub sent_can : (tag : ℕ) (mtype : ℤ) (n : ℕ) → send_refusal headers quota mtype n ≡ None
       → CanHappen headers quota (Sent seat moment tag mtype n)
   sent_can tag mtype n taken =
@@ -21,7 +21,7 @@ module _ (headers : List Header) (quota seat moment : ℕ) where
       → CanHappen headers quota (Changed seat moment qbytes)
   set_can qbytes taken = grind (arith, common_steps)
 
-  -- a receipt that is answered
+  -- a receipt that is not refused
   pub received_can : (size : ℕ) (selection : Selection) (noerror : Bool) (m : Header)
       → receive_answer headers size selection noerror ≡ Ok m
       → CanHappen headers quota (Received seat moment m.place selection size noerror)

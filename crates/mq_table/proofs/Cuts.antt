@@ -1,4 +1,4 @@
--- What a cut hands out is of the slot's whole list, of which the slot keeps the rest.
+-- What a drain returns is of the slot's whole list, of which the slot keeps the rest.
 use Rattle.std.proofs.Common.{◌≡◌, inr, ℕ, ◌+◌, List, append-nil, length, length-append, take, drop, Some, None, Bool, true, false, if◌then◌else◌, refl, ap, sym, ◌∙◌, arith}
 use Rattle.std.proofs.Math.Seq.{drop-append_seam, take-append_seam}
 use Rattle.mq_queue.specs.declared.event.Event.{Event}
@@ -15,7 +15,7 @@ use Rattle.mq_table.proofs.Kepts.{entries_is, live_is, made_is}
 use Rattle.mq_table.proofs.KeptTurns.{counts, fresh, none_open}
 
 module _ {B : Type 0} (list : List Event) (s : KeptSlot B) (k : IsKeptPart list s) where
-  -- a cut hands out a cut of the list
+  -- what a drain of the slot returns is a drain of the list
   pub cut_is : IsCutOf list (cut_of s)
   cut_is =
       let front : take s.first list ≡ k.gone =
@@ -32,7 +32,7 @@ module _ {B : Type 0} (list : List Event) (s : KeptSlot B) (k : IsKeptPart list 
         past = omega (arith, new, log, counts list s k, k.first);
       }
 
-  -- the base that a cut keeps
+  -- the base that a drain keeps
   base_is : base_left s ≡ base_at list
   base_is = rw (live_is list s k) (by (is_live list) refl)
     where

@@ -48,7 +48,7 @@ module _ (last_seq : ℕ) (list : List Event) (h : IsSlotList last_seq list) whe
         h.whole ∙ ap joined (sym all ∙ take_more h.logs place [] (omega arith))
         ∙ joined_push (take place h.logs) log
 
-    -- whether a queue is there is told by that log
+    -- that log determines whether a queue is there
     told : is_live list ≡ not (ends_with_removed log)
     told = rw (whole, not_empty past log lawful.begun, ends_as past log lawful.begun) refl
 
@@ -98,7 +98,7 @@ module _ (last_seq : ℕ) (list : List Event) (h : IsSlotList last_seq list) whe
       (rw (its_last live) at allowed))
       (omega (arith, h.few, ap made_count grown)))
 
-  -- so it is where a queue is made in an empty slot
+  -- so it is where a queue is created in an empty slot
   pub list_made : (seat moment : ℕ) (key : ℤ) → is_live list ≡ false
       → made_count list ≤ last_seq → IsSlotList last_seq (list ++ Made seat moment key ∷ [])
   list_made seat moment key off few =

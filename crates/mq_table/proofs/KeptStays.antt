@@ -14,14 +14,14 @@ use Rattle.mq_table.proofs.KeptTurns.{makes_kept, removes_kept}
 use Rattle.mq_table.proofs.Logs.{counted}
 use Rattle.mq_table.proofs.OneMore.{IsOneMore}
 
--- the slot's number, its makings, and the key of the queue that is in it
+-- the slot's number, its creations, whether a queue is in it, and the key of that queue
 pub record KeptStays {B : Type 0} (s t : KeptSlot B) : Type 0 where
   pub number : t.number ≡ s.number
   pub made : made_of t ≡ made_of s
   pub live : is_live_kept t ≡ is_live_kept s
   pub key : t.key ≡ s.key
 
--- one more event that is neither a making nor a removal
+-- one more event that is neither a creation nor a removal
 goes : {B : Type 0} (s : KeptSlot B) (e : Event) (messages : List (ℕ × Message B))
     → is_live_kept s ≡ true → is_made e ≡ false → is_removed e ≡ false
     → KeptStays s (kept_goes_on s e messages)
@@ -42,7 +42,7 @@ more_stays bytes s t e live more =
 
 module _ {B : Type 0} (last_seq : ℕ) (s : KeptSlot B) (h : IsLawfulSlot last_seq s)
     (seat moment : ℕ) where
-  -- a making is counted, and its queue is there
+  -- a creation is counted, and its queue is there
   module _ (key : ℤ) (off : is_live_kept s ≡ false) where
     kept : IsKeptPart (h.list ++ event.Made seat moment key ∷ []) (kept_makes s key seat moment)
     kept = makes_kept h.list s h.part key seat moment (rw (live_is h.list s h.part) at off)

@@ -17,7 +17,7 @@ use Rattle.mq_table.specs.KeptPart.{IsKeptPart}
 use Rattle.mq_table.proofs.Kepts.{live_more, places_is, quota_is, waiting_is}
 use Rattle.mq_table.proofs.Stays.{grows}
 
--- no event was cut off of a log that is not there
+-- no event was drained of a log that is not there
 pub none_before : (before last : List Event) → before ++ last ≡ [] → (before ≡ []) × (last ≡ [])
 none_before [] last none = (refl, none)
 none_before (e ∷ es) last none = cc
@@ -25,7 +25,7 @@ none_before (e ∷ es) last none = cc
 pub none_open : IsOpenLog []
 none_open = record { lawful = inl refl; live = refl }
 
--- where an entry of a removed queue is kept, nothing was cut off of the next one's log
+-- where an entry of a removed queue is kept, nothing was drained of the next one's log
 pub base_behind : (base : Option Base) (past : List Event) (e : Event)
     → queue_base base (past ++ e ∷ []) ≡ base_of []
 base_behind base [] e = refl
@@ -48,7 +48,7 @@ none_kept s first made base key past last = record {
 }
 
 module _ {B : Type 0} (list : List Event) (s : KeptSlot B) (k : IsKeptPart list s) where
-  -- where an entry of a removed queue is kept, nothing was cut off of the next one's log
+  -- where an entry of a removed queue is kept, nothing was drained of the next one's log
   pub fresh : (length s.past ≡ 0) ⊎ (length k.before ≡ 0)
   fresh = let places = ap (λ (b : Base). b.places) k.based in grind (arith, places)
 
@@ -64,7 +64,7 @@ module _ {B : Type 0} (list : List Event) (s : KeptSlot B) (k : IsKeptPart list 
   pub no_base : is_live list ≡ false → base_now s ≡ base_of []
   no_base off = k.based ∙ ap base_of (none_there off).0
 
-  -- msgget: a queue is made where none is
+  -- msgget: a queue is created where none is
   pub makes_kept : (key : ℤ) (seat moment : ℕ) → is_live list ≡ false
       → IsKeptPart (list ++ event.Made seat moment key ∷ []) (kept_makes s key seat moment)
   makes_kept key seat moment off =
@@ -94,7 +94,7 @@ module _ {B : Type 0} (list : List Event) (s : KeptSlot B) (k : IsKeptPart list 
     pub places_last : places_now s ≡ length (last_log list)
     places_last = places_is list s k ∙ rw live refl
 
-    -- one event more that is no making and no removal
+    -- one event more that is neither a creation nor a removal
     pub kept_more : (e : Event) (messages : List (ℕ × Message B)) → is_made e ≡ false
         → is_removed e ≡ false → key_told e ≡ None
         → IsKeptPart (list ++ e ∷ []) (kept_goes_on s e messages)

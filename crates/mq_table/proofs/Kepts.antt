@@ -20,7 +20,7 @@ use Rattle.mq_table.proofs.Logs.{begun, counted, ends_as}
 pub live_more : (events : List Event) (e : Event) → is_live (events ++ e ∷ []) ≡ not (is_removed e)
 live_more events e = rw (begun events e, ends_as events (e ∷ []) refl) refl
 
--- whether a queue is there, told from some entries on
+-- whether a queue is there, determined from some entries on
 live_from_is : (gone rest : List Event) → live_from (is_live gone) rest ≡ is_live (gone ++ rest)
 live_from_is gone [] = rw (append-nil gone) refl
 live_from_is gone (e ∷ es) =
@@ -80,7 +80,7 @@ module _ {B : Type 0} (list : List Event) (s : KeptSlot B) (k : IsKeptPart list 
   figures_is =
       rw (figures_there list, k.log, k.based) (sym (goes_on k.before s.last k.opened).shows)
 
-  -- what became of an id, and whether a queue can be made
+  -- what became of an id, and whether a queue can be created
   pub standing_is : (seq : ℕ) → standing_now s seq ≡ standing list seq
   standing_is seq = rw (live_is, made_is) refl
 
@@ -101,7 +101,7 @@ module _ {B : Type 0} (list : List Event) (s : KeptSlot B) (k : IsKeptPart list 
 -- a slot whose list has one event more
 module _ {B : Type 0} (list : List Event) (s : KeptSlot B) (k : IsKeptPart list s)
     (e : Event) (t : KeptSlot B) (k' : IsKeptPart (list ++ e ∷ []) t) where
-  -- its makings, and whether a queue is there
+  -- its creations, and whether a queue is there
   pub made_more : made_of t ≡ made_of s + made_count (e ∷ [])
   made_more =
       omega (arith, made_is list s k, made_is (list ++ e ∷ []) t k', counted list (e ∷ []))

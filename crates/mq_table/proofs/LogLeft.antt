@@ -1,4 +1,4 @@
--- What a removal hands out is what is kept of the last log of the whole list.
+-- What a removal returns is what is kept of the last log of the whole list.
 use Rattle.std.proofs.Common.{◌≡◌, ℕ, List, [], ◌∷◌, ◌++◌, append_assoc, true, refl}
 use Rattle.std.proofs.Math.Seq.{drop-append_seam, take-append_seam}
 use Rattle.mq_queue.specs.declared.event.Event.{Event}
@@ -18,7 +18,7 @@ module _ {B : Type 0} (last_seq : ℕ) (list : List Event) (s : KeptSlot B) (k :
   abbrev tail : List Event
   tail = s.last ++ gone ∷ []
 
-  -- the log that is handed out
+  -- the log that is returned
   pub log_left : record { base = base_now s; tail = tail }
       ≡ rest_of (base_now s).places (last_log (list ++ gone ∷ []))
   log_left =

@@ -17,7 +17,7 @@ not_empty (e ∷ es) log h = refl
 pub begun : (before : List Event) (event : Event) → is_empty (before ++ event ∷ []) ≡ false
 begun before event = not_empty before (event ∷ []) refl
 
--- what follows in a log goes on with the last log
+-- what follows in a log is appended to the last log
 appended : (log before rest : List Event) → is_empty before ≡ false → AllFollow before rest
     → fold log_after log rest ≡ log ++ rest
 appended log before [] more each = sym (append-nil log)
@@ -26,11 +26,11 @@ appended log before (e ∷ es) more each =
     (appended (log ++ e ∷ []) (before ++ e ∷ []) es (begun before e) each.1
     ∙ append_assoc log (e ∷ []) es)
 
--- the makings in a list are those of its first part and those of its second
+-- the creations in a list are those of its first part and those of its second
 pub counted : (xs ys : List Event) → made_count (xs ++ ys) ≡ made_count xs + made_count ys
 counted xs ys = sum_by-append (λ event. cond {A = ℕ} (is_made event) 1 0) xs ys
 
--- what follows in a log has no making
+-- what follows in a log has no creation
 unmade : (before rest : List Event) → is_empty before ≡ false → AllFollow before rest
     → made_count rest ≡ 0
 unmade before [] more each = refl
@@ -38,7 +38,7 @@ unmade before (e ∷ es) more each =
     counted (e ∷ []) es
     ∙ rw (each.0.made_first, more, unmade (before ++ e ∷ []) es (begun before e) each.1) refl
 
--- a log has one making
+-- a log has one creation
 pub made_once : (log : List Event) → Lawful log → made_count log ≡ 1
 made_once [] h = absurd (true≢false h.begun)
 made_once (e ∷ es) h =
@@ -51,7 +51,7 @@ last_log_is past (e ∷ es) h =
     fold-append log_after [] past (e ∷ es)
     ∙ rw h.each.0.made_first (appended (e ∷ []) (e ∷ []) es refl h.each.1)
 
--- and has one making more than the events before it
+-- and they have one creation more than the events before it
 pub made_more : (past log : List Event) → Lawful log
     → made_count (past ++ log) ≡ made_count past + 1
 made_more past log h = omega (arith, counted past log, made_once log h)

@@ -20,8 +20,8 @@ use Rattle.mq_table.specs.KeptCalls.{kept_goes_on, kept_received, kept_receives,
 use Rattle.mq_table.specs.KeptPart.{WaitsNow}
 use Rattle.mq_table.proofs.Can.{received_can, sent_can, set_can}
 
--- the slot goes on with this event, which can happen and is neither a making nor a removal, and
--- what waits then is what it leaves waiting
+-- the slot has this event more, which can happen and is neither a creation nor a removal, and the
+-- messages are those that it leaves pending
 pub record IsOneMore {B : Type 0} (bytes : B → List ℕ) (s t : KeptSlot B) (e : Event) : Type 0
   where
     pub messages : List (ℕ × Message B)
@@ -33,7 +33,7 @@ pub record IsOneMore {B : Type 0} (bytes : B → List ℕ) (s t : KeptSlot B) (e
     pub waits : WaitsNow bytes s → headers_of bytes messages
         ≡ (after_event (places_now s) (record { headers = waiting_now s; quota = quota_now s }) e).headers
 
--- what a call leaves that answers an entry, and that it was not refused
+-- what a call leaves that returns an entry, and that it was not refused
 left_by : {B : Type 0} (o : Option QueueError) (s after t : KeptSlot B) (n : ℕ)
     → kept_unless o s after ≡ Ok (n, t) → (o ≡ None) × (t ≡ after)
 left_by None s after t n e = (refl, IfOk-at_ok (λ turn. turn.1 ≡ after) e refl)

@@ -27,7 +27,7 @@ past_grows past log h ended = record {
   ended = All-push IsEndedLog h.logs log h.ended ended;
 }
 
--- each log has one making
+-- each log has one creation
 pub logs_counted : (logs : List (List Event)) → All Lawful logs
     → made_count (joined logs) ≡ length logs
 logs_counted [] all = refl
@@ -36,12 +36,12 @@ logs_counted (log ∷ logs) all =
     let rest = logs_counted logs (All-tail Lawful log logs all) in
     omega (arith, counted log (joined logs), once, rest)
 
--- a slot list has as many makings as logs
+-- a slot list has as many creations as logs
 pub list_counted : (last_seq : ℕ) (events : List Event) → (h : IsSlotList last_seq events)
     → made_count events ≡ length h.logs
 list_counted last_seq events h = ap made_count h.whole ∙ logs_counted h.logs h.lawful
 
--- a queue that is there was made
+-- a queue that is there was created
 pub made_some : (last_seq : ℕ) (events : List Event) → IsSlotList last_seq events
     → is_live events ≡ true → 1 ≤ made_count events
 made_some last_seq events h live = by h.logs h.whole (list_counted last_seq events h)

@@ -1,4 +1,4 @@
--- A removed id stays removed: where a queue is there later, it was made after the removal.
+-- A removed id stays removed: where a queue is there later, it was created after the removal.
 use Rattle.std.proofs.Common.{◌≡◌, ◌⊎◌, inl, inr, ℕ, ◌+◌, ◌<◌, ◌≤◌, Bool, true, false, List, [], ◌∷◌, ◌++◌, refl, ap, sym, ◌∙◌, true≢false, arith}
 use Rattle.std.proofs.Math.Bool.{and-false}
 use Rattle.std.proofs.lemmas.Bool.{cases_eq, eq-eqb, false_from_ne_true, leb-false, lt-leb, ne_eqb, not-false}

@@ -1,4 +1,4 @@
--- A slot in which a queue is made or removed, or whose list is cut, by its fields.
+-- A slot in which a queue is created or removed, or whose list is drained, by its fields.
 use Rattle.std.proofs.Common.{◌≡◌, ℕ, ℤ, pos, ◌+◌, ◌<◌, ◌≤◌, ◌≢◌, List, [], ◌∷◌, ◌++◌, append_assoc, length, length-append, Option, None, Some, IfSome, is_some, false, refl, ap, sym, ◌∙◌, arith, true≢false, if◌then◌else◌}
 use Rattle.std.proofs.lemmas.Bool.{ne_eqb}
 use Rattle.std.specs.Option.{option_or}
@@ -37,7 +37,7 @@ module _ {B : Type 0} (bytes : B → List ℕ) (number first gone : ℕ) (key : 
   abbrev slot : Option (Queue B) → KeptSlot B
   slot queue = slot_with number first gone key base past queue
 
-  -- a queue is made where none is
+  -- a queue is created where none is
   pub made_slot : (live : Option (Queue B)) → IsSlot bytes made live base (slot live)
       → is_live_kept (slot live) ≡ false → made_of (slot live) ≤ MAX_SEQ
       → (new : ℤ) (seat moment : ℕ) (q : Queue B)
@@ -97,7 +97,7 @@ module _ {B : Type 0} (bytes : B → List ℕ) (number first gone : ℕ) (key : 
       let some = ne_eqb (q.base.places + length q.tail) 0 (some_places q h) in
       rw (← h.there, ← h.based, some) refl
 
-  -- the queue that is there, or none, is what a cut leaves
+  -- the queue that is there, or none, is what a drain leaves
   cut_there : (live : Option (Queue B)) → IsSlot bytes made live base (slot live)
       → (is_some (cut_queue live) ≡ is_live_kept (kept_cuts (slot live)))
       × IfSome (cut_queue live) (λ queue. queue.base ≡ base_now (kept_cuts (slot live)))
@@ -108,7 +108,7 @@ module _ {B : Type 0} (bytes : B → List ℕ) (number first gone : ℕ) (key : 
       (counts : first' ≡ entries_of (slot live)) (base' : Option Base) (none : base' ≡ None)
       (past' : List Event) (empty : past' ≡ []) (live' : Option (Queue B))
       (cut : live' ≡ cut_queue live) (all : gone' ≡ made) where
-    -- the list is cut
+    -- the list is drained
     pub with_cut : slot_with number first' gone' key base' past' live' ≡ kept_cuts (slot live)
     with_cut = rw (counts, none, empty, cut, all, h.counted) (with_all_cut live h)
 

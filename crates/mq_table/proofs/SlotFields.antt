@@ -27,7 +27,7 @@ use Rattle.mq_table.proofs.Kepts.{live_is}
 use Rattle.mq_table.proofs.Slots.{turned_slot}
 use Rattle.mq_table.proofs.Turned.{event_turned}
 
--- why a call is refused that answers an entry
+-- why a call is refused that returns an entry
 refused_for : {B : Type 0} (o : Option QueueError) (s after : KeptSlot B)
     → or_memory Memory (kept_unless o s after) ≡ unwrap_or o Memory
 refused_for o s after = grind arith
@@ -44,7 +44,7 @@ module _ {B : Type 0} (bytes : B → List ℕ) (number first gone : ℕ) (key : 
   abbrev quota : ℕ
   quota = quota_from q.base q.tail
 
-  -- why it refuses a sending
+  -- why it refuses a send
   pub refused_send : (m : Message B) (moment : ℕ)
       → or_memory Memory (kept_sends bytes (slot q) m moment)
       ≡ unwrap_or (send_refusal headers quota m.mtype (length (bytes m.body))) Memory
@@ -52,7 +52,7 @@ module _ {B : Type 0} (bytes : B → List ℕ) (number first gone : ℕ) (key : 
       rw (← h.based)
       (refused_for (send_refusal headers quota m.mtype (length (bytes m.body))) _ _)
 
-  -- the queue goes on
+  -- the queue after a call
   module _ (q' : Queue B) (waits : headers_of bytes q'.messages ≡ waiting_from q'.base q'.tail)
     where
       -- with one event more

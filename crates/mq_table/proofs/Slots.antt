@@ -27,7 +27,7 @@ module _ {B : Type 0} (bytes : B → List ℕ) (number first gone : ℕ) (key : 
   abbrev part : IsKeptPart list slot
   part = h.lawful.part
 
-  -- the slot goes on by this event, with so many makings, these fields and this queue in it
+  -- the slot has this event more, with so many creations, these fields and this queue in it
   pub turned_slot : (key' : ℤ) (base' : Option Base) (past' : List Event)
       (live' : Option (Queue B)) (e : Event) (t : KeptSlot B)
       → slot_with number first gone key' base' past' live' ≡ t → IsTurned MAX_SEQ list e slot t

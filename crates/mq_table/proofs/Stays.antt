@@ -9,7 +9,7 @@ use Rattle.mq_queue.specs.Row.{log_after, last_log}
 use Rattle.mq_table.specs.Calls.{changed_unless}
 use Rattle.mq_table.specs.Slot.{SlotState}
 
--- the last log goes on with an event that is no making
+-- an event that is no creation is appended to the last log
 pub grows : (events : List Event) (e : Event) → is_made e ≡ false
     → last_log (events ++ e ∷ []) ≡ last_log events ++ e ∷ []
 grows events e none = fold-append log_after [] events (e ∷ []) ∙ rw none refl

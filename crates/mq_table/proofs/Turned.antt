@@ -1,5 +1,4 @@
--- A slot goes on with one more event: its whole list is a slot list again, of which it keeps its
--- part.
+-- A slot has one more event: its whole list is a slot list again, of which it keeps its part.
 use Rattle.std.proofs.Common.{◌≡◌, ℕ, ℤ, ◌≤◌, List, [], ◌∷◌, ◌++◌, length, None, Ok, Bool, true, false, not, refl, ap, sym, ◌∙◌}
 use Rattle.mq_message.specs.declared.message.Message.{Message}
 use Rattle.mq_message.specs.declared.header.Header.{Header}
@@ -31,7 +30,7 @@ pub record IsTurned {B : Type 0} (last_seq : ℕ) (list : List Event) (e : Event
 
 module _ {B : Type 0} (last_seq : ℕ) (list : List Event) (s : KeptSlot B) (k : IsKeptPart list s)
     (lawful : IsSlotList last_seq list) where
-  -- msgget: a queue is made where none is
+  -- msgget: a queue is created where none is
   pub made_turned : (key : ℤ) (seat moment : ℕ) → is_live list ≡ false
       → made_count list ≤ last_seq
       → IsTurned last_seq list (event.Made seat moment key) s (kept_makes s key seat moment)
@@ -43,7 +42,7 @@ module _ {B : Type 0} (last_seq : ℕ) (list : List Event) (s : KeptSlot B) (k :
   }
 
   module _ (live : is_live list ≡ true) where
-    -- one event more of the queue that is there, neither a making nor a removal
+    -- one event more of the queue that is there, neither a creation nor a removal
     pub event_turned : (e : Event) (messages : List (ℕ × Message B)) → is_made e ≡ false
         → is_removed e ≡ false → key_told e ≡ None → CanHappen (waiting_now s) (quota_now s) e
         → IsTurned last_seq list e s (kept_goes_on s e messages)
@@ -56,7 +55,7 @@ module _ {B : Type 0} (last_seq : ℕ) (list : List Event) (s : KeptSlot B) (k :
       first = refl;
     }
 
-    -- the queue that is there goes on
+    -- the queue that is there has one event more
     module _ (bytes : B → List ℕ) (t : KeptSlot B) (e : Event) (more : IsOneMore bytes s t e) where
       pub more_turned : IsTurned last_seq list e s t
       more_turned =

@@ -1,4 +1,4 @@
--- What the calls of a slot answer by its kept part is what they answer by the whole list.
+-- What the calls of a slot return by its kept part is what they return by the whole list.
 use Rattle.std.proofs.Common.{◌≡◌, ℕ, List, [], ◌∷◌, ◌++◌, length, Option, None, Some, Result, Ok, Err, Bool, true, refl, arith}
 use Rattle.std.proofs.lemmas.Result.{IfOk-at_ok}
 use Rattle.mq_message.specs.declared.message.Message.{Message}
@@ -22,19 +22,19 @@ use Rattle.mq_table.specs.Slot.{SlotState}
 use Rattle.mq_table.proofs.Kepts.{entries_is}
 use Rattle.mq_table.proofs.KeptTurns.{places_last, quota_last, waits_last}
 
--- why a call is refused, where it answers an entry
+-- why a call is refused, where it returns an entry
 refused_same : {B : Type 0} (o : Option QueueError) (s after : KeptSlot B) (w other : SlotState B)
     → or_memory Memory (kept_unless o s after) ≡ or_memory Memory (changed_unless o w other)
 refused_same o s after w other = grind arith
 
--- the whole slot answers so too, and goes on with this event
+-- the whole slot returns the same, and has this event more
 pub record IsWholeTurn {B T : Type 0} (list : List Event) (e : Event) (turn : SlotTurn B T) (r : T)
     (t : KeptSlot B) : Type 0 where
   pub answers : turn ≡ Ok (r, whole (list ++ e ∷ []) t)
 
 module _ {B : Type 0} (list : List Event) (s : KeptSlot B) (k : IsKeptPart list s)
     (live : is_live list ≡ true) where
-  -- a call that answers an entry
+  -- a call that returns an entry
   unless_whole : (e : Event) (messages : List (ℕ × Message B)) (entry : ℕ) (t : KeptSlot B)
       (o : Option QueueError) → kept_unless o s (kept_goes_on s e messages) ≡ Ok (entry, t)
       → changed_unless o (whole list s) (with_event (whole list s) e messages)

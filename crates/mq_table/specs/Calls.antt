@@ -1,4 +1,4 @@
--- What the calls of a slot answer and leave (msgget(2), msgop(2), msgctl(2)).
+-- What the calls of a slot return and leave (msgget(2), msgop(2), msgctl(2)).
 use Rattle.std.specs.Prelude.{ℕ, ℤ, Bool, Option, Some, None, Result, Ok, Err, List, [], ◌∷◌, ◌++◌, length}
 use Rattle.mq_message.specs.declared.message.Message.{Message}
 use Rattle.mq_message.specs.declared.selection.Selection.{Selection}
@@ -13,11 +13,11 @@ use Rattle.mq_queue.specs.Row.{last_log}
 use Rattle.mq_queue.specs.Waiting.{waiting}
 use Rattle.mq_table.specs.Slot.{SlotState}
 
--- what a call answers, with the slot that it leaves; or why the call is refused
+-- what a call returns, with the slot that it leaves; or why the call is refused
 abbrev pub SlotTurn : Type 0 → Type 0 → Type 0
 SlotTurn B T = Result (T × SlotState B) QueueError
 
--- the slot with one more event, and with this waiting
+-- the slot with one more event, and with these messages pending
 abbrev pub with_event : {B : Type 0} → SlotState B → Event → List (ℕ × Message B) → SlotState B
 with_event s e messages =
     record { number = s.number; events = s.events ++ e ∷ []; messages = messages }
@@ -36,7 +36,7 @@ sends bytes s m moment =
     changed_unless (send_refusal (waiting log) (quota log) m.mtype n) s
     (with_event s (event.Sent m.sender moment m.tag m.mtype n) (s.messages ++ (length log, m) ∷ []))
 
--- what msgrcv does in the slot's queue, where the queue answers so: the message as it was sent
+-- what msgrcv does in the slot's queue, where the queue returns this: the message as it was sent
 abbrev pub received : {B : Type 0} → SlotState B → (Header → Event) → Result Header QueueError
     → SlotTurn B Header
 received s e (Ok m) = Ok (m, with_event s (e m) (without m.place s.messages))
@@ -54,7 +54,7 @@ sets s qbytes seat moment =
     changed_unless (set_refusal qbytes) s
     (with_event s (event.Changed seat moment qbytes) s.messages)
 
--- the slot once a queue was made in it
+-- the slot once a queue was created in it
 abbrev pub makes : {B : Type 0} → SlotState B → ℤ → ℕ → ℕ → SlotState B
 makes s key seat moment = with_event s (event.Made seat moment key) []
 

@@ -1,4 +1,4 @@
--- A slot's list is cut: what is handed out, and what is left.
+-- A slot's list is drained: what is returned, and what is left.
 use Rattle.std.specs.Prelude.{◌≡◌, ℕ, ◌-◌, ◌≤◌, if◌then◌else◌, Option, Some, None}
 use Rattle.std.specs.Prelude.{List, [], ◌++◌, length, take, drop}
 use Rattle.mq_queue.specs.declared.base.Base.{Base}
@@ -11,7 +11,7 @@ use Rattle.mq_table.specs.Kept.{KeptSlot, base_now, entries_of, is_live_kept, ma
 use Rattle.mq_table.specs.KeptPart.{base_at}
 use Rattle.mq_table.specs.SlotList.{offset}
 
--- what a cut hands out: how many entries were cut off before, how many of these are Made, the base
+-- what a drain returns: how many entries were drained before, how many of these are Made, the base
 -- of the queue that they leave, the entries of queues since removed, and those of the live queue
 pub record CutState : Type 0 where
   pub first : ℕ
@@ -20,7 +20,7 @@ pub record CutState : Type 0 where
   pub past : List Event
   pub last : List Event
 
--- a cut, with its lists
+-- a `Cut`, with its lists
 abbrev pub cut_shown : Cut → CutState
 cut_shown c = record {
   first = c.first;
@@ -30,7 +30,7 @@ cut_shown c = record {
   last = c.last.items;
 }
 
--- what a cut of this slot hands out
+-- what a drain of this slot returns
 abbrev pub cut_of : {B : Type 0} → KeptSlot B → CutState
 cut_of s = record {
   first = s.first;
@@ -40,11 +40,11 @@ cut_of s = record {
   last = s.last;
 }
 
--- the base of the queue that is in the slot, or none where none is
+-- the base of the queue that is in the slot, once its log is drained, or none where none is
 abbrev pub base_left : {B : Type 0} → KeptSlot B → Option Base
 base_left s = if is_live_kept s then Some (base_after (base_now s) s.last) else None
 
--- the slot once its list was cut
+-- the slot once its list was drained
 abbrev pub kept_cuts : {B : Type 0} → KeptSlot B → KeptSlot B
 kept_cuts s = record s {
   first = entries_of s;
@@ -54,13 +54,13 @@ kept_cuts s = record s {
   last = [];
 }
 
--- the queue that is there, once its log was cut
+-- the queue that is there, once its log was drained
 abbrev pub cut_queue : {B : Type 0} → Option (Queue B) → Option (Queue B)
 cut_queue None = None
 cut_queue (Some queue) =
     Some (record queue { base = base_after queue.base queue.tail; tail = [] })
 
--- a cut of this list: its entries are those from `first` to the end, its base and its number of
+-- a drain of this list: its entries are those from `first` to the end, its base and its number of
 -- Made are those of the entries before, and its last part is of the live queue
 pub record IsCutOf (list : List Event) (c : CutState) : Type 0 where
   pub within : c.first ≤ length list

@@ -1,4 +1,4 @@
--- A slot of whose list the first entries may be cut off: what it keeps, and what that says.
+-- A slot of whose list the first entries may be drained: what it keeps, and what that says.
 use Rattle.std.specs.Prelude.{ℕ, ℤ, ◌+◌, ◌-◌, Bool, not, Option, unwrap_or, is_some}
 use Rattle.std.specs.Prelude.{List, [], ◌∷◌, ◌++◌, fold, length}
 use Rattle.mq_message.specs.declared.message.Message.{Message}
@@ -10,9 +10,9 @@ use Rattle.mq_queue.specs.Base.{base_of, figures_from, quota_from, waiting_from}
 use Rattle.mq_queue.specs.Log.{is_removed}
 use Rattle.mq_queue.specs.Row.{made_count}
 
--- a slot: its number, how many entries were cut off, how many of these are Made, the key of the
--- queue that is in it, the base of the queue that the entries which were cut off leave in it, the
--- kept entries of queues since removed, those of the queue that is in it, and what waits there
+-- a slot: its number, how many entries were drained, how many of these are Made, the key of the
+-- queue that is in it, the base of the queue that the drained entries leave in it, the kept entries
+-- of queues since removed, those of the queue that is in it, and its pending messages
 pub record KeptSlot (B : Type 0) : Type 0 where
   pub number : ℕ
   pub first : ℕ
@@ -31,7 +31,7 @@ kept_of s = s.past ++ s.last
 abbrev pub entries_of : {B : Type 0} → KeptSlot B → ℕ
 entries_of s = s.first + length (kept_of s)
 
--- how many queues were made
+-- how many queues were created
 abbrev pub made_of : {B : Type 0} → KeptSlot B → ℕ
 made_of s = s.made + made_count (kept_of s)
 
@@ -61,7 +61,7 @@ places_now s = (base_now s).places + length s.last
 abbrev pub offset_now : {B : Type 0} → KeptSlot B → ℕ
 offset_now s = entries_of s - places_now s
 
--- what waits in that queue
+-- the pending messages of that queue
 abbrev pub waiting_now : {B : Type 0} → KeptSlot B → List Header
 waiting_now s = waiting_from (base_now s) s.last
 

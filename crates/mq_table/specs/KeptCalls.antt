@@ -1,4 +1,4 @@
--- What the calls of a slot answer and leave, by the part that it keeps (msgget(2), msgop(2),
+-- What the calls of a slot return and leave, by the part that it keeps (msgget(2), msgop(2),
 -- msgctl(2)).
 use Rattle.std.specs.Prelude.{ℕ, ℤ, pos, Bool, Option, Some, None, Result, Ok, Err}
 use Rattle.std.specs.Prelude.{List, [], ◌∷◌, ◌++◌, length}
@@ -13,11 +13,11 @@ use Rattle.mq_queue.specs.Queue.{CutLog}
 use Rattle.mq_queue.specs.Answer.{send_refusal, receive_answer, set_refusal}
 use Rattle.mq_table.specs.Kept.{KeptSlot, base_now, entries_of, places_now, quota_now, waiting_now}
 
--- what a call answers, with the slot that it leaves; or why the call is refused
+-- what a call returns, with the slot that it leaves; or why the call is refused
 abbrev pub KeptTurn : Type 0 → Type 0 → Type 0
 KeptTurn B T = Result (T × KeptSlot B) QueueError
 
--- the slot with one more event of its queue, and with this waiting
+-- the slot with one more event of its queue, and with these messages pending
 abbrev pub kept_goes_on : {B : Type 0} → KeptSlot B → Event → List (ℕ × Message B) → KeptSlot B
 kept_goes_on s e messages = record s { last = s.last ++ e ∷ []; messages = messages }
 
@@ -34,7 +34,7 @@ kept_sends bytes s m moment =
     (kept_goes_on s (event.Sent m.sender moment m.tag m.mtype n)
     (s.messages ++ (places_now s, m) ∷ []))
 
--- what msgrcv does in the slot's queue, where the queue answers so: the message as it was sent
+-- what msgrcv does in the slot's queue, where the queue returns this: the message as it was sent
 abbrev pub kept_received : {B : Type 0} → KeptSlot B → (Header → Event) → Result Header QueueError
     → KeptTurn B Header
 kept_received s e (Ok m) = Ok (m, kept_goes_on s (e m) (without m.place s.messages))
@@ -53,7 +53,7 @@ kept_sets s qbytes seat moment =
     kept_unless (set_refusal qbytes) s
     (kept_goes_on s (event.Changed seat moment qbytes) s.messages)
 
--- the slot once a queue was made in it
+-- the slot once a queue was created in it
 abbrev pub kept_makes : {B : Type 0} → KeptSlot B → ℤ → ℕ → ℕ → KeptSlot B
 kept_makes s key seat moment =
     record s { key = key; last = event.Made seat moment key ∷ []; messages = [] }
@@ -67,7 +67,7 @@ kept_removes s seat moment = record s {
   messages = [];
 }
 
--- the log of the queue that is removed, of which the beginning may be cut off
+-- the log of the queue that is removed, of which the beginning may be drained
 abbrev pub log_removed : {B : Type 0} → KeptSlot B → ℕ → ℕ → CutLog
 log_removed s seat moment =
     record { base = base_now s; tail = s.last ++ event.Removed seat moment ∷ [] }

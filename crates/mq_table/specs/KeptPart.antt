@@ -14,9 +14,10 @@ use Rattle.mq_table.specs.SlotList.{IsSlotList, live_log}
 abbrev pub base_at : List Event → Option Base
 base_at entries = if is_live entries then Some (base_of (last_log entries)) else None
 
--- the slot keeps this list from `first` on. The entries before it are gone, and the slot's base is
--- that of the queue that they leave. The log of the queue that is there now begins with what was
--- cut off of it, which its base tells, and goes on with the last part; the key is that queue's
+-- the slot keeps this list from `first` on. The entries before it are drained, and the slot's base
+-- is that of the queue that they leave. The log of the queue that is there now begins with its
+-- drained events, whose base is that queue's, and continues with the last part; the key is that
+-- queue's
 pub record IsKeptPart {B : Type 0} (list : List Event) (s : KeptSlot B) : Type 0 where
   pub gone : List Event
   pub before : List Event
@@ -39,6 +40,6 @@ pub record IsLawfulSlot {B : Type 0} (last_seq : ℕ) (s : KeptSlot B) : Type 0 
   pub part : IsKeptPart list s
   pub lawful : IsSlotList last_seq list
 
--- what waits is what the kept part leaves waiting; nothing does where no queue is
+-- the messages are those that the kept part leaves pending; none is where no queue is
 abbrev pub WaitsNow : {B : Type 0} → (B → List ℕ) → KeptSlot B → Type 0
 WaitsNow bytes s = headers_of bytes s.messages ≡ waiting_now s

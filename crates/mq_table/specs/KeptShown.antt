@@ -13,7 +13,7 @@ standing_now s seq =
     if nat_le (made_of s) seq then Never
     else (if is_live_kept s && (seq + 1 == made_of s) then Live else Removed)
 
--- whether a queue can be made in the slot: none is in it, and a seq up to last_seq is left
+-- whether a queue can be created in the slot: none is in it, and a seq up to last_seq is left
 abbrev pub is_free_now : {B : Type 0} → ℕ → KeptSlot B → Bool
 is_free_now last_seq s = not (is_live_kept s) && nat_le (made_of s) last_seq
 
@@ -30,10 +30,10 @@ row_now s = record {
 abbrev pub next_id_now : {B : Type 0} → KeptSlot B → ℕ
 next_id_now s = id_of s.number (made_of s)
 
--- the id of the queue that was made last
+-- the id of the queue that was created last
 abbrev pub last_id_now : {B : Type 0} → KeptSlot B → ℕ
 last_id_now s = id_of s.number (made_of s - 1)
 
--- the event at this place of the whole list, where it is not cut off
+-- the event at this place of the whole list, where it is not drained
 abbrev pub event_now : {B : Type 0} → KeptSlot B → ℕ → Option Event
 event_now s i = event_from s.first (kept_of s) i

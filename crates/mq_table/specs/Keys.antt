@@ -4,8 +4,8 @@ use Rattle.std.specs.List.{IsDistinct}
 use Rattle.std.specs.Option.{option_map}
 use Rattle.std.specs.Ordering.{int_eq}
 
--- the id of the live queue with this key, if there is one, in the list of keys and ids in the
--- order of making
+-- the id of the live queue with this key, if there is one, in the list of keys and ids in the order
+-- of creation
 abbrev pub id_of_key : List (ℤ × ℕ) → ℤ → Option ℕ
 id_of_key keys key = option_map (λ p. p.1) (find (λ p. int_eq p.0 key) keys)
 
@@ -17,7 +17,7 @@ forget id keys = filter (λ p. not (p.1 == id)) keys
 abbrev pub forget_key : ℤ → List (ℤ × ℕ) → List (ℤ × ℕ)
 forget_key key keys = filter (λ p. not (int_eq p.0 key)) keys
 
--- the keys and ids once a queue was made: key 0 is IPC_PRIVATE and is not kept (msgget(2))
+-- the keys and ids once a queue was created: key 0 is IPC_PRIVATE and is not kept (msgget(2))
 abbrev pub entered : ℤ → ℕ → List (ℤ × ℕ) → List (ℤ × ℕ)
 entered key id keys = if int_eq key (pos 0) then keys else keys ++ (key, id) ∷ []
 

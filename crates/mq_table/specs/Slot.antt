@@ -10,14 +10,14 @@ use Rattle.mq_queue.specs.Waiting.{waiting}
 use Rattle.mq_table.specs.Ids.{id_of}
 use Rattle.mq_table.specs.SlotList.{joined, live_log}
 
--- a slot: its number, all that happened in it, and what waits in the queue that is in it now, each
--- message with the place of its sending in that queue's log
+-- a slot: its number, all that happened in it, and the pending messages of the queue that is in it
+-- now, each with the place of its send in that queue's log
 pub record SlotState (B : Type 0) : Type 0 where
   pub number : ℕ
   pub events : List Event
   pub messages : List (ℕ × Message B)
 
--- a slot in which no queue was made
+-- a slot in which no queue was created
 abbrev pub empty_slot : {B : Type 0} → ℕ → SlotState B
 empty_slot number = record { number = number; events = []; messages = [] }
 
@@ -25,11 +25,12 @@ empty_slot number = record { number = number; events = []; messages = [] }
 abbrev pub next_id : {B : Type 0} → SlotState B → ℕ
 next_id s = id_of s.number (made_count s.events)
 
--- the id of the queue that was made last
+-- the id of the queue that was created last
 abbrev pub last_id : {B : Type 0} → SlotState B → ℕ
 last_id s = id_of s.number (made_count s.events - 1)
 
--- what waits is what the log of the queue in the slot leaves waiting; nothing does where none is
+-- the messages are those that the log of the queue in the slot leaves pending; none is where no
+-- queue is
 abbrev pub Waits : {B : Type 0} → (B → List ℕ) → SlotState B → Type 0
 Waits bytes s = headers_of bytes s.messages ≡ waiting (live_log s.events)
 

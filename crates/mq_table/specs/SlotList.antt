@@ -1,4 +1,4 @@
--- The slot list: all that happened in a slot, in which queues are made and removed one after
+-- The slot list: all that happened in a slot, in which queues are created and removed one after
 -- another.
 use Rattle.std.specs.Prelude.{◌≡◌, ℕ, ◌+◌, ◌-◌, ◌≤◌, ◌==◌, nat_le, Bool, true, not, ◌&&◌}
 use Rattle.std.specs.Prelude.{if◌then◌else◌, List, [], ◌∷◌, ◌++◌, length, take, All, Result}
@@ -18,7 +18,7 @@ live_log events = if is_live events then last_log events else []
 abbrev pub offset : List Event → ℕ
 offset events = length events - length (live_log events)
 
--- what became of an id: no queue was made with it, or its queue is there, or it was removed
+-- what became of an id: no queue was created with it, or its queue is there, or it was removed
 pub data Standing : Type 0 where
   Never : Standing
   Live : Standing
@@ -36,7 +36,7 @@ by_standing Never = Err refusal.Never
 by_standing Live = Ok tt
 by_standing Removed = Err refusal.Removed
 
--- whether a queue can be made in the slot: none is in it, and a seq up to last_seq is left
+-- whether a queue can be created in the slot: none is in it, and a seq up to last_seq is left
 abbrev pub is_free : ℕ → List Event → Bool
 is_free last_seq events = not (is_live events) && nat_le (made_count events) last_seq
 

@@ -10,7 +10,7 @@ use Rattle.mq_table.specs.Kept.{KeptSlot, base_now, is_live_kept, made_of}
 use Rattle.mq_table.specs.KeptPart.{IsLawfulSlot, WaitsNow}
 use Rattle.mq_table.specs.declared.limits.TheConstants.{MAX_PAST, MAX_SEQ, MAX_SLOTS}
 
--- a slot in which no queue was made
+-- a slot in which no queue was created
 abbrev pub empty_kept : {B : Type 0} → ℕ → KeptSlot B
 empty_kept number = record {
   number = number;
@@ -27,7 +27,7 @@ empty_kept number = record {
 abbrev pub some_base : Base → Option Base
 some_base base = if base.places == 0 then None else Some base
 
--- the base of the queue that is there, where some event of its log is cut off
+-- the base of the queue that is there, where some event of its log is drained
 abbrev pub live_base : {B : Type 0} → Option (Queue B) → Option Base
 live_base None = None
 live_base (Some queue) = some_base queue.base
@@ -41,13 +41,13 @@ abbrev pub tail_of : {B : Type 0} → Option (Queue B) → List Event
 tail_of None = []
 tail_of (Some queue) = queue.tail
 
--- what waits in the queue that is there, if one is
+-- the pending messages of the queue that is there, if one is
 abbrev pub messages_of : {B : Type 0} → Option (Queue B) → List (ℕ × Message B)
 messages_of None = []
 messages_of (Some queue) = queue.messages
 
 -- the slot with these fields: its base is that of the queue in it, where some event of that queue's
--- log is cut off
+-- log is drained
 abbrev pub slot_with : {B : Type 0} → ℕ → ℕ → ℕ → ℤ → Option Base → List Event → Option (Queue B)
     → KeptSlot B
 slot_with number first made key base past live = record {
@@ -61,7 +61,7 @@ slot_with number first made key base past live = record {
   messages = messages_of live;
 }
 
--- the slot has a number; the makings are counted, and not too many for ids; not too many entries
+-- the slot has a number; the creations are counted, and not too many for ids; not too many entries
 -- are before the log of the queue in it; the slot keeps its part of some slot list; that queue is
 -- the list's; and no base is there twice
 pub record IsSlot {B : Type 0} (bytes : B → List ℕ) (made : ℕ) (live : Option (Queue B))

@@ -1,3 +1,6 @@
+//! Drains of a slot list: a caller takes the retained events, so that the list need not grow with
+//! the calls.
+
 ghost use Rattle.std.specs.Prelude.{◌≡◌, [], is_some, IfOk, IfSome, MatchResult};
 ghost use Rattle.mq_table.specs.Cut.{cut_of, cut_queue, kept_cuts, cut_shown};
 ghost use Rattle.mq_table.specs.Kept.{base_now, is_live_kept};
@@ -10,15 +13,15 @@ use mq_queue::{Base, Event, QueueState};
 use std::alloc::{AllocError, Global};
 use std::mem;
 
-/// What a cut of a slot's list hands out: the entries since the cut before, and what is known of
+/// What a drain of a slot list returns: the entries since the drain before, and what is known of
 /// the entries before them.
 #[derive(Drop)]
 pub struct Cut {
-    /// How many entries were cut off before.
+    /// How many entries were drained before.
     pub first: u64,
-    /// How many of these are makings.
+    /// How many of these are `Made` events.
     pub made: u32,
-    /// The base of the queue that they leave, where they leave one.
+    /// The base of the queue that was live after them, if one was.
     pub base: Option<Base>,
     /// The entries of queues that were removed since then.
     pub past: Vec<Event>,
@@ -26,15 +29,15 @@ pub struct Cut {
     pub last: Vec<Event>,
 }
 
-/// What is cut off of the log of the queue that is there, if one is.
+/// What is drained from the log of the live queue, if there is one.
 #[derive(Drop)]
 struct LogCut {
-    /// The base before, where it is that of some event.
+    /// The base before, if it covers any event.
     base: Option<Base>,
     last: Vec<Event>,
 }
 
-/// Cuts the log of the queue that is there, if one is. `Err` means out of memory.
+/// Drains the log of the live queue, if there is one. `Err` means out of memory.
 fn cut_live<B: Body, W: Waiting<B>>(
     alloc: Global,
     live: &mut Option<QueueState<B, W>>,
@@ -56,8 +59,8 @@ fn cut_live<B: Body, W: Waiting<B>>(
 }
 
 impl<B: Body, W: Waiting<B>> Slot<B, W> {
-    /// Cuts the slot list off where it ends now, and hands out the entries since the last cut, with
-    /// what is known of those before. What waits stays. `Err` means out of memory.
+    /// Drains the slot list to its end: returns the entries since the last drain, and what is known
+    /// of those before. The pending messages stay. `Err` means out of memory.
     pub fn cut(&mut self) -> Result<Cut, AllocError>
         ensures handed { IfOk result (λ c. cut_shown c ≡ cut_of self.old) }
         ensures after { MatchResult result (λ _. self.new ≡ kept_cuts self.old)
@@ -82,8 +85,8 @@ impl<B: Body, W: Waiting<B>> Slot<B, W> {
         })
     }
 
-    /// What a cut would hand out, but for the entries and the base of the queue that is there, and
-    /// that queue. This is no change of the slot, and takes no memory.
+    /// Ends the slot: returns what a drain would, but for the entries and the base of the live
+    /// queue, and that queue itself. It adds no event, and allocates nothing.
     pub fn into_parts(self) -> (Cut, Option<QueueState<B, W>>)
         ensures parts { self ≡ slot_with self.number result.0.first result.0.made self.key
             result.0.base result.0.past.items result.1 }

@@ -1,3 +1,5 @@
+//! Reads of a slot list by index: its length, how much of it was drained, and each retained event.
+
 ghost use Rattle.std.specs.Prelude.{◌≡◌, ◌<◌, ◌-◌, ◌^◌, slice_get};
 ghost use Rattle.mq_table.specs.Kept.{entries_of, offset_now};
 ghost use Rattle.mq_table.specs.KeptShown.{event_now};
@@ -6,7 +8,7 @@ use crate::Slot;
 use mq_message::{Body, Waiting};
 use mq_queue::{Event, QueueState};
 
-/// The event at this place of those that are kept of a queue's log.
+/// The event at this index of the retained events of a queue's log.
 fn kept_event<B: Body, W: Waiting<B>>(queue: &QueueState<B, W>, i: u64) -> Option<Event>
     ensures { result ≡ slice_get queue.now.tail i }
 {
@@ -17,7 +19,7 @@ fn kept_event<B: Body, W: Waiting<B>>(queue: &QueueState<B, W>, i: u64) -> Optio
 }
 
 impl<B: Body, W: Waiting<B>> Slot<B, W> {
-    /// How many entries the slot list has, with those that were cut off.
+    /// How many entries the slot list has, with those that were drained.
     pub fn events(&self) -> u64
         ensures value { result ≡ entries_of self.now }
         ensures small { result < 2 ^ 64 - 1 }
@@ -29,15 +31,14 @@ impl<B: Body, W: Waiting<B>> Slot<B, W> {
         }
     }
 
-    /// How many of them were cut off.
+    /// How many of them were drained.
     pub fn first(&self) -> u64
         ensures { result ≡ self.now.first }
     {
         self.first
     }
 
-    /// The event at this place of the slot list, or `None` where it was cut off or the list has
-    /// ended.
+    /// The event at this index of the slot list, or `None` if it was drained or is past the end.
     pub fn event(&self, i: u64) -> Option<Event>
         ensures { result ≡ event_now self.now i }
     {

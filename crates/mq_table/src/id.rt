@@ -1,3 +1,6 @@
+//! Queue ids: a slot and its generation in one u32, so that the id of a removed queue is never
+//! that of a later one.
+
 ghost use Rattle.std.specs.Prelude.{◌≡◌, ◌<◌, ◌≤◌, ◌/◌, Some};
 ghost use Rattle.std.specs.Fmt.{decimal};
 ghost use Rattle.mq_table.specs.Ids.{id_of, slot_of, seq_of};

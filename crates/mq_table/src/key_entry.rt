@@ -1,3 +1,5 @@
+//! The entries of the key table, as `KeyTable::entry` returns them.
+
 use crate::Id;
 
 /// A key and the id of its queue.

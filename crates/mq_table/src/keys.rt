@@ -1,3 +1,5 @@
+//! The map from keys to ids, in which msgget(2) finds the queue of a key.
+
 ghost use Rattle.std.specs.Prelude.{◌≡◌, ◌≢◌, ◌<◌, ◌==◌, ℤ, ℕ, not, ◌++◌, ◌∷◌, [], None, Some, pos, length, slice_get};
 ghost use Rattle.std.specs.Prelude.{MatchResult};
 ghost use Rattle.std.specs.Option.{option_map};
@@ -36,7 +38,7 @@ impl KeyTable {
         }
     }
 
-    /// What holds of each table: no key is there twice, and none is 0.
+    /// The invariant: no key is there twice, and none is 0.
     pub fn holds(&self)
         ensures { AreKeys self.now }
     {

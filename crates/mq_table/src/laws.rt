@@ -2,7 +2,7 @@
 
 ghost use Rattle.mq_table.specs.Laws.{IdsInvert, StaysRemoved};
 
-/// An id is told by its slot and its seq, and tells them.
+/// An id is determined by its slot and its seq, and determines them.
 pub fn ids_invert()
     ensures { IdsInvert }
 {}

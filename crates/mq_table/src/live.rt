@@ -1,3 +1,6 @@
+//! The calls on the live queue of a slot, none of which blocks: msgsnd and msgrcv (msgop(2)),
+//! IPC_SET and IPC_STAT (msgctl(2)).
+
 ghost use Rattle.std.specs.Prelude.{◌≡◌, true, Ok, MatchResult};
 ghost use Rattle.mq_queue.specs.Answer.{receive_refusal, send_refusal};
 ghost use Rattle.mq_queue.specs.Memory.{or_memory};
@@ -12,7 +15,7 @@ use mq_queue::{Event, Figures, Notice, QueueError, Received};
 
 impl<B: Body, W: Waiting<B>> Slot<B, W> {
     /// Why a message of this type and length would be refused now (msgop(2), msgsnd with
-    /// IPC_NOWAIT), or `None` where at most memory could be wanted.
+    /// IPC_NOWAIT), or `None` if the call can fail only by being out of memory.
     pub fn refuses_send(&self, mtype: i64, length: u64) -> Option<QueueError>
         requires live { is_live_kept self.now ≡ true }
         ensures { result ≡ send_refusal (waiting_now self.now) (quota_now self.now) mtype length }
@@ -23,8 +26,8 @@ impl<B: Body, W: Waiting<B>> Slot<B, W> {
         }
     }
 
-    /// Why this receiver would be refused now (msgop(2), msgrcv with IPC_NOWAIT), or `None` where
-    /// at most memory could be wanted.
+    /// Why this receiver would be refused now (msgop(2), msgrcv with IPC_NOWAIT), or `None` if the
+    /// call can fail only by being out of memory.
     pub fn refuses_receive(
         &self,
         size: u64,
@@ -41,7 +44,7 @@ impl<B: Body, W: Waiting<B>> Slot<B, W> {
     }
 
     /// Sends a message to the queue that is in the slot, and answers the entry of the event in the
-    /// slot list (msgop(2), msgsnd with IPC_NOWAIT). A message that is refused is handed back. The
+    /// slot list (msgop(2), msgsnd with IPC_NOWAIT). A message that is refused is returned. The
     /// notice takes the event in, with the figures after it.
     pub fn send<N: Notice>(
         &mut self,

@@ -1,3 +1,5 @@
+//! The errors of the lookup of an id: EINVAL and EIDRM (msgop(2)).
+
 use thiserror::Error;
 
 /// Why an id names no queue.

@@ -1,3 +1,5 @@
+//! The state of a slot, and its accessors: the lookup of an id, whether it is free, its board row.
+
 ghost use Rattle.std.specs.Prelude.{◌≡◌, ◌<◌, ◌≤◌, ◌+◌, ◌-◌, ◌^◌, true, false, is_some, IsTrue};
 ghost use Rattle.mq_table.specs.Ids.{slot_of, seq_of};
 ghost use Rattle.mq_table.specs.Kept.{entries_of, is_live_kept, made_of, offset_now};
@@ -12,19 +14,20 @@ use mq_queue::{Base, BoardRow, Event, NO_FIGURES, QueueState};
 use std::alloc::Global;
 use std::marker::Model;
 
-/// A place for one queue at a time, seen as its number, what is kept of all that happened in it,
-/// and what waits in the queue that is in it. A slot is not dropped: `into_parts` ends it.
+/// A slot of the queue table, which has one queue at a time. It is seen as its number, the retained
+/// part of its slot list, and the pending messages of its queue. A slot is not dropped:
+/// `into_parts` ends it.
 pub struct Slot<B: Body, W: Waiting<B>> {
     pub(crate) number: u8,
-    /// How many entries were cut off.
+    /// How many entries were drained.
     pub(crate) first: u64,
-    /// How many of these are makings.
+    /// How many of these are `Made` events.
     pub(crate) gone: u32,
     /// The key of the queue that is in the slot, or 0.
     pub(crate) key: i32,
-    /// The base of the queue that they leave, where it was removed since.
+    /// The base of the queue that was live at the last drain, if it was removed since.
     pub(crate) base: Option<Base>,
-    /// The kept events of the queues that were removed.
+    /// The retained events of the queues that were removed.
     pub(crate) past: Vec<Event>,
     /// How many queues were made.
     pub(crate) made: u32,
@@ -61,8 +64,8 @@ impl<B: Body, W: Waiting<B>> Slot<B, W> {
         }
     }
 
-    /// What holds of each slot: it keeps its part of a list of at most `MAX_SEQ + 1` queues, and
-    /// what waits is what that part leaves waiting.
+    /// The invariant: the slot retains its part of a list of at most `MAX_SEQ + 1` queues, and its
+    /// pending messages are those that this part leaves.
     pub fn holds(&self)
         ensures lawful { IsLawfulSlot MAX_SEQ self.now }
         ensures waits { WaitsNow B.bytes self.now }

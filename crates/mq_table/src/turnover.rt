@@ -1,3 +1,5 @@
+//! How a slot gets a new queue and gives one up, whose events become past ones of the slot list.
+
 ghost use Rattle.std.specs.Prelude.{◌≡◌, ◌+◌, ◌≤◌, ◌++◌, [], ℕ, None, Some, true, false, length};
 ghost use Rattle.std.specs.Prelude.{OnOk, IfOk, MatchResult, vec_len, vec_capacity};
 ghost use Rattle.std.specs.Option.{option_or};
@@ -22,7 +24,7 @@ fn put_in<B: Body, W: Waiting<B>>(live: &mut Option<QueueState<B, W>>, queue: Qu
     }
 }
 
-/// Adds the events of a log that were not cut off, for which there is room.
+/// Appends the retained events of a log, for which there is room.
 fn append(past: &mut Vec<Event>, log: &Log)
     requires { vec_len past.old + length log.now.tail ≤ vec_capacity past.old }
     ensures { past.new.items ≡ past.old.items ++ log.now.tail }
@@ -36,7 +38,7 @@ fn append(past: &mut Vec<Event>, log: &Log)
     }
 }
 
-/// The first of two bases that is there.
+/// The first base if there is one, or else the other.
 pub(crate) fn either(base: Option<Base>, other: Option<Base>) -> Option<Base>
     ensures { result ≡ option_or base other }
 {
@@ -46,8 +48,8 @@ pub(crate) fn either(base: Option<Base>, other: Option<Base>) -> Option<Base>
     }
 }
 
-/// What the slot keeps of a queue that is removed: makes room for the events of its log, with the
-/// removal, and copies its base, where that is of some event. `Err` means out of memory.
+/// Prepares a removal: reserves room for the events of the queue's log and of the removal, and
+/// copies its base, if that covers any event. `Err` means out of memory.
 fn prepare_end<B: Body, W: Waiting<B>>(
     past: &mut Vec<Event>,
     queue: &QueueState<B, W>,
@@ -86,8 +88,8 @@ impl<B: Body, W: Waiting<B>> Slot<B, W> {
         put_in(&mut self.live, queue);
     }
 
-    /// Takes the queue out of the slot. What was kept of its log is kept among the past events,
-    /// too. The notice takes the event in, and no figures with it.
+    /// Takes the queue out of the slot. The retained events of its log are copied to the past
+    /// events. The notice takes the event in, and no figures with it.
     pub(crate) fn take_out<N: Notice>(
         &mut self,
         seat: u16,

@@ -1,3 +1,5 @@
+//! The calls that change a slot and the key table together: either both change, or neither does.
+
 ghost use Rattle.std.specs.Prelude.{◌≡◌, ◌≢◌, ◌<◌, ◌≤◌, ℕ, ℤ, List, None, pos, true, false, length};
 ghost use Rattle.std.specs.Prelude.{MatchResult};
 ghost use Rattle.mq_table.specs.Keys.{id_of_key, entered};
@@ -9,8 +11,8 @@ use mq_message::{Body, Waiting};
 use mq_queue::{Event, Log, Notice, QueueState};
 use std::alloc::AllocError;
 
-/// Makes a queue in the slot, and enters its key, which is new or 0 (msgget(2), IPC_CREAT). An
-/// `Err` means that memory ran out. The notice takes the event in, with the figures after it.
+/// Makes a queue in the slot, and enters its key, which is new or 0 (msgget(2), IPC_CREAT). `Err`
+/// means out of memory. The notice takes the event in, with the figures after it.
 pub fn make_under<B: Body, W: Waiting<B>, N: Notice>(
     keys: &mut KeyTable,
     slot: &mut Slot<B, W>,
@@ -67,9 +69,9 @@ fn leave_key(keys: &mut KeyTable, key: i32)
     }
 }
 
-/// Removes the queue from the slot, and forgets its key (msgctl(2), IPC_RMID). The queue's log and
-/// what waited are handed out. An `Err` means that memory ran out. The notice takes the event in,
-/// and no figures with it.
+/// Removes the queue from the slot, and forgets its key (msgctl(2), IPC_RMID). Returns the queue's
+/// log and its pending messages. `Err` means out of memory. The notice takes the event in, and no
+/// figures with it.
 pub fn remove_under<B: Body, W: Waiting<B>, N: Notice>(
     keys: &mut KeyTable,
     slot: &mut Slot<B, W>,

@@ -13,7 +13,7 @@ struct Trader {
     receives_from: i32,
 }
 
-/// How many changes a seat tells of in the first two slots, and how many its calls made.
+/// How many changes a seat has counted in the first two slots, and how many its calls made.
 #[derive(Clone, Copy)]
 struct Counted {
     told: [u64; 2],

@@ -1,4 +1,4 @@
-//! Two seats cut one slot's log in turns while two others send and receive, and remove the queue
+//! Two seats drain one slot's log in turns while two others send and receive, and remove the queue
 //! and make it anew.
 
 use crate::joined::{Flaw, join};
@@ -23,10 +23,10 @@ const SIZE: Config = Config {
     ..SMALL
 };
 
-/// What the four threads tell one another.
+/// What the four threads share.
 #[derive(Drop)]
 struct Shared {
-    /// Which of the two cuts next.
+    /// Which of the two drains next.
     turn: AtomicU64,
     /// How many texts were received.
     received: AtomicU64,
@@ -99,7 +99,7 @@ fn receives<C: SeatCalls, R: Wait>(rt: &R, calls: &mut C, shared: &Shared) -> Re
     Ok(())
 }
 
-/// Cuts the log in its turns, each time that a text more was received, and once at the end.
+/// Drains the log in its turns, each time that a text more was received, and once at the end.
 fn cuts<C: SeatCalls, R: Wait>(
     rt: &R,
     alloc: Global,
@@ -128,10 +128,10 @@ fn cuts<C: SeatCalls, R: Wait>(
     cuts
 }
 
-/// Tells the others that all is over, where it is.
+/// Signals to the others that all is over, where it is.
 fn ends<C: SeatCalls>(calls: &mut C, shared: &Shared, done: Result<(), Errno>) {
     if done.is_err() {
-        // Who waits is let go.
+        // A removal wakes the waiters.
         if let Ok(id) = queue(calls, 7) {
             let _ = calls.remove(id);
         }
@@ -194,7 +194,7 @@ fn worked<R: Threads + Wait + Clock + Sync>(
     Err(WorkersError::Memory)
 }
 
-/// What the four were handed, joined with what was kept: so many texts in so many queues.
+/// What the four drained, joined with what was kept: so many texts in so many queues.
 fn checked(alloc: Global, ended: Ended<Vec<Result<Vec<Cut>, Errno>>>) -> Result<(), Flaw> {
     let handed = handed_of(alloc, ended.answer)?;
     let Some(slot) = ended.slots.first() else {
@@ -208,7 +208,7 @@ fn checked(alloc: Global, ended: Ended<Vec<Result<Vec<Cut>, Errno>>>) -> Result<
     }
 }
 
-/// What the calls of each of them handed out.
+/// What the calls of each of them returned.
 fn handed_of(alloc: Global, answers: Vec<Result<Vec<Cut>, Errno>>) -> Result<Vec<Vec<Cut>>, Flaw> {
     let mut handed = Vec::new(alloc);
     for answer in answers {

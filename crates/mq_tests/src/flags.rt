@@ -1,3 +1,6 @@
+//! IPC_NOWAIT and MSG_NOERROR of msgop(2): a call that would wait fails at once, and a text that is
+//! too long for the receiver is truncated.
+
 use crate::runs::{ROOMY, ended_of, slot_of, wanted_memory, work_all};
 use crate::seat_calls::{By, SeatCalls, Work};
 use mq::{Delivered, Errno, RecvFlags, SendFlags};
@@ -18,7 +21,7 @@ const CUT: RecvFlags = RecvFlags {
     ..AT_ONCE
 };
 
-/// What a worker met that is alone at a queue.
+/// What the calls of a worker answered that is alone at a queue.
 #[derive(Clone, Copy)]
 struct Met {
     empty: Option<Errno>,
@@ -28,7 +31,7 @@ struct Met {
 }
 
 impl Met {
-    /// Whether a call that was to be refused found no memory instead.
+    /// Whether a call that was to be refused was out of memory instead.
     fn found_none(&self) -> bool {
         let refusals = [self.empty, self.full, self.long];
         refusals.contains(&Some(Errno::ENOMEM))
@@ -70,7 +73,7 @@ impl Work for Alone {
     }
 }
 
-/// What the worker met whose text is left in the queue; ENOMEM where memory was wanted.
+/// What the worker's calls answered, whose text is left in the queue; ENOMEM when out of memory.
 fn answered<R: Abort + Threads + Wait + Clock + Sync>(rt: &R, alloc: Global) -> Result<Met, Errno> {
     let mut workers = Vec::new(alloc);
     if workers.push(By(Alone)).is_err() {
@@ -89,7 +92,7 @@ fn answered<R: Abort + Threads + Wait + Clock + Sync>(rt: &R, alloc: Global) -> 
     answer
 }
 
-/// What the first one met; ENOMEM where it found no memory instead.
+/// What the first worker's calls answered; ENOMEM where one was out of memory instead.
 fn first_of(answers: &[Result<Met, Errno>]) -> Result<Met, Errno> {
     match answers.first() {
         Some(Ok(met)) if met.found_none() => Err(Errno::ENOMEM),

@@ -1,5 +1,5 @@
-//! The cuts of a slot's log, put one behind the other: they must leave no gap and no overlap, and
-//! each must tell of the entries before it what these say.
+//! The drains of a slot's log, joined one behind the other: they must leave no gap and no overlap,
+//! and the checkpoint of each must be what the entries before it imply.
 
 use mq::{Base, ClosedSlot, Cut, Errno, Event};
 use std::alloc::Global;
@@ -7,11 +7,11 @@ use std::alloc::Global;
 /// What is wrong.
 #[derive(Debug, Clone, Copy)]
 pub(crate) enum Flaw {
-    /// No cut begins at this entry.
+    /// No drain begins at this entry.
     Gap(u64),
-    /// A cut that begins there counts other makings before it.
+    /// A drain that begins there counts other makings before it.
     Made(u64),
-    /// A cut that begins there tells another base.
+    /// A drain that begins there has another base.
     Base(u64),
     /// There are as many makings, sendings and receipts.
     Counts((u64, u64, u64)),
@@ -37,7 +37,7 @@ fn is_received(log: &[Event], sent: u64) -> bool {
     log.iter().any(|event| matches!(event, Event::Received { place, .. } if *place == sent))
 }
 
-/// Whether a base tells how many events a log has, and the messages that it leaves waiting.
+/// Whether a base has the number of a log's events, and the messages that the log leaves pending.
 fn is_base(base: &Base, log: &[Event]) -> bool {
     let mut waiting = 0;
     for (place, event) in log.iter().enumerate() {
@@ -68,7 +68,7 @@ fn counts(entries: &[Event]) -> (u64, u64, u64) {
     counts
 }
 
-/// Whether what is told of the entries before is what they say.
+/// Whether the checkpoint is what the entries before it imply.
 fn told(before: &[Event], made: u32, base: &Option<Base>) -> Result<(), Flaw> {
     let first = before.len() as u64;
     if counts(before).0 != u64::from(made) {
@@ -95,7 +95,7 @@ fn add(all: &mut Vec<Event>, entries: &[Event]) -> Result<(), Flaw> {
     Ok(())
 }
 
-/// Adds what a cut tells, or the slot at the end.
+/// Adds what a drain returns, or the slot at the end.
 fn adds(
     all: &mut Vec<Event>,
     made: u32,
@@ -108,8 +108,7 @@ fn adds(
     add(all, last)
 }
 
-/// Which of a thread's cuts is its next one, where it begins after so many entries, and whether it
-/// is empty.
+/// Whether a thread's next drain is empty, where it begins after so many entries; `None` where not.
 fn begins(cuts: &[Cut], taken: usize, first: u64) -> Option<bool> {
     match cuts.get(taken) {
         Some(cut) if cut.first == first => Some(cut.past.is_empty() && cut.last.is_empty()),
@@ -117,7 +116,7 @@ fn begins(cuts: &[Cut], taken: usize, first: u64) -> Option<bool> {
     }
 }
 
-/// The cut that begins after so many entries and was not taken before, an empty one first.
+/// The drain that begins after so many entries and was not taken before, an empty one first.
 fn next<'a>(handed: &'a [Vec<Cut>], taken: &mut [usize], first: u64) -> Option<&'a Cut> {
     let mut found = None;
     for (cutter, cuts) in handed.iter().enumerate() {
@@ -134,7 +133,7 @@ fn next<'a>(handed: &'a [Vec<Cut>], taken: &mut [usize], first: u64) -> Option<&
     cut
 }
 
-/// That no cut of so many threads is taken.
+/// That no drain of so many threads is taken.
 fn none_taken(alloc: Global, count: usize) -> Result<Vec<usize>, Flaw> {
     match vec![in alloc; 0; count] {
         Ok(taken) => Ok(taken),
@@ -142,7 +141,7 @@ fn none_taken(alloc: Global, count: usize) -> Result<Vec<usize>, Flaw> {
     }
 }
 
-/// Adds all that was handed out, in the order of the entries.
+/// Adds all that was returned, in the order of the entries.
 fn adds_all(all: &mut Vec<Event>, handed: &[Vec<Cut>], taken: &mut [usize]) -> Result<(), Flaw> {
     for cuts in handed {
         for _ in 0..cuts.len() {
@@ -157,8 +156,8 @@ fn adds_all(all: &mut Vec<Event>, handed: &[Vec<Cut>], taken: &mut [usize]) -> R
     Ok(())
 }
 
-/// Joins what each thread was handed in its cuts with what the slot kept to the end. How many
-/// makings, sendings and receipts there are.
+/// Joins what each thread drained with what the slot kept to the end. How many makings, sendings
+/// and receipts there are.
 pub(crate) fn join(
     alloc: Global,
     handed: &[Vec<Cut>],

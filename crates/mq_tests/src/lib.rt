@@ -1,4 +1,4 @@
-//! Tests of workers, each at its seat, of the logs that they cut, and of values.
+//! Tests of workers, each at its seat, of the logs that they drain, and of values.
 
 #![tactic(auto)]
 

@@ -1,4 +1,4 @@
-//! A system that is set up to cut its logs.
+//! A system that is set up to drain its logs.
 
 use crate::runs::{SMALL, slot_of};
 use mq::{
@@ -6,10 +6,10 @@ use mq::{
     Worker,
 };
 
-/// How many entries are kept of a log before they are cut off.
+/// How many entries are kept of a log before they are drained.
 const LIMIT: u64 = 10;
 
-/// The most that are kept where there was no memory for the last cut.
+/// The most that are kept where the last drain was out of memory.
 const MOST: u64 = LIMIT + 1;
 
 /// How many messages wait while others pass through the queue.
@@ -18,7 +18,7 @@ const WAITING: u64 = 5;
 const PASSING: u64 = 100;
 
 /// Sends messages of type 1 that wait, then sends and receives others, and at the end receives
-/// those that waited. How many of these came in their order.
+/// those that waited. How many of these are in their order.
 fn passes<N: Names, R: Wait + Clock>(
     caller: &mut Caller<'_, NoPledge, N, R>,
 ) -> Result<u64, Errno> {
@@ -72,7 +72,7 @@ impl Worker<NoPledge> for PassesAll {
 /// The entries that one caller makes.
 const ENTRIES: u64 = 1 + 2 * WAITING + 2 * PASSING;
 
-/// Those that are kept after the last cut.
+/// Those that are kept after the last drain.
 const KEPT: u64 = ENTRIES % LIMIT;
 
 #[test]
@@ -90,7 +90,7 @@ fn a_log_that_is_limited_keeps_no_more_and_loses_no_message(rt: HostRuntime) {
     let kept = left.last.len() as u64;
     holds!(rt; kept <= MOST);
     holds!(rt; left.first.saturating_add(kept) == ENTRIES);
-    // Where no cut wanted memory, each came as soon as so many entries were kept.
+    // Where no drain was out of memory, each was made as soon as so many entries were kept.
     if kept != KEPT {
         panic!(rt; "ENOMEM");
     }

@@ -135,7 +135,7 @@ fn sizes_are_set_within_their_limits(rt: HostRuntime) {
     }
 }
 
-/// A refusal of each kind, as `?` hands it on.
+/// A refusal of each kind, as `?` returns it.
 fn refused(kind: u8) -> Result<(), Errno> {
     let errno = Errno::EIDRM;
     let refused = Refused { errno, entry: None };

@@ -1,3 +1,6 @@
+//! Two workers at one queue: more messages pass through it than fit at once, a removal wakes a
+//! waiter with EIDRM, and a system of one seat is refused.
+
 use crate::runs::{ROOMY, SMALL, ended_of, slot_of, work_both};
 use crate::seat_calls::{SeatCalls, Work, queue, receive, send};
 use mq::{Config, Errno, Id, WorkersError};
@@ -64,7 +67,7 @@ impl<'a> Work for Sender<'a> {
     }
 }
 
-/// Waits for a message that nobody sends.
+/// Waits for a message that no worker sends.
 #[derive(Clone, Copy)]
 struct Waiter;
 
@@ -134,7 +137,7 @@ fn a_receiver_first_and_a_sender_second_end(rt: HostRuntime) -> Result<(), Fail>
 }
 
 #[test]
-fn who_waits_in_a_queue_that_is_removed_answers_eidrm(rt: HostRuntime) {
+fn a_wait_in_a_queue_that_is_removed_answers_eidrm(rt: HostRuntime) {
     let ended = ended_of(&rt, work_both(&rt, rt.alloc(), SMALL, Waiter, Remover));
     let (waited, removed) = ended.answer;
     holds!(rt; waited == Errno::EIDRM);

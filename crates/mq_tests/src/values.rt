@@ -193,7 +193,7 @@ fn a_value_that_is_too_long_is_einval(rt: HostRuntime) {
     }
 }
 
-/// A list of bytes that is sent, and received; without memory for it, its bytes are handed out.
+/// A list of bytes that is sent, and received; out of memory for it, its bytes are returned.
 #[derive(Drop)]
 struct PassesList;
 
@@ -240,7 +240,7 @@ fn a_value_without_memory_for_it_hands_its_bytes_out(rt: HostRuntime) {
 /// How many values a thread sends.
 const VALUES: u64 = 1000;
 
-/// Sends so many values, or adds up those that come.
+/// Sends so many values, or adds up those that it receives.
 #[derive(Drop)]
 enum Half {
     Sends,
@@ -278,7 +278,7 @@ impl Worker<Carries<Bounded>> for Half {
     ) -> Result<u64, Errno> {
         let done = self.passes(caller);
         if done.is_err() {
-            // Then the queue goes, and the other does not wait in it.
+            // Then the queue is removed, and the other does not wait in it.
             if let Ok(id) = caller.queue(1) {
                 let _ = caller.remove(id);
             }
@@ -287,7 +287,7 @@ impl Worker<Carries<Bounded>> for Half {
     }
 }
 
-/// One queue, and none after it: who comes late makes none anew.
+/// One queue, and none after it: a late worker makes none anew.
 const ONE_QUEUE: Config = Config {
     slots: 1,
     last_seq: 0,

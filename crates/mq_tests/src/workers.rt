@@ -1,3 +1,6 @@
+//! Each worker runs once, at a seat of its own, and the answers are in the order of the workers.
+//! Too many workers, or a size out of its limits, are refused before any worker runs.
+
 use crate::runs::{SMALL, Worked, ended_of, wanted_memory, work_all};
 use crate::seat_calls::{By, SeatCalls, Work};
 use mq::{Config, WorkersError};

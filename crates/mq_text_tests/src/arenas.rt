@@ -1,4 +1,4 @@
-//! Tests of an arena under its lock, by threads that take blocks and give them back at once.
+//! Tests of an arena under its lock, by threads that allocate and free blocks concurrently.
 ghost use Rattle.std.specs.Prelude.{◌≡◌, ◌^◌, ◌<◌, ◌≤◌, IfSome};
 
 use mq_arena::{Arena, Block, Homecoming, LEDGER_PARTS, MAX_ORDER, OfHeight, Unopened};
@@ -13,7 +13,7 @@ use std::thread::{Threads, join};
 // How often each thread asks for a block.
 const TURNS: u32 = 500;
 
-/// All pages of an arena are home.
+/// All pages of an arena are free.
 pub(crate) fn all_home<L: OfHeight>(rt: &impl Abort, arena: Arena<L>) {
     let state = arena.into_state();
     holds!(rt; state.free_pages() == state.pages(), "all pages are home");
@@ -78,7 +78,7 @@ fn takes_and_gives<L: OfHeight, R: Abort + Wait>(
     }
 }
 
-// A block that is there is zero, and goes home.
+// A block that is there is zero, and is then freed.
 fn comes_zero<L: OfHeight, R: Abort + Wait>(rt: &R, arena: &Arena<L>, order: u8)
     requires { order ≤ MAX_ORDER }
 {
@@ -119,7 +119,7 @@ fn threads_share_an_arena_and_no_page_is_lost(rt: HostRuntime) -> Result<(), Fai
     Ok(())
 }
 
-// Each block of 16 pages takes memory while it is out, and gives it back.
+// Each block of 16 pages takes memory while it is allocated, and frees it.
 #[test]
 fn threads_share_large_blocks_and_no_page_is_lost(rt: HostRuntime) -> Result<(), Fail> {
     let unopened = Unopened::new(rt.alloc(), 5)?;

@@ -20,7 +20,7 @@ fn given<A: Lender, R: Abort>(rt: &R, arena: &mut A, block: A::Block) {
     holds!(rt; arena.put(block) == Homecoming::Home);
 }
 
-/// Whether a block of that order fits, which goes home.
+/// Whether a block of that order fits, which is then freed.
 fn fits<A: Lender, R: Abort>(rt: &R, arena: &mut A, order: u8) -> bool {
     match asked(rt, arena, order) {
         Ok(block) => {
@@ -151,7 +151,7 @@ impl Day for Halved {
 }
 
 #[test]
-fn no_run_comes_just_where_no_large_block_fits(rt: HostRuntime) -> Result<(), Fail> {
+fn no_run_is_returned_exactly_where_no_large_block_fits(rt: HostRuntime) -> Result<(), Fail> {
     lives(&rt, rt.alloc(), 6, &Halved)
 }
 
@@ -215,7 +215,7 @@ fn a_large_block_whose_memory_is_refused_leaves_all_pages_free_and_is_then_taken
     lives(&rt, rt.alloc(), 6, &EachTakenAtLast)
 }
 
-/// The halves of a block of that order from an arena of 64 pages are written, cut where they may
+/// The halves of a block of that order from an arena of 64 pages are written, split where they may
 /// be.
 #[derive(Drop)]
 struct Halves<'t> {

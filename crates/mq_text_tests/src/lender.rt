@@ -22,8 +22,8 @@ pub(crate) struct Shape {
     pub(crate) order: Option<u8>,
 }
 
-/// The calls of `mq_arena::ArenaState`, of its blocks and of its texts. What must hold at a call of
-/// theirs is looked at when it is called, and ends the test where it does not.
+/// The calls of `mq_arena::ArenaState`, of its blocks and of its texts. The preconditions of a call
+/// are checked when it is made, and end the test where they do not hold.
 pub(crate) trait Lender {
     type Block;
 
@@ -124,11 +124,11 @@ pub(crate) trait Lender {
         back: &[u8],
     );
 
-    /// Writes the first page of each half of a text's block, which are cut at page `i`, while the
+    /// Writes the first page of each half of a text's block, which are split at page `i`, while the
     /// other half is written too.
     fn write_both<R: Abort + Threads>(&self, rt: &R, text: &mut Self::Text, i: usize);
 
-    /// Cuts a text, and looks at its length.
+    /// Truncates a text, and checks its length.
     fn cut_to<R: Abort>(&self, rt: &R, text: &mut Self::Text, n: u64);
 }
 

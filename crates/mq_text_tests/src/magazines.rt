@@ -1,4 +1,4 @@
-//! Tests of magazines: what they keep, what they hand out, and that all of it comes home.
+//! Tests of magazines: what they keep, what they return, and that all of it is freed.
 ghost use Rattle.std.specs.Prelude.{◌≡◌, ◌^◌, ◌<◌};
 
 use crate::arenas::all_home;
@@ -18,7 +18,7 @@ fn pair<L: OfHeight, R: Abort + Wait>(rt: &R, arena: &Arena<L>) -> Block<L> {
     }
 }
 
-/// Hands a magazine a block for which it has room.
+/// Puts a block into a magazine that has room for it.
 fn put<L: OfHeight, R: Abort>(rt: &R, magazine: &mut Magazine<L>, block: Block<L>) {
     match magazine.put(block) {
         Ok(()) => (),
@@ -26,7 +26,7 @@ fn put<L: OfHeight, R: Abort>(rt: &R, magazine: &mut Magazine<L>, block: Block<L
     }
 }
 
-/// Looks for a block of one page, which a magazine has not.
+/// Takes a block of one page, which a magazine has not.
 fn lacks_a_page<L: OfHeight, R: Abort>(rt: &R, magazine: &mut Magazine<L>) {
     match magazine.take(0) {
         None => (),
@@ -34,7 +34,7 @@ fn lacks_a_page<L: OfHeight, R: Abort>(rt: &R, magazine: &mut Magazine<L>) {
     }
 }
 
-/// Fills a magazine with pairs of pages, and then hands it one more, which it hands back.
+/// Fills a magazine with pairs of pages, and then gives it one more, which it returns.
 fn fills<L: OfHeight, R: Abort + Wait>(rt: &R, arena: &Arena<L>, magazine: &mut Magazine<L>) {
     for _ in 0..MAGAZINE_PAGES / 2 {
         put(rt, magazine, pair(rt, arena));
@@ -47,7 +47,7 @@ fn fills<L: OfHeight, R: Abort + Wait>(rt: &R, arena: &Arena<L>, magazine: &mut 
     }
 }
 
-/// How many blocks of that order come out of a magazine, which go home.
+/// How many blocks of that order are taken out of a magazine, which are freed.
 fn emptied<L: OfHeight, R: Abort + Wait>(
     rt: &R,
     arena: &Arena<L>,
@@ -69,7 +69,7 @@ fn emptied<L: OfHeight, R: Abort + Wait>(
     panic!(rt; "it has more blocks than pages");
 }
 
-/// Takes a pair of pages out of a magazine that has one, which goes home.
+/// Takes a pair of pages out of a magazine that has one, and frees it.
 fn pops<L: OfHeight, R: Abort + Wait>(rt: &R, arena: &Arena<L>, magazine: &mut Magazine<L>) {
     let Some(block) = magazine.pop() else {
         panic!(rt; "it is empty");
@@ -111,7 +111,7 @@ fn kept<L: OfHeight, R: Abort + Wait>(
 }
 
 #[test]
-fn a_magazine_keeps_so_many_pages_and_all_come_home(rt: HostRuntime) -> Result<(), Fail> {
+fn a_magazine_caches_so_many_pages_and_frees_all(rt: HostRuntime) -> Result<(), Fail> {
     let unopened = Unopened::new(rt.alloc(), 4)?;
     kept::<Brand, HostRuntime>(&rt, rt.alloc(), unopened, Blank::new(LEDGER_PARTS))?;
     Ok(())

@@ -1,6 +1,6 @@
-//! Blocks and texts that are taken, and taken once more where memory for them was refused. No
-//! failure here prints that word: a run with a refused allocation would count as one that ended for
-//! want of it.
+//! Blocks and texts that are allocated, at the second try where memory for them was refused. No
+//! failure here prints that word: a run with a refused allocation would count as one that was
+//! out of it.
 
 use crate::lender::Lender;
 use mq_arena::{INLINE_LEN, INLINE_ORDER, TEXT_LEN, TakeError, order_for};

@@ -17,10 +17,10 @@ use std::sync::ledger::{Blank, Ledger};
 use std::test::Fail;
 use std::thread::{Threads, spawn, yield_now};
 
-// How often a half looks for the other one before it fails.
+// How often a half polls for the other one before it fails.
 const TURNS: u32 = 1_000_000;
 
-// How often the halves are filled before a test fails that looks for the second thread.
+// How often the halves are filled before a test fails that polls for the second thread.
 const FILLS: u32 = 100_000;
 
 // Raises a flag and waits for the other one. Whether it is raised.
@@ -47,8 +47,8 @@ fn written(own: &AtomicBool, other: &AtomicBool, alone: &AtomicBool, pages: &mut
     fill(pages, &[letter; PAGE_LEN]);
 }
 
-/// Writes the first page of each half of a text's block, which are cut at page `i`, while the other
-/// half is written too.
+/// Writes the first page of each half of a text's block, which are split at page `i`, while the
+/// other half is written too.
 pub(crate) fn write_both<L: Ledger, R: Abort + Threads>(rt: &R, text: &mut Text<L>, i: usize) {
     let Some(order) = text.order() else {
         panic!(rt; "no block");
@@ -97,7 +97,7 @@ fn threads_in(status: &str) -> Option<u32> {
     line.trim_start_matches("Threads:").trim().parse().ok()
 }
 
-// How many threads this process has, as Linux tells it.
+// How many threads this process has, as Linux reports it.
 fn thread_count<R: Files + Alloc>(rt: &R) -> Option<u32> {
     let status = fs::read_to_string(rt, "/proc/self/status").ok()?;
     threads_in(&status)
@@ -143,7 +143,7 @@ impl<'t> Day for Fills<'t> {
     }
 }
 
-// One thread fills, and another one looks for the third, which is there while both halves are
+// One thread fills, and another one polls for the third, which is there while both halves are
 // filled at once.
 #[test]
 fn each_half_is_filled_by_a_thread_of_its_own(rt: HostRuntime) -> Result<(), Fail> {

@@ -1,3 +1,6 @@
+//! The buddy tree of an arena (Knowlton), compared with a plain set of pages over all runs of six
+//! steps on up to eight pages; and the largest tree.
+
 use mq_tree::{MAX_HEIGHT, OrderTree, TreeError};
 use std::alloc::Global;
 use std::process::Abort;
@@ -154,7 +157,7 @@ fn a_height_over_ten_is_refused(rt: HostRuntime) {
 }
 
 #[test]
-fn blocks_are_lent_at_the_least_start_and_buddies_merge(rt: HostRuntime) {
+fn blocks_are_allocated_at_the_least_start_and_buddies_merge(rt: HostRuntime) {
     let mut tree = tree_of(&rt, rt.alloc(), 3);
     for (order, start) in [(0, 0), (1, 2), (2, 4), (0, 1)] {
         holds!(rt; tree.lend(order) == Some(start));

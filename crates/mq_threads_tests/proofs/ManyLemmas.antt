@@ -1,4 +1,4 @@
--- What is said of a port of which nothing is known but how many messages it handed out.
+-- What is said of a port of which nothing is known but how many messages it returned.
 use Rattle.std.proofs.Common.{◌≡◌, ℕ, ◌<◌, ◌≤◌, ℤ, Bool, List, [], ◌∷◌, length, Result, Ok, Err, refl, arith}
 use Rattle.std.specs.Prelude.{MatchResult}
 use Rattle.std.specs.List.{FoldsTo}

@@ -1,4 +1,4 @@
-//! How many messages a worker asks for by one call, and that it comes to as many as it is to take.
+//! How many messages a worker asks for by one call, and that it receives as many as it is to take.
 
 ghost use Rattle.std.specs.Prelude.{◌≡◌, ◌+◌};
 
@@ -10,8 +10,8 @@ use mq_table::Id;
 use std::alloc::Global;
 use std::sync::Wait;
 
-/// Hands out texts of these lengths, over and over, up to so many by one call, where up to so many
-/// are asked for as is wanted.
+/// Returns texts of these lengths, over and over, up to so many by one call, where up to so many
+/// are asked for as is expected.
 #[derive(Drop)]
 struct Lengths<'a> {
     lengths: &'a [u64],

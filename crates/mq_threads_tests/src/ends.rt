@@ -1,4 +1,4 @@
-//! Steps whose waits have an end: what their calls are told, by a clock of the tests.
+//! Steps whose waits have a deadline: which timeouts their calls get, by a clock of the tests.
 
 ghost use Rattle.std.specs.Prelude.{◌≡◌};
 ghost use Rattle.mq_cli.specs.Plans.{puts_of, takes_of};
@@ -13,7 +13,7 @@ use std::sync::Wait;
 use std::sync::atomic::{AtomicU64, Ordering};
 use std::time::{Clock, Duration};
 
-/// A clock that goes on by a millisecond each time that it is read.
+/// A clock that advances by a millisecond each time that it is read.
 #[derive(Drop)]
 struct Ticking(AtomicU64);
 
@@ -79,7 +79,7 @@ fn millis(count: u64) -> Option<Duration> {
     Some(Duration::from_millis(count))
 }
 
-/// Each call looks at the clock once.
+/// Each call reads the clock once.
 fn wanted() -> [Call; 9] {
     [
         put_call_within(1, millis(100)),
@@ -94,7 +94,8 @@ fn wanted() -> [Call; 9] {
     ]
 }
 
-/// The same where the calls succeed, and one message waits at a time: steps with an end, without one, and with one that has come.
+/// The same where the calls succeed, and one message is pending at a time: steps with a deadline,
+/// without one, and with one that has passed.
 fn outcome<R: Wait>(rt: &R, alloc: Global) -> (Outcome, u64) {
     let wanted = wanted();
     let plan = [

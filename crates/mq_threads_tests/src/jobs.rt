@@ -1,3 +1,5 @@
+//! `run_jobs` and `run_workers` return the answers in the order of the jobs and the plans.
+
 ghost use Rattle.std.specs.Prelude.{◌≡◌, All, IfOk, vec_len};
 ghost use Rattle.mq_cli.specs.Plans.{IsCountable};
 
@@ -84,7 +86,7 @@ fn wanted() -> [Call; 14] {
     wanted
 }
 
-/// Ports that want these calls.
+/// Ports that expect these calls.
 fn ports<'a>(alloc: Global, wanted: &'a [Call], count: u32) -> Result<Vec<Wanting<'a>>, AllocError>
     ensures len { IfOk result (λ ports. vec_len ports ≡ count) }
 {

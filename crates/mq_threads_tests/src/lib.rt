@@ -1,5 +1,5 @@
-//! Tests of workers that run plans, over ports that are told what to answer, of the ports of a
-//! system, and of jobs.
+//! Tests of workers that run plans, over ports with given answers, of the ports of a system, and of
+//! jobs.
 
 #![tactic(auto)]
 

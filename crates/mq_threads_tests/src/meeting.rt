@@ -1,3 +1,5 @@
+//! Workers run concurrently: each of two sets a flag and spins until it reads the other's.
+
 ghost use Rattle.std.specs.Prelude.{◌≡◌, ◌+◌, length, All, IfOk};
 ghost use Rattle.mq_cli.specs.Plans.{IsCountable};
 
@@ -12,10 +14,10 @@ use std::sync::atomic::{AtomicBool, Ordering};
 use std::thread::Threads;
 use std::time::Clock;
 
-/// Turns that a worker makes until the other has come.
+/// How often a worker polls for the other at most.
 const TURNS: u32 = 2_000_000_000;
 
-/// Says that it has come, and waits in turns until the other has.
+/// Sets its flag, and spins until the other's is set.
 #[derive(Drop)]
 struct Meeting<'a> {
     mine: &'a AtomicBool,
@@ -95,7 +97,7 @@ impl<'a> Port for Meeting<'a> {
     }
 }
 
-/// Whether the other comes while this one is there.
+/// Sets one flag, and spins for the other; whether that was set in time.
 fn meets(mine: &AtomicBool, other: &AtomicBool) -> bool {
     mine.store(true, Ordering::SeqCst);
     for _ in 0..TURNS {
@@ -149,7 +151,7 @@ fn meet<R: Threads + Wait + Clock + Sync>(rt: &R, alloc: Global) -> Result<Vec<O
     run_workers(rt, alloc, &(), &plans, ports.as_mut_slice())
 }
 
-/// Whether a worker had no memory for its notes, and so never came to the meeting.
+/// Whether a worker was out of memory for its notes, and so never set its flag.
 fn one_found_no_memory(outcomes: &[Outcome]) -> bool {
     for outcome in outcomes {
         if outcome.end == Some(Errno::ENOMEM) {

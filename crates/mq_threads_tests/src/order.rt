@@ -1,3 +1,6 @@
+//! Whether a worker reports that tags rose in each stream (a sender and a type), over a port that
+//! returns given messages.
+
 ghost use Rattle.std.specs.Prelude.{◌≡◌, ◌+◌};
 
 use crate::plans::{Call, Stopped, take, take_call};
@@ -8,7 +11,7 @@ use mq_table::Id;
 use std::alloc::Global;
 use std::sync::Wait;
 
-/// Hands out what it was told to, one after the other, where the plan's call is made.
+/// Returns the given messages, one after the other, where the plan's call is made.
 #[derive(Drop)]
 struct Told<'a> {
     taken: &'a [Taken],
@@ -107,7 +110,7 @@ fn ordered<R: Wait>(rt: &R, alloc: Global, taken: &[Taken; 3]) -> Option<bool> {
 }
 
 #[test]
-fn a_tag_that_falls_in_its_stream_is_told(rt: HostRuntime) {
+fn a_tag_that_falls_in_its_stream_is_reported(rt: HostRuntime) {
     let falls = [from(2, 2, 5), from(2, 1, 5), from(2, 3, 5)];
     holds!(rt; ordered(&rt, rt.alloc(), &falls) == Some(false), "a fall");
     let falls_last = [from(2, 4, 5), from(3, 1, 5), from(2, 3, 5)];

@@ -1,4 +1,4 @@
-//! Plans that the tests run, and a port that wants just their calls.
+//! Plans that the tests run, and a port that expects exactly their calls.
 
 ghost use Rattle.std.specs.Prelude.{◌≡◌, ◌+◌, MatchResult, IfOk};
 ghost use Rattle.mq_cli.specs.Plans.{IsCountable, puts_of, takes_of};
@@ -28,7 +28,7 @@ impl Clock for Stopped {
 /// How much longer a patience without an end lasts.
 pub(crate) const FOREVER: Option<Duration> = Some(Duration::MAX);
 
-/// A call of a port, with all that it is told, and how much longer its patience lasts.
+/// A call of a port, with all its arguments, and how much longer its patience lasts.
 #[derive(Clone, Copy, Debug, PartialEq, Eq)]
 pub(crate) enum Call {
     Put {
@@ -54,12 +54,12 @@ pub(crate) enum Call {
     },
 }
 
-/// Wants these calls, one after the other. It lets so many messages and removals succeed and
-/// refuses the next with EPERM; a call that is not the one that is wanted it refuses with EEXIST.
+/// Expects these calls, one after the other. It lets so many messages and removals succeed and
+/// refuses the next with EPERM; a call that is not the expected one it refuses with EEXIST.
 #[derive(Drop)]
 pub(crate) struct Wanting<'a> {
     pub wanted: &'a [Call],
-    /// How many calls were made that were wanted.
+    /// How many calls were made that were expected.
     pub made: usize,
     /// How many messages were sent or received, and queues removed.
     pub calls: u64,
@@ -80,7 +80,7 @@ impl<'a> Wanting<'a> {
         }
     }
 
-    /// Whether this call is the next that is wanted.
+    /// Whether this call is the next that is expected.
     fn wants(&mut self, call: Call) -> bool
         ensures { self.new.calls ≡ self.old.calls }
     {

@@ -1,3 +1,6 @@
+//! A worker's plan ends at the first call that is refused. Each number of calls that succeed is
+//! tried, over a port that checks each call.
+
 use crate::plans::{
     Call, REMOVE, Stopped, Wanting, long_put, long_put_call, put, put_call, remove, take, take_call,
 };
@@ -6,8 +9,8 @@ use mq_cli::{Outcome, work};
 use std::alloc::Global;
 use std::sync::Wait;
 
-/// The calls of the plan below, in their order: the tags rise from 1 over all that is sent. Behind a
-/// message without bytes as many are asked for as are left.
+/// The calls of the plan below, in their order: the tags rise from 1 over all that is sent. Behind
+/// a message without bytes as many are asked for as are left.
 fn wanted() -> [Call; 6] {
     [
         put_call(1),

@@ -1,4 +1,4 @@
-//! Ports at the seats of a system: what each call answers, and what the slots tell at the end.
+//! Ports at the seats of a system: what each call answers, and what the slots list at the end.
 
 ghost use Rattle.std.specs.Prelude.{◌≡◌, ◌≤◌, ◌+◌, map};
 ghost use Rattle.std.specs.List.{range_with_len};
@@ -128,7 +128,7 @@ fn traffic() -> [Turn; 9] {
     ]
 }
 
-/// Several by one call: as many as were asked for, and as many as wait.
+/// Several by one call: as many as were asked for, and as many as are pending.
 fn batches() -> [Turn; 7] {
     let (first, second) = (taken(2, 31, 4, 0), taken(3, 32, 4, 40));
     [
@@ -353,7 +353,7 @@ fn called<P: Port, R: Wait>(
     }
 }
 
-/// What it answers that receives, or ENOMEM where there is no room for what comes.
+/// The result of the receiver, or ENOMEM where there is no room for the messages.
 fn takes<P: Port, R: Wait, T: Patience>(
     rt: &R,
     alloc: Global,
@@ -386,7 +386,7 @@ fn entry(answer: Result<u64, Errno>) -> Answer {
     }
 }
 
-/// What came, where something did.
+/// What was received, if anything.
 fn texts_of(answer: Answer) -> Option<[Option<Taken>; 3]> {
     match answer {
         Answer::Got(came) => Some(came),
@@ -429,7 +429,7 @@ fn rest_of(call: Call, first: Answer) -> Call {
     }
 }
 
-/// Whether less came than is wanted.
+/// Whether fewer were received than expected.
 fn is_less(came: Answer, wanted: Answer) -> bool {
     if let Answer::Refused(errno) = came {
         return errno == Errno::ENOMEM;

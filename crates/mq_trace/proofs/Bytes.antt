@@ -7,7 +7,7 @@ use Rattle.mq_trace.specs.Written.{AppendsPrefix}
 rest_whole : (n : ℕ) (xs : List ℕ) → take (length xs - n) (drop n xs) ≡ drop n xs
 rest_whole n xs = grind (arith, common_steps)
 
--- n more bytes of the rest go to the front
+-- the prefix grows by n more bytes of the rest
 pub prefix_grown : (bytes front rest : List ℕ) (n : ℕ) → bytes ≡ front ++ rest
     → bytes ≡ (front ++ take n rest) ++ take (length rest - n) (drop n rest)
 prefix_grown bytes front rest n e = rw (rest_whole n rest, append_assoc, take-append-drop n rest) e

@@ -5,7 +5,7 @@ use Rattle.mq_trace.specs.Bars.{end_of, until_of}
 use Rattle.mq_trace.specs.declared.picture.bars.Until.{Until}
 use Rattle.mq_trace.specs.declared.picture.bars.Until.TheVariants.{Waiting}
 
--- the first event ends the wait
+-- the first event is the message's end
 pub until_found : (place at : ℕ) (events : List Event) (event : Event) (found : Until) → slice_get events 0 ≡ Some event → end_of place at event ≡ Some found → until_of place at events ≡ found
 until_found place at [] event found first ends = grind arith
 until_found place at (x ∷ xs) event found first ends = grind arith

@@ -17,8 +17,8 @@ use Rattle.mq_trace.specs.declared.picture.bars.Until.TheVariants as until
 use Rattle.mq_trace.specs.declared.picture.scenes.Scene.{Scene}
 use Rattle.mq_trace.specs.declared.step.Step.{Step}
 
--- whether an event at this position ends the wait of the message with this place, and how: its
--- receipt, or the removal of its queue
+-- whether the message with this place ceases to be pending at this event, whose position this is,
+-- and how: by its receipt, or by the removal of its queue
 abbrev pub end_of : ℕ → ℕ → Event → Option Until
 end_of place entry (Received seat moment received selection size noerror) =
     if received == place
@@ -28,8 +28,8 @@ end_of place entry (Removed seat moment) =
     Some (until.Removed (record { entry = entry; moment = moment }))
 end_of place entry _ = None
 
--- what becomes of the message with this place: the first of these events that ends its wait, of
--- which the first is at this position, or it waits after them
+-- what becomes of the message with this place: the first of these events after which it is not
+-- pending, of which the first is at this position, or it is pending after them all
 abbrev pub until_of : ℕ → ℕ → List Event → Until
 until_of place entry [] = until.Waiting
 until_of place entry (event ∷ events) =
@@ -79,18 +79,18 @@ sights_from (step ∷ steps) events =
 abbrev pub sights_of : SlotEntries → List Sight
 sights_of s = sights_from (steps_of s) (s.past.now ++ s.last.now)
 
--- the messages that waited where a log was cut
+-- the messages that were pending where a log was drained
 abbrev pub kept_messages : Option Base → List Header
 kept_messages None = []
 kept_messages (Some base) = base.waiting
 
--- the bars of what waited where a slot's entries begin
+-- the bars of what was pending where a slot's entries begin
 abbrev pub kept_bars : SlotEntries → List Bar
 kept_bars s =
     map (bar_from None s.first (s.past.now ++ s.last.now))
     (kept_messages (option_map (λ base. base.now) s.base))
 
--- the bars of a slot's entries: of what waited where they begin, and then of each sending
+-- the bars of a slot's entries: of what was pending where they begin, and then of each send
 abbrev pub bars_of : SlotEntries → List Bar
 bars_of s =
     kept_bars s ++ filter_map (λ sight. bar_of sight.step sight.after) (sights_of s)

@@ -1,4 +1,4 @@
--- The message at a place of a queue's log, whose beginning may be cut off.
+-- The message at a place of a queue's log, whose beginning may be drained.
 use Rattle.std.specs.Prelude.{ℕ, ◌+◌, ◌-◌, ◌==◌, ◌^◌, min, nat_lt, if◌then◌else◌, Option, Some}
 use Rattle.std.specs.Prelude.{None, List, find, slice_get}
 use Rattle.std.specs.Option.{option_and_then}
@@ -11,18 +11,18 @@ use Rattle.mq_queue.specs.Waiting.{sent_at}
 abbrev pub more : ℕ → ℕ → ℕ
 more a b = min (a + b) (2 ^ 64 - 1)
 
--- how many events of a queue's log were cut off
+-- how many events of a queue's log were drained
 abbrev pub places_of : Option Base → ℕ
 places_of None = 0
 places_of (Some base) = base.places
 
--- the message at this place among those that waited where the log was cut
+-- the message at this place among those that were pending where the log was drained
 abbrev pub kept_at : Option Base → ℕ → Option Header
 kept_at None place = None
 kept_at (Some base) place = find (λ m. m.place == place) base.waiting
 
--- the message at this place of the log: one that waited where the log was cut, or one that these
--- events, since then, sent
+-- the message at this place of the log: one that was pending where the log was drained, or one that
+-- these events, since then, sent
 abbrev pub message_at : Option Base → List Event → ℕ → Option Header
 message_at base log place =
     if nat_lt place (places_of base) then kept_at base place

@@ -64,7 +64,7 @@ abbrev pub message_name : Option Header → List ℕ
 message_name None = codes "unknown"
 message_name (Some m) = codes "type " ++ signed_decimal m.mtype
 
--- where a message begins or ends to wait, up to its process
+-- where a message begins or ceases to be pending, up to its process
 unfoldable pub slice_head : List ℕ → ℕ → ℕ → Option Header → List ℕ
 slice_head ph id place message =
     codes "{\"ph\":\"" ++ ph ++ codes "\",\"cat\":\"message\",\"id\":\"" ++ decimal id ++ codes "."
@@ -80,7 +80,7 @@ event_head id (Received seat moment place selection size noerror) message =
 event_head id (Changed seat moment qbytes) message = instant_head (codes "quota")
 event_head id (Removed seat moment) message = instant_head (codes "removed")
 
--- what each event tells
+-- what each event states
 unfoldable pub args_head : ℕ → ℕ → List ℕ
 args_head entry seat =
     codes ",\"args\":{\"entry\":" ++ decimal entry ++ codes ",\"seat\":" ++ decimal seat
@@ -92,7 +92,7 @@ receipt_args place size noerror selection =
     ++ codes ",\"noerror\":" ++ bool_text noerror ++ codes ",\"selection\":\""
     ++ selection_text selection ++ codes "\""
 
--- what an event tells beside its entry and its seat
+-- what an event states beside its entry and its seat
 abbrev pub event_args : Event → List ℕ
 event_args (Made seat moment key) = codes ",\"key\":" ++ signed_decimal key
 event_args (Sent seat moment tag mtype n) =
@@ -109,7 +109,7 @@ event_record scale step =
     ++ stamp step.id (seat_of step.event) (time_of scale step)
     ++ args_head step.entry (seat_of step.event) ++ event_args step.event ++ codes "}}"
 
--- how many messages and bytes wait after a step
+-- how many messages and bytes are pending after a step
 unfoldable pub counter_record : TimeScale → Step → List ℕ
 counter_record scale step =
     codes "{\"ph\":\"C\",\"name\":\"waiting\",\"pid\":" ++ decimal (step.id + 1)

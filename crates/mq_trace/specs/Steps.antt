@@ -15,8 +15,8 @@ use Rattle.mq_trace.specs.declared.entries.SlotEntries.{SlotEntries}
 use Rattle.mq_trace.specs.declared.step.Step.{Step}
 
 -- what is known of a slot between two of its entries: its number, the position of the next entry,
--- how many queues were made, and of the last of these the base where its log's beginning was cut
--- off, the events since then, and what waits
+-- how many queues were created, and of the last of these the base where its log's beginning was
+-- drained, the events since then, and what is pending
 pub record Point : Type 0 where
   pub slot : ℕ
   pub entry : ℕ
@@ -25,12 +25,12 @@ pub record Point : Type 0 where
   pub log : List Event
   pub counts : Counts
 
--- nothing waits
+-- nothing is pending
 abbrev pub no_counts : Counts
 no_counts = record { messages = 0; bytes = 0 }
 
--- what waits after an event: one message more after a sending, one less after the receipt of a
--- message that is known, and none after a making or a removal
+-- what is pending after an event: one message more after a send, one less after the receipt of a
+-- message that is known, and none after a creation or a removal
 abbrev pub counts_after : Counts → Event → Option Header → Counts
 counts_after c (Made seat moment key) message = no_counts
 counts_after c (Sent seat moment tag mtype n) message =
@@ -41,7 +41,7 @@ counts_after c (Received seat moment place selection size noerror) (Some m) =
 counts_after c (Changed seat moment qbytes) message = c
 counts_after c (Removed seat moment) message = no_counts
 
--- the point at which a making's own queue is the last one
+-- the point at which a creation's own queue is the last one
 abbrev pub entered : Point → Event → Point
 entered p event =
     if is_made event then record p { made = more p.made 1; base = None; log = [] } else p
@@ -59,7 +59,7 @@ message_of p event = sent_at (place_of p) event
 abbrev pub id_at : Point → ℕ
 id_at p = min (id_of p.slot (p.made - 1)) (2 ^ 32 - 1)
 
--- what waits after the event
+-- what is pending after the event
 abbrev pub counts_at : Point → Event → Counts
 counts_at p event = counts_after p.counts event (message_of p event)
 
@@ -94,7 +94,7 @@ abbrev pub steps_from : Point → List Event → List Step
 steps_from p [] = []
 steps_from p (event ∷ events) = step_at p event ∷ steps_from (point_after p event) events
 
--- what waits where a log was cut
+-- what was pending where a log was drained
 abbrev pub counts_kept : Option Base → Counts
 counts_kept None = no_counts
 counts_kept (Some base) = record { messages = base.figures.qnum; bytes = base.figures.cbytes }

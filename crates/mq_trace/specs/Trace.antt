@@ -12,12 +12,12 @@ use Rattle.mq_trace.specs.declared.refusal.Refusal.{Refusal}
 use Rattle.mq_trace.specs.declared.scale.TimeScale.{TimeScale}
 use Rattle.mq_trace.specs.declared.step.Step.{Step}
 
--- a queue is named where it was made, and at the first step where it was made before that
+-- a queue is named where it was created, and at the first step where it was created before that
 abbrev pub name_records : Bool → ℕ → Option ℤ → List (List ℕ)
 name_records first id (Some key) = process_record id (Some key) ∷ []
 name_records first id None = if first then process_record id None ∷ [] else []
 
--- what waits is told after each step but a new quota
+-- the counts of what is pending follow each step but a new quota
 abbrev pub counter_records : TimeScale → Step → Event → List (List ℕ)
 counter_records scale step (Changed seat moment qbytes) = []
 counter_records scale step _ = counter_record scale step ∷ []

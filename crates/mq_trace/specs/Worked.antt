@@ -16,7 +16,7 @@ figures_of_two = record {
   lrpid = 0;
 }
 
--- a slot's second queue, made with key 7
+-- a slot's second queue, created with key 7
 abbrev pub second_queue : BoardRow
 second_queue = record { made = 2; live = true; key = pos 7; figures = figures_of_two }
 

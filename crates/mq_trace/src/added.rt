@@ -41,7 +41,7 @@ impl Sheet {
         write_event(&mut self.text, scale, step)
     }
 
-    /// What waits, where that may have changed.
+    /// The pending messages, where these may have changed.
     fn add_counter(&mut self, scale: TimeScale, step: Step) -> Result<(), AllocError>
         ensures { OnOk result (Adds self.old self.new (counter_records scale step step.event)) }
     {

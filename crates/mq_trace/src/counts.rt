@@ -20,7 +20,7 @@ pub(crate) const NO_COUNTS: Counts = Counts {
 };
 
 impl Counts {
-    /// What waits after an event, which sends or receives this message.
+    /// The pending messages after an event, which sends or receives this message.
     pub(crate) fn after(self, event: Event, message: Option<Header>) -> Counts
         ensures { result ≡ counts_after self event message }
     {

@@ -18,8 +18,8 @@ pub struct SlotEntries<'a> {
     pub first: u64,
     /// How many of those before are makings.
     pub made: u32,
-    /// What is known of the queue that those before leave, if they leave one: its log goes on with
-    /// the first of these entries.
+    /// The base of the queue that those before leave, if they leave one: the first of these
+    /// entries is the next of its log.
     pub base: Option<&'a Base>,
     /// The entries of queues that were removed.
     pub past: &'a [Event],
@@ -28,7 +28,7 @@ pub struct SlotEntries<'a> {
 }
 
 impl<'a> SlotEntries<'a> {
-    /// Those that a closed system tells of the slot with this number.
+    /// The entries of the slot with this number that a closed system returns.
     pub fn of_closed(slot: u8, closed: &'a ClosedSlot) -> SlotEntries<'a>
         ensures slot { result.slot ≡ slot }
         ensures first { result.first ≡ closed.now.first }
@@ -47,7 +47,7 @@ impl<'a> SlotEntries<'a> {
         }
     }
 
-    /// Those that were cut off of the list of the slot with this number.
+    /// The entries that were drained from the list of the slot with this number.
     pub fn of_cut(slot: u8, cut: &'a Cut) -> SlotEntries<'a>
         ensures slot { result.slot ≡ slot }
         ensures first { result.first ≡ cut.now.first }

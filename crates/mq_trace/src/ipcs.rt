@@ -74,7 +74,7 @@ pub fn write_queue(
     write_filled(out, row)
 }
 
-/// Appends the part of `ipcs -l` that is about queues, for a system of so many slots.
+/// Appends the part of `ipcs -l` that is about queues, for a system of `slots` slots.
 pub fn write_limits(out: &mut Vec<u8>, slots: u8) -> Result<(), AllocError>
     ensures { OnOk result (out.new.items ≡ out.old.items ++ limits_table slots) }
 {

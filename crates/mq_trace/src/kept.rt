@@ -1,4 +1,4 @@
-//! What is kept of a queue's log whose beginning was cut off.
+//! The base of a queue's log whose beginning was drained.
 
 ghost use Rattle.std.specs.Prelude.{◌≡◌, ◌==◌, IsTrue, find, None};
 ghost use Rattle.std.specs.Option.{option_copied};
@@ -11,7 +11,7 @@ use mq_message::Header;
 use mq_queue::{Base, BaseEntries};
 use std::marker::Model;
 
-/// The base of the last queue, where the beginning of its log was cut off.
+/// The base of the last queue, where the beginning of its log was drained.
 #[derive(Drop)]
 pub(crate) struct Kept<'a> {
     base: Option<&'a Base>,
@@ -34,7 +34,7 @@ impl<'a> Model for Kept<'a> {
 }
 
 impl<'a> Kept<'a> {
-    /// Where nothing was cut off.
+    /// Where nothing was drained.
     pub(crate) fn none() -> Kept<'a>
         ensures { result ≡ None }
     {
@@ -54,7 +54,7 @@ impl<'a> Kept<'a> {
         Kept { base, ascending }
     }
 
-    /// How many events were cut off.
+    /// How many events were drained.
     pub(crate) fn places(&self) -> u64
         ensures { result ≡ places_of self.now }
     {
@@ -133,7 +133,7 @@ fn search(waiting: &BaseEntries, place: u64) -> Option<Header>
     None
 }
 
-/// The same in a list in any order, which is looked through.
+/// The same in a list in any order, by a linear search.
 fn scan(waiting: &BaseEntries, place: u64) -> Option<Header>
     ensures { result ≡ find (λ m. m.place == place) waiting.now }
 {

@@ -1,5 +1,5 @@
-//! What happened in the queues of a run: the entries of its slots' logs as steps; a trace of them in
-//! the Trace Event Format; a picture of them; and the tables of ipcs(1).
+//! The history of a run: the entries of its slots' logs as steps; a trace of them in the Trace
+//! Event Format; a picture of them; and the tables of ipcs(1).
 
 #![tactic(auto)]
 

@@ -8,7 +8,7 @@ use crate::TraceError;
 use crate::sheet::Sheet;
 use std::io::Write;
 
-/// From so many bytes on a sheet is written.
+/// The length in bytes from which on a sheet is written.
 const SHEET_LEN: usize = 32768;
 
 /// A write failed, or took nothing.

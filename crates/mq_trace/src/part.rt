@@ -1,4 +1,4 @@
-//! A list that is read from its front: what was read since some point can be looked up again.
+//! A list that is read from its front: what was read since some point can be searched again.
 
 ghost use Rattle.std.specs.Prelude.{◌≡◌, [], length, slice_get};
 ghost use Rattle.mq_trace.specs.Walk.{left_behind, passed};

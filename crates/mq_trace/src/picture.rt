@@ -27,7 +27,7 @@ use std::alloc::{AllocError, Global};
 use std::io::Write;
 use survey::Survey;
 
-/// From so many bytes on what was drawn is written.
+/// The length in bytes from which on what was drawn is written.
 const SHEET_LEN: usize = 32768;
 
 /// Writes what was drawn so far, and empties the buffer.

@@ -175,7 +175,7 @@ fn write_stamp(out: &mut Vec<u8>, id: u32, seat: u16, time: u64) -> Result<(), A
     write_field(out, b",\"ts\":", time)
 }
 
-/// What each event tells.
+/// The arguments that each event has.
 #[tactic(auto, unfolding(crate::specs::Records::args_head))]
 fn write_args_head(out: &mut Vec<u8>, entry: u64, seat: u16) -> Result<(), AllocError>
     ensures { OnOk result (out.new.items ≡ out.old.items ++ args_head entry seat) }
@@ -185,7 +185,7 @@ fn write_args_head(out: &mut Vec<u8>, entry: u64, seat: u16) -> Result<(), Alloc
     Ok(())
 }
 
-/// What an event tells beside.
+/// The arguments of an event.
 fn write_args(out: &mut Vec<u8>, event: Event) -> Result<(), AllocError>
     ensures { OnOk result (out.new.items ≡ out.old.items ++ event_args event) }
 {

@@ -15,9 +15,9 @@ use std::alloc::{AllocError, Global};
 use std::io::Write;
 
 /// Writes the trace of these entries, slot after slot, and of the calls that were refused: each
-/// queue is a process and each seat a thread, a message waits from its sending to its receipt, and
-/// counters tell what waits. A refused call is at its moment by either scale. What is not yet
-/// written takes a few pages of memory, however long the trace is. The writer is not flushed.
+/// queue is a process and each seat a thread, a message is a slice from its send to its receipt,
+/// and counters show the pending messages. A refused call is at its moment by either scale. The
+/// buffer takes a few pages of memory, however long the trace is. The writer is not flushed.
 pub fn write_trace<W: Write>(
     alloc: Global,
     writer: &mut W,

@@ -4,7 +4,7 @@ ghost use Rattle.std.specs.Prelude.{◌≡◌, IfOk, length};
 
 use std::io::{ErrorKind, Result, Write};
 
-/// Keeps these bytes, and tells how many they are.
+/// Stores these bytes, and returns how many they are.
 fn kept(taken: &mut Vec<u8>, bytes: &[u8]) -> Result<usize>
     ensures { IfOk result (λ n. n ≡ length bytes.now) }
 {

@@ -1,5 +1,5 @@
-//! Tests of steps, traces, pictures and tables: worked lists with all that they say, and writers
-//! that fail.
+//! Tests of steps, traces, pictures and tables: example lists with their expected output, and
+//! writers that fail.
 
 #![tactic(auto)]
 

@@ -80,7 +80,7 @@ pub fn last() -> [Event; 4] {
     ]
 }
 
-/// What is known of a log of which five events were cut off, with two messages of 6 bytes.
+/// What is known of a log of which five events were drained, with two messages of 6 bytes.
 pub fn base(alloc: Global) -> Result<Base, AllocError> {
     let waiting = Vec::from_array(alloc, [header(2, 20, 3, 4), header(4, 40, 5, 2)])?;
     Ok(Base {
@@ -99,7 +99,7 @@ pub fn base(alloc: Global) -> Result<Base, AllocError> {
     })
 }
 
-/// How that log goes on: both are received, one that was sent between, and one that never was.
+/// How that log continues: both are received, one that was sent between, and one that never was.
 pub fn since() -> [Event; 5] {
     [
         received(11, 4, Selection::Exact(5)),

@@ -100,7 +100,7 @@ fn drawn(
     refusals: &[Refusal],
     scale: TimeScale,
 ) -> Result<String, Fail> {
-    // It has room, so that no write fails for want of memory.
+    // It has room, so that no write runs out of memory.
     let mut bytes = Vec::with_capacity(alloc, 65536)?;
     write_picture(alloc, &mut bytes, slots, refusals, scale)?;
     Ok(String::from_str(alloc, str::from_utf8(&bytes)?)?)
@@ -193,7 +193,7 @@ fn the_greatest_moments_are_drawn(rt: HostRuntime) -> Result<(), Fail> {
 }
 
 #[test]
-fn a_fault_of_the_writer_is_told(rt: HostRuntime) -> Result<(), Fail> {
+fn a_fault_of_the_writer_is_reported(rt: HostRuntime) -> Result<(), Fail> {
     let past = removed();
     let slots = [slot_of(&past, &[])];
     for fails in [false, true] {

@@ -60,7 +60,7 @@ fn a_queue_begins_anew_after_a_removal(rt: HostRuntime) -> Result<(), Fail> {
 }
 
 #[test]
-fn a_cut_log_goes_on_from_its_base(rt: HostRuntime) -> Result<(), Fail> {
+fn a_drained_log_continues_from_its_base(rt: HostRuntime) -> Result<(), Fail> {
     let cut = Cut {
         first: 30,
         made: 2,
@@ -79,7 +79,7 @@ fn a_cut_log_goes_on_from_its_base(rt: HostRuntime) -> Result<(), Fail> {
     Ok(())
 }
 
-/// Messages that waited in no order are found too, and places past the greatest are not told.
+/// Messages that waited in no order are found too, and places past the greatest are not found.
 #[test]
 fn a_list_that_no_queue_leaves_has_steps(rt: HostRuntime) -> Result<(), Fail> {
     let mut odd = base(rt.alloc())?;

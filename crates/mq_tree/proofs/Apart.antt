@@ -21,7 +21,7 @@ test_from_apart a b apart = true_from_ne_false (are_apart a b) (λ f.
     apart (max a.start b.start) (record { from = omega arith; below = omega (arith, below_a, pow_pos a.order) })
     (record { from = omega arith; below = omega (arith, below_b, pow_pos b.order) }))
 
--- a block apart from each lent one has free pages alone
+-- a block apart from each allocated one has only free pages
 pub free_from_test : (b : PlainBlock) (lent : List PlainBlock) → list_all (are_apart b) lent ≡ true → (page : ℕ) → HasPage b page → IsFreePage lent page
 free_from_test b lent t page h =
     All-weaker (λ c. are_apart b c ≡ true) (λ c. ¬ HasPage c page) (λ c e. apart_from_test b c e page h) lent (AllPass-from_list_all (are_apart b) lent t)

@@ -1,4 +1,4 @@
--- Nodes of which one is written: what is lent, and which nodes keep to the rule.
+-- Nodes of which one is written: the allocated blocks, and which nodes keep to the rule.
 use Rattle.std.proofs.Common.{◌≡◌, ◌≢◌, ℕ, ◌+◌, ◌*◌, ◌/◌, ◌^◌, ◌<◌, ◌⊎◌, zero, suc, refl, sym, ap, ◌∙◌, arith, inl, inr, cond, List, [], ◌∷◌, ◌++◌, length, set, eqb}
 use Rattle.std.proofs.Math.Nat.{div-le_self}
 use Rattle.std.proofs.lemmas.Bool.{cases_eq, ne_eqb}
@@ -9,7 +9,7 @@ use Rattle.mq_tree.specs.Trees.{blocks_under, HasHeight, IsTree, IsTreeBut, IsCl
 use Rattle.mq_tree.proofs.Heap.{up_last, halves_apart, over_differs, place_pos, place_below, place_height}
 use Rattle.mq_tree.proofs.Trees.{parent_free, free_halves, blocks_halves}
 
--- ---- what is lent tells from the lent nodes alone, of those under a node
+-- ---- the blocks allocated under a node depend only on which nodes there are 0
 pub blocks_same : (k i : ℕ) (old new : List ℕ) → ((j n : ℕ) → j / 2 ^ n ≡ i → eqb (node_at new j) 0 ≡ eqb (node_at old j) 0)
     → blocks_under k i new ≡ blocks_under k i old
 unfolding blocks_under
@@ -21,7 +21,7 @@ blocks_same (suc half) i old new same =
       blocks_same half (2 * i + 1) old new (λ j n e. same j (suc n) (omega (arith, up_last n j, e))),
     ) refl
 
--- a node is written that is neither lent before nor after
+-- a node is written that is not allocated as one block, before or after
 pub blocks_kept : (k i : ℕ) (nodes : List ℕ) (p v : ℕ) → p < length nodes → 0 < node_at nodes p → 0 < v → blocks_under k i (set nodes p v) ≡ blocks_under k i nodes
 blocks_kept k i nodes p v l old new = blocks_same k i nodes (set nodes p v) (λ j n e. elim (cases_eq j p) [
   | inl f ↦ rw (f, get_or-set_same nodes p v 0 l, ne_eqb v 0 (λ z. omega (arith, z, new)), ne_eqb (node_at nodes p) 0 (λ z. omega (arith, z, old))) refl
@@ -34,7 +34,7 @@ other_half k i nodes j d a v under buddies some other differ =
     blocks_same k i nodes (set nodes j v) (λ m n e. ap (λ x. eqb x 0) (get_or-set_other nodes j m v 0 (λ f.
     differ (halves_apart j d n a i under (ap (λ x. x / 2 ^ n) (sym f) ∙ e) buddies some other))))
 
--- so where a node of one half is written, what is lent in the other stays
+-- so where a node of one half is written, the blocks allocated in the other stay
 module _ (half i d : ℕ) (nodes : List ℕ) (j v : ℕ) (some : 0 < i) (split : node_at nodes i ≡ 0 → ⊥) where
   split_still : j / 2 ^ suc d ≡ i → node_at (set nodes j v) i ≡ 0 → ⊥
   split_still over z = split (sym (get_or-set_other nodes j i v 0 (over_differs j d i over some)) ∙ z)
@@ -95,12 +95,12 @@ tree_whole height k p nodes tree place new = record {
   right = λ m i q n. elim (cases_eq i p) [ inl e ↦ right_at height k m p i nodes place new q e | inr e ↦ tree.right m i q e ];
 }
 
--- ---- a run is marked as lent, or as free again
+-- ---- a run is marked as allocated, or as free again
 module _ (height k p : ℕ) (nodes : List ℕ) (tree : IsTree height nodes) (place : HasHeight height k p) where
   written : (v : ℕ) → node_at (set nodes p v) p ≡ v
   written v = get_or-set_same nodes p v 0 (omega (arith, tree.len, place_below place))
 
-  -- the halves of a run that was free, or lent as one block, are free still
+  -- the halves of a run that was free, or allocated as one block, are free still
   halves_free : (v half : ℕ) → HasHeight height (suc half) p → (node_at nodes p ≡ suc half + 2) ⊎ (node_at nodes p ≡ 0)
       → (node_at (set nodes p v) (2 * p) ≡ half + 2) × (node_at (set nodes p v) (2 * p + 1) ≡ half + 2)
   halves_free v half q is =

@@ -1,4 +1,4 @@
--- What `fit` answers is the least start at which a block fits, and that alone.
+-- The result of `fit` is the least start at which a block fits, and only that.
 use Rattle.std.proofs.Common.{◌≡◌, ℕ, ◌+◌, ◌%◌, ◌^◌, ◌<◌, ◌≤◌, refl, ap, arith, true, ◌&&◌, List, [], ◌∷◌, Option, Some, None, leb, eqb}
 use Rattle.std.proofs.Math.Nat.{zero-mod}
 use Rattle.std.specs.List.{All, list_all}
@@ -35,7 +35,7 @@ pub fit_passes : (height : ℕ) (lent : List PlainBlock) (order start : ℕ) →
 unfolding fit
 fit_passes height lent order start e = passes height lent order start (find_some (fits_at height lent order) 0 (2 ^ height) start e).passes
 
--- the answer of `fit` fits, and no smaller start does
+-- the result of `fit` fits, and no smaller start does
 pub fit_is : (height : ℕ) (lent : List PlainBlock) (order start : ℕ) → fit height lent order ≡ Some start → IsFit height lent order start
 unfolding fit
 fit_is height lent order start e =
@@ -46,7 +46,7 @@ fit_is height lent order start e =
       least = λ other f. omega (arith, λ (l : other < start). both_ways (fits_at height lent order other) (before other (omega arith) l) (fits_test height lent order other f));
     }
 
--- where `fit` answers none, no start fits
+-- where `fit` returns `None`, no start fits
 pub no_fit_is : (height : ℕ) (lent : List PlainBlock) (order : ℕ) → fit height lent order ≡ None → HasNoFit height lent order
 unfolding fit
 no_fit_is height lent order e start f =
@@ -60,7 +60,7 @@ fit_of_answer height lent order start (Some other) e i =
     let same : other ≡ start = omega (arith, i.least other j.fits, j.least start i.fits) in
     ap (λ x. Some x) same
 
--- the least start that fits is what `fit` answers
+-- the least start that fits is what `fit` returns
 pub fit_from : (height : ℕ) (lent : List PlainBlock) (order start : ℕ) → IsFit height lent order start → fit height lent order ≡ Some start
 fit_from height lent order start i = fit_of_answer height lent order start (fit height lent order) refl i
 
@@ -71,7 +71,7 @@ none_of_answer height lent order (Some start) e n = absurd (n start (fit_is heig
 pub no_fit_from : (height : ℕ) (lent : List PlainBlock) (order : ℕ) → HasNoFit height lent order → fit height lent order ≡ None
 no_fit_from height lent order n = none_of_answer height lent order (fit height lent order) refl n
 
--- in an arena with nothing lent each order up to the height fits at 0
+-- in an arena with nothing allocated each order up to the height fits at 0
 pub fit_empty : (height order : ℕ) → 2 ^ order ≤ 2 ^ height → fit height [] order ≡ Some 0
 fit_empty height order l =
     fit_from height [] order 0 (record {
@@ -83,7 +83,7 @@ fit_empty height order l =
 pub fit_over : (height : ℕ) (lent : List PlainBlock) (order : ℕ) → height < order → fit height lent order ≡ None
 fit_over height lent order l = no_fit_from height lent order (λ start f. omega (arith, f.in_arena, pow_below height order l))
 
--- an arena lent as one block has room for nothing
+-- an arena that is allocated as one block has room for nothing
 pub fit_lent : (height order : ℕ) → fit height (block 0 height ∷ []) order ≡ None
 fit_lent height order =
     no_fit_from height (block 0 height ∷ []) order (λ start f.
@@ -91,7 +91,7 @@ fit_lent height order =
     let free = f.free start (record { from = omega arith; below = omega (arith, pow_pos order) }) in
     All-head (λ b. ¬ HasPage b start) (block 0 height) [] free (record { from = omega arith; below = omega arith }))
 
--- where the whole arena fits, nothing is lent
+-- where the whole arena fits, nothing is allocated
 pub fit_whole : (height : ℕ) (lent : List PlainBlock) (start : ℕ) → All (IsInArena height) lent → fit height lent height ≡ Some start → lent ≡ []
 fit_whole height [] start inside e = refl
 fit_whole height (c ∷ cs) start inside e =

@@ -1,4 +1,5 @@
--- How many pages are free: a block takes as many as it has, and gives as many back.
+-- How many pages are free: allocating a block takes as many as it has, and freeing it returns as
+-- many.
 use Rattle.std.proofs.Common.{◌≡◌, ℕ, ◌+◌, ◌^◌, ◌<◌, ◌≤◌, ◌⊎◌, refl, ◌∙◌, arith, inl, inr, get_or, true, false, not, cond, ◌&&◌, List, [], ◌∷◌, Some, leb, ltb}
 use Rattle.std.specs.List.{All, AllPairs, Contains, sum_by}
 use Rattle.std.proofs.lemmas.Bool.{cases_Bool, cond_both, both_ways, and_parts, leb-true, ltb-true, false_from_ne_true, not_from_false, not-true}
@@ -24,7 +25,7 @@ page_of b page t =
 pub page_beside : (b : PlainBlock) (page : ℕ) → has_page b page ≡ false → (page < b.start) ⊎ (b.start + 2 ^ b.order ≤ page)
 page_beside b page out = grind (arith, nat_tests)
 
--- a block apart from each lent one has free pages alone
+-- a block apart from each allocated one has only free pages
 pub free_when_apart : (b : PlainBlock) (lent : List PlainBlock) → All (AreApart b) lent → (page : ℕ) → HasPage b page → is_free_page lent page ≡ true
 free_when_apart b lent apart page h =
     list_all-from_AllPass (λ c. not (has_page c page)) lent
@@ -41,7 +42,7 @@ free_less height b small big within split free =
     λ x. elim (cases_Bool (has_page b x)) [ inl e ↦ rw (split x, e, free x (page_of b x e)) refl | inr e ↦ rw (split x, e) (omega arith) ] in
     omega (arith, count_sum (is_free_page small) (is_free_page big) (has_page b) 0 (2 ^ height) each, count_between b.start (b.start + 2 ^ b.order) 0 (2 ^ height), within)
 
--- with nothing lent each page is free
+-- with nothing allocated each page is free
 pub new_free : (height : ℕ) → free_pages height [] ≡ 2 ^ height
 unfolding free_pages
 new_free height = count_all 0 (2 ^ height)
@@ -52,7 +53,7 @@ is_free_page-joined b (c ∷ cs) page =
     cond_both (ltb b.start c.start) (b ∷ c ∷ cs) (c ∷ inserted b cs) (λ l. is_free_page l page ≡ (not (has_page b page) && is_free_page (c ∷ cs) page)) (λ _. refl)
     (λ _. rw (is_free_page-joined b cs page) (grind (arith, nat_tests)))
 
--- a block that is lent takes its pages
+-- allocating a block takes its pages from the free ones
 pub free_joined : (height : ℕ) (lent : List PlainBlock) (order start : ℕ) → fit height lent order ≡ Some start
     → free_pages height lent ≡ free_pages height (inserted (block start order) lent) + 2 ^ order
 free_joined height lent order start found =
@@ -60,7 +61,7 @@ free_joined height lent order start found =
     (is_free_page-joined (block start order) lent)
     (free_when_apart (block start order) lent (fit_apart height lent order start found))
 
--- a block that is lent has no free page
+-- an allocated block has no free page
 is_free_page-lent : (b : PlainBlock) (lent : List PlainBlock) (page : ℕ) → is_lent b lent ≡ true → is_free_page lent page ≡ (not (has_page b page) && is_free_page lent page)
 is_free_page-lent b lent page t = elim (cases_Bool (has_page b page)) [
   | inl e ↦ let m = lent_member b lent t in rw e (list_all_at (λ c. not (has_page c page)) lent m.0 b m.1 (rw (m.2, e) refl))
@@ -78,7 +79,7 @@ free_beside b (c ∷ cs) page e = elim (cases_Bool (is_block b c)) [
 pub is_free_page-left : (b : PlainBlock) (lent : List PlainBlock) (page : ℕ) → (not (has_page b page) && is_free_page lent page) ≡ (not (has_page b page) && is_free_page (left b lent) page)
 is_free_page-left b lent page = elim (cases_Bool (has_page b page)) [ inl e ↦ rw e refl | inr e ↦ rw e (free_beside b lent page e) ]
 
--- the other lent blocks are apart from it
+-- the other allocated blocks are apart from it
 others_apart : (height : ℕ) (b : PlainBlock) (lent : List PlainBlock) → IsLentSet height lent → is_lent b lent ≡ true → All (AreApart b) (left b lent)
 others_apart height b lent s t k d u page h g =
     let c = get_or (left b lent) k d in
@@ -87,7 +88,7 @@ others_apart height b lent s t k d u page h g =
     let same : b ≡ c = lent_apart height lent b c page s (lent_member b lent t) there h g in
     both_ways (is_block b c) (not-true (is_block b c) other) (rw (← same) (is_block_itself b))
 
--- a block that is given back leaves its pages free
+-- freeing an allocated block returns its pages to the free ones
 pub free_left : (height : ℕ) (lent : List PlainBlock) (b : PlainBlock) → IsLentSet height lent → is_lent b lent ≡ true
     → free_pages height (left b lent) ≡ free_pages height lent + 2 ^ b.order
 free_left height lent b s t =
@@ -95,7 +96,7 @@ free_left height lent b s t =
     (λ page. is_free_page-lent b lent page t ∙ is_free_page-left b lent page)
     (free_when_apart b (left b lent) (others_apart height b lent s t))
 
--- the free pages and the lent ones are all the pages
+-- the free pages and the allocated ones are all the pages
 blocks_sum : (height : ℕ) (lent : List PlainBlock) → All (IsInArena height) lent → AllPairs AreApart lent → free_pages height lent + sum_by page_count lent ≡ 2 ^ height
 blocks_sum height [] inside apart = omega (arith, new_free height)
 blocks_sum height (b ∷ lent) inside apart =

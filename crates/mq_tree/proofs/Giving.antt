@@ -1,4 +1,4 @@
--- A block by its node: it is lent where the node says so, and the node, once free, gives it back.
+-- A block by its node: it is allocated where the node is 0, and setting that node free frees it.
 use Rattle.std.proofs.Common.{◌≡◌, ℕ, ◌+◌, ◌*◌, ◌/◌, ◌^◌, ◌<◌, ◌≤◌, zero, suc, refl, sym, ◌∙◌, arith, inl, inr, true, false, List, [], ◌++◌, set, eqb}
 use Rattle.std.specs.List.{All}
 use Rattle.std.proofs.lemmas.Bool.{cases_eq, eq-eqb, ne_eqb, false_from_ne_true}
@@ -23,7 +23,8 @@ module _ (height order j : ℕ) (nodes : List ℕ) (tree : IsTree height nodes) 
   abbrev pub freed : List ℕ
   freed = set nodes j (order + 2)
 
-  -- what node j, d steps under node i of height k, tells of its block there
+  -- node j, d steps under node i of height k, determines whether its block is allocated there, and
+  -- setting it free frees the block
   pub record IsTold (d k i : ℕ) : Type 0 where
     pub lent_is : is_lent (block (start_in d order j) order) (blocks_under k i nodes) ≡ eqb (node_at nodes j) 0
     pub left_is : node_at nodes j ≡ 0 → blocks_under k i freed ≡ left (block (start_in d order j) order) (blocks_under k i nodes)
@@ -32,14 +33,14 @@ module _ (height order j : ℕ) (nodes : List ℕ) (tree : IsTree height nodes) 
   freed_at = get_or-set_same nodes j (order + 2) 0 (omega (arith, tree.len, place_below place))
 
   -- ---- the node itself
-  -- a run with no block of its order is not lent as one
+  -- a run whose node is not 0 is not allocated as one block
   none_lent : (k s : ℕ) → (node_at nodes j ≡ 0 → ⊥) → is_lent (block s k) (blocks_under k j nodes) ≡ false
   none_lent zero s n = rw (blocks_leaf 0 j nodes n) refl
   none_lent (suc half) s n =
       rw (blocks_halves half j nodes n) (list_any_none (is_block (block s (suc half))) (blocks_under half (2 * j) nodes ++ moved_up (2 ^ half) (blocks_under half (2 * j + 1) nodes))
       (whole_absent half (blocks_under half (2 * j) nodes) (blocks_under half (2 * j + 1) nodes) s (blocks_lent_set half (2 * j) nodes).in_arena (blocks_lent_set half (2 * j + 1) nodes).in_arena))
 
-  -- under a run that was lent as one block nothing else is lent
+  -- once a run that was allocated as one block is free, nothing in it is allocated
   freed_blocks : (k : ℕ) → HasHeight height k j → node_at nodes j ≡ 0 → blocks_under k j freed ≡ []
   freed_blocks zero p z = blocks_leaf 0 j freed (λ e. omega (arith, e, freed_at))
   freed_blocks (suc half) p z =
@@ -72,7 +73,7 @@ module _ (height order j : ℕ) (nodes : List ℕ) (tree : IsTree height nodes) 
     inside : All (IsInArena half) xs
     inside = (blocks_lent_set half (2 * i) nodes).in_arena
 
-    -- that one is lent as one block
+    -- that one is allocated as one block
     told_in_lent : node_at nodes i ≡ 0 → IsTold (suc d) (suc half) i
     told_in_lent z =
         let free : node_at nodes j ≡ order + 2 = free_under_lent height nodes tree order j d place (omega (arith, sum)) (rw over z) in
@@ -126,18 +127,18 @@ module _ {height order start j : ℕ} {nodes : List ℕ} (tree : IsTree height n
   at_start : start ≡ start_in run.place.depth order j
   at_start = sym (start_whole height order j run.place ∙ run.start_is)
 
-  -- its node tells whether the block is lent
+  -- its node determines whether the block is allocated
   pub told_lent : node_at nodes j ≡ 0 → is_lent (block start order) (lent_blocks height nodes) ≡ true
   told_lent e = rw (at_start, whole.lent_is) (eq-eqb (node_at nodes j) 0 e)
 
   pub told_not_lent : (node_at nodes j ≡ 0 → ⊥) → is_lent (block start order) (lent_blocks height nodes) ≡ false
   told_not_lent n = rw (at_start, whole.lent_is) (ne_eqb (node_at nodes j) 0 n)
 
-  -- and the node, once free, gives it back
+  -- and setting that node free frees the block
   pub told_freed : node_at nodes j ≡ 0 → lent_blocks height (set nodes j (order + 2)) ≡ left (block start order) (lent_blocks height nodes)
   told_freed e = rw at_start (whole.left_is e)
 
-  -- no node over it is lent as one block
+  -- no node over it is allocated as one block
   clear_over : node_at nodes j ≡ 0 → IsClear j nodes
   clear_over e n l = grind (arith, free_under_lent height nodes tree order j n run.place (over_root run.place (suc n) l))
 
@@ -151,7 +152,7 @@ module _ {height order start j : ℕ} {nodes : List ℕ} (tree : IsTree height n
     free = get_or-set_same nodes j (order + 2) 0 (omega (arith, tree.len, place_below run.place));
   }
 
--- a block that is lent is aligned, and in the arena
+-- an allocated block is aligned, and in the arena
 pub not_lent : (height : ℕ) (lent : List PlainBlock) (b : PlainBlock) → IsLentSet height lent → (IsAligned b → IsInArena height b → ⊥) → is_lent b lent ≡ false
 not_lent height lent b s n = false_from_ne_true (is_lent b lent) (λ t.
     let there = lent_member b lent t in

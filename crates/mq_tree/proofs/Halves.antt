@@ -1,4 +1,4 @@
--- A block that is lent in a half of a run, or given back to one.
+-- A block that is allocated in a half of a run, or freed in one.
 use Rattle.std.proofs.Common.{◌≡◌, ℕ, ◌+◌, ◌^◌, ◌<◌, ◌≤◌, suc, refl, sym, arith, false, not, List, ◌++◌, get_or, Option, Some, None}
 use Rattle.std.specs.List.{All}
 use Rattle.std.specs.Option.{is_some}
@@ -17,7 +17,7 @@ pub none_is : (o : Option ℕ) → is_some o ≡ false → o ≡ None
 none_is None t = refl
 none_is (Some s) t = absurd (cc)
 
--- ---- lending in a half
+-- ---- allocating in a half
 module _ (half : ℕ) (xs ys : List PlainBlock) (order : ℕ) (low : order ≤ half) (inside : All (IsInArena half) xs) where
   pub lent_left : (s : ℕ) → fit half xs order ≡ Some s → inserted (block s order) xs ++ moved_up (2 ^ half) ys ≡ inserted (block s order) (xs ++ moved_up (2 ^ half) ys)
   lent_left s e =
@@ -29,7 +29,7 @@ module _ (half : ℕ) (xs ys : List PlainBlock) (order : ℕ) (low : order ≤ h
   lent_right s =
       rw (joined_right (block (2 ^ half + s) order) xs (moved_up (2 ^ half) ys) (λ k d u. omega (arith, inside k d u)), joined_moved (2 ^ half) (block s order) ys) refl
 
--- ---- giving back to a half
+-- ---- freeing in a half
 module _ (half : ℕ) (xs ys : List PlainBlock) (order : ℕ) (inside : All (IsInArena half) xs) where
   up_absent : (s : ℕ) → s < 2 ^ half → All (λ c. is_block (block s order) c ≡ false) (moved_up (2 ^ half) ys)
   up_absent s l =
@@ -61,7 +61,7 @@ module _ (half : ℕ) (xs ys : List PlainBlock) (order : ℕ) (inside : All (IsI
         left_moved (2 ^ half) (block s order) ys,
       ) refl
 
--- ---- blocks that are not lent
+-- ---- blocks that are not allocated
 -- the blocks of two halves are of lower orders than the whole
 pub whole_absent : (half : ℕ) (xs ys : List PlainBlock) (start : ℕ) → All (IsInArena half) xs → All (IsInArena half) ys
     → All (λ c. is_block (block start (suc half)) c ≡ false) (xs ++ moved_up (2 ^ half) ys)

@@ -18,7 +18,7 @@ module _ (half : ℕ) (xs ys : List PlainBlock) (order : ℕ) (low : order ≤ h
   abbrev up : PlainBlock → PlainBlock
   up y = block (2 ^ half + y.start) y.order
 
-  -- the blocks of the right half take nothing from the left one
+  -- a block that fits in the left half fits in the whole
   fits_left : (start : ℕ) → Fits half xs order start → Fits (suc half) both order start
   fits_left start f = record {
     aligned = f.aligned;
@@ -37,7 +37,7 @@ module _ (half : ℕ) (xs ys : List PlainBlock) (order : ℕ) (low : order ≤ h
         at (f.free page h k d (omega (arith, u, length-append xs (moved_up (2 ^ half) ys))));
   }
 
-  -- nor do those of the left half from the right one
+  -- and so does one that fits in the right half
   fits_right : (start : ℕ) → Fits half ys order start → Fits (suc half) both order (2 ^ half + start)
   fits_right start f = record {
     aligned = mod_up order half start low ∙ f.aligned;
@@ -69,7 +69,7 @@ module _ (half : ℕ) (xs ys : List PlainBlock) (order : ℕ) (low : order ≤ h
     | inr l ↦ let e : start ≡ 2 ^ half + (start - 2 ^ half) = omega arith in (l, right_fits (start - 2 ^ half) (subst (Fits (suc half) both order) e f))
   ]
 
-  -- what fits in the left half comes first, and else what fits in the right half
+  -- the fit in the whole is that in the left half, or else that in the right half
   pub fit_halves : (o p : Option ℕ) → fit half xs order ≡ o → fit half ys order ≡ p → fit (suc half) (xs ++ moved_up (2 ^ half) ys) order ≡ option_or o (option_map (λ s. 2 ^ half + s) p)
   fit_halves (Some s) p e g =
       let i = fit_is half xs order s e in

@@ -1,4 +1,4 @@
--- What stays a lent set: nothing lent, a whole arena, two halves, a block more, a block less.
+-- What is a lent set: the empty one, a whole arena, two halves, a block more, a block less.
 use Rattle.std.proofs.Common.{◌≡◌, ℕ, ◌+◌, ◌-◌, ◌^◌, ◌≤◌, suc, ◌∙◌, arith, true, not, List, [], ◌∷◌, ◌++◌, Some}
 use Rattle.std.specs.List.{All, Contains}
 use Rattle.std.proofs.lemmas.Nat.{pow_pos}
@@ -44,7 +44,7 @@ module _ (half : ℕ) (xs ys : List PlainBlock) (left_set : IsLentSet half xs) (
         (cross StartsBefore (λ a b l. omega (arith, l, pow_pos a.order)));
   }
 
--- a block that fits is apart from each lent one, and has another start
+-- a block that fits is apart from each allocated one, and has another start
 module _ (height : ℕ) (lent : List PlainBlock) (order start : ℕ) (found : fit height lent order ≡ Some start) where
   pub fit_apart : All (AreApart (block start order)) lent
   fit_apart = λ k d u page h. (fit_is height lent order start found).fits.free page h k d u
@@ -53,7 +53,7 @@ module _ (height : ℕ) (lent : List PlainBlock) (order start : ℕ) (found : fi
   other_start c apart e =
       apart start (record { from = omega arith; below = omega (arith, pow_pos order) }) (record { from = omega (arith, e); below = omega (arith, e, pow_pos c.order) })
 
-  -- lent and given back, the lent set is as before
+  -- allocating it and freeing it restores the lent set
   pub left_fit : left (block start order) (inserted (block start order) lent) ≡ lent
   left_fit = left-joined (block start order) lent (λ k d u. is_block_start (block start order) _ (other_start _ (fit_apart k d u)))
 
@@ -87,7 +87,7 @@ IsLentSet-left height b lent s = record {
   in_order = AllPairs-filter StartsBefore (λ c. not (is_block b c)) lent s.in_order;
 }
 
--- what the test says of a lent set: the block is one of them
+-- a block that `is_lent` finds allocated is one of the list
 pub lent_member : (b : PlainBlock) (lent : List PlainBlock) → is_lent b lent ≡ true
     → Contains lent b
 lent_member b lent t = let a = Any-from_list_any (is_block b) lent t in rw (is_block-true b a.1 a.4) (a.0, a.2, a.3)

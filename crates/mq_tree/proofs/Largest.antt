@@ -11,7 +11,7 @@ module _ (height : ℕ) (lent : List PlainBlock) (node : ℕ) (fits : (k : ℕ) 
   top_fits : 1 < node → is_some (fit height lent (node - 2)) ≡ true
   top_fits l = fits (node - 2) ∙ le-leb (node - 2 + 2) node (omega arith)
 
-  -- where just the orders fit that the node tells, its order is the largest
+  -- where exactly the orders up to the node's fit, the node's order is the largest
   pub largest_is : (o : Option ℕ) → largest height lent ≡ o → o ≡ largest_under node
   largest_is None e = elim (cases_lt 1 node) [
     | inl l ↦ absurd (rw e at (largest_most height lent (node - 2) (top_fits l)))

@@ -123,7 +123,7 @@ pub record DownTo (height order whole i : ℕ) (nodes : List ℕ) : Type 0 where
 
 module _ {height order whole i : ℕ} {nodes : List ℕ} (d : DownTo height order whole i nodes) where
   module _ (other : node_at nodes i ≢ whole) where
-    -- where it is another, the height is over one that is no lower than the order
+    -- where it is another, the height is over the order
     over_order : order < d.level
     over_order = elim (cases_lt order d.level) [
       | inl l ↦ l

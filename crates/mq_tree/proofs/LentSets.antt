@@ -57,7 +57,7 @@ All-joined P b (c ∷ cs) p h =
     (λ _. All-cons P c (inserted b cs) (All-head P c cs h)
     (All-joined P b cs p (All-tail P c cs h)))
 
--- a block of the left half joins the left blocks
+-- a block of the left half is inserted into the left blocks
 pub joined_left : (b : PlainBlock) (xs ys : List PlainBlock) → All (λ c. b.start < c.start) ys → inserted b (xs ++ ys) ≡ inserted b xs ++ ys
 joined_left b [] [] h = refl
 joined_left b [] (c ∷ cs) h = rw (lt-ltb b.start c.start (All-head (λ c. b.start < c.start) c cs h)) refl
@@ -66,7 +66,7 @@ joined_left b (x ∷ xs) ys h = elim (cases_Bool (ltb b.start x.start)) [
   | inr t ↦ rw (t, joined_left b xs ys h) refl
 ]
 
--- a block of the right half joins the right blocks
+-- a block of the right half is inserted into the right blocks
 pub joined_right : (b : PlainBlock) (xs ys : List PlainBlock) → All (λ c. c.start ≤ b.start) xs → inserted b (xs ++ ys) ≡ xs ++ inserted b ys
 joined_right b [] ys h = refl
 joined_right b (x ∷ xs) ys h =
@@ -94,7 +94,7 @@ AllPairs-joined R b (c ∷ cs) o p before after =
     (AllPairs-joined R b cs (AllPairs-tail StartsBefore c cs o) (AllPairs-tail R c cs p) (All-tail (λ c. b.start < c.start → R b c) c cs before) (All-tail (λ c. c.start ≤ b.start → R c b) c cs after)))
 
 -- ---- left
--- where the block is not lent, nothing leaves
+-- where the block is not allocated, nothing is removed
 pub left_not_lent : (b : PlainBlock) (xs : List PlainBlock) → is_lent b xs ≡ false → left b xs ≡ xs
 left_not_lent b [] t = refl
 left_not_lent b (c ∷ cs) t = let p = or_parts (is_block b c) (is_lent b cs) t in rw (p.0, left_not_lent b cs p.1) refl
@@ -116,7 +116,7 @@ pub is_lent_moved : (c : ℕ) (b : PlainBlock) (ys : List PlainBlock) → is_len
 is_lent_moved c b [] = refl
 is_lent_moved c b (y ∷ ys) = rw (is_block_moved c b y, is_lent_moved c b ys) refl
 
--- a block that joins and leaves again
+-- a block that is inserted and removed again
 pub left-joined : (b : PlainBlock) (xs : List PlainBlock) → All (λ c. is_block b c ≡ false) xs → left b (inserted b xs) ≡ xs
 left-joined b [] h = rw (is_block_itself b) refl
 left-joined b (c ∷ cs) h = elim (cases_Bool (ltb b.start c.start)) [

@@ -1,4 +1,4 @@
--- A free run of which the first block is lent: on the way up each right half is free.
+-- A free run of which the first block is allocated: on the way up each right half is free.
 use Rattle.std.proofs.Common.{◌≡◌, ℕ, ◌+◌, ◌-◌, ◌*◌, ◌%◌, ◌/◌, ◌^◌, ◌<◌, ◌≤◌, zero, suc, refl, ap, ◌∙◌, arith, inl, List, length, set, subst}
 use Rattle.std.proofs.Math.Nat.{le-mul_of_pos_right}
 use Rattle.std.proofs.lemmas.List.{get_or-set_same, get_or-set_other}

@@ -21,7 +21,7 @@ refilled {len = len} {items = items} {new = new} t l u = take_at new (drop (leng
 pub seen : {height len : ℕ} {items new : List ℕ} {lent : List PlainBlock} → IsTree height items → len ≡ length items → IsTreeOf height new lent → lent_blocks height (take len (new ++ drop (length new) items)) ≡ lent
 seen {height = height} t l u = ap (lent_blocks height) (refilled t l u.tree) ∙ u.lent_is
 
--- ---- what the root tells
+-- ---- what the root determines
 pub root_largest : {height : ℕ} {nodes : List ℕ} → IsTree height nodes → largest_under (node_at nodes 1) ≡ largest height (lent_blocks height nodes)
 root_largest {height = height} {nodes = nodes} t =
     sym (largest_is height (lent_blocks height nodes) (node_at nodes 1) (room_is height nodes t height 1 (at_root height)) (largest height (lent_blocks height nodes)) refl)

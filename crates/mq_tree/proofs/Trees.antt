@@ -1,4 +1,4 @@
--- A tree of nodes: the blocks that are lent in it, and what its root tells of them.
+-- A tree of nodes: the blocks allocated in it, and which orders fit by its nodes.
 use Rattle.std.proofs.Common.{◌≡◌, ℕ, ◌+◌, ◌*◌, ◌/◌, ◌^◌, ◌<◌, ◌≤◌, zero, suc, refl, sym, ◌∙◌, arith, inl, inr, ◌⊎◌, true, false, ◌||◌, List, [], ◌∷◌, ◌++◌, Option, Some, None, leb, eqb, zero-add}
 use Rattle.std.specs.Option.{is_some, option_or, option_map}
 use Rattle.std.proofs.lemmas.Bool.{cases_lt, cases_eq, cond-true, cond-false, cond_both, cases_order, leb-true, le-leb, lt-leb, eq-eqb, ne_eqb}
@@ -33,7 +33,7 @@ parent_room half l r k low p q = grind (arith, nat_tests)
 parent_right : (half l r k : ℕ) → k ≤ half → l ≤ half + 2 → r ≤ half + 2 → k + 2 ≤ parent half l r → leb (k + 2) l ≡ false → k + 2 ≤ r
 parent_right half l r k low p q room full = grind (arith, nat_tests)
 
--- ---- what is lent
+-- ---- the allocated blocks
 module _ (half i : ℕ) (nodes : List ℕ) where
   pub blocks_lent : node_at nodes i ≡ 0 → blocks_under half i nodes ≡ block 0 half ∷ []
   unfolding blocks_under
@@ -80,7 +80,7 @@ halves_empty c [] (y ∷ ys) e = absurd (cc)
 halves_empty c (x ∷ xs) ys e = absurd (cc)
 
 -- ---- a tree
--- a node that comes after the one that may break the rule is free at most
+-- a node after the one that may break the rule is at most that of a free run
 pub bounded_over : (height but : ℕ) (nodes : List ℕ) → IsTreeBut height but nodes → (k i : ℕ) → HasHeight height k i → but < i → node_at nodes i ≤ k + 2
 bounded_over height but nodes tree zero i p l = elim (tree.right zero i p (λ e. omega (arith, e, l))) [ inl e ↦ omega arith | inr e ↦ omega arith ]
 bounded_over height but nodes tree (suc half) i p l = elim (tree.right (suc half) i p (λ e. omega (arith, e, l))) [
@@ -94,11 +94,11 @@ module _ (height : ℕ) (nodes : List ℕ) (tree : IsTree height nodes) where
   pub rule : (k i : ℕ) → HasHeight height k i → IsRight k i nodes
   rule k i p = tree.right k i p (λ e. omega (arith, e, place_pos p))
 
-  -- a node is free at most
+  -- a node is at most that of a free run
   pub bounded : (k i : ℕ) → HasHeight height k i → node_at nodes i ≤ k + 2
   bounded k i p = bounded_over height 0 nodes tree k i p (place_pos p)
 
-  -- the halves of a node that is free, or lent as one block, are free
+  -- the halves of a node that is free, or allocated as one block, are free
   pub free_halves : (half i : ℕ) → HasHeight height (suc half) i → (node_at nodes i ≡ suc half + 2) ⊎ (node_at nodes i ≡ 0)
       → (node_at nodes (2 * i) ≡ half + 2) × (node_at nodes (2 * i + 1) ≡ half + 2)
   free_halves half i p is = elim (rule (suc half) i p) [
@@ -109,7 +109,7 @@ module _ (height : ℕ) (nodes : List ℕ) (tree : IsTree height nodes) where
     ]
   ]
 
-  -- nothing is lent under a free node
+  -- nothing is allocated under a free node
   pub free_blocks : (k i : ℕ) → HasHeight height k i → node_at nodes i ≡ k + 2 → blocks_under k i nodes ≡ []
   free_blocks zero i p e = blocks_leaf zero i nodes (λ z. omega (arith, z, e))
   free_blocks (suc half) i p e =
@@ -120,12 +120,12 @@ module _ (height : ℕ) (nodes : List ℕ) (tree : IsTree height nodes) where
         free_blocks half (2 * i + 1) (to_right height half i p) h.1,
       ) refl
 
-  -- a half of a node that is free, or lent as one block
+  -- a half of a node that is free, or allocated as one block
   half_of : (half i : ℕ) → HasHeight height (suc half) (i / 2) → (node_at nodes (i / 2) ≡ suc half + 2) ⊎ (node_at nodes (i / 2) ≡ 0) → node_at nodes i ≡ half + 2
   half_of half i p is =
       let h = free_halves half (i / 2) p is in elim (one_of_halves i) [ inl e ↦ rw e h.0 | inr e ↦ rw e h.1 ]
 
-  -- each node under a free one, or under one that is lent as one block, is free
+  -- each node under a free one, or under one that is allocated as one block, is free
   pub free_under : (k i n h : ℕ) → h ≡ suc (n + k) → HasHeight height k i → h ≤ height → (node_at nodes (i / 2 ^ suc n) ≡ h + 2) ⊎ (node_at nodes (i / 2 ^ suc n) ≡ 0) → node_at nodes i ≡ k + 2
   free_under k i zero h e p l is = half_of k i (to_parent p (omega arith)) (rw (e, zero-add k, up_last 0 i, up_none i) at is)
   free_under k i (suc n) h e p l is =
@@ -141,7 +141,7 @@ module _ (height : ℕ) (nodes : List ℕ) (tree : IsTree height nodes) where
   room_lent : (k i o : ℕ) → node_at nodes i ≡ 0 → is_some (fit k (blocks_under k i nodes) o) ≡ leb (o + 2) (node_at nodes i)
   room_lent k i o e = rw (blocks_lent k i nodes e, fit_lent k o, lt-leb (o + 2) (node_at nodes i) (omega arith)) refl
 
-  -- where nothing is lent the node is free
+  -- where nothing is allocated the node is free
   empty_is_free : (k i : ℕ) → HasHeight height k i → blocks_under k i nodes ≡ [] → is_some (fit k (blocks_under k i nodes) k) ≡ leb (k + 2) (node_at nodes i) → node_at nodes i ≡ k + 2
   empty_is_free k i p none room =
       let fits : leb (k + 2) (node_at nodes i) ≡ true = rw (← room, none, fit_empty k k (omega arith)) refl in

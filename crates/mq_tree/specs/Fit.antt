@@ -3,13 +3,13 @@ use Rattle.std.specs.Prelude.{ℕ, ◌+◌, ◌%◌, ◌^◌, ◌≤◌, zero, s
 use Rattle.std.specs.List.{list_all, range_with_len}
 use Rattle.mq_tree.specs.Blocks.{PlainBlock, block, IsAligned, IsInArena, HasPage, are_apart}
 
--- whether a block of that order could be lent at that start
+-- whether a block of that order could be allocated at that start
 abbrev pub fits_at : ℕ → List PlainBlock → ℕ → ℕ → Bool
 fits_at height lent order start =
     (start % 2 ^ order == 0) && nat_le (start + 2 ^ order) (2 ^ height)
     && list_all (are_apart (block start order)) lent
 
--- the first start at which a block of that order could be lent
+-- the first start at which a block of that order could be allocated
 unfoldable pub fit : ℕ → List PlainBlock → ℕ → Option ℕ
 fit height lent order = find (fits_at height lent order) (range_with_len 0 (2 ^ height))
 
@@ -23,7 +23,7 @@ largest_below (suc n) height lent =
 unfoldable pub largest : ℕ → List PlainBlock → Option ℕ
 largest height lent = largest_below (suc height) height lent
 
--- the page is in no lent block
+-- the page is in no allocated block
 abbrev pub IsFreePage : List PlainBlock → ℕ → Type 0
 IsFreePage lent page = All (λ b. ¬ HasPage b page) lent
 

@@ -1,11 +1,11 @@
--- The laws of lending, each a clause of the function of `laws`.
+-- The laws of allocation, each a clause of the function of `laws`.
 use Rattle.std.specs.Prelude.{◌≡◌, ℕ, ◌+◌, ◌^◌, ◌≤◌, ◌↔◌, true, List, Some, None, IsSome, IsSomeAnd, Contains, sum_by}
 use Rattle.mq_tree.specs.Blocks.{PlainBlock, block, HasPage, page_count}
 use Rattle.mq_tree.specs.LentSet.{IsLentSet, inserted, left, is_lent, free_pages}
 use Rattle.mq_tree.specs.Fit.{fit, largest, IsFit, HasNoFit}
 
--- `fit` answers the least start that is aligned, in the arena and free, and just that one; `None`
--- just where no start is
+-- `fit` returns the least start that is aligned, in the arena and free, and only that one; `None`
+-- exactly where there is no such start
 abbrev pub FitIsLeast : Type 0
 FitIsLeast =
     (height : ℕ) (lent : List PlainBlock) (order : ℕ)
@@ -20,14 +20,14 @@ LargestFits =
     × ((order : ℕ)
     → IsSome (fit height lent order) → IsSomeAnd (largest height lent) (λ most. order ≤ most))
 
--- a page of a lent block is in no other lent block
+-- a page of an allocated block is in no other allocated block
 abbrev pub LentSetIsApart : Type 0
 LentSetIsApart =
     (height : ℕ) (lent : List PlainBlock) (a b : PlainBlock) (page : ℕ)
     → IsLentSet height lent → Contains lent a → Contains lent b
     → HasPage a page → HasPage b page → a ≡ b
 
--- a block that is lent and given back leaves the lent set as it was; a lent set with one more block
+-- allocating a block that fits and freeing it restores the lent set; a lent set with one more block
 -- that fits, or with one less, is a lent set
 abbrev pub StaysLentSet : Type 0
 StaysLentSet =
@@ -37,8 +37,8 @@ StaysLentSet =
     × (IsLentSet height lent → IsLentSet height (inserted (block start order) lent)))
     × ((b : PlainBlock) → IsLentSet height lent → IsLentSet height (left b lent))
 
--- the free pages and the lengths of the lent blocks add up to the arena; a block that is lent takes
--- its pages, and a lent block that is given back leaves them free
+-- the free pages and the lengths of the allocated blocks add up to the arena; allocating a block
+-- takes its pages from the free ones, and freeing an allocated block returns them
 abbrev pub FreePagesAddUp : Type 0
 FreePagesAddUp =
     (height : ℕ) (lent : List PlainBlock)

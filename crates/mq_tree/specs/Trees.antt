@@ -1,4 +1,4 @@
--- A tree as a list of nodes: what is lent in it, and when a list is a tree.
+-- A tree as a list of nodes: the blocks allocated in it, and when a list is a tree.
 use Rattle.std.specs.Prelude.{◌≡◌, ◌≢◌, ℕ, ◌+◌, ◌-◌, ◌*◌, ◌/◌, ◌^◌, ◌<◌, ◌≤◌, zero, suc, false, ◌==◌, List, [], ◌∷◌, ◌++◌, length, slice_set, Some, if◌then◌else◌}
 use Rattle.mq_tree.specs.Blocks.{PlainBlock, block, moved_up}
 use Rattle.mq_tree.specs.LentSet.{IsLentSet, inserted, is_lent, free_pages}
@@ -7,7 +7,7 @@ use Rattle.mq_tree.specs.declared.limits.TheConstants.{MAX_HEIGHT}
 use Rattle.mq_tree.specs.declared.node.TheConstants.{ROOF}
 use Rattle.mq_tree.specs.Nodes.{node_at, whole_free, IsRight}
 
--- the blocks that are lent in the run of node i, of that height: the whole, or those of its halves
+-- the blocks allocated in the run of node i, of that height: the whole, or those of its halves
 unfoldable pub blocks_under : ℕ → ℕ → List ℕ → List PlainBlock
 blocks_under zero i nodes = if node_at nodes i == 0 then block 0 0 ∷ [] else []
 blocks_under (suc half) i nodes =
@@ -15,7 +15,7 @@ blocks_under (suc half) i nodes =
     else blocks_under half (2 * i) nodes
     ++ moved_up (2 ^ half) (blocks_under half (2 * i + 1) nodes)
 
--- the blocks that are lent in a tree of that height
+-- the blocks allocated in a tree of that height
 abbrev pub lent_blocks : ℕ → List ℕ → List PlainBlock
 lent_blocks height nodes = blocks_under height 1 nodes
 
@@ -37,16 +37,17 @@ pub record IsTreeBut (height but : ℕ) (nodes : List ℕ) : Type 0 where
 abbrev pub IsTree : ℕ → List ℕ → Type 0
 IsTree height nodes = IsTreeBut height 0 nodes
 
--- the nodes are a tree in which just these blocks are lent
+-- the nodes are a tree in which exactly these blocks are allocated
 pub record IsTreeOf (height : ℕ) (nodes : List ℕ) (lent : List PlainBlock) : Type 0 where
   pub tree : IsTree height nodes
   pub lent_is : lent_blocks height nodes ≡ lent
 
--- no node above node i is lent as one block
+-- no node above node i is allocated as one block
 abbrev pub IsClear : ℕ → List ℕ → Type 0
 IsClear i nodes = (n : ℕ) → 0 < i / 2 ^ suc n → 0 < node_at nodes (i / 2 ^ suc n)
 
--- just the node over node i, of height k, may break the rule, and none over it is lent as one block
+-- only the node over node i, of height k, may break the rule, and no node over node i is allocated
+-- as one block
 pub record IsOpen (height k i : ℕ) (nodes : List ℕ) : Type 0 where
   pub place : HasHeight height k i
   pub clear : IsClear i nodes
@@ -81,7 +82,7 @@ pub record IsRunOf (height order start i : ℕ) : Type 0 where
   pub place : HasHeight height order i
   pub start_is : start_of height order i ≡ start
 
--- no run of that order starts at that page, so no block that is lent does
+-- no run of that order starts at that page, so no allocated block does
 abbrev pub IsNoRun : ℕ → ℕ → ℕ → Type 0
 IsNoRun height order start =
     (lent : List PlainBlock) → IsLentSet height lent → is_lent (block start order) lent ≡ false

@@ -1,3 +1,5 @@
+//! The last step of allocating and of freeing: the nodes above a changed one are updated.
+
 ghost use Rattle.mq_tree.specs.Trees.{IsParted, IsTreeOf, lent_blocks};
 
 use crate::node::{FULL, Node, buddy};

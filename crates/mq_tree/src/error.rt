@@ -1,3 +1,5 @@
+//! The error of making a tree, which the constructor of an arena passes on.
+
 use crate::limits::MAX_HEIGHT;
 use thiserror::Error;
 

@@ -1,3 +1,5 @@
+//! The nodes of a fresh tree, in which every page is free.
+
 ghost use Rattle.std.specs.Prelude.{[]};
 ghost use Rattle.mq_tree.specs.Trees.{ArePagesFree, IsTreeOf};
 

@@ -1,3 +1,5 @@
+//! Freeing of a block: a free run merges with its buddy as long as that is free (Knowlton).
+
 ghost use Rattle.std.specs.Prelude.{◌≡◌, ◌≤◌, MatchOption};
 ghost use Rattle.std.specs.Bool.{OnTrue};
 ghost use Rattle.mq_tree.specs.Blocks.{block};
@@ -44,7 +46,7 @@ fn join(nodes: &mut [Node], height: u8, order: u8, below: usize) -> usize
     at
 }
 
-// Takes that block back, if it is lent.
+// Frees that block, if it is allocated.
 pub(crate) fn give_in(nodes: &mut [Node], height: u8, start: u32, order: u8) -> bool
     requires { IsTree height nodes.old }
     ensures order { OnTrue result (order ≤ height) }

@@ -1,3 +1,5 @@
+//! Allocation of a block: the first free run with room for it is found and split (Knowlton).
+
 ghost use Rattle.std.specs.Prelude.{◌≡◌, Some, slice_set};
 ghost use Rattle.mq_tree.specs.Blocks.{block};
 ghost use Rattle.mq_tree.specs.LentSet.{inserted};
@@ -23,7 +25,7 @@ fn first_free(nodes: &[Node], height: u8, order: u8) -> usize
     at
 }
 
-// Lends the first block of a free run, and splits what is over it: each right half stays free.
+// Allocates the first block of a free run, and splits what is over it: each right half stays free.
 fn split(nodes: &mut [Node], height: u8, order: u8, run: usize) -> usize
     requires { FoundRun height order run nodes.old }
     ensures found { Found height order result nodes.old }
@@ -43,7 +45,7 @@ fn split(nodes: &mut [Node], height: u8, order: u8, run: usize) -> usize
     first
 }
 
-// Lends the first block of that order that fits.
+// Allocates the first block of that order that fits.
 pub(crate) fn lend_in(nodes: &mut [Node], height: u8, order: u8) -> u32
     requires { HasRoom height order nodes.old }
     ensures fit { fit height (lent_blocks height nodes.old) order ≡ Some result }

@@ -1,3 +1,6 @@
+//! The nodes of the tree in the layout of a binary heap: the root is node 1, and the two halves of
+//! the run of node `n` are nodes `2 * n` and `2 * n + 1`.
+
 ghost use Rattle.std.specs.Prelude.{◌≡◌, ◌≢◌, ◌/◌, ◌^◌, ◌≤◌};
 ghost use Rattle.mq_tree.specs.Nodes.{whole_free, largest_under};
 

@@ -1,3 +1,5 @@
+//! The allocator of page numbers, on which an arena stands: a binary buddy system.
+
 ghost use Rattle.std.specs.Prelude.{◌≡◌, ◌^◌, ◌<◌, ◌↔◌, [], IfOk, IsErrOf, IfSome, IfNone};
 ghost use Rattle.std.specs.Bool.{OnFalse};
 ghost use Rattle.mq_tree.specs.Blocks.{block};
@@ -15,8 +17,8 @@ use std::marker::Model;
 
 /// The pages of an arena, lent in blocks of `2 ^ order` pages that start at a multiple of their
 /// length: Knowlton's buddy system ("A fast storage allocator", CACM 1965). A tree of status nodes
-/// tells for each run of pages the largest order that fits in it, so `lend` and `give` take a step
-/// for each level of the tree, and the others one.
+/// has for each run of pages the largest order that fits in it, so `lend` and `give` take a step
+/// for each level of the tree, and the queries one.
 #[derive(Drop)]
 pub struct OrderTree {
     height: u8,
@@ -36,7 +38,7 @@ impl Model for OrderTree {
 }
 
 impl OrderTree {
-    /// An arena of `2 ^ height` pages, none lent. The one call that takes memory.
+    /// An arena of `2 ^ height` pages, all free. The one call that takes memory from the allocator.
     pub fn new(alloc: Global, height: u8) -> Result<OrderTree, TreeError>
         ensures ok { IfOk result (λ tree. tree ≡ record { height = height; lent = [] }) }
         ensures err { IsErrOf result TreeError.Height ↔ (MAX_HEIGHT < height) }
@@ -57,7 +59,7 @@ impl OrderTree {
         })
     }
 
-    /// Lends the block of that order with the least start, and answers the start, a page number.
+    /// Allocates the block of that order with the least start, and returns its first page.
     /// `None` where no block of that order fits, so for each order over the height.
     pub fn lend(&mut self, order: u8) -> Option<u32>
         ensures fit { result ≡ fit self.old.height self.old.lent order }
@@ -77,7 +79,7 @@ impl OrderTree {
         Some(start)
     }
 
-    /// Takes a lent block back: false, with nothing changed, where that very block is not lent.
+    /// Frees a block: false, with nothing changed, where that very block is not allocated.
     pub fn give(&mut self, start: u32, order: u8) -> bool
         ensures lent { result ≡ is_lent (block start order) self.old.lent }
         ensures left { self.new ≡ with_lent self.old (left (block start order) self.old.lent) }

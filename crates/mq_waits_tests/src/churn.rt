@@ -1,4 +1,4 @@
-//! A slot whose queues come and go under those that use them, and one that many use at once.
+//! A slot whose queues are made and removed under concurrent users, and one under contention.
 
 use crate::calls::{Nothing, queue, receive, remove, send};
 use crate::is_same;
@@ -23,26 +23,26 @@ const ONE: Config = Config {
     last_seq: 9,
 };
 
-/// How often a sender tries an id, and how often the maker looks for a message.
+/// How often a sender tries an id, and how often the maker polls for a message.
 const TRIES: u32 = 100_000_000;
 
 const LOOKS: u32 = 1000;
 
-/// How many messages each worker passes on or takes, and how many wait before the first is taken:
-/// so many that who fails to get the slot's lock keeps away for long.
+/// How many messages each worker sends or receives, and how many are pending before the first is
+/// received: so many that a worker that fails to acquire the slot's lock backs off for long.
 const PASSED: u32 = 2000;
 
 const PLENTY: u64 = 64;
 
-/// How often who removes a queue under a receiver looks at it before, which takes some
-/// milliseconds: the receiver sleeps by then, and the next queue has its message before it looks
-/// again.
+/// How often the worker that removes a queue under a receiver polls it before, which takes some
+/// milliseconds: the receiver is parked by then, and the next queue has its message before it
+/// checks again.
 const LONG: u32 = 500_000;
 
 /// What a worker does.
 #[derive(Clone, Copy, Drop)]
 enum Part<'a> {
-    /// Makes and removes ten queues, each once it has seen a message in it, or has often looked.
+    /// Makes and removes ten queues, each once it has seen a message in it, or has polled often.
     Makes,
     /// Sends empty texts to each of the ten until it is removed.
     Sends,
@@ -52,7 +52,7 @@ enum Part<'a> {
     MakesAgain(&'a AtomicU32),
     /// Sends `PASSED` empty texts.
     Passes,
-    /// Once `PLENTY` wait, receives as many.
+    /// Once `PLENTY` are pending, receives as many.
     Takes,
 }
 
@@ -204,7 +204,7 @@ fn played<R: Threads + Wait + Clock + Sync>(
     Err(WorkersError::Memory)
 }
 
-/// Plays the parts, which end by what is told.
+/// Plays the parts. Where they do not end in time, the test fails with this text.
 fn ended<R: Abort + Threads + Wait + Clock + Sync>(
     rt: &R,
     alloc: Global,
@@ -232,7 +232,7 @@ fn sent_by(slot: &ClosedSlot, by: u16) -> (u64, u64) {
     (sent, entries)
 }
 
-/// Wants what each sender says to be what the slot lists. How many messages were sent.
+/// Checks that what each sender says is what the slot lists. How many messages were sent.
 fn all_sent(rt: &impl Abort, slot: &ClosedSlot, answers: &[Done]) -> u64 {
     let mut all = 0u64;
     let mut seat = 1u16;
@@ -245,8 +245,8 @@ fn all_sent(rt: &impl Abort, slot: &ClosedSlot, answers: &[Done]) -> u64 {
     all
 }
 
-/// Wants so many entries of the queues before and of the last, so many messages left, and all pages
-/// at home.
+/// Checks so many entries of the queues before and of the last, so many messages left, and all
+/// pages free.
 fn leaves(rt: &impl Abort, ended: &Ended<Vec<Done>>, past: u64, last: u64, left: u64) {
     let Some(slot) = ended.slots.first() else {
         panic!(rt; "no slot");
@@ -269,7 +269,7 @@ fn ten_queues_come_and_go_under_three_senders(rt: HostRuntime) {
 }
 
 #[test]
-fn who_waits_in_a_removed_queue_does_not_get_the_next_ones_message(rt: HostRuntime) {
+fn a_wait_in_a_removed_queue_does_not_get_the_next_ones_message(rt: HostRuntime) {
     let ready = AtomicU32::new(0);
     let parts = [Part::Waits(&ready), Part::MakesAgain(&ready)];
     let ended = ended(&rt, rt.alloc(), "a removal wakes a receiver", &parts);

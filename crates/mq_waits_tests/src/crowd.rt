@@ -1,4 +1,4 @@
-//! Eight threads whose waits all end by their time, most of them before: no message is lost or
+//! Eight threads whose waits all have deadlines, most of which do not pass: no message is lost or
 //! received twice.
 
 use crate::calls::{Nothing, ended_of};
@@ -21,7 +21,7 @@ const SIZE: Config = Config {
     last_seq: 0,
 };
 
-/// How many messages wait at most.
+/// How many messages are pending at most.
 const ROOM: u64 = 64;
 
 /// How many a sender sends.
@@ -36,7 +36,7 @@ struct Sums {
     received: AtomicU64,
     tags: AtomicU64,
     squares: AtomicU64,
-    /// How many waits ended by their time.
+    /// How many waits timed out.
     ended: AtomicU64,
     /// How many workers gave up.
     failed: AtomicU64,
@@ -57,7 +57,7 @@ impl Sums {
         self.received.load(Ordering::SeqCst) == ALL || self.failed.load(Ordering::SeqCst) > 0
     }
 
-    /// Wants the sums of the numbers up to 50,000, and of their squares.
+    /// Checks the sums of the numbers up to 50,000, and of their squares.
     fn are_right(&self, rt: &impl Abort) {
         holds!(rt; self.received.load(Ordering::SeqCst) == ALL, "other sums");
         holds!(rt; self.tags.load(Ordering::SeqCst) == 1_250_025_000, "other sums");
@@ -87,7 +87,7 @@ struct InACrowd<'a, C: Clock> {
 }
 
 impl<'a, C: Clock> InACrowd<'a, C> {
-    /// The end of a call: none, one or two milliseconds from now.
+    /// The deadline of a call: none, or one or two milliseconds from now.
     fn end(&self, turn: u64) -> Until<'a, C> {
         Until::within(self.clock, Duration::from_millis(turn % 3))
     }
@@ -184,7 +184,7 @@ fn crowd<'a, C: Clock>(
     Ok(workers)
 }
 
-/// Wants no call of a worker refused.
+/// Checks that no call of a worker is refused.
 fn all_done(rt: &impl Abort, answers: &[Result<(), Errno>]) {
     for done in answers {
         match *done {
@@ -195,7 +195,7 @@ fn all_done(rt: &impl Abort, answers: &[Result<(), Errno>]) {
     }
 }
 
-/// Wants the making, a quota of each worker, and a sending and a receipt of each message.
+/// Checks for the making, a quota of each worker, and a sending and a receipt of each message.
 fn is_logged(rt: &impl Abort, slots: &[ClosedSlot]) {
     match slots.first() {
         Some(slot) => holds!(rt; slot.last.len() as u64 == 100_009, "other events"),

@@ -1,4 +1,4 @@
-//! Drafts that wait until pages come home, and a send that does not.
+//! Drafts that wait until pages are freed, and a send that does not.
 
 use crate::calls::{Nothing, ended_of, queue, remove, send};
 use crate::is_same;
@@ -28,7 +28,7 @@ const TWO: Config = Config { height: 1, ..ONE };
 /// How often each of two threads takes the one page.
 const TURNS: u32 = 20_000;
 
-/// How often who spends a page looks meanwhile: who waits for it sleeps by then.
+/// How often the worker that frees a page polls before it does: the waiter is parked by then.
 const LOOKS: u32 = 20_000;
 
 /// A text that a seat drafts and spends, in its own pages or in those that are free.
@@ -157,7 +157,7 @@ fn spent<N: Names, R: Wait>(
     }
 }
 
-/// Two threads take the one page in turn, which is slow where others want the processors: the one
+/// Two threads take the one page in turn, which is slow where others need the processors: the one
 /// sleeps, and wakes, for nearly each turn of the other.
 fn in_turn<R: Abort + Threads + Wait + Clock + Sync>(rt: &R, alloc: Global, way: Way) {
     let watch = Watch::new();
@@ -187,7 +187,7 @@ fn two_threads_take_one_page_in_turn(rt: HostRuntime) {
 }
 
 #[test]
-fn two_threads_take_a_page_that_each_keeps_back(rt: HostRuntime) {
+fn two_threads_take_a_page_that_each_caches(rt: HostRuntime) {
     in_turn(&rt, rt.alloc(), Way::Kept);
 }
 
@@ -230,7 +230,7 @@ fn all_draft<R: Abort + Threads + Wait + Clock + Sync>(
 }
 
 #[test]
-fn a_draft_waits_until_both_halves_are_home(rt: HostRuntime) {
+fn a_draft_waits_until_both_halves_are_free(rt: HostRuntime) {
     let lent = Watch::new();
     all_draft(&rt, rt.alloc(), Part::Spends(&lent), &[2048], &lent);
 }
@@ -243,7 +243,7 @@ fn drafts_of_one_page_and_of_two_are_all_made(rt: HostRuntime) {
 }
 
 #[test]
-fn a_removal_wakes_who_waits_for_the_pages_of_its_texts(rt: HostRuntime) {
+fn a_removal_wakes_drafts_that_wait_for_the_pages_of_its_texts(rt: HostRuntime) {
     let lent = Watch::new();
     all_draft(&rt, rt.alloc(), Part::Removes(&lent), &[2048], &lent);
 }

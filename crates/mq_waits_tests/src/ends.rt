@@ -1,4 +1,4 @@
-//! Waits that end by their time: what they answer, what they leave, and what ends them before.
+//! Waits that time out: what they answer, what they leave, and what ends them before.
 
 use crate::calls::{Nothing, ended_of, queue, receive, remove, send, set};
 use crate::watch::{Watch, in_time};
@@ -24,13 +24,13 @@ const SIZE: Config = Config {
 /// How many pages the arena has.
 const PAGES: u32 = 8;
 
-/// The milliseconds of a wait that ends by its time.
+/// The milliseconds of a wait that times out.
 const TEN: u64 = 10;
 
 /// The time of a wait that something else ends: longer than a test may take.
 const HOUR: u64 = 3_600_000;
 
-/// How often who ends a wait looks at the queue before: the other sleeps by then.
+/// How often the worker that ends a wait polls the queue before: the waiter is parked by then.
 const LOOKS: u32 = 20_000;
 
 /// What was otherwise than it should be, or why a call was refused.
@@ -41,7 +41,7 @@ enum Wrong {
     Changed,
     /// A call answered otherwise.
     Answered,
-    /// A text came back with other bytes.
+    /// A text was returned with other bytes.
     Text,
     /// A wait of ten milliseconds took less, or eight seconds.
     Time,
@@ -101,7 +101,7 @@ fn answers<T: Drop>(answer: Result<T, Errno>, errno: Errno) -> Done {
     }
 }
 
-/// A message of type 1 is looked for, as long as this patience lasts.
+/// Receives a message of type 1, as long as this patience lasts.
 fn receives<N: Names, R: Wait + Clock, T: Patience>(
     caller: &mut Caller<'_, Nothing, N, R>,
     id: Id,
@@ -115,7 +115,7 @@ fn receives<N: Names, R: Wait + Clock, T: Patience>(
     Ok(received.length)
 }
 
-/// Sends four bytes by a call of texts, which is to be refused with EAGAIN and to hand them back.
+/// Sends four bytes by a call of texts, which is to be refused with EAGAIN and to return them.
 fn is_handed_back<N: Names, R: Wait, T: Patience>(
     rt: &R,
     system: &System<Nothing, N>,
@@ -229,7 +229,7 @@ impl<'a, C: Clock> Worker<Nothing> for HasNoTime<'a, C> {
     }
 }
 
-/// Makes the calls that wait for nobody, or for ten milliseconds.
+/// Makes the calls that do not wait, or for ten milliseconds.
 #[derive(Drop)]
 struct HasLittleTime;
 
@@ -320,7 +320,7 @@ impl Worker<Nothing> for HasLittleTime {
     }
 }
 
-/// Waits for pages that do not come, and for more than the arena has.
+/// Waits for pages that are not freed, and for more than the arena has.
 #[derive(Drop)]
 struct AtTheArena<'a, C: Clock> {
     clock: &'a C,
@@ -400,7 +400,7 @@ impl<'a, C: Clock> Worker<Nothing> for WaitsAnHour<'a, C> {
     }
 }
 
-/// Sends a message to who waits, or removes the queue.
+/// Sends a message to the waiter, or removes the queue.
 #[derive(Drop)]
 struct EndsIt<'a> {
     comes: &'a Watch,
@@ -429,7 +429,7 @@ impl<'a> Worker<Nothing> for EndsIt<'a> {
     }
 }
 
-/// Waits a hundred times for a millisecond, for a message that does not come.
+/// Waits a hundred times for a millisecond, for a message that is never sent.
 #[derive(Drop)]
 struct WaitsInVain<'a, C: Clock> {
     clock: &'a C,
@@ -531,7 +531,7 @@ fn a_wait_that_ends_leaves_the_queue_as_it_was(rt: HostRuntime) {
 }
 
 #[test]
-fn a_call_without_time_looks_once(rt: HostRuntime) {
+fn a_call_without_time_checks_once(rt: HostRuntime) {
     alone(&rt, rt.alloc(), "no time", HasNoTime { clock: &rt });
 }
 
@@ -584,7 +584,8 @@ fn a_message_ends_a_wait_before_its_time(rt: HostRuntime) {
     holds!(rt; answer == Ok(5), "another answer");
 }
 
-/// Wants the making, and a sending and a receipt of each message: a wait that ended is no event.
+/// Checks for the making, and a sending and a receipt of each message: a wait that ended is no
+/// event.
 fn is_logged(rt: &impl Abort, slots: &[ClosedSlot], stirred: Result<u64, Errno>) {
     let Ok(count) = stirred else {
         panic!(rt; "out of memory");

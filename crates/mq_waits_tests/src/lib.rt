@@ -1,4 +1,4 @@
-//! Tests of calls that wait, of who wakes them, and of the slots that calls reach.
+//! Tests of calls that wait, of the calls that wake them, and of the slots that calls reach.
 
 #![tactic(auto)]
 
@@ -17,7 +17,7 @@ fn holds(rt: &impl Abort, is: bool, what: &str)
     }
 }
 
-/// Ends the test where a number is another than the wanted one, and tells both.
+/// Ends the test where a number is another than the expected one, and prints both.
 #[cfg(test)]
 fn is_same(rt: &impl Abort, found: u64, wanted: u64, what: &str) {
     if found != wanted {

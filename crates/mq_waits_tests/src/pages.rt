@@ -1,3 +1,5 @@
+//! Four threads allocate texts of a page concurrently until ENOMEM: together they get all pages.
+
 use crate::calls::{Nothing, queue, receive, send};
 use crate::is_same;
 use mq::{Caller, Config, Errno, Id, Names, Seat, System, Worker, WorkersError, with_workers};
@@ -15,12 +17,12 @@ const FOUR: Config = Config {
     last_seq: 0,
 };
 
-/// Sends texts of a page to itself until no page is left, and receives them once all have come so
-/// far.
+/// Sends texts of a page to itself until no page is left, and receives them once all keepers have
+/// done so.
 #[derive(Drop)]
 struct Keeper<'a> {
     key: i32,
-    /// How many keepers found no page.
+    /// How many keepers have sent all that they could.
     done: &'a AtomicU32,
 }
 
@@ -50,8 +52,8 @@ impl<'a> Worker<Nothing> for Keeper<'a> {
     }
 }
 
-/// Fills the queue with texts of a page until there is none. Memory is refused once at most, so
-/// that ENOMEM is told of pages.
+/// Fills the queue with texts of a page until there is none. An allocation fails once at most, so
+/// ENOMEM means that no page is free.
 fn keep<N: Names, R: Wait>(
     rt: &R,
     system: &System<Nothing, N>,

@@ -1,4 +1,4 @@
-//! Who waits sleeps, and takes no processor meanwhile.
+//! A waiter is parked, and takes no processor time meanwhile.
 
 use crate::calls::{Nothing, queue, receive, send};
 use crate::watch::Watch;
@@ -16,11 +16,11 @@ const SIZE: Config = Config {
     last_seq: 0,
 };
 
-/// For how many seconds who waits is looked at.
+/// For how many seconds the waiters are observed.
 const SECONDS: u32 = 5;
 
 /// The ticks of a processor, of which a second has 100, that two threads which wait may take in
-/// that time: one that does not sleep takes 100 a second where no other wants the processor, and
+/// that time: one that does not sleep takes 100 a second where no other needs the processor, and
 /// some where others do.
 const MOST: u64 = 5;
 
@@ -57,7 +57,7 @@ impl<'a> Worker<Nothing> for Part<'a> {
     }
 }
 
-/// How many ticks of a processor this process has taken, as Linux tells it.
+/// How many ticks of a processor this process has taken, as Linux reports it.
 fn ticks<R: Files + Alloc>(rt: &R) -> Option<u64> {
     let said = fs::read_to_string(rt, "/proc/self/stat").ok()?;
     let mut taken = 0u64;
@@ -83,7 +83,7 @@ fn ticks_in_seconds<R: Clock + Files + Alloc>(rt: &R) -> Option<u64> {
 }
 
 #[test]
-fn who_waits_takes_no_processor(rt: HostRuntime) {
+fn a_waiter_takes_no_processor(rt: HostRuntime) {
     let (waits, measured) = (Watch::new(), Watch::new());
     let (taken, ended) = join(
         &rt,

@@ -1,5 +1,5 @@
-//! Each call reaches the slot of its id. A call that took the lock of another slot would look for
-//! its own there for ever, so each is made in slots that are not the first, in bounded time.
+//! Each call reaches the slot of its id. A call that acquired the lock of another slot would search
+//! for its own there for ever, so each is made in slots that are not the first, in bounded time.
 
 use crate::calls::{Nothing, queue, receive, remove, send, set};
 use crate::watch::in_time;
@@ -69,7 +69,7 @@ fn shows<N: Names>(
     }
 }
 
-/// Whether a cut has the making and the sending.
+/// Whether a drain has the making and the sending.
 fn has_both(cut: Cut) -> bool {
     cut.first == 0 && cut.past.is_empty() && cut.last.len() == 2
 }
@@ -183,7 +183,7 @@ impl SystemProgram<Nothing> for Elsewhere {
     }
 }
 
-/// Wants that the call comes to its end, and answers as it must.
+/// Checks that the call ends, and answers as it must.
 fn reaches<R: Abort + Threads + Wait + Clock + Sync>(
     rt: &R,
     alloc: Global,

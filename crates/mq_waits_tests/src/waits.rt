@@ -1,7 +1,7 @@
-//! Who waits, and by which change it is woken: each test names the wake without which it does not
-//! end, and ends by this name where it does not come. Workers tell one another how far they are by
-//! messages on a queue of their own, and whoever makes the change looks at the queue for a
-//! while first, so that all who wait sleep by then. The queue is not in the first slot.
+//! Which change wakes which waiter: each test names the wake without which it does not end, and
+//! fails with this name where it is lost. Workers report their progress to one another by messages
+//! on a queue of their own. The worker that makes the change polls the queue for a while first, so
+//! that all waiters are parked by then. The queue is not in the first slot.
 
 use crate::calls::{Nothing, queue, receive, remove, send, set};
 use crate::is_same;
@@ -23,7 +23,7 @@ const SIZE: Config = Config {
     last_seq: 9,
 };
 
-/// How often a worker looks at the queue before it changes it.
+/// How often a worker polls the queue before it changes it.
 const LOOKS: u32 = 200_000;
 
 /// What a worker does next.
@@ -156,8 +156,8 @@ fn played<R: Threads + Wait + Clock + Sync>(
     Err(WorkersError::Memory)
 }
 
-/// Plays the parts, which end by this wake, and wants these answers, so many messages left, and all
-/// pages home.
+/// Plays the parts, which end by this wake, and expects these answers, so many messages left, and
+/// all pages free.
 fn wakes<R: Abort + Threads + Wait + Clock + Sync>(
     rt: &R,
     alloc: Global,
@@ -178,7 +178,7 @@ fn wakes<R: Abort + Threads + Wait + Clock + Sync>(
 }
 
 #[test]
-fn a_send_wakes_a_receiver_beside_others_that_want_another_type(rt: HostRuntime) {
+fn a_send_wakes_a_receiver_beside_others_of_another_type(rt: HostRuntime) {
     let first = [Says(1, 1), Receives(1, 9)];
     let second = [Hears(1, 1), Looks, Says(2, 1), Receives(2, 9), Says(5, 1)];
     let third = [Hears(2, 1), Looks, Says(3, 1), Receives(3, 9), Says(4, 1)];
@@ -265,7 +265,7 @@ fn a_receipt_wakes_a_sender_beside_one_whose_text_is_too_long(rt: HostRuntime) {
 }
 
 #[test]
-fn a_receipt_wakes_all_for_whom_it_makes_room(rt: HostRuntime) {
+fn a_receipt_wakes_all_senders_that_then_have_room(rt: HostRuntime) {
     let sender = [Hears(1, 1), Says(2, 1), Sends(1, 3), Says(3, 1)];
     let receiver = [
         Sets(9),
@@ -333,17 +333,17 @@ fn a_quota_wakes<R: Abort + Threads + Wait + Clock + Sync>(rt: &R, alloc: Global
 }
 
 #[test]
-fn a_higher_quota_wakes_all_for_whom_it_makes_room(rt: HostRuntime) {
+fn a_higher_quota_wakes_all_senders_that_then_have_room(rt: HostRuntime) {
     a_quota_wakes(&rt, rt.alloc(), 9);
 }
 
 #[test]
-fn a_quota_of_msgmnb_wakes_all_for_whom_it_makes_room(rt: HostRuntime) {
+fn a_quota_of_msgmnb_wakes_all_senders_that_then_have_room(rt: HostRuntime) {
     a_quota_wakes(&rt, rt.alloc(), MSGMNB);
 }
 
 #[test]
-fn a_removal_wakes_all_who_wait_for_a_message(rt: HostRuntime) {
+fn a_removal_wakes_all_receivers(rt: HostRuntime) {
     let receiver = [Says(1, 1), Receives(9, 9)];
     let remover = [Hears(1, 3), Looks, Removes];
     let part = Part { steps: &receiver };
@@ -361,7 +361,7 @@ fn a_removal_wakes_all_who_wait_for_a_message(rt: HostRuntime) {
 }
 
 #[test]
-fn a_removal_wakes_all_who_wait_for_room(rt: HostRuntime) {
+fn a_removal_wakes_all_senders(rt: HostRuntime) {
     let sender = [Hears(1, 1), Says(2, 1), Sends(1, 3)];
     let remover = [Sets(2), Says(1, 3), Hears(2, 3), Looks, Removes];
     let part = Part { steps: &sender };
@@ -379,7 +379,7 @@ fn a_removal_wakes_all_who_wait_for_room(rt: HostRuntime) {
 }
 
 #[test]
-fn a_removal_wakes_those_who_wait_for_room_beside_those_who_wait_for_a_message(rt: HostRuntime) {
+fn a_removal_wakes_senders_beside_receivers(rt: HostRuntime) {
     let receiver = [Says(2, 1), Receives(9, 9)];
     let sender = [Hears(1, 1), Says(2, 1), Sends(1, 3)];
     let remover = [Sets(2), Says(1, 3), Hears(2, 6), Looks, Removes];

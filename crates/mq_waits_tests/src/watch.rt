@@ -47,8 +47,8 @@ impl Watch {
         self.over.load(Ordering::SeqCst)
     }
 
-    /// Waits until the test has come to its end, however long it goes on. Where this count stands
-    /// still for so long, the test fails, and tells what has not come.
+    /// Waits until the test has ended, however long it runs. Where this count stands still for so
+    /// long, the test fails, and names what it missed.
     pub(crate) fn keeps_on<R: Abort + Wait>(&self, rt: &R, done: &AtomicU64, what: &str) {
         for _ in rt.forever() {
             let before = done.load(Ordering::SeqCst);
@@ -60,15 +60,15 @@ impl Watch {
         }
     }
 
-    /// Waits until the test has come to its end. Where it does not in time, the test fails, and
-    /// tells what has not come.
+    /// Waits until the test has ended. Where it does not in time, the test fails, and names what it
+    /// missed.
     pub(crate) fn keeps<R: Abort + Wait>(&self, rt: &R, what: &str) {
         assert!(rt; self.is_over(rt), "not come in time: {what}");
     }
 }
 
 /// What this answers, whose threads wait for one another. Where it does not end in time, the test
-/// fails, and tells what has not come.
+/// fails, and names what it missed.
 pub(crate) fn in_time<R: Abort + Threads + Wait + Clock + Sync, T: Send, F: FnOnce() -> T + Send>(
     rt: &R,
     what: &str,

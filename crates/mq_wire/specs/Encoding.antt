@@ -1,6 +1,6 @@
--- The bytes of values: numbers with the lowest byte first. Where a number is none of its type, the
--- list is one that no bytes begin with. A proof over them opens what it has to: elsewhere they are
--- words, each for the bytes of one type.
+-- The bytes of values, with numbers in little-endian order. Where a number is out of its type's
+-- range, the list is one that no bytes begin with. The definition for each type is opaque where a
+-- proof does not unfold it.
 use Rattle.std.specs.Prelude.{ℕ, ◌^◌, nat_lt, nat_eq, ℤ, pos, negsuc, Bool, true, false, List, [], ◌∷◌, ◌++◌, length, Option, Some, None}
 use Rattle.std.specs.Int.{w8, w16, w32, w64, cast_unsigned, to_le_bytes}
 
@@ -39,7 +39,7 @@ unfoldable pub bool_bytes : Bool → List ℕ
 bool_bytes false = 0 ∷ []
 bool_bytes true = 1 ∷ []
 
--- bytes that are so many
+-- the bytes of an array, which are that many
 unfoldable pub array_bytes : ℕ → List ℕ → List ℕ
 array_bytes count bytes = bytes_if (nat_eq (length bytes) count) bytes
 

@@ -1,3 +1,5 @@
+//! The serialized form of byte arrays, whose length the type has.
+
 ghost use Rattle.std.specs.Prelude.{◌≡◌, ◌++◌, false};
 ghost use Rattle.mq_wire.specs.Encoding.{array_bytes};
 

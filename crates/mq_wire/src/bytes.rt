@@ -1,3 +1,5 @@
+//! Lists of bytes and their serialized form: length-prefixed.
+
 ghost use Rattle.std.specs.Prelude.{◌≡◌, ◌++◌, ℕ, List, IfOk};
 ghost use Rattle.mq_wire.specs.Encoding.{counted_bytes};
 
@@ -48,7 +50,7 @@ impl Bytes {
     }
 }
 
-/// The length in eight bytes, the lowest first, and then the bytes.
+/// The length in eight bytes, little-endian, and then the bytes.
 #[tactic(auto, unfolding(crate::specs::Encoding::counted_bytes))]
 impl Wire for Bytes {
     ghost bytes_of = { counted_bytes };

@@ -1,3 +1,5 @@
+//! Reads of a fixed number of bytes, by which integers and arrays are read.
+
 ghost use Rattle.std.specs.Prelude.{◌≡◌, ◌++◌, Bool, true, List, ℕ, length};
 ghost use Rattle.std.specs.Prelude.{IfOk, IfSome, IsErrOf, MatchOption, Ok};
 ghost use Rattle.mq_wire.specs.Encoding.{bytes_if};

@@ -1,6 +1,6 @@
-//! Values that have bytes: a sender writes them, and a receiver reads the same value back. Numbers
-//! have their lowest byte first; a bool is one byte, and so is the tag of an option; what has any
-//! length has it before it, in eight bytes.
+//! Serialization: a sender writes a value as bytes, and a receiver reads the same value back.
+//! Numbers are little-endian; a bool is one byte, and so is the tag of an option; a list of bytes
+//! is prefixed with its length, in eight bytes.
 
 #![tactic(auto)]
 

@@ -1,3 +1,5 @@
+//! The serialized form of options: a tag byte, then the value if there is one.
+
 ghost use Rattle.std.specs.Prelude.{◌≡◌, ◌++◌, Option};
 ghost use Rattle.mq_wire.specs.Encoding.{option_bytes};
 

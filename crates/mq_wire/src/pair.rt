@@ -1,3 +1,5 @@
+//! The serialized form of pairs.
+
 ghost use Rattle.std.specs.Prelude.{◌≡◌, ◌++◌, ◌||◌};
 
 use crate::unread_error::UnreadError;

@@ -1,3 +1,5 @@
+//! The serialized form of bools and of the unit type.
+
 ghost use Rattle.std.specs.Prelude.{◌≡◌, ◌++◌, [], false};
 ghost use Rattle.mq_wire.specs.Encoding.{bool_bytes};
 

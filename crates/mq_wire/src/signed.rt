@@ -1,3 +1,5 @@
+//! The serialized form of signed integers: two's complement, little-endian, of a fixed width.
+
 ghost use Rattle.std.specs.Prelude.{◌≡◌, ◌++◌, false};
 ghost use Rattle.mq_wire.specs.Encoding.{i16_bytes, i32_bytes, i64_bytes, i8_bytes};
 
@@ -23,7 +25,7 @@ impl Wire for i8 {
     }
 }
 
-/// Two bytes of two's complement, the lowest first.
+/// Two bytes of two's complement, little-endian.
 #[tactic(auto, unfolding(crate::specs::Encoding::i16_bytes))]
 impl Wire for i16 {
     ghost bytes_of = { i16_bytes };
@@ -39,7 +41,7 @@ impl Wire for i16 {
     }
 }
 
-/// Four bytes of two's complement, the lowest first.
+/// Four bytes of two's complement, little-endian.
 #[tactic(auto, unfolding(crate::specs::Encoding::i32_bytes))]
 impl Wire for i32 {
     ghost bytes_of = { i32_bytes };
@@ -55,7 +57,7 @@ impl Wire for i32 {
     }
 }
 
-/// Eight bytes of two's complement, the lowest first.
+/// Eight bytes of two's complement, little-endian.
 #[tactic(auto, unfolding(crate::specs::Encoding::i64_bytes))]
 impl Wire for i64 {
     ghost bytes_of = { i64_bytes };

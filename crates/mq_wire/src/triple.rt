@@ -1,3 +1,5 @@
+//! The serialized form of triples.
+
 ghost use Rattle.std.specs.Prelude.{◌≡◌, ◌++◌, ◌||◌};
 
 use crate::unread_error::UnreadError;

@@ -1,3 +1,5 @@
+//! The serialized form of unsigned integers: little-endian, of a fixed width.
+
 ghost use Rattle.std.specs.Prelude.{◌≡◌, ◌++◌, [], ◌∷◌, false};
 ghost use Rattle.mq_wire.specs.Encoding.{u16_bytes, u32_bytes, u64_bytes};
 
@@ -24,7 +26,7 @@ impl Wire for u8 {
     }
 }
 
-/// Two bytes, the lowest first.
+/// Two bytes, little-endian.
 #[tactic(auto, unfolding(crate::specs::Encoding::u16_bytes))]
 impl Wire for u16 {
     ghost bytes_of = { u16_bytes };
@@ -40,7 +42,7 @@ impl Wire for u16 {
     }
 }
 
-/// Four bytes, the lowest first.
+/// Four bytes, little-endian.
 #[tactic(auto, unfolding(crate::specs::Encoding::u32_bytes))]
 impl Wire for u32 {
     ghost bytes_of = { u32_bytes };
@@ -56,7 +58,7 @@ impl Wire for u32 {
     }
 }
 
-/// Eight bytes, the lowest first.
+/// Eight bytes, little-endian.
 #[tactic(auto, unfolding(crate::specs::Encoding::u64_bytes))]
 impl Wire for u64 {
     ghost bytes_of = { u64_bytes };

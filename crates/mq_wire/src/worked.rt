@@ -1,4 +1,4 @@
-//! The bytes of values in numbers: proved of the definitions alone.
+//! Examples of serialized forms: each is proved of the definitions alone.
 
 ghost use Rattle.std.specs.Prelude.{◌≡◌, ◌+◌, ◌-◌, ◌^◌, ◌∷◌, [], pos, negsuc, false, true};
 ghost use Rattle.std.specs.Prelude.{None, Some};
@@ -6,7 +6,7 @@ ghost use Rattle.std.specs.Prelude.{None, Some};
 use crate::bytes::Bytes;
 use crate::wire::Wire;
 
-/// The bytes of numbers. What is out of a type's range has bytes that none begin with.
+/// The bytes of numbers. A number out of its type's range has bytes that no input begins with.
 #[tactic(auto, unfolding(crate::specs::Encoding::u16_bytes, crate::specs::Encoding::u32_bytes, crate::specs::Encoding::u64_bytes, crate::specs::Encoding::i8_bytes, crate::specs::Encoding::i16_bytes, crate::specs::Encoding::i32_bytes, crate::specs::Encoding::i64_bytes))]
 pub fn worked_numbers()
     ensures u8 { ⟦<u8 as Wire>⟧.bytes_of 7 ≡ 7 ∷ [] }
@@ -38,7 +38,7 @@ pub fn worked_compounds()
         ≡ 2 ∷ 0 ∷ 0 ∷ 0 ∷ 0 ∷ 0 ∷ 0 ∷ 0 ∷ 9 ∷ 8 ∷ [] }
 {}
 
-/// Which values take memory to be read.
+/// Which values allocate when they are read.
 pub fn worked_memory()
     ensures fixed { ⟦<(u8, Option<u16>, [u8; 2]) as Wire>⟧.allocates ≡ false }
     ensures list { ⟦<Option<(u8, Bytes)> as Wire>⟧.allocates ≡ true }

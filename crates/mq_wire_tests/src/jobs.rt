@@ -116,7 +116,7 @@ fn of_kind(kind: Kind) -> Job {
 }
 
 #[test]
-fn a_job_of_each_kind_comes_back(rt: HostRuntime) -> Result<(), Fail> {
+fn a_job_of_each_kind_is_read_back(rt: HostRuntime) -> Result<(), Fail> {
     let alloc = rt.alloc();
     is_kept(&rt, alloc, &of_kind(Kind::Stop), &[2, 1, 0, 1])?;
     is_kept(&rt, alloc, &of_kind(Kind::Add(513)), &[2, 1, 1, 1, 2, 1])?;
@@ -128,7 +128,7 @@ fn a_job_of_each_kind_comes_back(rt: HostRuntime) -> Result<(), Fail> {
 }
 
 #[test]
-fn a_note_comes_back_with_its_text(rt: HostRuntime) -> Result<(), Fail> {
+fn a_note_is_read_back_with_its_text(rt: HostRuntime) -> Result<(), Fail> {
     let alloc = rt.alloc();
     let note = Note {
         number: 6,

@@ -1,4 +1,4 @@
-//! Tests of values that have bytes: each is written, read back and cut short.
+//! Tests of values with a serialized form: each is written, read back and truncated.
 
 #![tactic(auto)]
 

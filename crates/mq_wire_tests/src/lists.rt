@@ -6,7 +6,7 @@ use std::alloc::{AllocError, Global};
 use std::process::Abort;
 use std::test::Fail;
 
-/// A list comes back with the bytes that it was made of.
+/// A list is read back with the bytes that it was made of.
 fn comes_back(
     rt: &impl Abort,
     alloc: Global,
@@ -38,7 +38,7 @@ fn a_list_of_bytes_follows_its_length(rt: HostRuntime) -> Result<(), Fail> {
 }
 
 #[test]
-fn a_list_within_others_comes_back(rt: HostRuntime) -> Result<(), Fail> {
+fn a_list_within_others_is_read_back(rt: HostRuntime) -> Result<(), Fail> {
     let alloc = rt.alloc();
     let value = (true, Some(Bytes::from_slice(alloc, &[9])?), 258u16);
     let bytes = [1, 1, 1, 0, 0, 0, 0, 0, 0, 0, 9, 2, 1];
@@ -53,7 +53,7 @@ fn a_list_within_others_comes_back(rt: HostRuntime) -> Result<(), Fail> {
 }
 
 #[test]
-fn what_was_not_read_is_told_in_words(rt: HostRuntime) -> Result<(), Fail> {
+fn an_unread_error_is_printed_in_words(rt: HostRuntime) -> Result<(), Fail> {
     let alloc = rt.alloc();
     holds!(rt; format!(in alloc; "{}", UnreadError::NoMemory)?.as_str() == "out of memory");
     holds!(rt; format!(in alloc; "{}", UnreadError::NoValue)?.as_str() == "no value");

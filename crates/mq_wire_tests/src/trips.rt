@@ -1,4 +1,4 @@
-//! The way of a value into bytes and back. Where memory is refused, a call is made once more.
+//! The round trip of a value through its bytes. A call that is out of memory is retried once.
 
 use mq_wire::{UnreadError, Wire};
 use std::alloc::{AllocError, Global};
@@ -38,8 +38,8 @@ pub(crate) fn has_none<T: Wire>(rt: &impl Abort, alloc: Global, bytes: &[u8]) {
     }
 }
 
-/// The value has these bytes and is read from them, whatever follows, and from none of their
-/// fronts.
+/// The value has these bytes and is read from them, whatever follows, and from no proper prefix of
+/// them.
 pub(crate) fn returns<T: Wire>(
     rt: &impl Abort,
     alloc: Global,
@@ -66,7 +66,7 @@ pub(crate) fn returns<T: Wire>(
     }
 }
 
-/// The very value comes back from its bytes.
+/// The same value is read back from its bytes.
 pub(crate) fn is_kept<T: Wire + PartialEq>(
     rt: &impl Abort,
     alloc: Global,

@@ -1,4 +1,4 @@
--- What is told by the end of a run.
+-- What the end of a run determines.
 use Rattle.std.proofs.Common.{List, [], ℕ, Option, None, Some, IfSome, Result, Ok, Err, arith}
 use Rattle.std.proofs.KnownBytes.{Consumes-nil}
 use Rattle.mq_cli.specs.Recorded.{KeepsScript, RecordedSerial}
@@ -48,7 +48,7 @@ pub ran_threads : (config : Config) (script left old new : Option (List ℕ)) (r
     → RanKind Threads config script left r
 ran_threads config script left old new r ran = record { reads = ran.reads; tells = threads_tell config script old new r ran.writes }
 
--- a run that is recorded tells the same
+-- a run that is recorded says the same of its script
 serial_keeps : (config : Config) (script : Option (List ℕ)) (r : Result Recorded RunFault) → IfSome script (KeepsScript config r) → Tells Serial config script r
 serial_keeps config None (Ok kept) keeps = tt
 serial_keeps config (Some s) (Ok kept) keeps = keeps.1
@@ -77,7 +77,7 @@ threads_keep config script (Err Thread) keeps = tt
 pub recorded_threads : (config : Config) (script left : Option (List ℕ)) (r : Result Recorded RunFault) → RecordedThreads config script left r → RanKind Threads config script left r
 recorded_threads config script left r ran = record { reads = ran.reads; tells = threads_keep config script r ran.keeps }
 
--- what was recorded is drawn, or is not, for want of memory or where a write fails
+-- what was recorded is drawn, or is not, where memory runs out or a write fails
 pub drawn : (kind : Kind) (config : Config) (script left : Option (List ℕ)) (kept : Recorded) → RanKind {T = Recorded} kind config script left (Ok kept)
     → RanKind {T = Unit {0}} kind config script left (Ok tt)
 drawn kind config script left kept ran = record { reads = ran.reads; tells = ran.tells }

@@ -1,4 +1,4 @@
--- What a run of a script of either kind read, and what its fault tells of the script.
+-- What a run of a script of either kind read, and what its fault says of the script.
 use Rattle.std.specs.Prelude.{◌≡◌, ℕ, List, Option, None, Some, IfSome, Result, Ok, Err}
 use Rattle.mq_cli.specs.Input.{ReadsBy}
 use Rattle.mq_cli.specs.ThreadsScript.{wanted_of}
@@ -20,7 +20,7 @@ abbrev pub IsFaultless : Kind → Config → List ℕ → Type 0
 IsFaultless Serial config script = fault_of config script ≡ None
 IsFaultless Threads config script = Unit {0}
 
--- what the end of a run tells of the script's bytes, where they are known
+-- what the end of a run says of the script's bytes, where they are known
 abbrev pub Tells : {T : Type 0} → Kind → Config → Option (List ℕ) → Result T RunFault → Type 0
 Tells kind config script (Ok _) = IfSome script (IsFaultless kind config)
 Tells kind config script (Err (Script line cause)) =

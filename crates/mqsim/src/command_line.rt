@@ -210,7 +210,7 @@ fn serial<'a>(alloc: Global) -> Result<Command<'a>, AllocError> {
 /// The subcommand `threads`.
 fn threads<'a>(alloc: Global) -> Result<Command<'a>, AllocError> {
     let command = Command::new(alloc, "threads")
-        .about("Runs each section on a thread of its own; a put or take may wait for good")
+        .about("Runs each section on a thread of its own; a put or take may block forever")
         .after_help(THREADS_NOTES);
     with_options(alloc, command)
 }
@@ -272,7 +272,7 @@ fn with_options<'a>(alloc: Global, command: Command<'a>) -> Result<Command<'a>, 
         .long("last-seq")
         .value_name("Q")
         .value_parser(value_parser!(u32).range(0..=i64::from(MAX_SEQ)))
-        .help("A slot has Q + 1 queues in turn; Q is 0 to 32767 [default: 32767]");
+        .help("A slot is used for Q + 1 queues, then retired; Q is 0 to 32767 [default: 32767]");
     command
         .arg(height)?
         .arg(slots)?

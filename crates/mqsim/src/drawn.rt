@@ -42,7 +42,7 @@ pub fn draw<T: Threads + Wait + Clock + Sync, R: Read, W: Write + Drop>(
     }
 }
 
-/// Runs the script, and answers what is left of the run.
+/// Runs the script, and returns what is left of the run.
 #[tactic(auto, using(crate::proofs::RunLemmas::recorded_serial, crate::proofs::RunLemmas::recorded_threads))]
 fn recorded<T: Threads + Wait + Clock + Sync, R: Read>(
     rt: &T,
@@ -60,8 +60,8 @@ fn recorded<T: Threads + Wait + Clock + Sync, R: Read>(
     }
 }
 
-/// Writes what happened in the run of a task, and flushes the writer. The time of a serial script is
-/// its lines. Sections run at the same time, and their lines tell no order: the time of a threads
+/// Writes the trace of a task's run, and flushes the writer. The time of a serial script is its
+/// lines. Sections run concurrently, so that their lines have no order: the time of a threads
 /// script is the entries of each slot.
 fn written<W: Write>(
     alloc: Global,

@@ -11,15 +11,15 @@ A threads script begins with get and set lines, made one after the other. Then c
 up to 15 sections, each of which runs on a thread of its own:
   worker                     begins a section
   put ID TYPE COUNT LEN      sends COUNT texts of LEN bytes, and waits for room
-  take ID TYPE COUNT         receives COUNT texts, and waits where none fits
-  rm ID                      removes the queue, and ends who waits in it
-A put whose queue never gets room, or a take for which no text ever comes,
-waits for good; with the words within MS behind it, so many milliseconds.",
+  take ID TYPE COUNT         receives COUNT texts, and blocks while none matches
+  rm ID                      removes the queue; its waiters end with EIDRM
+A put whose queue never gets room, or a take that no message ever matches,
+blocks until the queue is removed, or forever; within MS behind it is a timeout.",
             $between,
             "\
 A script is read to its end before the first answer; at a terminal, Ctrl-D ends it.
 There, and with -i, each line of a serial script is answered before the next is read,
-and one that is not well formed is named and passed over."
+and one that is not well formed is answered line N: CAUSE, and skipped."
         )
     };
 }
@@ -37,17 +37,18 @@ A line of a serial script is one call, with one space between its words:
   get KEY [c|x|cx]           finds or makes a queue (c IPC_CREAT, x IPC_EXCL)
   snd ID TYPE =TEXT          sends a text; *N for it sends N letters
   rcv ID SIZE TYPE [e|n|en]  receives a text (e MSG_EXCEPT, n MSG_NOERROR)
-  stat ID                    shows the queue's figures, as IPC_STAT does
+  stat ID                    shows the queue's statistics, as IPC_STAT does
   set ID QBYTES              sets its quota, as IPC_SET does
   rm ID                      removes it, as IPC_RMID does
-  cut SLOT                   cuts the log of a slot off where it ends
+  cut SLOT                   drains the log of a slot
   ipcs                       shows all queues
   ipcs -q [x]                the same as ipcs(1) does, x with keys in hexadecimal
   ipcs -l                    shows the limits, as ipcs(1) does
-  info                       shows what is in use, and the limits, as IPC_INFO does
+  info                       shows what is in use, all slots and pages, and the
+                             limits, as IPC_INFO does
   arena                      shows how many pages there are, and are free
-  seat S                     has seat S, 1 to 16, make the calls from here on
-An empty line, and one that begins with #, says nothing.
+  seat S                     makes the calls from here on at seat S, 1 to 16
+An empty line, and one that begins with #, is ignored.
 
 ",
     "

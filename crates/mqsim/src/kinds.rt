@@ -15,7 +15,7 @@ use std::sync::Wait;
 use std::thread::{Threads, join_mut};
 use std::time::Clock;
 
-/// Runs the reader's script, and prints what the task wants of it.
+/// Runs the reader's script, and prints what the task asks for.
 pub fn run_task<R: Read>(
     rt: &(impl AllocGlobal + Print + Threads + Wait + Clock + Sync),
     task: Task,

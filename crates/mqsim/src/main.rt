@@ -1,5 +1,5 @@
 //! `mqsim` reads a script of message queue calls and writes one answer line for each call,
-//! or runs sections of it on threads and tells at the end what each did, or draws what happened.
+//! or runs sections of it on threads and reports at the end what each did, or draws the run.
 
 #![tactic(auto)]
 
@@ -67,9 +67,8 @@ fn terminals_of(rt: &HostRuntime) -> Terminals {
     }
 }
 
-/// Does what the words say, and gives the exit status. Who types is told how to end, and is
-/// answered line by line where the script is a serial one. At a terminal threads that run long are
-/// told of.
+/// Runs the command line, and returns the exit status. At a terminal the prompt says how to end,
+/// a serial script is answered line by line, and a ticker shows that threads still run.
 fn answered(
     rt: &(impl AllocGlobal + Files + Input + Print + Eprint + Threads + Wait + Clock + Sync),
     words: &[String],

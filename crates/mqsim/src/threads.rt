@@ -13,7 +13,7 @@ use std::sync::Wait;
 use std::thread::Threads;
 use std::time::Clock;
 
-/// Runs the threads script of the reader, and writes to the writer what it tells, many lines at a
+/// Runs the threads script of the reader, and writes its report to the writer, many lines at a
 /// time.
 pub fn run_in_threads<T: Threads + Wait + Clock + Sync, R: Read, W: Write + Drop>(
     rt: &T,

@@ -1,9 +1,9 @@
-//! The line at a terminal that tells how long a run has gone on.
+//! The line at a terminal that shows how long a run has taken.
 
 use std::sync::{Condvar, Mutex, Wait};
 use std::time::{Clock, Duration};
 
-/// A run of which is told, once a second, that it goes on.
+/// A run, of which a line shows once a second that it continues.
 #[derive(Drop)]
 pub struct Ticker {
     is_over: Mutex<bool>,
@@ -24,7 +24,7 @@ impl Ticker {
         self.ended.notify_all();
     }
 
-    /// Shows on standard error how long the run has gone on, until it has ended. What is written
+    /// Shows on standard error how long the run has taken, until it has ended. What is written
     /// next to the terminal begins where the line does, and is longer; at the end it is taken away.
     pub fn shows<R: Eprint + Wait + Clock>(&self, rt: &R) {
         let mut seconds: u64 = 0;

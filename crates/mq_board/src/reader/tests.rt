@@ -107,7 +107,8 @@ fn append_both<J: Naming, R: Wait>(rt: &R, writer: &mut BoardWriter<J>) -> Resul
     )
 }
 
-/// How many queues a reader sees after a making while others are stopped inside a copy, and then.
+/// How many queues a reader sees after a making while others are stopped inside a copy, and after
+/// they have left.
 fn seen_beside<J: Naming, R: Abort + Wait>(
     rt: &R,
     alloc: Global,
@@ -178,8 +179,8 @@ fn wait_until<R: Wait>(rt: &R, counted: &AtomicU64, wanted: u64) {
     unreachable!()
 }
 
-/// How far two threads came: 1 where the reader is inside, 2 after the first change, 3 after the
-/// second.
+/// Publishes a making once a reader is inside, and then a removal. `step` is 1 where the reader is
+/// inside, 2 after the first change, and 3 after the second.
 fn make_and_remove<J: Naming, R: Wait>(
     rt: &R,
     writer: &mut BoardWriter<J>,

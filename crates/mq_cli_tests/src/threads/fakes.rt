@@ -1,3 +1,5 @@
+//! A fake writer for the tests of `run_threads`, which also detects that a run was out of memory.
+
 use crate::fakes::Narrow;
 use crate::threads::scripts::tells_enomem;
 use mq_cli::RunFault;

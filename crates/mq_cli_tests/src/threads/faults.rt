@@ -1,3 +1,6 @@
+//! I/O errors of `run_threads`: a failed read leaves nothing written, a failed write leaves a
+//! prefix of the output, and a failed flush ends the run. A script over the limit is not run.
+
 use crate::fakes::{Narrow, Trickle};
 use crate::threads::fakes::Flushing;
 use crate::threads::scripts::{OWN, OWN_TOLD, TWO_PAIRS};
@@ -78,7 +81,7 @@ fn a_flush_that_fails_is_a_failed_write(rt: HostRuntime) -> Result<(), Fail> {
             &mut writer,
             SCRIPT_DEFAULTS,
         );
-        // A flush that fails hides a want of memory, of which only a shorter text tells.
+        // A flush that fails hides that a run was out of memory, which only a shorter text shows.
         holds!(rt; writer.narrow.taken.len() >= told.len(), "out of memory");
         holds!(rt; !writer.lacked_memory(ended), "out of memory");
         assert!(rt; ended == end, "at {fails_at_flush}");

@@ -52,7 +52,7 @@ pub fn lacks_memory(ended: Result<(), RunFault>, written: &[u8]) -> bool {
     matches!(ended, Err(RunFault::Memory | RunFault::Thread)) || tells_enomem(written)
 }
 
-/// Whether a text tells of ENOMEM.
+/// Whether a text has ENOMEM in it.
 pub fn tells_enomem(text: &[u8]) -> bool {
     text.windows(6).any(|part| part == b"ENOMEM".as_slice())
 }

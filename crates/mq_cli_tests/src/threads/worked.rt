@@ -1,3 +1,6 @@
+//! Scripts of several threads, each with its whole output and the end of its run: timeouts,
+//! removals, page shortages, refusals, and the errors of the parser.
+
 use crate::threads::scripts::{OWN, OWN_TOLD, TWO_PAIRS, TWO_PAIRS_TOLD, lacks_memory};
 use mq_cli::{Cause, RunFault, SCRIPT_DEFAULTS, run_threads};
 use std::process::Abort;
@@ -64,9 +67,9 @@ slot 0 events 3 sent 0 received 0 left 0
 pages 64 free 64
 ";
 
-/// Both wait, or come too late: either way they answer EIDRM.
+/// Both wait, or call after the removal: either way they answer EIDRM.
 #[test]
-fn a_removal_ends_who_waits(rt: HostRuntime) -> Result<(), Fail> {
+fn a_removal_ends_a_wait(rt: HostRuntime) -> Result<(), Fail> {
     is_told(&rt, (REMOVED, REMOVED_TOLD, Ok(())))?;
     Ok(())
 }
@@ -113,7 +116,7 @@ slot 0 events 7 sent 3 received 3 left 0
 pages 64 free 64
 ";
 
-/// A queue without room, and one with three messages where five are wanted.
+/// A queue without room, and one with three messages where five are asked for.
 #[test]
 fn a_step_ends_where_its_waits_do(rt: HostRuntime) -> Result<(), Fail> {
     is_told(&rt, (ENDED, ENDED_TOLD, Ok(())))?;
@@ -156,7 +159,7 @@ rm 0
 ";
 
 #[test]
-fn a_removal_ends_who_waits_within_an_end(rt: HostRuntime) -> Result<(), Fail> {
+fn a_removal_ends_a_wait_with_a_timeout(rt: HostRuntime) -> Result<(), Fail> {
     is_told(&rt, (REMOVED_WITHIN, REMOVED_TOLD, Ok(())))?;
     Ok(())
 }
@@ -178,7 +181,7 @@ slot 0 events 3 sent 1 received 0 left 1
 pages 64 free 64
 ";
 
-/// The first text takes all pages, and nobody receives it.
+/// The first text takes all pages, and is never received.
 #[test]
 fn a_put_without_an_end_does_not_wait_for_pages(rt: HostRuntime) -> Result<(), Fail> {
     let mut written = Vec::with_capacity(rt.alloc(), 1000)?;
@@ -213,7 +216,7 @@ fn a_section_of_two_thousand_lines_is_run(rt: HostRuntime) -> Result<(), Fail> {
 }
 
 #[test]
-fn an_empty_script_tells_the_pages(rt: HostRuntime) -> Result<(), Fail> {
+fn an_empty_script_reports_the_pages(rt: HostRuntime) -> Result<(), Fail> {
     for script in ["", "\n", "# nothing\n\n", "\r\n"] {
         is_told(&rt, (script, "pages 64 free 64\n", Ok(())))?;
     }
@@ -247,8 +250,8 @@ slot 0 events 3 sent 2 received 0 left 2
 pages 64 free 64
 ";
 
-/// A text of the greatest length is handed on, and a longer one ends its worker; texts that are
-/// left are counted, and their pages are free.
+/// A text of the greatest length is sent and received, and a longer one ends its worker; texts that
+/// are left are counted, and their pages are free.
 #[test]
 fn a_worker_ends_at_a_refusal_or_done(rt: HostRuntime) -> Result<(), Fail> {
     is_told(&rt, (LONGEST, LONGEST_TOLD, Ok(())))?;
@@ -285,8 +288,8 @@ slot 1 events 1 sent 0 received 0 left 0
 pages 64 free 64
 ";
 
-/// A refused call of the main part is answered, and the run goes on; a section may be empty; slots
-/// in which no queue was made have no line.
+/// A refused call of the main part is answered, and the run continues; a section may be empty;
+/// slots in which no queue was made have no line.
 #[test]
 fn the_main_part_answers_as_a_serial_script(rt: HostRuntime) -> Result<(), Fail> {
     is_told(&rt, (MAIN, MAIN_TOLD, Ok(())))?;

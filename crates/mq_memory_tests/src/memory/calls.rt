@@ -23,7 +23,7 @@ pub(crate) trait Calls {
 
     fn set(&mut self, seat: u16, id: Id, qbytes: u64) -> Result<(), Errno>;
 
-    /// How many messages wait.
+    /// How many messages are pending.
     fn waiting(&mut self, seat: u16, id: Id) -> Result<u64, Errno>;
 
     fn cut(&mut self, seat: u16, slot: u8) -> Result<(), Errno>;

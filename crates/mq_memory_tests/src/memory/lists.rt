@@ -3,7 +3,7 @@
 use crate::memory::calls::Calls;
 use mq::{Config, DraftError, Errno, Id, MSGMNB};
 
-/// A call of a list, or what is wanted of it.
+/// A call of a list, or what is expected of it.
 #[derive(Clone, Copy, Drop)]
 pub(crate) enum Step {
     Msgget,
@@ -56,10 +56,10 @@ pub(crate) enum List {
     Slots,
     /// A queue is half full, and then full.
     Full,
-    /// Thousands of calls in one queue, and a removal where 16,384 messages wait.
+    /// Thousands of calls in one queue, and a removal where 16,384 messages are pending.
     Many,
-    /// As many messages as can wait, all but the first of the greatest type; then a cut of their
-    /// log and a removal.
+    /// As many messages as can be pending, all but the first of the greatest type; then a drain of
+    /// their log and a removal.
     Most,
     /// All queues that a slot can have.
     Used,
@@ -74,7 +74,7 @@ const LENGTHS: [u64; 16] = [
 /// How many messages are sent and received one by one.
 const CYCLES: u64 = 2000;
 
-/// How many messages wait at a removal.
+/// How many messages are pending at a removal.
 const WAITING: u64 = 16_384;
 
 /// The key of the queue in this slot: the lowest ones and the highest ones.
@@ -101,7 +101,7 @@ impl<C: Calls + Drop> Player<C> {
         }
     }
 
-    /// Wants that an answer is right.
+    /// Checks that an answer is right.
     fn is(&mut self, call: Step, right: bool) {
         if !right {
             self.is_wrong(call, None);
@@ -114,7 +114,7 @@ impl<C: Calls + Drop> Player<C> {
         }
     }
 
-    /// Wants this number.
+    /// Checks this number.
     fn told(&mut self, call: Step, answer: Result<u64, Errno>, wanted: u64) {
         match answer {
             Ok(number) => self.is(call, number == wanted),
@@ -144,7 +144,7 @@ impl<C: Calls + Drop> Player<C> {
         self.did(Step::Msgsnd, answer);
     }
 
-    /// Wants that so many bytes are received.
+    /// Checks that so many bytes are received.
     fn takes(&mut self, seat: u16, id: Id, size: u64, msgtyp: i64, len: u64) {
         let answer = self.calls.receive(seat, id, size, msgtyp);
         self.told(Step::Msgrcv, answer, len);
@@ -155,7 +155,7 @@ impl<C: Calls + Drop> Player<C> {
         self.did(Step::Set, answer);
     }
 
-    /// Wants that so many messages wait.
+    /// Checks that so many messages are pending.
     fn waits(&mut self, seat: u16, id: Id, count: u64) {
         let answer = self.calls.waiting(seat, id);
         self.told(Step::Stat, answer, count);

@@ -27,8 +27,8 @@ const ONE: Config = Config {
     ..ALL
 };
 
-/// Wants that nothing was wrong. A call that found no memory is told in a line, and in the next one
-/// that memory ran out.
+/// Checks that nothing was wrong. A call that was out of memory is printed in a line, and in the
+/// next one that memory ran out.
 fn is_right(rt: &impl Abort, on: &str, wrong: Option<Wrong>) {
     if let Some(Wrong { call, errno }) = wrong {
         let call = call.name();
@@ -44,7 +44,7 @@ fn pages_of(config: Config) -> u32 {
     1u32.checked_shl(u32::from(config.height)).unwrap_or(0)
 }
 
-/// Wants that no call was refused, and that all pages are free.
+/// Checks that no call was refused, and that all pages are free.
 fn ends(rt: &impl Abort, on: &str, config: Config, ended: Result<Ended<Option<Wrong>>, SysError>) {
     match ended {
         Ok(ended) => {

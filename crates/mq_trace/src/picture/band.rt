@@ -21,7 +21,7 @@ const GAP: u64 = 12;
 #[derive(Clone, Copy)]
 pub(crate) struct Band {
     pub id: u32,
-    /// Its key, or `None` where its making was cut off.
+    /// Its key, or `None` where its creation was drained.
     pub key: Option<i32>,
     pub begin: u64,
     /// When it was removed.

@@ -34,7 +34,7 @@ impl Until {
 #[derive(Clone, Copy, Debug, PartialEq, Eq)]
 pub(crate) struct Bar {
     pub message: Header,
-    /// Its sending, or `None` where that was cut off.
+    /// Its send, or `None` where that was drained.
     pub sent: Option<Stamp>,
     pub until: Until,
 }

@@ -19,7 +19,7 @@ pub(crate) struct Stroke {
 /// One bar after another.
 #[derive(Clone, Copy)]
 struct Lane {
-    /// From which entry on it is free, or `None` where its bar goes on to the end.
+    /// From which entry on it is free, or `None` where its bar extends to the end.
     free: Option<u64>,
     /// The bar that is drawn next, unless another falls into its column.
     held: Option<Stroke>,

@@ -79,8 +79,8 @@ impl Row {
         }
     }
 
-    /// The column of a refusal. No entry tells of it: by entries it has no time, and is at the
-    /// left edge.
+    /// The column of a refusal. It has no entry: by entries it has no time, and is at the left
+    /// edge.
     fn column(&mut self, refusal: &Refusal) -> u64 {
         self.now = self.now.max(refusal.moment);
         match self.scale {
@@ -89,7 +89,7 @@ impl Row {
         }
     }
 
-    /// Shows a refusal by a mark and a label, each of which it may have in common with those before.
+    /// Shows a refusal by a mark and a label, each of which it may share with those before.
     pub(crate) fn put(&mut self, out: &mut String, refusal: &Refusal) -> Result<(), AllocError> {
         let column = self.column(refusal);
         self.mark = match self.mark {

@@ -61,7 +61,7 @@ impl StepLine {
         self.foot.saturating_sub(part.min(100) as u64)
     }
 
-    /// Goes on to a value at a column.
+    /// Continues to a value at a column.
     pub(crate) fn go(&mut self, column: u64, value: u64) -> Result<(), AllocError> {
         let y = self.height(value);
         if column != self.column {

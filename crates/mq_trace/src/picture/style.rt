@@ -1,7 +1,7 @@
 //! The style sheet of a picture.
 
-/// How a picture looks in light and dark. Messages have the eight colours of Okabe and Ito, which
-/// people who see colours in other ways can tell apart too, with grey for black.
+/// The colours of a picture in light and dark. Messages have the eight colours of Okabe and Ito,
+/// which people with colour vision deficiency can distinguish too, with grey for black.
 pub(crate) const STYLE: &str = "<style>\n\
 text{font:10px sans-serif;fill:#1f2328}\n\
 .h{font-size:17px;font-weight:bold}.n,.t{fill:#59636e;font-size:11px}.t{text-anchor:middle}\n\

@@ -2,7 +2,7 @@ use Rattle.std.proofs.Common.{rules, ap, inl, ◌∙◌, w64}
 use Rattle.std.proofs.lemmas.Int.{to_z-of_z}
 use mir.Val.{SFits}
 use Rattle.mq_arena.specs.Text.{PlainText}
-use Rattle.mq_one_thread.proofs.DraftLemmas.{spent_after}
+use Rattle.mq_local.proofs.DraftLemmas.{spent_after}
 use Rattle.mq_calls.specs.State.{QueuesState}
 use Rattle.mq_calls.specs.Texts.{text_spent}
 use Rattle.mq_calls.specs.declared.results.Refused.{Refused}

@@ -3,12 +3,12 @@ use Rattle.mq_queue.specs.declared.limits.TheConstants.{MSGMAX}
 use Rattle.mq.specs.Caller.{IsTooLong}
 use Rattle.mq.proofs.receive.take.Given as goal
 
--- how much more room may be made
+-- how much the room may still grow
 abbrev pub decreases-loop-id : goal.decreases-loop-id
 decreases-loop-id g l = l.most - l.size
 
 -- the calls so far were refused for a text's length, and there is room for some bytes, or for all
--- that may be cut
+-- where a longer text is truncated
 abbrev pub invariant-loop-id : goal.invariant-loop-id
 invariant-loop-id g l =
     IsTooLong g.N.Names.slots l.fn.id l.fn.options.size l.fn.selection l.fn.options.noerror g.T.Patience.ends l.fn.seat l.seat

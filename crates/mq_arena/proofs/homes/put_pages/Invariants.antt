@@ -3,7 +3,7 @@ use Rattle.mq_arena.specs.Bytes.{AreWhole}
 use Rattle.mq_arena.specs.Homes.{SameOutside, IsHome}
 use Rattle.mq_arena.proofs.homes.put_pages.Given as goal
 
--- the pages that are left are whole, those put back are at home, and no other place changed
+-- the pages that are left are whole, the arena holds those put back, and no other place changed
 abbrev pub invariant-loop-page : goal.invariant-loop-page
 invariant-loop-page l = record {
   whole : AreWhole l.places.value.items;

@@ -1,7 +1,7 @@
 use Rattle.std.proofs.Common.{length}
 use Rattle.mq_caller_tests.proofs.batches.told.Given as goal
 
--- each turn takes one out
+-- each iteration removes one
 abbrev pub invariant-loop-delivered : goal.invariant-loop-delivered
 invariant-loop-delivered g l = Unit {0}
 

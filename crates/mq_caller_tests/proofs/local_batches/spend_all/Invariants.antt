@@ -1,7 +1,7 @@
 use Rattle.std.proofs.Common.{length}
 use Rattle.mq_caller_tests.proofs.local_batches.spend_all.Given as goal
 
--- each turn takes one out
+-- each iteration removes one
 abbrev pub invariant-loop-letter : goal.invariant-loop-letter
 invariant-loop-letter g l = Unit {0}
 

@@ -12,7 +12,7 @@ returns-in-Some-clause-slot g c =
     let own : c.into_parts-own.result.0 ≡ c.in-Some.queue.base =
     c.into_parts-own.ensures.base ∙ c.into_parts-log.ensures.base in
     let based =
-    c.base_told-base.ensures
+    c.base_shown-base.ensures
     ∙ ap (λ (base : Base). option_or (some_base base) c.into_parts-cut.result.0.base) own in
     let tail = c.into_parts-own.ensures.tail ∙ c.into_parts-log.ensures.tail in
     let left =

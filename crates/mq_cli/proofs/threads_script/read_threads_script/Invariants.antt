@@ -5,7 +5,7 @@ use Rattle.mq_cli.specs.ThreadsScript.{wanted_from, wanted_of}
 use Rattle.mq_cli.proofs.WantedLemmas.{IsSmall}
 use Rattle.mq_cli.proofs.threads_script.read_threads_script.Given as goal
 
--- what the script wants is what was read and what the lines that are left want, which are few
+-- what the script asks for is what was read and what the lines that are left ask for, which are few
 abbrev pub invariant-loop-line : goal.invariant-loop-line
 invariant-loop-line l =
     (goal.iterator-loop-line).can_next l.line-iterator

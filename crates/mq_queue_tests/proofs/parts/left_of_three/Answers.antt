@@ -3,7 +3,7 @@ use Rattle.std.specs.Result.{is_ok}
 use Rattle.mq_message.specs.Waiting.{message_at}
 use Rattle.mq_queue_tests.proofs.parts.left_of_three.Goals as goal
 
--- of three messages at the places 0, 1 and 2, one waits at 1
+-- of three messages at the places 0, 1 and 2, one is pending at 1
 second_waits : {X : Type 0} (xs : List (ℕ × X)) → map (λ m. m.0) xs ≡ 0 ∷ 1 ∷ 2 ∷ [] → IsSome (message_at 1 xs)
 second_waits [] h = cc
 second_waits (x ∷ []) h = cc

@@ -1,5 +1,5 @@
 use Rattle.std.proofs.Common.{◌≡◌, ◌≤◌, ℕ, ℤ, Some}
-use Rattle.mq_index.specs.FirstPlaces.{first_of}
+use Rattle.mq_select.specs.FirstPlaces.{first_of}
 use Rattle.mq_queue_tests.proofs.parts.the_least_places_are_those_of_a_search.Given as goal
 
 abbrev pub invariant-loop-place : goal.invariant-loop-place

@@ -4,7 +4,7 @@ use mir.Syntax.{w64}
 use Rattle.std.proofs.lemmas.Int.{to_z-of_z}
 use Rattle.mq_message.specs.Selection.{selection_of}
 use Rattle.mq_message.specs.declared.selection.Selection.{Selection}
-use Rattle.mq_one_thread.specs.Many.{AnswersMany}
+use Rattle.mq_local.specs.Many.{AnswersMany}
 use Rattle.mq_system.specs.declared.many.TheConstants.{MAX_BATCH}
 use Rattle.mq.specs.LocalBatches.{receives_text}
 use Rattle.mq.proofs.local_caller.LocalCaller.receive_texts.Goals as goal

@@ -1,7 +1,7 @@
 use Rattle.mq_system.proofs.NameLemmas.{books_of, names_of}
 use Rattle.mq.proofs.setup.Setup.with_workers.Given as goal
 
--- the ledgers and boards that were just made, and this size
+-- the ledgers and boards that were just opened, and this size
 abbrev pub ghosts-run_workers-N-Names : goal.ghosts-run_workers-N-Names
 ghosts-run_workers-N-Names g a = names_of a.blanks a.config
 

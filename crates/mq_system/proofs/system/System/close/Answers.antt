@@ -33,8 +33,8 @@ loop-monitor-init g c =
       (λ less. absurd (omega (arith, less, placed))),
     )
 
-pub come_home-requires : goal.come_home-requires
-come_home-requires g c =
+pub take_readers-requires : goal.take_readers-requires
+take_readers-requires g c =
     let kept = c.loop-monitor.invariant in
     let m = length c.pop.new.self.items in
     let more : length c.loop-monitor.monitors.items ≡ m + 1 =
@@ -53,14 +53,14 @@ come_home-requires g c =
           );
     }
 
--- the board's list is that of the slot, also once its readers are home
+-- the board's list is that of the slot, also once its readers are returned
 pub end_shared_slot-requires-clause-kept : goal.end_shared_slot-requires-clause-kept
 end_shared_slot-requires-clause-kept g c =
-    rw (ap (λ w. w.events) c.come_home.ensures.same) c.into_parts-slot.ensures.shared.published.kept
+    rw (ap (λ w. w.events) c.take_readers.ensures.same) c.into_parts-slot.ensures.shared.published.kept
 
 pub end_shared_slot-requires-clause-lawful : goal.end_shared_slot-requires-clause-lawful
 end_shared_slot-requires-clause-lawful g c =
-    rw (ap (λ w. w.events) c.come_home.ensures.same) c.into_parts-slot.ensures.shared.lawful
+    rw (ap (λ w. w.events) c.take_readers.ensures.same) c.into_parts-slot.ensures.shared.lawful
 
 pub end_shared_slot-requires-clause-waits : goal.end_shared_slot-requires-clause-waits
 end_shared_slot-requires-clause-waits g c =
@@ -68,7 +68,7 @@ end_shared_slot-requires-clause-waits g c =
     let had : Waits bytes_of (whole c.into_parts-slot.result.writer.events slot) =
     subst (λ (s : LockedSlot). Waits bytes_of s.whole) (sym c.into_parts-slot.ensures.slot)
     c.into_parts-slot.ensures.waits in
-    subst (λ es. Waits bytes_of (whole es slot)) (sym (ap (λ w. w.events) c.come_home.ensures.same))
+    subst (λ es. Waits bytes_of (whole es slot)) (sym (ap (λ w. w.events) c.take_readers.ensures.same))
     had
 
 pub loop-monitor-preserved : goal.loop-monitor-preserved
@@ -82,7 +82,7 @@ loop-monitor-preserved g c =
     let before = c.loop-monitor.closed.items in
     let closed = c.end_shared_slot.result in
     let is : IsEndOf g.N.Names.last_seq events closed =
-    subst (λ es. IsEndOf g.N.Names.last_seq es closed) (ap (λ w. w.events) c.come_home.ensures.same)
+    subst (λ es. IsEndOf g.N.Names.last_seq es closed) (ap (λ w. w.events) c.take_readers.ensures.same)
     c.end_shared_slot.ensures.ends in
     let kept = c.loop-monitor.invariant in
     let longer = length-append before (closed ∷ []) in
@@ -90,8 +90,8 @@ loop-monitor-preserved g c =
     omega (arith, ap length c.in-Some.ensures.items, length-append c.pop.new.self.items (c.in-Some.monitor ∷ [])) in
     let left : AreLeft (m + 1) seats c.loop-monitor.fronts.items =
     subst (λ n. AreLeft n seats c.loop-monitor.fronts.items) more kept.6 in
-    let fewer : IsFewer m events seats c.come_home.new.fronts.items =
-    one_fewer slots m events seats c.loop-monitor.fronts.items c.come_home.new.fronts.items c.gather.ensures.recorded (omega (arith, kept.0, more)) left c.come_home.ensures.left in
+    let fewer : IsFewer m events seats c.take_readers.new.fronts.items =
+    one_fewer slots m events seats c.loop-monitor.fronts.items c.take_readers.new.fronts.items c.gather.ensures.recorded (omega (arith, kept.0, more)) left c.take_readers.ensures.left in
     let place : m ≡ slots - 1 - length before = omega (arith, kept.0, more) in
     let seen : IsSeen slots seats (length before) events =
     subst (λ k. All (λ s. IsPrefix (front_of s k) events) seats) place fewer.seen in (
@@ -102,7 +102,7 @@ loop-monitor-preserved g c =
       omega (arith, ap length grown.items, longer, c.merge.ensures.parts, ended.part, kept.4),
       omega (arith, ap entries_in grown.items, entries_more before closed, whole_length events closed is.kept, c.merge.ensures.amount, ended.noted, kept.5),
       fewer.left,
-      (λ less. all_distinct (m + 1) seats c.loop-monitor.fronts.items left c.come_home.ensures.places),
+      (λ less. all_distinct (m + 1) seats c.loop-monitor.fronts.items left c.take_readers.ensures.places),
     )
 
 pub returns-clause-total : goal.returns-clause-total

@@ -1,5 +1,0 @@
-use Rattle.mq_one_thread_tests.proofs.face.system.lives.Given as goal
-
--- the ledger that is opened
-abbrev pub ghosts-lived : goal.ghosts-lived
-ghosts-lived g a = record { name = a.ledger.name; parts = a.ledger.parts }

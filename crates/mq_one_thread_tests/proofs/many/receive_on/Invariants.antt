@@ -1,9 +1,0 @@
-use Rattle.std.proofs.Common.{length}
-use Rattle.mq_one_thread_tests.proofs.many.receive_on.Given as goal
-
--- each turn takes one out
-abbrev pub invariant-loop-delivered : goal.invariant-loop-delivered
-invariant-loop-delivered g l = Unit {0}
-
-abbrev pub decreases-loop-delivered : goal.decreases-loop-delivered
-decreases-loop-delivered g l = length l.out.items
