@@ -64,7 +64,7 @@ HANGS = 124
 # What is left out: a writer that waits until a reader is inside, and workers of scripts, each of which
 # waits for what another worker sends or removes.
 WAIT_FOR_OTHERS = {
-    "mq_board reader::tests::the_next_but_one_change_waits_for_a_reader_inside",
+    "mq_board_tests stopped::the_next_but_one_change_waits_for_a_reader_inside",
     "mq_cli_tests threads::worked::two_pairs_of_workers_hand_on_all",
     "mq_cli_tests threads::worked::a_removal_ends_a_wait",
     "mq_cli_tests threads::worked::a_removal_ends_a_wait_with_a_timeout",

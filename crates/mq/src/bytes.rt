@@ -5,6 +5,7 @@ ghost use Rattle.std.specs.Prelude.{vec_len, vec_capacity};
 ghost use Rattle.mq_calls.specs.Look.{refused_at};
 ghost use Rattle.mq.specs.Bytes.{AnswersBytes, MayLackMemory, sends_bytes};
 
+use crate::Message;
 use mq_arena::Text;
 use mq_calls::{Errno, SendRefused};
 use mq_local::OneThread;
@@ -14,7 +15,7 @@ use std::sync::ledger::Ledger;
 /// The size of the buffer of a first receive: a longer text makes it grow.
 pub(crate) const FIRST_ROOM: u64 = 256;
 
-/// Drafts a text with these bytes and sends it, or spends it where it is refused. EINVAL and
+/// Drafts a text with a message's bytes and sends it, or spends it where it is refused. EINVAL and
 /// ENOMEM of the draft, then the refusals of `OneThread::msgsnd`: a draft that finds no memory
 /// returns ENOMEM, whatever the send would have returned.
 #[tactic(auto, using(crate::proofs::SendLemmas::sends_drafted))]
@@ -22,16 +23,17 @@ pub(crate) fn send_bytes<L: Ledger>(
     queues: &mut OneThread<L>,
     seat: u16,
     id: Id,
-    mtype: i64,
-    tag: u64,
-    bytes: &[u8],
+    message: Message<'_>,
     moment: u64,
 ) -> Result<u64, Errno>
     ensures answer { AnswersBytes result (λ entry. entry)
-        (sends_bytes queues.old seat id mtype tag bytes.now moment)
-        (refused_at queues.old id Errno.ENOMEM) (MayLackMemory queues.old bytes.now)
+        (sends_bytes queues.old seat id message.entry.mtype message.entry.tag
+        message.entry.bytes.now moment)
+        (refused_at queues.old id Errno.ENOMEM)
+        (MayLackMemory queues.old message.entry.bytes.now)
         queues.old queues.new }
 {
+    let Message { mtype, tag, bytes } = message;
     let text = match queues.draft_of(bytes) {
         Ok(text) => text,
         Err(error) => return Err(error.errno()),

@@ -9,6 +9,7 @@ ghost use Rattle.mq.specs.Local.{IsCopiedOut, IsNotTaken, IsTaken, sends_message
 
 use crate::bytes::{FIRST_ROOM, copy_out, send_bytes};
 use crate::msgtyp::msgtyp_of;
+use crate::receive_options::ReceiveCall;
 use crate::{LocalCaller, Message, ReceiveOptions};
 use mq_arena::Text;
 use mq_calls::{Delivered, Errno};
@@ -33,20 +34,11 @@ impl<'a, L: Ledger> LocalCaller<'a, L> {
         ensures seat { self.new.seat ≡ self.old.seat }
         ensures moment { self.new.of.now.moment ≡ self.old.of.now.moment }
     {
-        let Message { mtype, tag, bytes } = message;
-        if mtype < 1 || id.slot() >= self.slots() {
+        if message.mtype < 1 || id.slot() >= self.slots() {
             return Err(Errno::EINVAL);
         }
         let moment = self.of.moment;
-        send_bytes(
-            &mut self.of.queues,
-            self.seat,
-            id,
-            mtype,
-            tag,
-            bytes,
-            moment,
-        )
+        send_bytes(&mut self.of.queues, self.seat, id, message, moment)
     }
 
     /// Sends a message as `send` does, which does not wait either.
@@ -122,10 +114,12 @@ impl<'a, L: Ledger> LocalCaller<'a, L> {
             &mut self.of.queues,
             &mut room,
             self.seat,
-            id,
-            selection,
-            options,
-            moment,
+            ReceiveCall {
+                id,
+                selection,
+                options,
+                moment,
+            },
         );
         self.of.room = room;
         let Delivered {
@@ -185,10 +179,12 @@ impl<'a, L: Ledger> LocalCaller<'a, L> {
             &mut self.of.queues,
             bytes,
             self.seat,
-            id,
-            selection,
-            ReceiveOptions::new(),
-            moment,
+            ReceiveCall {
+                id,
+                selection,
+                options: ReceiveOptions::new(),
+                moment,
+            },
         )?;
         copy_out(&text, bytes);
         self.of.queues.spend(text);
@@ -209,20 +205,25 @@ fn take<L: Ledger>(
     queues: &mut OneThread<L>,
     room: &mut Vec<u8>,
     seat: u16,
-    id: Id,
-    selection: Selection,
-    options: ReceiveOptions,
-    moment: u64,
+    call: ReceiveCall,
 ) -> Result<Delivered<Text<L>>, Errno>
     ensures answer { MatchResult result
-        (λ d. IsTaken queues.old seat id options.size selection options.noerror moment d queues.new)
-        (IsNotTaken queues.old seat id options.size selection options.noerror moment) }
+        (λ d. IsTaken queues.old seat call.id call.options.size call.selection
+        call.options.noerror call.moment d queues.new)
+        (IsNotTaken queues.old seat call.id call.options.size call.selection
+        call.options.noerror call.moment) }
     ensures unchanged { OnErr result (queues.new ≡ queues.old) }
     ensures items { room.new.items ≡ room.old.items }
     ensures len { vec_len room.new ≡ vec_len room.old }
     ensures room { IfOk result
         (λ d. vec_len room.new + length d.text.bytes ≤ vec_capacity room.new) }
 {
+    let ReceiveCall {
+        id,
+        selection,
+        options,
+        moment,
+    } = call;
     let Some((msgtyp, except)) = msgtyp_of(selection) else {
         return Err(Errno::EINVAL);
     };

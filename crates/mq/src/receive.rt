@@ -11,6 +11,7 @@ ghost use Rattle.mq.specs.Caller.{IsAppended, IsNotReceivedFrom, IsReceivedOf, I
 
 use crate::bytes::{FIRST_ROOM, copy_out};
 use crate::msgtyp::msgtyp_of;
+use crate::receive_options::ReceiveCall;
 use crate::{Caller, ReceiveOptions};
 use mq_calls::{Delivered, Errno};
 use mq_message::{Body, Selection};
@@ -127,11 +128,13 @@ impl<'a, P: Pledge, N: Names, R: Wait + Clock> Caller<'a, P, N, R> {
             self.system,
             &mut self.seat,
             &mut self.room,
-            id,
-            selection,
-            options,
+            ReceiveCall {
+                id,
+                selection,
+                options,
+                moment: self.moments.now,
+            },
             patience,
-            self.moments.now,
         )?;
         let mut bytes = match Vec::with_capacity(self.alloc, received.text.len() as usize) {
             Ok(bytes) => bytes,
@@ -266,11 +269,13 @@ impl<'a, P: Pledge, N: Names, R: Wait + Clock> Caller<'a, P, N, R> {
             self.system,
             &mut self.seat,
             bytes,
-            id,
-            selection,
-            options,
+            ReceiveCall {
+                id,
+                selection,
+                options,
+                moment: self.moments.now,
+            },
             patience,
-            self.moments.now,
         )?;
         let Delivered {
             entry,
@@ -421,22 +426,25 @@ fn take<P: Pledge, N: Names, R: Wait, T: Patience>(
     system: &System<P, N>,
     seat: &mut Seat<N>,
     room: &mut Vec<u8>,
-    id: Id,
-    selection: Selection,
-    options: ReceiveOptions,
+    call: ReceiveCall,
     patience: &mut T,
-    moment: u64,
 ) -> Result<Delivered<TextOf<N>>, Errno>
     ensures answer { MatchResult result
-        (λ d. IsReceivedOf P.kept N.slots id options.size selection options.noerror moment
-        seat.old seat.new d d.text.bytes)
-        (IsNotReceivedFrom N.slots id options.size selection options.noerror T.ends
-        seat.old seat.new) }
+        (λ d. IsReceivedOf P.kept N.slots call.id call.options.size call.selection
+        call.options.noerror call.moment seat.old seat.new d d.text.bytes)
+        (IsNotReceivedFrom N.slots call.id call.options.size call.selection
+        call.options.noerror T.ends seat.old seat.new) }
     ensures items { room.new.items ≡ room.old.items }
     ensures len { vec_len room.new ≡ vec_len room.old }
     ensures room { IfOk result
         (λ d. vec_len room.new + length d.text.bytes ≤ vec_capacity room.new) }
 {
+    let ReceiveCall {
+        id,
+        selection,
+        options,
+        moment,
+    } = call;
     let Some((msgtyp, except)) = msgtyp_of(selection) else {
         return Err(Errno::EINVAL);
     };

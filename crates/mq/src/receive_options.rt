@@ -3,7 +3,9 @@
 ghost use Rattle.std.specs.Prelude.{◌≡◌, true, false};
 ghost use Rattle.mq_queue.specs.declared.limits.TheConstants.{MSGMAX};
 
+use mq_message::Selection;
 use mq_queue::MSGMAX;
+use mq_table::Id;
 
 /// Which messages a receive takes, by their length (msgop(2), msgrcv).
 #[derive(Clone, Copy, Debug, PartialEq, Eq)]
@@ -53,4 +55,13 @@ impl Default for ReceiveOptions {
     {
         ReceiveOptions::new()
     }
+}
+
+/// A receive: the queue, which of its messages, and when it is made.
+#[derive(Clone, Copy)]
+pub(crate) struct ReceiveCall {
+    pub id: Id,
+    pub selection: Selection,
+    pub options: ReceiveOptions,
+    pub moment: u64,
 }

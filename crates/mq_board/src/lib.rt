@@ -17,11 +17,11 @@ mod snapshot;
 mod told;
 mod writer;
 
-pub use making::{board, next_board, open_boards};
+pub use making::{MAX_PLACES, board, next_board, open_boards};
 pub use naming::Naming;
 pub use opened::OpenedBoard;
 pub use posting::Posting;
-pub use reader::BoardReader;
+pub use reader::{BoardReader, BoardReading};
 pub use roll::OpenedRoll;
 pub use told::ToldList;
 pub use writer::BoardWriter;

@@ -19,7 +19,7 @@ use std::sync::Wait;
 
 /// The most places of a board: so many readers can be inside its copies at once. Each publish
 /// visits each place. As many readers as places never find all taken.
-pub(crate) const MAX_PLACES: usize = 2;
+pub const MAX_PLACES: usize = 2;
 
 /// So many boards, opened before there are names for them. `Err` means out of memory.
 pub fn open_boards(alloc: Global, count: u8) -> Result<Vec<OpenedBoard>, AllocError>

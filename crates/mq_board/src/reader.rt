@@ -10,12 +10,9 @@ use crate::roll::BoardPlace;
 use crate::snapshot::{BoardLaw, OfBoard, Snapshot};
 use crate::told::ToldList;
 use crossbeam_utils::Backoff;
-use left_right::reader::Factory;
+use left_right::reader::{Factory, Reading};
 use mq_queue::BoardRow;
 use std::marker::Model;
-
-#[cfg(test)]
-mod tests;
 
 /// How often a reader that finds no place free among the copies tries again, spinning in between:
 /// less than a tenth of a millisecond in all.
@@ -44,6 +41,24 @@ impl<J: Naming> Model for BoardReader<J> {
     } };
 
     ghost invariant = { λ r. (r.place.board ≡ r.front.board) × (r.counter ≡ r.front.board) };
+}
+
+/// A reader inside the copy that is published: the next change but one waits until it has left.
+pub struct BoardReading<J: Naming> {
+    inside: Reading<Snapshot, (), BoardLaw<J>>,
+    ghost of_board: { inside.part.value.book ≡ J.board inside.part.value.board },
+}
+
+impl<J: Naming> BoardReading<J> {
+    /// The list that the copy shows.
+    fn told(&self) -> ToldList<J> {
+        ToldList::new(self.inside.get().duplicate())
+    }
+
+    /// Leaves the copy.
+    pub fn leave(self) {
+        self.inside.leave();
+    }
 }
 
 impl<J: Naming> BoardReader<J> {
@@ -116,11 +131,18 @@ impl<J: Naming> BoardReader<J> {
         }
     }
 
-    /// What is published. `None` where other readers have all places, or the board was given up.
-    fn read(&self) -> Option<ToldList<J>> {
+    /// Enters the copy that is published, beside what it knows. `None` where other readers have all
+    /// places, or the board was given up.
+    pub fn enter(&self) -> Option<BoardReading<J>> {
         let reader = self.copies.reader().ok()?;
-        let reading = reader.enter_as::<OfBoard<J>>().ok()?;
-        let published = ToldList::new(reading.get().duplicate());
+        let inside = reader.enter_as::<OfBoard<J>>().ok()?;
+        Some(BoardReading { inside })
+    }
+
+    /// What is published. `None` where no copy can be entered.
+    fn read(&self) -> Option<ToldList<J>> {
+        let reading = self.enter()?;
+        let published = reading.told();
         reading.leave();
         Some(published)
     }

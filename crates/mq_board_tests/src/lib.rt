@@ -47,4 +47,6 @@ mod posts;
 #[cfg(test)]
 mod refused;
 #[cfg(test)]
+mod stopped;
+#[cfg(test)]
 mod threads;

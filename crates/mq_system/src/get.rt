@@ -7,6 +7,7 @@ ghost use Rattle.mq_system.specs.Making.{Lacks};
 ghost use Rattle.mq_system.specs.Outcome.{IsLook};
 ghost use Rattle.mq_system.specs.Get.{IsFound, IsGot, IsNew, IsNotGot, IsNotNew, WasBelow};
 
+use crate::slots::NewQueue;
 use crate::{Errno, GetFlags, Got, Keys, Names, Pledge, Seat, System};
 use mq_table::Id;
 use std::sync::{MutexGuard, Wait};
@@ -134,9 +135,10 @@ impl<P: Pledge, N: Names> System<P, N> {
             (IsNotNew N.slots N.last_seq seat.old seat.new) }
         ensures look { OnErr result (IsLook seat.old seat.new) }
     {
+        let queue = NewQueue { key, moment };
         for number in 0..self.slots() {
             let monitor = &self.monitors[number as usize];
-            match monitor.make(rt, keys, seat, number, key, self.last_seq, moment) {
+            match monitor.make(rt, keys, seat, number, self.last_seq, queue) {
                 Ok(got) => return Ok(got),
                 Err(errno) => match errno {
                     Errno::ENOSPC => (),

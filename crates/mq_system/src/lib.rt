@@ -42,7 +42,6 @@
 #![tactic(auto)]
 
 mod blanks;
-mod calls;
 mod close;
 mod control;
 mod cut;
@@ -51,29 +50,23 @@ mod flags;
 mod fronts;
 mod get;
 mod keys;
-mod magazines;
-mod making;
 mod many;
 mod messages;
-mod monitor;
 mod names;
-mod page_waiters;
+mod pages;
 mod parts;
 mod patience;
 mod pledge;
 mod seat;
-mod slot;
+mod slots;
 mod system;
 mod tally;
-mod turns;
-mod waiters;
 
 pub use blanks::Blanks;
 pub use flags::{RecvFlags, SendFlags};
 pub use fronts::Fronts;
 pub use keys::Keys;
 pub use many::{BatchSent, Letter, MAX_BATCH};
-pub(crate) use monitor::SlotMonitor;
 pub use mq_calls::{
     Closed, ClosedSlot, Config, DEFAULTS, Delivered, DraftError, Errno, GetFlags, Got, MAX_HEIGHT,
     MAX_SEATS, MAX_SEQ, MAX_SLOTS, Refused, Removal, SendRefused, SysError, Usage,
@@ -83,7 +76,7 @@ pub use names::{Entries, Names, Pages, SlotOf, TextOf, WaitingOf};
 pub use patience::{Forever, NoWait, Patience, Until};
 pub use pledge::Pledge;
 pub use seat::Seat;
-pub use slot::{SharedSlot, SlotParts};
+pub(crate) use slots::SlotMonitor;
+pub use slots::{SharedSlot, SlotParts, Waiters};
 pub use system::System;
 pub use tally::Tally;
-pub use waiters::Waiters;

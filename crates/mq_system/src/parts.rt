@@ -44,15 +44,7 @@ pub(crate) fn make_slots_and_seats<P: Pledge, N: Names, R: Wait>(
     ensures arena { OnOk result (arena.new ≡ arena.old) }
     ensures total { OnOk result (tally.new.book.total ≡ all_changes N.slots N.seats) }
 {
-    let (slots, mut rows) = make_slots::<P, N, R>(
-        alloc,
-        rt,
-        arena,
-        boards,
-        tally,
-        config.slots,
-        config.seats,
-    )?;
+    let (slots, mut rows) = make_slots::<P, N, R>(alloc, rt, arena, boards, tally, config)?;
     match make_seats(alloc, rows.as_mut_slice(), tally, config.seats) {
         Ok(seats) => Ok((slots, seats)),
         Err(error) => {
@@ -70,28 +62,28 @@ fn make_slots<P: Pledge, N: Names, R: Wait>(
     arena: &mut ArenaState<Pages<N>>,
     boards: Vec<OpenedBoard>,
     tally: &mut Tally<N>,
-    count: u8,
-    seats: u16,
+    config: Config,
 ) -> Result<(Vec<SharedSlot<P, N>>, ReadersOf<N>), AllocError>
-    requires count { (count ≡ vec_len boards) × (count ≡ N.slots) }
-    requires few { count ≤ MAX_SLOTS }
+    requires slots { (config.slots ≡ vec_len boards) × (config.slots ≡ N.slots) }
+    requires few { config.slots ≤ MAX_SLOTS }
     requires parts { tally.old.unused.parts ≡ N.slots + N.seats }
     requires named { AreNamed N.Naming.board N.Naming.roll 0 boards.items }
-    requires seats { (0 < seats) × (seats ≤ 16) }
+    requires seats { (0 < config.seats) × (config.seats ≤ 16) }
     ensures slots { IfOk result (λ made. AreEmpty made.0.items) }
-    ensures count { IfOk result (λ made. vec_len made.0 ≡ count) }
-    ensures rows { IfOk result (λ made. AreRows seats made.1.items) }
-    ensures readers { IfOk result (λ made. vec_len made.1 ≡ count) }
+    ensures count { IfOk result (λ made. vec_len made.0 ≡ config.slots) }
+    ensures rows { IfOk result (λ made. AreRows config.seats made.1.items) }
+    ensures readers { IfOk result (λ made. vec_len made.1 ≡ config.slots) }
     ensures arena { OnOk result (arena.new ≡ arena.old) }
     ensures parts { OnOk result (tally.new.unused.parts ≡ N.seats) }
     ensures total { OnOk result (tally.new.book.total ≡ tally.old.book.total) }
 {
     let mut boards = boards;
-    let mut rows = Vec::with_capacity(alloc, count as usize)?;
-    let Ok(mut slots) = Vec::with_capacity(alloc, count as usize) else {
+    let mut rows = Vec::with_capacity(alloc, config.slots as usize)?;
+    let Ok(mut slots) = Vec::with_capacity(alloc, config.slots as usize) else {
         return Err(AllocError);
     };
-    for number in 0..count {
+    let seats = config.seats;
+    for number in 0..config.slots {
         let Ok((writer, readers)) = next_board::<N, R>(alloc, rt, &mut boards, number, seats) else {
             give_up(rt, arena, slots);
             return Err(AllocError);

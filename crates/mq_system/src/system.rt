@@ -13,7 +13,7 @@ ghost use Rattle.mq_system.specs.Started.{AreFresh};
 
 use crate::close::{AtClose, Rest};
 use crate::keys::KeyLock;
-use crate::magazines::Magazines;
+use crate::pages::Magazines;
 use crate::parts::{fill_monitors, give_up, leave, make_slots_and_seats};
 use crate::{
     Blanks, Config, DraftError, Entries, Keys, Names, NoWait, Pages, Patience, Pledge, Seat,

@@ -4,6 +4,7 @@ use crate::holds;
 use mq_system::{Forever, NoWait, Patience, Until, Waiters};
 use std::io;
 use std::process::Abort;
+use std::sync::Wait;
 use std::sync::atomic::{AtomicU64, Ordering};
 use std::test::Fail;
 use std::time::{Clock, Duration, Instant};
@@ -98,19 +99,29 @@ fn a_wait_has_left_what_its_clock_says(rt: HostRuntime) {
     is_left(&rt, at.left(), None, "that time has come");
 }
 
-/// A wait of three seconds: what is late on a busy machine is less than as much again.
-#[test]
-fn a_wait_does_not_take_twice_its_time(rt: HostRuntime) {
+/// How long a wait of three seconds takes.
+fn waited<R: Abort + Clock + Wait>(rt: &R) -> Duration {
     let waiters = Waiters::new();
-    let Ok(began) = Instant::now(&rt) else {
+    let Ok(began) = Instant::now(rt) else {
         panic!(rt; "no clock");
     };
     let seen = waiters.register();
-    waiters.wait(&rt, seen, Duration::from_secs(3));
-    let Ok(took) = began.elapsed(&rt) else {
+    waiters.wait(rt, seen, Duration::from_secs(3));
+    let Ok(took) = began.elapsed(rt) else {
         panic!(rt; "no clock");
     };
-    holds(&rt, took < Duration::from_millis(5500), "twice its time");
+    took
+}
+
+/// What is late on a busy machine is so once; what waits twice does so at each of three tries.
+#[test]
+fn a_wait_does_not_take_twice_its_time(rt: HostRuntime) {
+    for _ in 0..3 {
+        if waited(&rt) < Duration::from_millis(5500) {
+            return;
+        }
+    }
+    panic!(rt; "twice its time");
 }
 
 /// A patience has so much time left, or none.

@@ -11,21 +11,21 @@ use Rattle.mq.proofs.bytes.send_bytes.Goals as goal
 
 pub returns-in-Err-msgsnd : goal.returns-in-Err-msgsnd
 returns-in-Err-msgsnd g c =
-    let fits : SFits w64 c.args.mtype = search rules in
+    let fits : SFits w64 c.args.message.mtype = search rules in
     let back = c.in-Err-msgsnd.ensures.answer in
     let is = simp to_z-of_z at back.refused in
     record {
       answer = record {
         refused =
             inl (ap (λ (r : Refused). r.errno)
-            (refused_whole c.args.queues.now c.draft_of.new.self c.args.seat c.args.id c.args.mtype
-            c.args.tag c.args.bytes.now c.args.moment c.in-Ok.text c.in-Err-msgsnd.refusal.refused
+            (refused_whole c.args.queues.now c.draft_of.new.self c.args.seat c.args.id c.args.message.mtype
+            c.args.message.tag c.args.message.bytes.now c.args.moment c.in-Ok.text c.in-Err-msgsnd.refusal.refused
             c.in-Ok.ensures.answer is));
         unchanged =
             c.spend.ensures.back
             ∙ ap (λ (t : PlainText). text_spent t c.msgsnd.new.self) back.handed_back
             ∙ ap (λ (s : QueuesState). text_spent c.in-Ok.text s) back.unchanged
-            ∙ spent_after c.args.queues.now c.draft_of.new.self c.args.bytes.now c.in-Ok.text
+            ∙ spent_after c.args.queues.now c.draft_of.new.self c.args.message.bytes.now c.in-Ok.text
             c.in-Ok.ensures.answer;
       };
     }

@@ -14,4 +14,4 @@ invariant-loop-id g l =
     × (l.room.items ≡ l.fn.room.items)
     × (l.size ≤ l.most)
     × (0 < l.most → 0 < l.size)
-    × (l.fn.options.noerror ≡ true → l.size ≡ min l.most MSGMAX)
+    × (l.fn.call.options.noerror ≡ true → l.size ≡ min l.most MSGMAX)

@@ -11,8 +11,8 @@ decreases-loop-id g l = l.most - l.size
 -- where a longer text is truncated
 abbrev pub invariant-loop-id : goal.invariant-loop-id
 invariant-loop-id g l =
-    IsTooLong g.N.Names.slots l.fn.id l.fn.options.size l.fn.selection l.fn.options.noerror g.T.Patience.ends l.fn.seat l.seat
+    IsTooLong g.N.Names.slots l.fn.call.id l.fn.call.options.size l.fn.call.selection l.fn.call.options.noerror g.T.Patience.ends l.fn.seat l.seat
     × (l.room.items ≡ l.fn.room.items)
     × (l.size ≤ l.most)
     × (0 < l.most → 0 < l.size)
-    × (l.fn.options.noerror ≡ true → l.size ≡ min l.most MSGMAX)
+    × (l.fn.call.options.noerror ≡ true → l.size ≡ min l.most MSGMAX)

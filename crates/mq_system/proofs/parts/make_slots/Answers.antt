@@ -19,13 +19,13 @@ loop-number-preserved g c =
     c.new.ensures ∙ ap (λ s. empty_locked s.number) c.new-slot.ensures
     ∙ ap (λ n. empty_locked n) (sym had.0) in
     let readers = c.in-Ok-next_board.readers in
-    let all : readers.items ≡ new_readers (length rows) c.args.seats =
-    board.readers ∙ ap (λ n. new_readers n c.args.seats) (sym had.1) in (
+    let all : readers.items ≡ new_readers (length rows) c.args.config.seats =
+    board.readers ∙ ap (λ n. new_readers n c.args.config.seats) (sym had.1) in (
       omega (arith, ap length put.items, length-append slots (slot ∷ []), had.0),
       omega (arith, ap length added.items, length-append rows (readers ∷ []), had.1),
       rw put.items (each_push (λ k (s : LockedSlot). s ≡ empty_locked k) slots slot had.2 empty),
       rw added.items
-          (each_push (λ k (r : Vec ReaderState). r.items ≡ new_readers k c.args.seats) rows readers had.3 all),
+          (each_push (λ k (r : Vec ReaderState). r.items ≡ new_readers k c.args.config.seats) rows readers had.3 all),
       omega (arith, had.4, put.capacity),
       omega (arith, had.5, added.capacity),
       omega (arith, had.6, board.left),

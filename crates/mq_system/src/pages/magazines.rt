@@ -1,0 +1,270 @@
+//! The seats' magazines: caches of spent blocks, from which a seat drafts without the arena's lock.
+ghost use Rattle.std.specs.Prelude.{◌≡◌, ◌<◌, ◌≤◌, ◌⊎◌, true, IfErr, IfOk, IfSome, IsErrOf};
+ghost use Rattle.mq_tree.specs.declared.limits.TheConstants.{MAX_HEIGHT};
+
+use super::waiters::{Own, PageWaiters, Returned, take_now};
+use crate::{Names, Pages, Patience};
+use crossbeam_utils::CachePadded;
+use mq_arena::{Arena, Block, Homecoming, INLINE_ORDER, MAX_ORDER, Magazine, TakeError, Unwritten};
+use std::alloc::{AllocError, Global};
+use std::marker::Model;
+use std::sync::atomic::{AtomicU16, Ordering};
+use std::sync::{Mutex, MutexGuard, Wait};
+
+/// Marks a block with which no seat has drafted.
+const NOBODY: u16 = u16::MAX;
+
+/// A magazine for each seat. The lock of a magazine is taken before the arena's; a call that takes
+/// several takes them in the order of their seats.
+pub(crate) struct Magazines<N: Names> {
+    each: Vec<Own<N>>,
+    /// At the index of a block's first page, the index of the seat that last drafted with it, if
+    /// one did. A seat whose magazine is full returns a block to that seat's magazine, so that
+    /// neither takes the arena's lock.
+    drafters: Vec<AtomicU16>,
+    waiters: PageWaiters,
+    /// The order of a block that has all pages.
+    height: u8,
+}
+
+impl<N: Names> Model for Magazines<N> {
+    ghost use Rattle.std.specs.Prelude.{◌≡◌, ℕ};
+
+    ghost Value = { ℕ };
+
+    ghost view = { λ m. m.height };
+
+    ghost invariant = { λ m. m.height ≡ N.height };
+}
+
+impl<N: Names> Magazines<N> {
+    /// That many empty magazines. An `Err` means that memory ran out.
+    pub(crate) fn new<R: Wait>(
+        alloc: Global,
+        rt: &R,
+        arena: &Arena<Pages<N>>,
+        count: u16,
+        height: u8,
+    ) -> Result<Magazines<N>, AllocError>
+        requires height { height ≡ N.height }
+        requires within { height ≤ MAX_HEIGHT }
+    {
+        let drafters = no_drafters(alloc, 1usize << height)?;
+        let mut each = Vec::with_capacity(alloc, count as usize)?;
+        for _ in 0..count {
+            let Ok(magazine) = Magazine::new(alloc) else {
+                let made = Magazines {
+                    each,
+                    drafters,
+                    waiters: PageWaiters::new(),
+                    height,
+                };
+                made.end(rt, arena);
+                return Err(AllocError);
+            };
+            each.push_reserved(CachePadded::new(Mutex::new(magazine)));
+        }
+        Ok(Magazines {
+            each,
+            drafters,
+            waiters: PageWaiters::new(),
+            height,
+        })
+    }
+
+    /// Ends them: all their blocks are freed.
+    pub(crate) fn end<R: Wait>(self, rt: &R, arena: &Arena<Pages<N>>) {
+        let Magazines {
+            mut each,
+            drafters: _,
+            waiters: _,
+            height: _,
+        } = self;
+        while let Some(own) = each.pop() {
+            let mut left = CachePadded::into_inner(own).into_inner();
+            arena.put_all(rt, &mut left);
+            left.end();
+        }
+        each.destroy_empty();
+    }
+
+    /// A block of the magazine of the seat with this number, else as `take_any` returns it.
+    pub(crate) fn take<R: Wait, T: Patience>(
+        &self,
+        rt: &R,
+        arena: &Arena<Pages<N>>,
+        seat: u16,
+        order: u8,
+        patience: &mut T,
+    ) -> Result<Unwritten<Pages<N>>, TakeError>
+        requires seat { 1 ≤ seat }
+        requires order { order ≤ MAX_ORDER }
+        ensures order { IfOk result (λ b. b.order ≡ order) }
+        ensures memory { IsErrOf result TakeError.Memory → INLINE_ORDER < order }
+        ensures ended { IsErrOf result TakeError.NoRun →
+            (T.ends ≡ true) ⊎ (N.height < order) }
+    {
+        let own = seat - 1;
+        let block = match self.take_kept(rt, own, order) {
+            Some(block) => block,
+            None => self.take_any(rt, arena, order, patience)?,
+        };
+        self.note(block.start(), own);
+        Ok(block)
+    }
+
+    /// Notes which seat drafts with the block that begins there. It writes only a change, so that
+    /// the cache line stays shared.
+    fn note(&self, start: u32, seat: u16) {
+        if let Some(drafter) = self.drafters.get(start as usize) {
+            if drafter.load(Ordering::Relaxed) != seat {
+                drafter.store(seat, Ordering::Relaxed);
+            }
+        }
+    }
+
+    /// The seat that last drafted with the block that begins there.
+    fn drafter(&self, start: u32) -> u16 {
+        match self.drafters.get(start as usize) {
+            Some(drafter) => drafter.load(Ordering::Relaxed),
+            None => NOBODY,
+        }
+    }
+
+    /// A block of that order from the magazine of the seat at this index.
+    fn take_kept<R: Wait>(&self, rt: &R, seat: u16, order: u8) -> Option<Unwritten<Pages<N>>>
+        requires { order ≤ MAX_ORDER }
+        ensures { IfSome result (λ b. b.order ≡ order) }
+    {
+        let own = self.each.get(seat as usize)?;
+        let mut magazine = own.lock(rt);
+        let found = magazine.take(order);
+        MutexGuard::unlock(magazine);
+        found
+    }
+
+    /// A block of the arena. Where there is none it waits for one until the patience ends, if the
+    /// arena could ever allocate it. `NoRun`, then `Memory`.
+    pub(crate) fn take_any<R: Wait, T: Patience>(
+        &self,
+        rt: &R,
+        arena: &Arena<Pages<N>>,
+        order: u8,
+        patience: &mut T,
+    ) -> Result<Unwritten<Pages<N>>, TakeError>
+        requires { order ≤ MAX_ORDER }
+        ensures order { IfOk result (λ b. b.order ≡ order) }
+        ensures memory { IsErrOf result TakeError.Memory → INLINE_ORDER < order }
+        ensures ended { IsErrOf result TakeError.NoRun →
+            (T.ends ≡ true) ⊎ (N.height < order) }
+    {
+        match take_now(rt, arena, &self.each, order) {
+            Err(TakeError::NoRun) => {
+                if self.height < order || patience.left().is_none() {
+                    return Err(TakeError::NoRun);
+                }
+                self.wait_for(rt, arena, order, patience)
+            }
+            taken => taken,
+        }
+    }
+
+    /// Waits until there is a block of that order, or the patience ends.
+    fn wait_for<R: Wait, T: Patience>(
+        &self,
+        rt: &R,
+        arena: &Arena<Pages<N>>,
+        order: u8,
+        patience: &mut T,
+    ) -> Result<Unwritten<Pages<N>>, TakeError>
+        requires { order ≤ MAX_ORDER }
+        ensures order { IfOk result (λ b. b.order ≡ order) }
+        ensures memory { IsErrOf result TakeError.Memory → INLINE_ORDER < order }
+        ensures ended { IsErrOf result TakeError.NoRun → T.ends ≡ true }
+    {
+        for _ in rt.forever() {
+            let missed = match self.waiters.add().take(rt, arena, &self.each, order) {
+                Ok(taken) => return taken,
+                Err(missed) => missed,
+            };
+            let Some(longest) = patience.left() else {
+                return Err(TakeError::NoRun);
+            };
+            missed.wait(rt, longest);
+        }
+        unreachable!()
+    }
+
+    /// Frees a block, and wakes the waiters for pages.
+    pub(crate) fn put_home<R: Wait>(
+        &self,
+        rt: &R,
+        arena: &Arena<Pages<N>>,
+        block: Block<Pages<N>>,
+    ) -> Homecoming {
+        let (came, home) = Returned::home(rt, arena, block);
+        self.waiters.wake(home);
+        came
+    }
+
+    /// Keeps a block in the magazine of the seat with this number, while it has room, or of the
+    /// seat that drafted with it; else the block is freed.
+    pub(crate) fn put<R: Wait>(
+        &self,
+        rt: &R,
+        arena: &Arena<Pages<N>>,
+        seat: u16,
+        block: Block<Pages<N>>,
+    )
+        requires { 1 ≤ seat }
+    {
+        let returned = match self.keep(rt, seat - 1, block) {
+            Ok(returned) => returned,
+            Err(block) => self.put_back(rt, arena, block),
+        };
+        self.waiters.wake(returned);
+    }
+
+    /// Keeps a block in the magazine of the seat that drafted with it, while it has room; else the
+    /// block is freed.
+    fn put_back<R: Wait>(
+        &self,
+        rt: &R,
+        arena: &Arena<Pages<N>>,
+        block: Block<Pages<N>>,
+    ) -> Returned {
+        let drafter = self.drafter(block.start());
+        match self.keep(rt, drafter, block) {
+            Ok(returned) => returned,
+            Err(block) => {
+                let (_came, returned) = Returned::home(rt, arena, block);
+                returned
+            }
+        }
+    }
+
+    /// Keeps a block in the magazine of the seat at this index, or returns it where that has no
+    /// room.
+    fn keep<R: Wait>(
+        &self,
+        rt: &R,
+        seat: u16,
+        block: Block<Pages<N>>,
+    ) -> Result<Returned, Block<Pages<N>>>
+        ensures { IfErr result (λ b. b ≡ block) }
+    {
+        match self.each.get(seat as usize) {
+            Some(own) => Returned::kept::<N, R>(rt, own, block),
+            None => Err(block),
+        }
+    }
+}
+
+/// The drafters of the blocks of these pages: none yet. An `Err` means that memory ran out.
+fn no_drafters(alloc: Global, pages: usize) -> Result<Vec<AtomicU16>, AllocError> {
+    let mut drafters = Vec::with_capacity(alloc, pages)?;
+    for _ in 0..pages {
+        drafters.push_reserved(AtomicU16::new(NOBODY));
+    }
+    Ok(drafters)
+}
