@@ -8,6 +8,7 @@ mod batches;
 mod bytes;
 mod caller;
 mod carries;
+mod delivered;
 mod either;
 mod ended;
 pub mod laws;

@@ -8,6 +8,7 @@ ghost use Rattle.mq.specs.Caller.{IsAppended};
 ghost use Rattle.mq.specs.Local.{IsCopiedOut, IsNotTaken, IsTaken, sends_message};
 
 use crate::bytes::{FIRST_ROOM, copy_out, send_bytes};
+use crate::delivered::{join_text, split_text};
 use crate::msgtyp::msgtyp_of;
 use crate::receive_options::ReceiveCall;
 use crate::{LocalCaller, Message, ReceiveOptions};
@@ -122,14 +123,7 @@ impl<'a, L: Ledger> LocalCaller<'a, L> {
             },
         );
         self.of.room = room;
-        let Delivered {
-            entry,
-            mtype,
-            sender,
-            tag,
-            length,
-            text,
-        } = received?;
+        let (header, text) = split_text(received?);
         let mut bytes = match Vec::with_capacity(alloc, text.len() as usize) {
             Ok(bytes) => bytes,
             // No message is lost: `room` is large enough, and the next receive makes its own.
@@ -137,14 +131,7 @@ impl<'a, L: Ledger> LocalCaller<'a, L> {
         };
         copy_out(&text, &mut bytes);
         self.of.queues.spend(text);
-        Ok(Delivered {
-            entry,
-            mtype,
-            sender,
-            tag,
-            length,
-            text: bytes,
-        })
+        Ok(join_text(header, bytes))
     }
 
     /// Receives a message of any length, and appends its bytes: a buffer that is used again needs
@@ -168,14 +155,7 @@ impl<'a, L: Ledger> LocalCaller<'a, L> {
         ensures moment { self.new.of.now.moment ≡ self.old.of.now.moment }
     {
         let moment = self.of.moment;
-        let Delivered {
-            entry,
-            mtype,
-            sender,
-            tag,
-            length,
-            text,
-        } = take(
+        let (header, text) = split_text(take(
             &mut self.of.queues,
             bytes,
             self.seat,
@@ -185,17 +165,10 @@ impl<'a, L: Ledger> LocalCaller<'a, L> {
                 options: ReceiveOptions::new(),
                 moment,
             },
-        )?;
+        )?);
         copy_out(&text, bytes);
         self.of.queues.spend(text);
-        Ok(Delivered {
-            entry,
-            mtype,
-            sender,
-            tag,
-            length,
-            text: (),
-        })
+        Ok(header)
     }
 }
 

@@ -10,6 +10,7 @@ ghost use Rattle.mq.specs.Moments.{IsTimed};
 ghost use Rattle.mq.specs.Caller.{IsAppended, IsNotReceivedFrom, IsReceivedOf, IsTurnedBack, IsUnselectable};
 
 use crate::bytes::{FIRST_ROOM, copy_out};
+use crate::delivered::{join_text, split_text};
 use crate::msgtyp::msgtyp_of;
 use crate::receive_options::ReceiveCall;
 use crate::{Caller, ReceiveOptions};
@@ -141,24 +142,10 @@ impl<'a, P: Pledge, N: Names, R: Wait + Clock> Caller<'a, P, N, R> {
             // No message is lost: `room` is large enough, and the next receive makes its own.
             Err(_) => replace(&mut self.room, Vec::new(self.alloc)),
         };
-        let Delivered {
-            entry,
-            mtype,
-            sender,
-            tag,
-            length,
-            text,
-        } = received;
+        let (header, text) = split_text(received);
         copy_out(&text, &mut bytes);
         self.system.spend_by(self.rt, &self.seat, text);
-        Ok(Delivered {
-            entry,
-            mtype,
-            sender,
-            tag,
-            length,
-            text: bytes,
-        })
+        Ok(join_text(header, bytes))
     }
 
     /// Receives a message of any length, and appends its bytes: a buffer that is used again needs
@@ -277,24 +264,10 @@ impl<'a, P: Pledge, N: Names, R: Wait + Clock> Caller<'a, P, N, R> {
             },
             patience,
         )?;
-        let Delivered {
-            entry,
-            mtype,
-            sender,
-            tag,
-            length,
-            text,
-        } = received;
+        let (header, text) = split_text(received);
         copy_out(&text, bytes);
         self.system.spend_by(self.rt, &self.seat, text);
-        Ok(Delivered {
-            entry,
-            mtype,
-            sender,
-            tag,
-            length,
-            text: (),
-        })
+        Ok(header)
     }
 
     /// Receives the text itself of the first message that the selection matches, and copies

@@ -10,6 +10,7 @@ ghost use Rattle.mq.specs.ValueBatches.{IsReadable, IsValueOf, MayNotMake, texts
 
 use crate::bytes::copy_out;
 use crate::carries::ValuePledge;
+use crate::delivered::{join_text, split_text};
 use crate::{BatchReceived, Caller, ReceiveOptions};
 use mq_calls::{Delivered, Errno, Refused};
 use mq_message::Selection;
@@ -364,23 +365,9 @@ impl<'a, P: ValuePledge, N: Names, R: Wait + Clock> Caller<'a, P, N, R> {
         match P::Value::read(self.alloc, &mut bytes.as_slice()) {
             Ok(value) => {
                 self.room = bytes;
-                let Delivered {
-                    entry,
-                    mtype,
-                    sender,
-                    tag,
-                    length,
-                    text,
-                } = delivered;
+                let (header, text) = split_text(delivered);
                 self.spend(text);
-                Ok(Delivered {
-                    entry,
-                    mtype,
-                    sender,
-                    tag,
-                    length,
-                    text: value,
-                })
+                Ok(join_text(header, value))
             }
             Err(UnreadError::NoMemory) => {
                 self.room = bytes;

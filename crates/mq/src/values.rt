@@ -7,6 +7,7 @@ ghost use Rattle.mq.specs.Moments.{IsTimed};
 ghost use Rattle.mq.specs.Values.{IsNoValue, IsNotMade};
 
 use crate::carries::ValuePledge;
+use crate::delivered::join_text;
 use crate::{Caller, Message, NotReceived, ReceiveOptions};
 use mq_calls::{Delivered, Errno};
 use mq_message::Selection;
@@ -252,34 +253,12 @@ impl<'a, P: ValuePledge, N: Names, R: Wait + Clock> Caller<'a, P, N, R> {
                 return Err(NotReceived::Refused(errno));
             }
         };
-        let Delivered {
-            entry,
-            mtype,
-            sender,
-            tag,
-            length,
-            text: _,
-        } = received;
         match P::Value::read(self.alloc, &mut bytes.as_slice()) {
             Ok(value) => {
                 self.room = bytes;
-                Ok(Delivered {
-                    entry,
-                    mtype,
-                    sender,
-                    tag,
-                    length,
-                    text: value,
-                })
+                Ok(join_text(received, value))
             }
-            Err(UnreadError::NoMemory) => Err(NotReceived::NoMemory(Delivered {
-                entry,
-                mtype,
-                sender,
-                tag,
-                length,
-                text: bytes,
-            })),
+            Err(UnreadError::NoMemory) => Err(NotReceived::NoMemory(join_text(received, bytes))),
             Err(UnreadError::NoValue) => unreachable!(),
         }
     }
