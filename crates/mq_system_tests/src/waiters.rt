@@ -113,7 +113,7 @@ fn waited<R: Abort + Clock + Wait>(rt: &R) -> Duration {
     took
 }
 
-/// What is late on a busy machine is so once; what waits twice does so at each of three tries.
+/// A busy machine delays one wait; a wait that is made twice is too long at each of three tries.
 #[test]
 fn a_wait_does_not_take_twice_its_time(rt: HostRuntime) {
     for _ in 0..3 {
