@@ -1,4 +1,5 @@
-//! The run of a threads script: its main part, its workers, and the summary.
+//! Threads scripts, each section of which runs on a thread of its own. This file has the run of a
+//! script: its main part, its workers, and the summary.
 
 ghost use Rattle.std.specs.Prelude.{◌≡◌, length, vec_len};
 ghost use Rattle.mq_system.specs.Sizes.{AreNames};
@@ -7,21 +8,45 @@ ghost use Rattle.mq_cli.specs.Threads.{Flushes, RanParts, RanWorkers, TellsEnd};
 ghost use Rattle.mq_cli.specs.ThreadsParsed.{wanted_seen};
 ghost use Rattle.mq_cli.specs.ThreadsRun.{CanRunScript, HaveSeats, RanThreads, RanWanted};
 
-use crate::closing::closing_text;
-use crate::main_part::run_main;
+use crate::RunFault;
 use crate::output::{WriteFailed, write_bytes};
 use crate::script::read_script;
-use crate::system_port::{Letters, letters_of_ports, ports_of};
-use crate::threads_script::{ThreadsScript, read_threads_script};
-use crate::{Outcome, RunFault, Step, run_workers};
+use closing::closing_text;
+use main_part::run_main;
 use mq_calls::{Closed, ClosedSlot, Config};
 use mq_system::{Blanks, Names, Seat, System};
+use script::{ThreadsScript, read_threads_script};
 use std::alloc::Global;
 use std::io::{Read, Write};
 use std::marker::Brand;
 use std::sync::Wait;
 use std::thread::Threads;
 use std::time::Clock;
+use system_port::ports_of;
+
+mod closing;
+mod line;
+mod main_part;
+mod notes;
+mod outcome;
+mod plan;
+mod port;
+mod record;
+pub(crate) mod script;
+mod step;
+mod system_port;
+mod taken;
+pub mod worked;
+mod workers;
+
+pub use outcome::Outcome;
+pub use plan::work;
+pub use port::Port;
+pub use record::record_threads;
+pub use step::Step;
+pub use system_port::{Letters, SystemPort, letters_of_ports};
+pub use taken::Taken;
+pub use workers::run_workers;
 
 /// Reads a threads script whole and makes the calls of its main part, whose answers it writes. Then
 /// it runs each section on a thread of its own, and writes at the end what each of them did, what
