@@ -70,31 +70,47 @@ pub fn run_threads<T: Threads + Wait + Clock + Sync, R: Read, W: Write>(
     let Ok(blanks) = Blanks::of(alloc, Config { seats, ..config }) else {
         return Err(RunFault::Memory);
     };
-    run_wanted::<Brand, T, W>(rt, alloc, config, seats, blanks, &wanted, writer)
+    let seating = Seating { seats, blanks };
+    run_wanted::<Brand, T, W>(rt, alloc, config, seating, &wanted, writer)
 }
 
-/// Runs a script that has been read, on a system of `seats` seats, and flushes the writer. However
-/// the run ends, all texts have then given their pages back.
+/// The number of seats of a run's system, and the ledgers and boards for so many.
+struct Seating {
+    seats: u16,
+    blanks: Blanks,
+}
+
+/// Runs a script that has been read, on a system of this size but for its seats, and flushes the
+/// writer. However the run ends, all texts have then given their pages back.
 fn run_wanted<N: Names + Send + Sync, T: Threads + Wait + Clock + Sync, W: Write>(
     rt: &T,
     alloc: Global,
     config: Config,
-    seats: u16,
-    blanks: Blanks,
+    seating: Seating,
     wanted: &ThreadsScript,
     writer: &mut W,
 ) -> Result<(), RunFault>
-    requires names { AreNames N.Names.own N.Naming blanks (record config { seats = seats }) }
-    requires run { CanRunScript config blanks.pages.parts seats wanted.now.sections }
+    requires names { AreNames N.Names.own N.Naming seating.blanks
+        (record config { seats = seating.seats }) }
+    requires run { CanRunScript config seating.blanks.pages.parts seating.seats
+        wanted.now.sections }
     ensures { RanWanted config (wanted_seen wanted.now)
         (W.contents writer.old) (W.contents writer.new) result }
 {
+    let Seating { seats, blanks } = seating;
     let sized = Config { seats, ..config };
     let Ok((system, mut seats)) = System::<Letters, N>::new(alloc, rt, sized, blanks) else {
         return Err(RunFault::Memory);
     };
     let ran = match seats.split_first_mut() {
-        Some((main, others)) => run_parts(rt, alloc, &system, main, others, wanted, writer),
+        Some((main, others)) => run_parts(
+            Host { rt, alloc },
+            &system,
+            main,
+            others,
+            wanted,
+            writer,
+        ),
         None => unreachable!(),
     };
     let Closed { slots, arena } = system.close(rt, seats);
@@ -103,11 +119,16 @@ fn run_wanted<N: Names + Send + Sync, T: Threads + Wait + Clock + Sync, W: Write
     flush(writer, told)
 }
 
+/// What a run has of its host: threads and a clock, and memory.
+struct Host<'a, T> {
+    rt: &'a T,
+    alloc: Global,
+}
+
 /// Makes the calls of the main part by its seat, and then runs each section at the seat of its
 /// place among the others.
 fn run_parts<N: Names + Send + Sync, T: Threads + Wait + Clock + Sync, W: Write>(
-    rt: &T,
-    alloc: Global,
+    host: Host<'_, T>,
     system: &System<Letters, N>,
     main: &mut Seat<N>,
     others: &mut [Seat<N>],
@@ -120,6 +141,7 @@ fn run_parts<N: Names + Send + Sync, T: Threads + Wait + Clock + Sync, W: Write>
     ensures ran { RanParts N.slots N.last_seq (wanted_seen wanted.now) main.old main.new
         (W.contents writer.old) (W.contents writer.new) result }
 {
+    let Host { rt, alloc } = host;
     run_main(rt, alloc, system, main, &wanted.calls, writer)?;
     let Ok(()) = writer.flush() else {
         return Err(RunFault::Write);
