@@ -18,7 +18,7 @@ use Rattle.mq_system.specs.Refusals.{MayReceive, Refuses, out_of_slots}
 use Rattle.mq_system.specs.Seat.{SeatState, front_of}
 use Rattle.mq_system.specs.Seen.{IsRefused, Verdict, receive_verdict}
 use Rattle.mq_system.specs.SeenMany.{AreReceived, IsNextReceived}
-use Rattle.mq_cli.specs.declared.taken.Taken.{Taken}
+use Rattle.mq_cli.specs.declared.threads.taken.Taken.{Taken}
 use Rattle.mq_cli.specs.Batches.{TakesMany, TakesNext}
 use Rattle.mq_cli.specs.Letters.{AreLetters}
 use Rattle.mq_cli.specs.Ports.{Receives, taken_of}

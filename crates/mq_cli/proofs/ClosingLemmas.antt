@@ -2,7 +2,7 @@
 use Rattle.std.proofs.Common.{◌≡◌, ℕ, ◌+◌, ◌<◌, suc, List, ◌∷◌, ◌++◌, length, drop, refl, sym, ap, ◌∙◌, append_assoc, arith, add-one, drop-cons}
 use Rattle.std.proofs.Math.ListN.{get_or}
 use Rattle.mq_calls.specs.declared.close.ClosedSlot.{ClosedSlot}
-use Rattle.mq_cli.specs.declared.outcome.Outcome.{Outcome}
+use Rattle.mq_cli.specs.declared.threads.outcome.Outcome.{Outcome}
 use Rattle.mq_cli.specs.Closing.{slot_line, slot_lines, worker_line, worker_lines}
 
 -- the rest begins with this element

@@ -10,15 +10,15 @@ use Rattle.mq_system.specs.Seat.{SeatState, fresh_seat}
 use Rattle.mq_system.specs.Started.{AreFresh}
 use Rattle.mq_cli.specs.declared.fault.RunFault.{RunFault}
 use Rattle.mq_cli.specs.declared.fault.RunFault.TheVariants.{Script, Size, Read, Write, Memory, Thread}
-use Rattle.mq_cli.specs.declared.outcome.Outcome.{Outcome}
-use Rattle.mq_cli.specs.declared.step.Step.{Step}
+use Rattle.mq_cli.specs.declared.threads.outcome.Outcome.{Outcome}
+use Rattle.mq_cli.specs.declared.threads.step.Step.{Step}
 use Rattle.mq_cli.specs.Closing.{closing}
 use Rattle.mq_cli.specs.Input.{HasRead, IsUnread}
 use Rattle.mq_cli.specs.MainPart.{RanMain, WroteAll, WroteSome, lines_replied}
 use Rattle.mq_cli.specs.Plans.{IsCarriedOut}
 use Rattle.mq_cli.specs.Serial.{AppendsPrefix, Writes}
 use Rattle.mq_cli.specs.Threads.{AreClosed, AreDone, Flushes, IsMakingFault, IsTold, IsWholeRun, RanParts, RanWorkers, TellsWanted, TellsEnd, WroteMain, WrotePart, WroteWhole, main_seat}
-use Rattle.mq_cli.specs.declared.threads_script.ThreadsScript.{ThreadsScript}
+use Rattle.mq_cli.specs.declared.threads.script.ThreadsScript.{ThreadsScript}
 use Rattle.mq_cli.specs.ThreadsParsed.{Parses, wanted_seen}
 use Rattle.mq_cli.specs.ThreadsRun.{RanThreads, RanWanted}
 use Rattle.mq_cli.specs.ThreadsScript.{Wanted, wanted_of}

@@ -6,12 +6,12 @@ use Rattle.std.specs.HashMap.{Updates, get}
 use Rattle.std.specs.Prelude.{reverse}
 use Rattle.mq_calls.specs.declared.errno.Errno.{Errno}
 use Rattle.mq_calls.specs.declared.errno.Errno.TheVariants.{ENOMEM}
-use Rattle.mq_cli.specs.declared.notes.Notes.{Notes}
-use Rattle.mq_cli.specs.declared.notes.Stream.{Stream}
-use Rattle.mq_cli.specs.declared.outcome.Outcome.{Outcome}
-use Rattle.mq_cli.specs.declared.plan.Progress.{Progress}
-use Rattle.mq_cli.specs.declared.step.Step.{Step}
-use Rattle.mq_cli.specs.declared.taken.Taken.{Taken}
+use Rattle.mq_cli.specs.declared.threads.notes.Notes.{Notes}
+use Rattle.mq_cli.specs.declared.threads.notes.Stream.{Stream}
+use Rattle.mq_cli.specs.declared.threads.outcome.Outcome.{Outcome}
+use Rattle.mq_cli.specs.declared.threads.plan.Progress.{Progress}
+use Rattle.mq_cli.specs.declared.threads.step.Step.{Step}
+use Rattle.mq_cli.specs.declared.threads.taken.Taken.{Taken}
 use Rattle.mq_cli.specs.Batches.{TakesMany}
 use Rattle.mq_cli.specs.Calls.{PortCall, TakenMessage, calls_in, calls_of, message_of, messages_of, receive, same_stream}
 use Rattle.mq_cli.specs.Calls.{stream_of}

@@ -8,7 +8,7 @@ use Rattle.std.proofs.KnownBytes.{Appends-kept, Appends-nil, Appends-trans}
 use Rattle.mq_calls.specs.declared.errno.Errno.{Errno}
 use Rattle.mq_calls.specs.declared.errno.Errno.TheVariants.{ENOMEM}
 use Rattle.mq_system.specs.Seat.{SeatState}
-use Rattle.mq_cli.specs.declared.threads_script.MainCall.{MainCall}
+use Rattle.mq_cli.specs.declared.threads.script.MainCall.{MainCall}
 use Rattle.mq_cli.specs.MainPart.{AreReplies, IsReply, Replies, WroteAll, WroteSome, lines_replied}
 use Rattle.mq_cli.specs.Serial.{AppendsPrefix}
 use Rattle.mq_cli.specs.Transcript.{Reply, output, refused, refusal_in}

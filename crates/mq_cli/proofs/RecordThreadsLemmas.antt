@@ -11,8 +11,8 @@ use Rattle.mq_cli.specs.declared.fault.Cause.{Cause}
 use Rattle.mq_cli.specs.declared.fault.RunFault.{RunFault}
 use Rattle.mq_cli.specs.declared.fault.RunFault.TheVariants.{Script, Size, Read, Write, Memory, Thread}
 use Rattle.mq_cli.specs.declared.recorded.Recorded.{Recorded}
-use Rattle.mq_cli.specs.declared.threads_script.MainCall.{MainCall}
-use Rattle.mq_cli.specs.declared.threads_script.ThreadsScript.{ThreadsScript}
+use Rattle.mq_cli.specs.declared.threads.script.MainCall.{MainCall}
+use Rattle.mq_cli.specs.declared.threads.script.ThreadsScript.{ThreadsScript}
 use Rattle.mq_cli.specs.Input.{HasRead, IsUnread, ReadsBy}
 use Rattle.mq_cli.specs.MainPart.{AreReplies, Replies, asked_in_main, moment_of}
 use Rattle.mq_cli.specs.RecordedThreads.{KeepsThreads, RecordedMain, RecordedThreads, RecordsParts, RecordsWanted, noted_in_main}

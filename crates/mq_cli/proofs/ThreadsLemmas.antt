@@ -7,10 +7,10 @@ use Rattle.std.proofs.lemmas.Slice.Eq.{bytes_eq-Decides}
 use Rattle.mq_cli.specs.declared.limits.TheConstants.{MAX_MESSAGES, MAX_WITHIN, MAX_WORKERS}
 use Rattle.mq_cli.specs.declared.fault.Cause.{Cause}
 use Rattle.mq_cli.specs.declared.fault.Cause.TheVariants.{Words}
-use Rattle.mq_cli.specs.declared.step.Step.TheVariants.{Put, Take, Remove}
-use Rattle.mq_cli.specs.declared.threads_script.MainCall.TheVariants.{Get, Set}
-use Rattle.mq_cli.specs.declared.threads_script.ThreadsLine.{ThreadsLine}
-use Rattle.mq_cli.specs.declared.threads_script.ThreadsLine.TheVariants.{Worker, Main, Section}
+use Rattle.mq_cli.specs.declared.threads.step.Step.TheVariants.{Put, Take, Remove}
+use Rattle.mq_cli.specs.declared.threads.script.MainCall.TheVariants.{Get, Set}
+use Rattle.mq_cli.specs.declared.threads.script.ThreadsLine.{ThreadsLine}
+use Rattle.mq_cli.specs.declared.threads.script.ThreadsLine.TheVariants.{Worker, Main, Section}
 use Rattle.mq_cli.specs.Commands.{AskedCall, get, set, get_asked, set_asked, is_filled, ok_map}
 use Rattle.mq_cli.specs.Laws.{Spells}
 use Rattle.mq_cli.specs.Lines.{line_of, words_of}

@@ -4,9 +4,9 @@ use Rattle.std.proofs.lemmas.List.{length-map}
 use Rattle.std.specs.Global.{Vec}
 use Rattle.std.specs.List.{slice_index_or}
 use Rattle.mq_cli.specs.declared.fault.Cause.{Cause}
-use Rattle.mq_cli.specs.declared.step.Step.{Step}
-use Rattle.mq_cli.specs.declared.threads_script.ThreadsLine.{ThreadsLine}
-use Rattle.mq_cli.specs.declared.threads_script.ThreadsScript.{ThreadsScript}
+use Rattle.mq_cli.specs.declared.threads.step.Step.{Step}
+use Rattle.mq_cli.specs.declared.threads.script.ThreadsLine.{ThreadsLine}
+use Rattle.mq_cli.specs.declared.threads.script.ThreadsScript.{ThreadsScript}
 use Rattle.mq_cli.specs.ThreadsParsed.{wanted_seen}
 use Rattle.mq_cli.specs.ThreadsScript.{Wanted, reads_on, onto_last, threads_reading, wanted_from}
 

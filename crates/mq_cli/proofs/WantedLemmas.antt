@@ -4,10 +4,10 @@ use Rattle.std.specs.Global.{Vec}
 use Rattle.std.specs.List.{All}
 use Rattle.std.proofs.lemmas.List.Sums.{sum_by-append}
 use Rattle.mq_cli.specs.declared.limits.TheConstants.{MAX_MESSAGES, MAX_WORKERS}
-use Rattle.mq_cli.specs.declared.step.Step.{Step}
-use Rattle.mq_cli.specs.declared.step.Step.TheVariants.{Put, Take, Remove}
-use Rattle.mq_cli.specs.declared.threads_script.ThreadsLine.{ThreadsLine}
-use Rattle.mq_cli.specs.declared.threads_script.ThreadsLine.TheVariants.{Worker, Main, Section}
+use Rattle.mq_cli.specs.declared.threads.step.Step.{Step}
+use Rattle.mq_cli.specs.declared.threads.step.Step.TheVariants.{Put, Take, Remove}
+use Rattle.mq_cli.specs.declared.threads.script.ThreadsLine.{ThreadsLine}
+use Rattle.mq_cli.specs.declared.threads.script.ThreadsLine.TheVariants.{Worker, Main, Section}
 use Rattle.mq_cli.specs.Plans.{IsCountable, puts_in, puts_of, takes_in, takes_of}
 use Rattle.mq_cli.specs.ThreadsLaws.{CanStand}
 use Rattle.mq_cli.specs.ThreadsScript.{Wanted, onto_last, threads_reading, with_line}

@@ -6,8 +6,8 @@ use Rattle.std.proofs.lemmas.List.Sums.{sum_by-append}
 use Rattle.std.specs.List.{FoldsTo, range_with_len}
 use Rattle.std.specs.Prelude.{count_by}
 use Rattle.mq_calls.specs.declared.errno.Errno.{Errno}
-use Rattle.mq_cli.specs.declared.step.Step.{Step}
-use Rattle.mq_cli.specs.declared.taken.Taken.{Taken}
+use Rattle.mq_cli.specs.declared.threads.step.Step.{Step}
+use Rattle.mq_cli.specs.declared.threads.taken.Taken.{Taken}
 use Rattle.mq_cli.specs.Batches.{TakesNext}
 use Rattle.mq_cli.specs.Calls.{PortCall, TakenMessage, send, receive, calls_in, calls_of, is_send, messages_of, sends_after}
 use Rattle.mq_cli.specs.Plans.{puts_in, puts_of}

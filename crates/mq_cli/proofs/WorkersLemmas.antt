@@ -2,8 +2,8 @@
 use Rattle.std.proofs.Common.{◌≡◌, List, [], ◌∷◌, map}
 use Rattle.std.specs.Global.{Vec}
 use Rattle.std.specs.List.{AllZip}
-use Rattle.mq_cli.specs.declared.outcome.Outcome.{Outcome}
-use Rattle.mq_cli.specs.declared.step.Step.{Step}
+use Rattle.mq_cli.specs.declared.threads.outcome.Outcome.{Outcome}
+use Rattle.mq_cli.specs.declared.threads.step.Step.{Step}
 use Rattle.mq_cli.specs.Plans.{IsCarriedOut}
 use Rattle.mq_cli.specs.Works.{AllWorkFrom, Puts, Removals, Takes, WorksFrom}
 

@@ -4,7 +4,7 @@ use Rattle.std.specs.Prelude.{MatchResult}
 use Rattle.std.specs.List.{FoldsTo, list_all}
 use Rattle.mq_calls.specs.declared.errno.Errno.{Errno}
 use Rattle.mq_system.specs.declared.many.TheConstants.{MAX_BATCH}
-use Rattle.mq_cli.specs.declared.taken.Taken.{Taken}
+use Rattle.mq_cli.specs.declared.threads.taken.Taken.{Taken}
 use Rattle.mq_cli.specs.Works.{Takes}
 
 -- one of them was received, as by a call for one

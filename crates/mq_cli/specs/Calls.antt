@@ -3,10 +3,10 @@ use Rattle.std.specs.Prelude.{ℕ, ◌+◌, ◌==◌, ℤ, Bool, true, false, �
 use Rattle.std.specs.Prelude.{List, [], ◌∷◌, ◌++◌, map, replicate, Option, None, Some}
 use Rattle.std.specs.List.{range_with_len}
 use Rattle.std.specs.Ordering.{int_eq}
-use Rattle.mq_cli.specs.declared.notes.Stream.{Stream}
-use Rattle.mq_cli.specs.declared.step.Step.{Step}
-use Rattle.mq_cli.specs.declared.step.Step.TheVariants.{Put, Take, Remove}
-use Rattle.mq_cli.specs.declared.taken.Taken.{Taken}
+use Rattle.mq_cli.specs.declared.threads.notes.Stream.{Stream}
+use Rattle.mq_cli.specs.declared.threads.step.Step.{Step}
+use Rattle.mq_cli.specs.declared.threads.step.Step.TheVariants.{Put, Take, Remove}
+use Rattle.mq_cli.specs.declared.threads.taken.Taken.{Taken}
 use Rattle.mq_cli.specs.Plans.{puts_of, rises}
 
 -- a call of a port; `ends` says whether its waits have an end

@@ -8,7 +8,7 @@ use Rattle.mq_calls.specs.Closed.{entries_at_end}
 use Rattle.mq_calls.specs.Names.{errno_name}
 use Rattle.mq_calls.specs.declared.close.ClosedSlot.{ClosedSlot}
 use Rattle.mq_calls.specs.declared.errno.Errno.{Errno}
-use Rattle.mq_cli.specs.declared.outcome.Outcome.{Outcome}
+use Rattle.mq_cli.specs.declared.threads.outcome.Outcome.{Outcome}
 
 abbrev pub yes_or_no : Bool → List ℕ
 yes_or_no true = codes "yes"

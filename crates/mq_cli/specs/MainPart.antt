@@ -14,8 +14,8 @@ use Rattle.mq_system.specs.Seen.{set_verdict}
 use Rattle.mq_system.specs.Get.{IsGot, IsNotGot}
 use Rattle.mq_cli.specs.declared.fault.RunFault.{RunFault}
 use Rattle.mq_cli.specs.declared.fault.RunFault.TheVariants.{Write, Memory}
-use Rattle.mq_cli.specs.declared.threads_script.MainCall.{MainCall}
-use Rattle.mq_cli.specs.declared.threads_script.MainCall.TheVariants.{Get, Set}
+use Rattle.mq_cli.specs.declared.threads.script.MainCall.{MainCall}
+use Rattle.mq_cli.specs.declared.threads.script.MainCall.TheVariants.{Get, Set}
 use Rattle.mq_cli.specs.Commands.{AskedCall, get, set}
 use Rattle.mq_cli.specs.Serial.{AppendsPrefix}
 use Rattle.mq_cli.specs.Transcript.{Reply, given, at, refused, output, refusal_in}

@@ -12,7 +12,7 @@ use Rattle.mq_system.specs.Refusals.{MayNotDraft, MayReceive, MayRemove, MaySend
 use Rattle.mq_system.specs.Refusals.{out_of_slots}
 use Rattle.mq_system.specs.Seat.{SeatState}
 use Rattle.mq_system.specs.Seen.{receive_verdict, remove_verdict, send_verdict}
-use Rattle.mq_cli.specs.declared.taken.Taken.{Taken}
+use Rattle.mq_cli.specs.declared.threads.taken.Taken.{Taken}
 use Rattle.mq_cli.specs.Letters.{AreLetters}
 
 -- a text of n bytes was sent; or none was drafted, and no call was made; or the call was refused,

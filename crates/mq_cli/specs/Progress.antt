@@ -3,10 +3,10 @@ use Rattle.std.specs.Prelude.{◌≡◌, ℕ, ◌+◌, ◌^◌, ◌<◌, ◌≤�
 use Rattle.std.specs.Prelude.{replicate, Option, None, Some, Result, MatchResult, OnOk, OnErr}
 use Rattle.std.specs.HashMap.{Updates, get}
 use Rattle.mq_calls.specs.declared.errno.Errno.{Errno}
-use Rattle.mq_cli.specs.declared.notes.Notes.{Notes}
-use Rattle.mq_cli.specs.declared.notes.Stream.{Stream}
-use Rattle.mq_cli.specs.declared.outcome.Outcome.{Outcome}
-use Rattle.mq_cli.specs.declared.plan.Progress.{Progress}
+use Rattle.mq_cli.specs.declared.threads.notes.Notes.{Notes}
+use Rattle.mq_cli.specs.declared.threads.notes.Stream.{Stream}
+use Rattle.mq_cli.specs.declared.threads.outcome.Outcome.{Outcome}
+use Rattle.mq_cli.specs.declared.threads.plan.Progress.{Progress}
 use Rattle.mq_cli.specs.Calls.{PortCall, TakenMessage, last_tag, tags_rise}
 use Rattle.mq_cli.specs.Plans.{rises}
 use Rattle.mq_cli.specs.Works.{AreCalled, Puts, Removals, Takes}

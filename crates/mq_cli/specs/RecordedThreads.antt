@@ -8,7 +8,7 @@ use Rattle.mq_cli.specs.declared.fault.RunFault.{RunFault}
 use Rattle.mq_cli.specs.declared.fault.RunFault.TheVariants.{Script, Size, Read, Memory, Thread}
 use Rattle.mq_cli.specs.declared.recorded.Recorded.{Recorded}
 use Rattle.mq_trace.specs.declared.refusal.Refusal.{Refusal}
-use Rattle.mq_cli.specs.declared.threads_script.MainCall.{MainCall}
+use Rattle.mq_cli.specs.declared.threads.script.MainCall.{MainCall}
 use Rattle.mq_cli.specs.Input.{ReadsBy}
 use Rattle.mq_cli.specs.MainPart.{AreReplies, asked_in_main, moment_of}
 use Rattle.mq_cli.specs.Recording.{noted}

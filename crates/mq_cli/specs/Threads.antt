@@ -11,8 +11,8 @@ use Rattle.mq_system.specs.Seat.{SeatState, fresh_seat}
 use Rattle.mq_system.specs.Closed.{IsEnd}
 use Rattle.mq_cli.specs.declared.fault.RunFault.{RunFault}
 use Rattle.mq_cli.specs.declared.fault.RunFault.TheVariants.{Write, Memory, Thread}
-use Rattle.mq_cli.specs.declared.outcome.Outcome.{Outcome}
-use Rattle.mq_cli.specs.declared.step.Step.{Step}
+use Rattle.mq_cli.specs.declared.threads.outcome.Outcome.{Outcome}
+use Rattle.mq_cli.specs.declared.threads.step.Step.{Step}
 use Rattle.mq_cli.specs.Closing.{closing}
 use Rattle.mq_cli.specs.MainPart.{AreReplies, WroteAll, WroteSome, lines_replied}
 use Rattle.mq_cli.specs.Plans.{IsCarriedOut}

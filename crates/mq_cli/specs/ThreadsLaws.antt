@@ -4,11 +4,11 @@ use Rattle.std.specs.Prelude.{Option, None, Some, Ok}
 use Rattle.std.specs.Fmt.{decimal, signed_decimal}
 use Rattle.std.specs.Int.{w64}
 use Rattle.mq_cli.specs.declared.limits.TheConstants.{MAX_MESSAGES, MAX_WITHIN, MAX_WORKERS}
-use Rattle.mq_cli.specs.declared.step.Step.TheVariants.{Put, Take, Remove}
-use Rattle.mq_cli.specs.declared.threads_script.MainCall.{MainCall}
-use Rattle.mq_cli.specs.declared.threads_script.MainCall.TheVariants.{Get, Set}
-use Rattle.mq_cli.specs.declared.threads_script.ThreadsLine.{ThreadsLine}
-use Rattle.mq_cli.specs.declared.threads_script.ThreadsLine.TheVariants.{Worker, Main, Section}
+use Rattle.mq_cli.specs.declared.threads.step.Step.TheVariants.{Put, Take, Remove}
+use Rattle.mq_cli.specs.declared.threads.script.MainCall.{MainCall}
+use Rattle.mq_cli.specs.declared.threads.script.MainCall.TheVariants.{Get, Set}
+use Rattle.mq_cli.specs.declared.threads.script.ThreadsLine.{ThreadsLine}
+use Rattle.mq_cli.specs.declared.threads.script.ThreadsLine.TheVariants.{Worker, Main, Section}
 use Rattle.mq_cli.specs.Commands.{AskedCall, get, set}
 use Rattle.mq_cli.specs.Laws.{spelling, CanBeSpelled}
 use Rattle.mq_cli.specs.Lines.{line_of}

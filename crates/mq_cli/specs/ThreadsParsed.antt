@@ -4,7 +4,7 @@ use Rattle.mq_cli.specs.declared.fault.Cause.{Cause}
 use Rattle.mq_cli.specs.declared.fault.RunFault.{RunFault}
 use Rattle.mq_cli.specs.declared.fault.RunFault.TheVariants.{Script, Memory}
 use Rattle.mq_cli.specs.declared.limits.TheConstants.{MAX_WORKERS}
-use Rattle.mq_cli.specs.declared.threads_script.ThreadsScript.{ThreadsScript}
+use Rattle.mq_cli.specs.declared.threads.script.ThreadsScript.{ThreadsScript}
 use Rattle.mq_cli.specs.Plans.{AreCountable}
 use Rattle.mq_cli.specs.ThreadsScript.{Wanted}
 

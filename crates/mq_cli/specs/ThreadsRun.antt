@@ -10,7 +10,7 @@ use Rattle.mq_cli.specs.declared.fault.RunFault.{RunFault}
 use Rattle.mq_cli.specs.declared.fault.RunFault.TheVariants.{Script, Size, Read, Write, Memory}
 use Rattle.mq_cli.specs.declared.fault.RunFault.TheVariants.{Thread}
 use Rattle.mq_cli.specs.declared.limits.TheConstants.{MAX_WORKERS}
-use Rattle.mq_cli.specs.declared.step.Step.{Step}
+use Rattle.mq_cli.specs.declared.threads.step.Step.{Step}
 use Rattle.mq_cli.specs.Input.{ReadsBy}
 use Rattle.mq_cli.specs.Plans.{AreCountable}
 use Rattle.mq_cli.specs.Threads.{TellsWanted, WroteMain, WrotePart, WroteWhole}

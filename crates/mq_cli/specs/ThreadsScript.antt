@@ -6,12 +6,12 @@ use Rattle.std.specs.Str.{bytes_eq}
 use Rattle.mq_cli.specs.declared.limits.TheConstants.{MAX_MESSAGES, MAX_WITHIN, MAX_WORKERS}
 use Rattle.mq_cli.specs.declared.fault.Cause.{Cause}
 use Rattle.mq_cli.specs.declared.fault.Cause.TheVariants.{Words}
-use Rattle.mq_cli.specs.declared.step.Step.{Step}
-use Rattle.mq_cli.specs.declared.step.Step.TheVariants.{Put, Take, Remove}
-use Rattle.mq_cli.specs.declared.threads_script.MainCall.{MainCall}
-use Rattle.mq_cli.specs.declared.threads_script.MainCall.TheVariants.{Get, Set}
-use Rattle.mq_cli.specs.declared.threads_script.ThreadsLine.{ThreadsLine}
-use Rattle.mq_cli.specs.declared.threads_script.ThreadsLine.TheVariants.{Worker, Main, Section}
+use Rattle.mq_cli.specs.declared.threads.step.Step.{Step}
+use Rattle.mq_cli.specs.declared.threads.step.Step.TheVariants.{Put, Take, Remove}
+use Rattle.mq_cli.specs.declared.threads.script.MainCall.{MainCall}
+use Rattle.mq_cli.specs.declared.threads.script.MainCall.TheVariants.{Get, Set}
+use Rattle.mq_cli.specs.declared.threads.script.ThreadsLine.{ThreadsLine}
+use Rattle.mq_cli.specs.declared.threads.script.ThreadsLine.TheVariants.{Worker, Main, Section}
 use Rattle.mq_cli.specs.Commands.{AskedCall, get, set, get_asked, set_asked, is_filled, reading_by}
 use Rattle.mq_cli.specs.Commands.{◌>>=◌}
 use Rattle.mq_cli.specs.Lines.{lines_of}

@@ -1,4 +1,4 @@
-//! The parser of a line of a serial script.
+//! The parser of a line of a serial script, and of `get` and `set` of a threads script.
 
 ghost use Rattle.std.specs.Prelude.{◌≡◌, ◌+◌, ◌^◌, ◌==◌, length};
 ghost use Rattle.std.specs.List.{list_any};

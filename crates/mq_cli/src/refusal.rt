@@ -6,7 +6,7 @@ ghost use Rattle.mq_cli.specs.Recording.{refusal_told, with_refusal};
 ghost use Rattle.mq_cli.specs.Seen.{asked_by};
 
 use crate::command::Command;
-use crate::threads_script::MainCall;
+use crate::threads::script::MainCall;
 use mq_calls::Errno;
 use mq_trace::{CallName, Refusal};
 use std::alloc::AllocError;

@@ -1,4 +1,4 @@
-//! The run of a serial script.
+//! Serial scripts, whose calls one thread makes line by line. This file has the run of a script.
 
 ghost use Rattle.std.specs.Prelude.{◌≤◌, Some, Ok, length};
 ghost use Rattle.mq_cli.specs.Commands.{reading};
@@ -9,19 +9,28 @@ ghost use Rattle.mq_cli.specs.Serial.{RanSerial, Runs, RunsLine};
 ghost use Rattle.mq_cli.specs.Session.{CanOpen};
 ghost use Rattle.mq_cli.specs.Transcript.{run_from, run_of, said};
 
-use crate::answer::answer;
 use crate::command::{Command, read_line};
 use crate::lines::Lines;
 use crate::output::{WriteFailed, write_bytes};
 use crate::script::read_script;
-use crate::session::Session;
 use crate::{RunFault, SCRIPT_LIMIT};
+use answer::answer;
 use mq_arena::LEDGER_PARTS;
 use mq_calls::Config;
+use session::Session;
 use std::alloc::{AllocError, Global};
 use std::io::{Read, Write};
 use std::marker::Brand;
 use std::sync::ledger::{Blank, Ledger};
+
+mod answer;
+mod prompt;
+mod record;
+mod report;
+mod session;
+
+pub use prompt::run_prompt;
+pub use record::record_serial;
 
 /// Reads a script whole, then runs it line by line and writes the answer of each call. The first
 /// line that is not well formed ends it, after the answers of the lines before.

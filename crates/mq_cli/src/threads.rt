@@ -1,4 +1,5 @@
-//! The run of a threads script: its main part, its workers, and the summary.
+//! Threads scripts, each section of which runs on a thread of its own. This file has the run of a
+//! script: its main part, its workers, and the summary.
 
 ghost use Rattle.std.specs.Prelude.{◌≡◌, length, vec_len};
 ghost use Rattle.mq_system.specs.Sizes.{AreNames};
@@ -7,21 +8,45 @@ ghost use Rattle.mq_cli.specs.Threads.{Flushes, RanParts, RanWorkers, TellsEnd};
 ghost use Rattle.mq_cli.specs.ThreadsParsed.{wanted_seen};
 ghost use Rattle.mq_cli.specs.ThreadsRun.{CanRunScript, HaveSeats, RanThreads, RanWanted};
 
-use crate::closing::closing_text;
-use crate::main_part::run_main;
+use crate::RunFault;
 use crate::output::{WriteFailed, write_bytes};
 use crate::script::read_script;
-use crate::system_port::{Letters, letters_of_ports, ports_of};
-use crate::threads_script::{ThreadsScript, read_threads_script};
-use crate::{Outcome, RunFault, Step, run_workers};
+use closing::closing_text;
+use main_part::run_main;
 use mq_calls::{Closed, ClosedSlot, Config};
 use mq_system::{Blanks, Names, Seat, System};
+use script::{ThreadsScript, read_threads_script};
 use std::alloc::Global;
 use std::io::{Read, Write};
 use std::marker::Brand;
 use std::sync::Wait;
 use std::thread::Threads;
 use std::time::Clock;
+use system_port::ports_of;
+
+mod closing;
+mod line;
+mod main_part;
+mod notes;
+mod outcome;
+mod plan;
+mod port;
+mod record;
+pub(crate) mod script;
+mod step;
+mod system_port;
+mod taken;
+pub mod worked;
+mod workers;
+
+pub use outcome::Outcome;
+pub use plan::work;
+pub use port::Port;
+pub use record::record_threads;
+pub use step::Step;
+pub use system_port::{Letters, SystemPort, letters_of_ports};
+pub use taken::Taken;
+pub use workers::run_workers;
 
 /// Reads a threads script whole and makes the calls of its main part, whose answers it writes. Then
 /// it runs each section on a thread of its own, and writes at the end what each of them did, what
@@ -45,31 +70,47 @@ pub fn run_threads<T: Threads + Wait + Clock + Sync, R: Read, W: Write>(
     let Ok(blanks) = Blanks::of(alloc, Config { seats, ..config }) else {
         return Err(RunFault::Memory);
     };
-    run_wanted::<Brand, T, W>(rt, alloc, config, seats, blanks, &wanted, writer)
+    let seating = Seating { seats, blanks };
+    run_wanted::<Brand, T, W>(rt, alloc, config, seating, &wanted, writer)
 }
 
-/// Runs a script that has been read, on a system of `seats` seats, and flushes the writer. However
-/// the run ends, all texts have then given their pages back.
+/// The number of seats of a run's system, and the ledgers and boards for so many.
+struct Seating {
+    seats: u16,
+    blanks: Blanks,
+}
+
+/// Runs a script that has been read, on a system of this size but for its seats, and flushes the
+/// writer. However the run ends, all texts have then given their pages back.
 fn run_wanted<N: Names + Send + Sync, T: Threads + Wait + Clock + Sync, W: Write>(
     rt: &T,
     alloc: Global,
     config: Config,
-    seats: u16,
-    blanks: Blanks,
+    seating: Seating,
     wanted: &ThreadsScript,
     writer: &mut W,
 ) -> Result<(), RunFault>
-    requires names { AreNames N.Names.own N.Naming blanks (record config { seats = seats }) }
-    requires run { CanRunScript config blanks.pages.parts seats wanted.now.sections }
+    requires names { AreNames N.Names.own N.Naming seating.blanks
+        (record config { seats = seating.seats }) }
+    requires run { CanRunScript config seating.blanks.pages.parts seating.seats
+        wanted.now.sections }
     ensures { RanWanted config (wanted_seen wanted.now)
         (W.contents writer.old) (W.contents writer.new) result }
 {
+    let Seating { seats, blanks } = seating;
     let sized = Config { seats, ..config };
     let Ok((system, mut seats)) = System::<Letters, N>::new(alloc, rt, sized, blanks) else {
         return Err(RunFault::Memory);
     };
     let ran = match seats.split_first_mut() {
-        Some((main, others)) => run_parts(rt, alloc, &system, main, others, wanted, writer),
+        Some((main, others)) => run_parts(
+            Host { rt, alloc },
+            &system,
+            main,
+            others,
+            wanted,
+            writer,
+        ),
         None => unreachable!(),
     };
     let Closed { slots, arena } = system.close(rt, seats);
@@ -78,11 +119,16 @@ fn run_wanted<N: Names + Send + Sync, T: Threads + Wait + Clock + Sync, W: Write
     flush(writer, told)
 }
 
+/// What a run has of its host: threads and a clock, and memory.
+struct Host<'a, T> {
+    rt: &'a T,
+    alloc: Global,
+}
+
 /// Makes the calls of the main part by its seat, and then runs each section at the seat of its
 /// place among the others.
 fn run_parts<N: Names + Send + Sync, T: Threads + Wait + Clock + Sync, W: Write>(
-    rt: &T,
-    alloc: Global,
+    host: Host<'_, T>,
     system: &System<Letters, N>,
     main: &mut Seat<N>,
     others: &mut [Seat<N>],
@@ -95,6 +141,7 @@ fn run_parts<N: Names + Send + Sync, T: Threads + Wait + Clock + Sync, W: Write>
     ensures ran { RanParts N.slots N.last_seq (wanted_seen wanted.now) main.old main.new
         (W.contents writer.old) (W.contents writer.new) result }
 {
+    let Host { rt, alloc } = host;
     run_main(rt, alloc, system, main, &wanted.calls, writer)?;
     let Ok(()) = writer.flush() else {
         return Err(RunFault::Write);

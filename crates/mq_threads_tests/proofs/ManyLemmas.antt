@@ -3,7 +3,7 @@ use Rattle.std.proofs.Common.{◌≡◌, ℕ, ◌<◌, ◌≤◌, ℤ, Bool, Lis
 use Rattle.std.specs.Prelude.{MatchResult}
 use Rattle.std.specs.List.{FoldsTo}
 use Rattle.mq_calls.specs.declared.errno.Errno.{Errno}
-use Rattle.mq_cli.specs.declared.taken.Taken.{Taken}
+use Rattle.mq_cli.specs.declared.threads.taken.Taken.{Taken}
 use Rattle.mq_cli.specs.Batches.{TakesMany, TakesNext}
 use Rattle.mq_cli.specs.Works.{Takes}
 

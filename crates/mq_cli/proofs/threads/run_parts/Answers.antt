@@ -1,7 +1,7 @@
 use Rattle.std.proofs.Common.{List, subst}
 use Rattle.std.specs.Global.{Vec}
-use Rattle.mq_cli.specs.declared.step.Step.{Step}
-use Rattle.mq_cli.specs.declared.threads_script.MainCall.{MainCall}
+use Rattle.mq_cli.specs.declared.threads.step.Step.{Step}
+use Rattle.mq_cli.specs.declared.threads.script.MainCall.{MainCall}
 use Rattle.mq_cli.specs.MainPart.{WroteAll}
 use Rattle.mq_cli.specs.Threads.{RanWorkers}
 use Rattle.mq_cli.proofs.EndLemmas.{flush_failed, sections_ran}
