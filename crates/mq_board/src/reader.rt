@@ -57,7 +57,8 @@ impl<J: Naming> BoardReading<J> {
 
     /// Leaves the copy.
     pub fn leave(self) {
-        self.inside.leave();
+        let BoardReading { inside } = self;
+        inside.leave();
     }
 }
 
