@@ -43,15 +43,28 @@ impl<J: Naming> Model for BoardReader<J> {
     ghost invariant = { λ r. (r.place.board ≡ r.front.board) × (r.counter ≡ r.front.board) };
 }
 
-/// A reader inside the copy that is published: the next change but one waits until it has left.
+/// A reader inside the copy that is published, seen as the list of which that has the row: the next
+/// change but one waits until it has left.
 pub struct BoardReading<J: Naming> {
     inside: Reading<Snapshot, (), BoardLaw<J>>,
-    ghost of_board: { inside.part.value.book ≡ J.board inside.part.value.board },
+}
+
+impl<J: Naming> Model for BoardReading<J> {
+    ghost use Rattle.std.specs.Prelude.{◌≡◌};
+    ghost use Rattle.mq_board.specs.Histories.{History, history};
+
+    ghost Value = { History };
+
+    ghost view = { λ r. history r.inside.part.value.board r.inside.part.value.events };
+
+    ghost invariant = { λ r. r.inside.part.value.book ≡ J.board r.inside.part.value.board };
 }
 
 impl<J: Naming> BoardReading<J> {
-    /// The list that the copy shows.
-    fn told(&self) -> ToldList<J> {
+    /// The list of which the copy has the row.
+    fn told(&self) -> ToldList<J>
+        ensures { result ≡ self.now }
+    {
         ToldList::new(self.inside.get().duplicate())
     }
 
