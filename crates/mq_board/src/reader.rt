@@ -43,8 +43,8 @@ impl<J: Naming> Model for BoardReader<J> {
     ghost invariant = { λ r. (r.place.board ≡ r.front.board) × (r.counter ≡ r.front.board) };
 }
 
-/// A reader inside the copy that is published, seen as the list of which that has the row: the next
-/// change but one waits until it has left.
+/// A reader inside the published copy, seen as the list whose row it reads: the next change but one
+/// waits until it has left.
 pub struct BoardReading<J: Naming> {
     inside: Reading<Snapshot, (), BoardLaw<J>>,
 }
@@ -61,7 +61,7 @@ impl<J: Naming> Model for BoardReading<J> {
 }
 
 impl<J: Naming> BoardReading<J> {
-    /// The list of which the copy has the row.
+    /// The list whose row it reads.
     fn told(&self) -> ToldList<J>
         ensures { result ≡ self.now }
     {
