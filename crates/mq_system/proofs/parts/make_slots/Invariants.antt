@@ -9,9 +9,9 @@ use Rattle.mq_system.proofs.parts.make_slots.Given as goal
 abbrev pub invariant-loop-number : goal.invariant-loop-number
 invariant-loop-number g l =
     (length l.slots.items ≡ l.number) × (length l.rows.items ≡ l.number)
-    × AreEmpty l.slots.items × AreRows l.initial.config.seats l.rows.items
-    × (l.initial.config.slots ≤ vec_capacity l.slots) × (l.initial.config.slots ≤ vec_capacity l.rows)
-    × (length l.boards.items + l.number ≡ l.initial.config.slots)
+    × AreEmpty l.slots.items × AreRows l.fn.config.seats l.rows.items
+    × (l.fn.config.slots ≤ vec_capacity l.slots) × (l.fn.config.slots ≤ vec_capacity l.rows)
+    × (length l.boards.items + l.number ≡ l.fn.config.slots)
     × AreNamed g.N.Naming.board g.N.Naming.roll l.number l.boards.items
     × (l.arena ≡ l.fn.arena)
     × (l.tally.unused.parts + l.number ≡ g.N.Names.slots + g.N.Names.seats)
