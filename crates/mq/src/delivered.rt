@@ -1,6 +1,6 @@
 //! A received message taken apart: its header, which is a message with no text, and its text.
 
-ghost use Rattle.std.specs.Prelude.{◌≡◌, tt};
+ghost use Rattle.std.specs.Prelude.{◌≡◌};
 ghost use Rattle.mq.specs.Bytes.{with_text};
 
 use mq_calls::Delivered;

@@ -1,4 +1,4 @@
-use Rattle.std.proofs.Common.{rules, ◌≡◌, [], ℕ, refl, sym, ◌∙◌, ap, to_z, of_z, w64, arith}
+use Rattle.std.proofs.Common.{rules, ◌≡◌, [], ℕ, refl, sym, ◌∙◌, ap, arith}
 use Rattle.std.proofs.lemmas.List.{append-nil}
 use Rattle.mq_wire.specs.declared.unread_error.UnreadError.{UnreadError}
 use Rattle.mq_wire.specs.declared.unread_error.UnreadError.TheVariants.{NoMemory, NoValue}
@@ -28,13 +28,12 @@ returns-in-Ok-clause-value g c =
     (c.as_slice.ensures.value ∙ items ∙ kept.1
     ∙ sym (append-nil (g.P.Value.Wire.bytes_of kept.0))) in
     let same : c.in-Ok.value ≡ kept.0 = read.0 in
-    let mtype : to_z w64 (of_z w64 d.mtype) ≡ d.mtype = search rules in
-    record {
+    rw (c.join_text.ensures, c.split_text-text.ensures.header) (record {
       entry = refl;
-      mtype = mtype;
+      mtype = refl;
       sender = refl;
       tag = refl;
       long = refl;
       bytes = ap g.P.Value.Wire.bytes_of same ∙ sym kept.1;
-      vow = rw (mtype, same) kept.2;
-    }
+      vow = rw same kept.2;
+    })

@@ -1,4 +1,4 @@
-use Rattle.std.proofs.Common.{rules, ◌≡◌, [], false, ℕ, List, refl, sym, ◌∙◌, ap, to_z, of_z, w64, arith}
+use Rattle.std.proofs.Common.{rules, ◌≡◌, [], false, ℕ, List, refl, sym, ◌∙◌, ap, arith}
 use Rattle.std.proofs.lemmas.List.{append-nil}
 use Rattle.mq_queue.specs.declared.limits.TheConstants.{MSGMAX}
 use Rattle.mq_wire.specs.declared.unread_error.UnreadError.{UnreadError}
@@ -41,8 +41,6 @@ returns-in-Ok-read-clause-answer g c =
     (c.as_slice.ensures.value ∙ items ∙ kept.1
     ∙ sym (append-nil (g.P.Value.Wire.bytes_of kept.0))) in
     let same : c.in-Ok-read.value ≡ kept.0 = read.0 in
-    let mtype : to_z w64 (of_z w64 c.in-Ok.received.mtype) ≡ c.in-Ok.received.mtype =
-    search rules in
     let whole : g.P.Value.Wire.bytes_of c.in-Ok-read.value ≡ bytes =
     ap g.P.Value.Wire.bytes_of same ∙ sym kept.1 in
-    (rw (mtype, same) kept.2, moved _ _ _ _ _ _ _ _ _ _ _ _ _ _ mtype whole got)
+    rw c.join_text.ensures (rw same kept.2, moved _ _ _ _ _ _ _ _ _ _ _ _ _ _ refl whole got)
