@@ -12,8 +12,7 @@ use crate::{Caller, ReceiveOptions};
 use mq_calls::{Delivered, Errno, Refused};
 use mq_message::Selection;
 use mq_system::{
-    BatchSent, Forever, Letter, MAX_BATCH, Names, NoWait, Patience, Pledge, RecvFlags, SendFlags,
-    TextOf,
+    BatchSent, Forever, Letter, MAX_BATCH, Names, NoWait, Patience, Pledge, ReceiveRequest, TextOf,
 };
 use mq_table::Id;
 use std::alloc::Global;
@@ -82,13 +81,11 @@ impl<'a, P: Pledge, N: Names, R: Wait + Clock> Caller<'a, P, N, R> {
         ensures moments { IsTimed self.old.moments self.new.moments }
     {
         self.begin();
-        let flags = SendFlags { nowait: false };
         self.system.msgsnd_many_within(
             self.rt,
             &mut self.seat,
             id,
             letters,
-            flags,
             patience,
             self.moments.now,
         )
@@ -142,30 +139,24 @@ impl<'a, P: Pledge, N: Names, R: Wait + Clock> Caller<'a, P, N, R> {
             result.texts.items result.ended }
         ensures moments { IsTimed self.old.moments self.new.moments }
     {
-        let Some((msgtyp, except)) = msgtyp_of(selection) else {
+        if msgtyp_of(selection).is_none() {
             return BatchReceived::none(self.alloc, Errno::EINVAL);
-        };
+        }
         let Ok(mut texts) = Vec::with_capacity(self.alloc, most.min(MAX_BATCH)) else {
             return BatchReceived::none(self.alloc, Errno::ENOMEM);
         };
-        let flags = RecvFlags {
-            nowait: false,
-            noerror: options.noerror,
-            except,
-        };
         self.begin();
-        let ended = self.system.msgrcv_many_within(
-            self.rt,
-            &mut self.seat,
+        let request = ReceiveRequest {
             id,
-            options.size,
-            msgtyp,
-            flags,
-            patience,
-            most,
-            self.moments.now,
-            &mut texts,
-        );
+            size: options.size,
+            selection,
+            noerror: options.noerror,
+            moment: self.moments.now,
+        };
+        let seat = &mut self.seat;
+        let ended = self
+            .system
+            .msgrcv_many_within(self.rt, seat, &request, patience, most, &mut texts);
         BatchReceived {
             texts: VecDeque::from_vec(texts),
             ended,

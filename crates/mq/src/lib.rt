@@ -59,7 +59,7 @@ pub use mq_queue::{
 };
 pub use mq_system::{
     BatchSent, Blanks, Forever, Letter, MAX_BATCH, Names, NoWait, Pages, Patience, Pledge,
-    RecvFlags, Seat, SendFlags, System, TextOf, Until,
+    ReceiveRequest, RecvFlags, Seat, SendFlags, System, TextOf, Until,
 };
 pub use mq_table::{Cut, Id, MAX_SEQ, MAX_SLOTS};
 pub use mq_tree::MAX_HEIGHT;

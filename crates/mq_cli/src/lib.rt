@@ -32,6 +32,6 @@ pub use limits::{LINE_LIMIT, SCRIPT_DEFAULTS, SCRIPT_LIMIT, the_limits};
 pub use recorded::Recorded;
 pub use serial::{record_serial, run_prompt, run_serial};
 pub use threads::{
-    Letters, Outcome, Port, Step, SystemPort, Taken, letters_of_ports, record_threads, run_threads,
-    run_workers, work, worked,
+    Letters, Outcome, Port, PutCall, Step, SystemPort, TakeCall, Taken, letters_of_ports,
+    record_threads, run_threads, run_workers, work, worked,
 };

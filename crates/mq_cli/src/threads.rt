@@ -24,6 +24,7 @@ use std::thread::Threads;
 use std::time::Clock;
 use system_port::ports_of;
 
+mod call;
 mod closing;
 mod line;
 mod main_part;
@@ -39,6 +40,7 @@ mod taken;
 pub mod worked;
 mod workers;
 
+pub use call::{PutCall, TakeCall};
 pub use outcome::Outcome;
 pub use plan::work;
 pub use port::Port;

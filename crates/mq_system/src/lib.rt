@@ -77,6 +77,6 @@ pub use patience::{Forever, NoWait, Patience, Until};
 pub use pledge::Pledge;
 pub use seat::Seat;
 pub(crate) use slots::SlotMonitor;
-pub use slots::{SharedSlot, SlotParts, Waiters};
+pub use slots::{ReceiveRequest, SharedSlot, SlotParts, Waiters};
 pub use system::System;
 pub use tally::Tally;

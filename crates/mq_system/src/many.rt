@@ -1,6 +1,5 @@
 //! Calls that do several under one hold of a slot's lock.
-ghost use Rattle.std.specs.Prelude.{◌≡◌, ◌≤◌, ◌||◌, [], All, length, min, vec_capacity};
-ghost use Rattle.mq_message.specs.Selection.{selection_of};
+ghost use Rattle.std.specs.Prelude.{◌≡◌, ◌≤◌, [], All, length, min, vec_capacity};
 ghost use Rattle.mq_system.specs.Held.{MayBegin};
 ghost use Rattle.mq_system.specs.Many.{HasReceivedMany, HasSentMany};
 ghost use Rattle.mq_system.specs.Pledge.{MeetsItsPledge};
@@ -9,10 +8,9 @@ ghost use Rattle.mq_system.specs.declared.many.TheConstants.{MAX_BATCH};
 
 use crate::messages::too_early;
 use crate::{
-    Delivered, Errno, Names, Patience, Pledge, RecvFlags, Refused, Seat, SendFlags, SendRefused,
-    SharedSlot, System, TextOf,
+    Delivered, Errno, Names, Patience, Pledge, ReceiveRequest, Refused, Seat, SharedSlot, System,
+    TextOf,
 };
-use mq_message::Selection;
 use mq_table::Id;
 use std::collections::VecDeque;
 use std::sync::{MutexGuard, Wait};
@@ -45,26 +43,22 @@ impl<P: Pledge, N: Names> SharedSlot<P, N> {
         &mut self,
         rt: &R,
         seat: &mut Seat<N>,
-        id: Id,
-        size: u64,
-        selection: Selection,
-        noerror: bool,
+        request: &ReceiveRequest,
         n: usize,
-        moment: u64,
         out: &mut Vec<Delivered<TextOf<N>>>,
     ) -> Result<(), Refused>
-        requires begun { MayBegin id self.old.whole seat.old }
+        requires begun { MayBegin request.now.id self.old.whole seat.old }
         requires empty { out.old.items ≡ [] }
         requires room { n ≤ vec_capacity out.old }
-        ensures answer { HasReceivedMany id size selection noerror moment n
+        ensures answer { HasReceivedMany request.now.id request.now.size request.now.selection
+            request.now.noerror request.now.moment n
             (record { slot = self.old; seat = seat.old })
             (record { slot = self.new; seat = seat.new }) out.new.items result }
-        ensures pledge { All (MeetsItsPledge P.kept size noerror) out.new.items }
+        ensures pledge { All (MeetsItsPledge P.kept request.now.size request.now.noerror)
+            out.new.items }
         ensures capacity { vec_capacity out.new ≡ vec_capacity out.old }
     {
-        let answer = self
-            .parts
-            .receive_many::<P, R>(rt, seat, id, size, selection, noerror, n, moment, out);
+        let answer = self.parts.receive_many::<P, R>(rt, seat, request, n, out);
         self.parts.writer.show(rt);
         answer
     }
@@ -104,43 +98,37 @@ impl<P: Pledge, N: Names> SharedSlot<P, N> {
 
 impl<P: Pledge, N: Names> System<P, N> {
     /// Receives up to `n` messages, at most `MAX_BATCH`, as so many calls of `msgrcv`, one after
-    /// another at consecutive entries. It waits for the first alone, and not for `n`. The first
-    /// refusal ends it.
+    /// another at consecutive entries. It waits for the first alone, and not for `n`, no longer
+    /// than until the patience ends. The first refusal ends it.
     #[tactic(auto, using(crate::proofs::LaterLemmas::look_self))]
     pub fn msgrcv_many_within<R: Wait, T: Patience>(
         &self,
         rt: &R,
         seat: &mut Seat<N>,
-        id: Id,
-        size: u64,
-        msgtyp: i64,
-        flags: RecvFlags,
+        request: &ReceiveRequest,
         patience: &mut T,
         n: usize,
-        moment: u64,
         out: &mut Vec<Delivered<TextOf<N>>>,
     ) -> Result<(), Refused>
         requires empty { out.old.items ≡ [] }
         requires room { min n MAX_BATCH ≤ vec_capacity out.old }
-        ensures answer { AreReceived P.kept N.slots id size (selection_of msgtyp flags.except)
-            flags.noerror (T.ends || flags.nowait) moment (min n MAX_BATCH) seat.old seat.new
-            out.new.items result }
+        ensures answer { AreReceived P.kept N.slots request.now.id request.now.size
+            request.now.selection request.now.noerror T.ends request.now.moment
+            (min n MAX_BATCH) seat.old seat.new out.new.items result }
         ensures capacity { vec_capacity out.new ≡ vec_capacity out.old }
     {
         let most = n.min(MAX_BATCH);
         if most == 0 {
             return Ok(());
         }
-        let slot = id.slot();
+        let slot = request.id.slot();
         if slot as usize >= self.monitors.len() {
             return Err(too_early());
         }
         let monitor = &self.monitors[slot as usize];
-        let selection = Selection::read(msgtyp, flags.except);
-        let noerror = flags.noerror;
         for _ in rt.forever() {
             let mut held = monitor.enter(rt, seat, slot);
-            match held.receive_many(rt, seat, id, size, selection, noerror, most, moment, out) {
+            match held.receive_many(rt, seat, request, most, out) {
                 Ok(()) => {
                     MutexGuard::unlock(held);
                     monitor.wake_senders();
@@ -152,11 +140,11 @@ impl<P: Pledge, N: Names> System<P, N> {
                         monitor.wake_senders();
                         return Err(refused);
                     }
-                    if refused.errno != Errno::ENOMSG || flags.nowait {
+                    if refused.errno != Errno::ENOMSG {
                         MutexGuard::unlock(held);
                         return Err(refused);
                     }
-                    let receiver = monitor.add_receiver(&*held, id, size, selection, noerror);
+                    let receiver = monitor.add_receiver(&*held, request);
                     MutexGuard::unlock(held);
                     let Some(longest) = patience.left() else {
                         return Err(refused);
@@ -169,8 +157,9 @@ impl<P: Pledge, N: Names> System<P, N> {
     }
 
     /// Sends letters, at most `MAX_BATCH`, as so many calls of `msgsnd`, one after another at
-    /// consecutive entries. It waits for room for the first alone. The first refusal ends it; that
-    /// letter and those behind it stay in the list, and so do those past `MAX_BATCH`.
+    /// consecutive entries. It waits for room for the first alone, no longer than until the
+    /// patience ends. The first refusal ends it; that letter and those behind it stay in the list,
+    /// and so do those past `MAX_BATCH`.
     #[tactic(auto, using(crate::proofs::LaterLemmas::look_self))]
     pub fn msgsnd_many_within<R: Wait, T: Patience>(
         &self,
@@ -178,14 +167,13 @@ impl<P: Pledge, N: Names> System<P, N> {
         seat: &mut Seat<N>,
         id: Id,
         letters: &mut VecDeque<Letter<TextOf<N>>>,
-        flags: SendFlags,
         patience: &mut T,
         moment: u64,
     ) -> BatchSent
         requires pledge { All (λ l. P.kept seat.old.number l.tag l.mtype l.text.bytes)
             letters.old.items }
-        ensures answer { AreSent N.slots id (T.ends || flags.nowait) moment MAX_BATCH seat.old
-            seat.new letters.old.items letters.new.items result.first result.ended }
+        ensures answer { AreSent N.slots id T.ends moment MAX_BATCH seat.old seat.new
+            letters.old.items letters.new.items result.first result.ended }
     {
         let count = letters.len();
         if count == 0 {
@@ -221,7 +209,7 @@ impl<P: Pledge, N: Names> System<P, N> {
                         monitor.wake_receivers();
                         return BatchSent { first, ended };
                     }
-                    if refused.errno != Errno::EAGAIN || flags.nowait {
+                    if refused.errno != Errno::EAGAIN {
                         MutexGuard::unlock(held);
                         return BatchSent { first: None, ended };
                     }

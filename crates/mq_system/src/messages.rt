@@ -6,8 +6,8 @@ ghost use Rattle.mq_calls.specs.declared.errno.Errno.TheVariants.{EINVAL};
 ghost use Rattle.mq_system.specs.Outcome.{IsNotReceived, IsNotSent, IsReceived, IsSent};
 
 use crate::{
-    Delivered, Errno, Forever, Names, Patience, Pledge, RecvFlags, Refused, Seat, SendFlags,
-    SendRefused, System, TextOf,
+    Delivered, Errno, Forever, Letter, Names, Patience, Pledge, ReceiveRequest, RecvFlags, Refused,
+    Seat, SendFlags, SendRefused, System, TextOf,
 };
 use mq_message::Selection;
 use mq_table::Id;
@@ -70,7 +70,7 @@ impl<P: Pledge, N: Names> System<P, N> {
         let mut text = text;
         for _ in rt.forever() {
             let mut held = monitor.enter(rt, seat, slot);
-            match held.send(rt, seat, id, mtype, tag, text, moment) {
+            match held.send(rt, seat, id, Letter { mtype, tag, text }, moment) {
                 Ok(entry) => {
                     MutexGuard::unlock(held);
                     monitor.wake_receivers();
@@ -141,10 +141,16 @@ impl<P: Pledge, N: Names> System<P, N> {
             return Err(too_early());
         }
         let monitor = &self.monitors[slot as usize];
-        let selection = Selection::read(msgtyp, flags.except);
+        let request = ReceiveRequest {
+            id,
+            size,
+            selection: Selection::read(msgtyp, flags.except),
+            noerror: flags.noerror,
+            moment,
+        };
         for _ in rt.forever() {
             let mut held = monitor.enter(rt, seat, slot);
-            match held.receive(rt, seat, id, size, selection, flags.noerror, moment) {
+            match held.receive(rt, seat, &request) {
                 Ok(delivered) => {
                     MutexGuard::unlock(held);
                     monitor.wake_senders();
@@ -155,8 +161,7 @@ impl<P: Pledge, N: Names> System<P, N> {
                         MutexGuard::unlock(held);
                         return Err(refused);
                     }
-                    let noerror = flags.noerror;
-                    let receiver = monitor.add_receiver(&*held, id, size, selection, noerror);
+                    let receiver = monitor.add_receiver(&*held, &request);
                     MutexGuard::unlock(held);
                     let Some(longest) = patience.left() else {
                         return Err(refused);

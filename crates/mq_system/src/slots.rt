@@ -8,6 +8,7 @@ mod slot;
 mod turns;
 mod waiters;
 
+pub use calls::ReceiveRequest;
 pub(crate) use making::NewQueue;
 pub(crate) use monitor::SlotMonitor;
 pub use slot::{SharedSlot, SlotParts};

@@ -10,7 +10,7 @@ use crate::parts::{emptied, figures_of, not_shown};
 use mq_calls::{Errno, Removal};
 use mq_message::Selection;
 use mq_queue::{BoardRow, Figures};
-use mq_system::{Keys, Names, Seat, SharedSlot, TextOf};
+use mq_system::{Keys, Letter, Names, ReceiveRequest, Seat, SharedSlot, TextOf};
 use mq_table::{Cut, Id, MAX_SEQ};
 use std::process::Abort;
 use std::sync::Wait;
@@ -117,7 +117,12 @@ pub(crate) fn sent<N: Names, R: Abort + Wait>(
     ensures number { slot.new.whole.number ≡ 0 }
 {
     entered(rt, slot, seat);
-    match slot.send(rt, seat, Id::of(0, 0), 1, 7, text, 5) {
+    let letter = Letter {
+        mtype: 1,
+        tag: 7,
+        text,
+    };
+    match slot.send(rt, seat, Id::of(0, 0), letter, 5) {
         Ok(entry) => holds(rt, entry == 1, "it is sent by entry 1"),
         Err(_refused) => panic!(rt; "out of memory"),
     }
@@ -180,7 +185,14 @@ pub(crate) fn received<N: Names, R: Abort + Wait>(
     ensures number { slot.new.whole.number ≡ 0 }
 {
     entered(rt, slot, seat);
-    match slot.receive(rt, seat, Id::of(0, 0), 2, Selection::Any, false, 6) {
+    let request = ReceiveRequest {
+        id: Id::of(0, 0),
+        size: 2,
+        selection: Selection::Any,
+        noerror: false,
+        moment: 6,
+    };
+    match slot.receive(rt, seat, &request) {
         Ok(delivered) => {
             let text = text_of(rt, delivered, 2, 1, 2);
             is_hi(rt, &text);

@@ -6,11 +6,11 @@ use crate::day::Anything;
 use crate::holds;
 use mq_arena::{Homecoming, PAGE_LEN};
 use mq_calls::{Delivered, Removal, SendRefused, Usage};
-use mq_message::Body;
+use mq_message::{Body, Selection};
 use mq_queue::{BoardRow, Figures};
 use mq_system::{
-    BatchSent, DraftError, Errno, GetFlags, Got, Letter, MAX_BATCH, Names, Patience, RecvFlags,
-    Refused, Seat, SendFlags, System, TextOf,
+    BatchSent, DraftError, Errno, GetFlags, Got, Letter, MAX_BATCH, Names, NoWait, Patience,
+    ReceiveRequest, RecvFlags, Refused, Seat, SendFlags, System, TextOf,
 };
 use mq_table::{Cut, Id};
 use std::collections::VecDeque;
@@ -221,7 +221,10 @@ impl<N: Names> Calls for System<Anything, N> {
         patience: &mut T,
         moment: u64,
     ) -> BatchSent {
-        self.msgsnd_many_within(rt, seat, id, letters, flags, patience, moment)
+        if flags.nowait {
+            return self.msgsnd_many_within(rt, seat, id, letters, &mut NoWait, moment);
+        }
+        self.msgsnd_many_within(rt, seat, id, letters, patience, moment)
     }
 
     fn msgrcv_many<R: Abort + Wait, T: Patience>(
@@ -237,9 +240,18 @@ impl<N: Names> Calls for System<Anything, N> {
     ) -> Result<(), Refused> {
         holds(rt, out.is_empty(), "nothing was received before");
         holds(rt, n.min(MAX_BATCH) <= out.capacity(), "room for as many");
-        let Wanted { size, msgtyp, .. } = wanted;
         let flags = wanted.flags();
-        self.msgrcv_many_within(rt, seat, id, size, msgtyp, flags, patience, n, moment, out)
+        let request = ReceiveRequest {
+            id,
+            size: wanted.size,
+            selection: Selection::read(wanted.msgtyp, flags.except),
+            noerror: flags.noerror,
+            moment,
+        };
+        if flags.nowait {
+            return self.msgrcv_many_within(rt, seat, &request, &mut NoWait, n, out);
+        }
+        self.msgrcv_many_within(rt, seat, &request, patience, n, out)
     }
 
     fn set<R: Wait>(

@@ -5,7 +5,7 @@ ghost use Rattle.mq_cli.specs.Plans.{IsCountable};
 
 use crate::plans::{Call, one_take, take_call};
 use mq_calls::Errno;
-use mq_cli::{Outcome, Port, RunFault, Step, Taken, run_workers};
+use mq_cli::{Outcome, Port, PutCall, RunFault, Step, TakeCall, Taken, run_workers};
 use mq_system::Patience;
 use mq_table::Id;
 use std::alloc::{AllocError, Global};
@@ -40,13 +40,9 @@ impl<'a> Port for Meeting<'a> {
         &mut self,
         _rt: &R,
         _shared: &(),
-        _id: Id,
-        _mtype: i64,
+        _call: &PutCall,
         _tag: u64,
-        _length: u64,
-        _pages: bool,
         _patience: &mut T,
-        _moment: u64,
     ) -> Result<u64, Errno> {
         Err(Errno::EPERM)
     }
@@ -56,21 +52,13 @@ impl<'a> Port for Meeting<'a> {
         &mut self,
         _rt: &R,
         _shared: &(),
-        id: Id,
-        msgtyp: i64,
+        call: &TakeCall,
         patience: &mut T,
         most: usize,
-        moment: u64,
         out: &mut Vec<Taken>,
     ) -> Result<(), Errno> {
-        let call = Call::Take {
-            id: id.number(),
-            msgtyp,
-            left: patience.left(),
-            most,
-            moment,
-        };
-        if call != take_call(1) {
+        let made = Call::of_take(call, patience.left(), most);
+        if made != take_call(1) {
             return Err(Errno::EEXIST);
         }
         if self.calls > 0 || !meets(self.mine, self.other) {
@@ -80,7 +68,7 @@ impl<'a> Port for Meeting<'a> {
         out.push_reserved(Taken {
             sender: 2,
             tag: 1,
-            mtype: msgtyp,
+            mtype: call.msgtyp,
             length: 0,
         });
         Ok(())

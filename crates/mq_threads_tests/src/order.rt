@@ -5,7 +5,7 @@ ghost use Rattle.std.specs.Prelude.{◌≡◌, ◌+◌};
 
 use crate::plans::{Call, Stopped, take, take_call};
 use mq_calls::Errno;
-use mq_cli::{Port, Taken, work};
+use mq_cli::{Port, PutCall, TakeCall, Taken, work};
 use mq_system::Patience;
 use mq_table::Id;
 use std::alloc::Global;
@@ -33,13 +33,9 @@ impl<'a> Port for Told<'a> {
         &mut self,
         _rt: &R,
         _shared: &(),
-        _id: Id,
-        _mtype: i64,
+        _call: &PutCall,
         _tag: u64,
-        _length: u64,
-        _pages: bool,
         _patience: &mut T,
-        _moment: u64,
     ) -> Result<u64, Errno> {
         Err(Errno::EPERM)
     }
@@ -49,21 +45,13 @@ impl<'a> Port for Told<'a> {
         &mut self,
         _rt: &R,
         _shared: &(),
-        id: Id,
-        msgtyp: i64,
+        call: &TakeCall,
         patience: &mut T,
         most: usize,
-        moment: u64,
         out: &mut Vec<Taken>,
     ) -> Result<(), Errno> {
-        let call = Call::Take {
-            id: id.number(),
-            msgtyp,
-            left: patience.left(),
-            most,
-            moment,
-        };
-        if call != take_call(most) {
+        let made = Call::of_take(call, patience.left(), most);
+        if made != take_call(most) {
             return Err(Errno::ENOMSG);
         }
         for _ in 0..most {

@@ -4,7 +4,7 @@ ghost use Rattle.std.specs.Prelude.{◌≡◌, ◌+◌, MatchResult, IfOk};
 ghost use Rattle.mq_cli.specs.Plans.{IsCountable, puts_of, takes_of};
 
 use mq_calls::Errno;
-use mq_cli::{Port, Step, Taken};
+use mq_cli::{Port, PutCall, Step, TakeCall, Taken};
 use mq_system::Patience;
 use mq_table::Id;
 use std::alloc::{AllocError, Global};
@@ -52,6 +52,40 @@ pub(crate) enum Call {
         id: u32,
         moment: u64,
     },
+}
+
+impl Call {
+    /// This call for a message with this tag.
+    pub(crate) fn of_put(call: &PutCall, tag: u64, left: Option<Duration>) -> Call {
+        let PutCall {
+            id,
+            mtype,
+            length,
+            pages,
+            moment,
+        } = *call;
+        Call::Put {
+            id: id.number(),
+            mtype,
+            tag,
+            length,
+            pages,
+            left,
+            moment,
+        }
+    }
+
+    /// This call for up to so many messages.
+    pub(crate) fn of_take(call: &TakeCall, left: Option<Duration>, most: usize) -> Call {
+        let TakeCall { id, msgtyp, moment } = *call;
+        Call::Take {
+            id: id.number(),
+            msgtyp,
+            left,
+            most,
+            moment,
+        }
+    }
 }
 
 /// Expects these calls, one after the other. It lets so many messages and removals succeed and
@@ -130,23 +164,11 @@ impl<'a> Port for Wanting<'a> {
         &mut self,
         _rt: &R,
         _shared: &(),
-        id: Id,
-        mtype: i64,
+        call: &PutCall,
         tag: u64,
-        length: u64,
-        pages: bool,
         patience: &mut T,
-        moment: u64,
     ) -> Result<u64, Errno> {
-        self.call(Call::Put {
-            id: id.number(),
-            mtype,
-            tag,
-            length,
-            pages,
-            left: patience.left(),
-            moment,
-        })
+        self.call(Call::of_put(call, tag, patience.left()))
     }
 
     #[tactic(auto, using(crate::proofs::ManyLemmas::takes_any))]
@@ -154,21 +176,13 @@ impl<'a> Port for Wanting<'a> {
         &mut self,
         _rt: &R,
         _shared: &(),
-        id: Id,
-        msgtyp: i64,
+        call: &TakeCall,
         patience: &mut T,
         most: usize,
-        moment: u64,
         out: &mut Vec<Taken>,
     ) -> Result<(), Errno> {
-        let call = Call::Take {
-            id: id.number(),
-            msgtyp,
-            left: patience.left(),
-            most,
-            moment,
-        };
-        if !self.wants(call) {
+        let made = Call::of_take(call, patience.left(), most);
+        if !self.wants(made) {
             return Err(Errno::EEXIST);
         }
         for _ in 0..most.min(self.waiting.max(1)) {

@@ -8,7 +8,7 @@ ghost use Rattle.mq_system.specs.Sizes.{AreNames};
 
 use crate::plans::{Call, FOREVER};
 use mq_arena::LEDGER_PARTS;
-use mq_cli::{Letters, Port, SystemPort, Taken, letters_of_ports};
+use mq_cli::{Letters, Port, PutCall, SystemPort, TakeCall, Taken, letters_of_ports};
 use mq_message::Selection;
 use mq_queue::{Event, MSGMAX};
 use mq_system::{
@@ -302,16 +302,16 @@ fn called<P: Port, R: Wait>(
             left,
             moment,
         } => {
-            let id = Id::from_number(id);
+            let call = &PutCall {
+                id: Id::from_number(id),
+                mtype,
+                length,
+                pages,
+                moment,
+            };
             entry(match left {
-                Some(_) => {
-                    let forever = &mut Forever;
-                    port.put(rt, shared, id, mtype, tag, length, pages, forever, moment)
-                }
-                None => {
-                    let at_once = &mut NoWait;
-                    port.put(rt, shared, id, mtype, tag, length, pages, at_once, moment)
-                }
+                Some(_) => port.put(rt, shared, call, tag, &mut Forever),
+                None => port.put(rt, shared, call, tag, &mut NoWait),
             })
         }
         Call::Take {
@@ -321,30 +321,14 @@ fn called<P: Port, R: Wait>(
             most,
             moment,
         } => {
-            let id = Id::from_number(id);
+            let call = &TakeCall {
+                id: Id::from_number(id),
+                msgtyp,
+                moment,
+            };
             match left {
-                Some(_) => takes(
-                    rt,
-                    alloc,
-                    port,
-                    shared,
-                    id,
-                    msgtyp,
-                    &mut Forever,
-                    most,
-                    moment,
-                ),
-                None => takes(
-                    rt,
-                    alloc,
-                    port,
-                    shared,
-                    id,
-                    msgtyp,
-                    &mut NoWait,
-                    most,
-                    moment,
-                ),
+                Some(_) => takes(rt, alloc, port, shared, call, &mut Forever, most),
+                None => takes(rt, alloc, port, shared, call, &mut NoWait, most),
             }
         }
         Call::Remove { id, moment } => {
@@ -359,17 +343,15 @@ fn takes<P: Port, R: Wait, T: Patience>(
     alloc: Global,
     port: &mut P,
     shared: &P::Shared,
-    id: Id,
-    msgtyp: i64,
+    call: &TakeCall,
     patience: &mut T,
     most: usize,
-    moment: u64,
 ) -> Answer {
     let most = most.max(1);
     let Ok(mut out) = Vec::with_capacity(alloc, most) else {
         return Answer::Refused(Errno::ENOMEM);
     };
-    match port.take_many(rt, shared, id, msgtyp, patience, most, moment, &mut out) {
+    match port.take_many(rt, shared, call, patience, most, &mut out) {
         Ok(()) => Answer::Got([
             out.get(0).copied(),
             out.get(1).copied(),

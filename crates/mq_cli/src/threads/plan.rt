@@ -14,10 +14,9 @@ ghost use Rattle.mq_cli.specs.Progress.{outcome_of};
 ghost use Rattle.mq_cli.specs.Works.{HasWorked};
 
 use super::notes::{Notes, Stream};
-use crate::{Outcome, Port, Step, Taken};
+use crate::{Outcome, Port, PutCall, Step, TakeCall, Taken};
 use mq_calls::Errno;
 use mq_system::{Forever, MAX_BATCH, Patience, Until};
-use mq_table::Id;
 use std::alloc::Global;
 use std::sync::Wait;
 use std::time::{Clock, Duration};
@@ -102,36 +101,36 @@ impl Progress {
                 length,
                 within,
                 moment,
-            } => match within {
-                None => {
-                    let forever = &mut Forever;
-                    self.put_all(
-                        rt, shared, port, id, mtype, count, length, false, forever, moment,
-                    )
+            } => {
+                let call = &PutCall {
+                    id,
+                    mtype,
+                    length,
+                    pages: within.is_some(),
+                    moment,
+                };
+                match within {
+                    None => self.put_all(rt, shared, port, call, count, &mut Forever),
+                    Some(span) => {
+                        self.put_all(rt, shared, port, call, count, &mut until_end(clock, span))
+                    }
                 }
-                Some(span) => {
-                    let until = &mut until_end(clock, span);
-                    self.put_all(
-                        rt, shared, port, id, mtype, count, length, true, until, moment,
-                    )
-                }
-            },
+            }
             Step::Take {
                 id,
                 msgtyp,
                 count,
                 within,
                 moment,
-            } => match within {
-                None => {
-                    let forever = &mut Forever;
-                    self.take_all(rt, shared, port, id, msgtyp, count, forever, moment)
+            } => {
+                let call = &TakeCall { id, msgtyp, moment };
+                match within {
+                    None => self.take_all(rt, shared, port, call, count, &mut Forever),
+                    Some(span) => {
+                        self.take_all(rt, shared, port, call, count, &mut until_end(clock, span))
+                    }
                 }
-                Some(span) => {
-                    let until = &mut until_end(clock, span);
-                    self.take_all(rt, shared, port, id, msgtyp, count, until, moment)
-                }
-            },
+            }
             Step::Remove { id, moment } => match port.remove(rt, shared, id, moment) {
                 Ok(_) => Ok(()),
                 Err(errno) => Err(errno),
@@ -145,33 +144,19 @@ impl Progress {
         rt: &R,
         shared: &Q::Shared,
         port: &mut Q,
-        id: Id,
-        mtype: i64,
+        call: &PutCall,
         count: u32,
-        length: u64,
-        pages: bool,
         patience: &mut T,
-        moment: u64,
     ) -> Result<(), Errno>
         requires { self.old.sent + count < 2 ^ 64 }
         ensures counted { HasCounted count 0 0 (Q.calls port.old) (Q.calls port.new)
             self.old self.new result }
         ensures called { ComesFurther ⟦<Stream as PartialEq>⟧.eq Q.puts Q.takes Q.removes
-            (sends_after self.old.sent id mtype count length T.ends moment)
+            (sends_after self.old.sent call.now.id call.now.mtype count call.now.length T.ends call.now.moment)
             port.old port.new self.old self.new (result_err result) }
     {
         for _ in 0..count {
-            match port.put(
-                rt,
-                shared,
-                id,
-                mtype,
-                self.sent + 1,
-                length,
-                pages,
-                patience,
-                moment,
-            ) {
+            match port.put(rt, shared, call, self.sent + 1, patience) {
                 Ok(_) => self.sent += 1,
                 Err(errno) => return Err(errno),
             }
@@ -186,17 +171,15 @@ impl Progress {
         rt: &R,
         shared: &Q::Shared,
         port: &mut Q,
-        id: Id,
-        msgtyp: i64,
+        call: &TakeCall,
         count: u32,
         patience: &mut T,
-        moment: u64,
     ) -> Result<(), Errno>
         requires { self.old.received + count < 2 ^ 64 }
         ensures counted { HasCounted 0 count 0 (Q.calls port.old) (Q.calls port.new)
             self.old self.new result }
         ensures called { ComesFurther ⟦<Stream as PartialEq>⟧.eq Q.puts Q.takes Q.removes
-            (replicate count (receive id msgtyp T.ends moment))
+            (replicate count (receive call.now.id call.now.msgtyp T.ends call.now.moment))
             port.old port.new self.old self.new (result_err result) }
     {
         let all = count as usize;
@@ -204,7 +187,7 @@ impl Progress {
         let mut done = 0;
         while done < all {
             let n = no_more_than(all - done, most);
-            match self.take_some(rt, shared, port, id, msgtyp, patience, n, moment) {
+            match self.take_some(rt, shared, port, call, patience, n) {
                 Ok(()) => (),
                 Err(errno) => return Err(errno),
             }
@@ -221,18 +204,17 @@ impl Progress {
         rt: &R,
         shared: &Q::Shared,
         port: &mut Q,
-        id: Id,
-        msgtyp: i64,
+        call: &TakeCall,
         patience: &mut T,
         n: usize,
-        moment: u64,
     ) -> Result<(), Errno>
         requires some { 0 < n }
         requires count { self.old.received + n < 2 ^ 64 }
         ensures calls { Q.calls port.new + self.old.received
             ≡ Q.calls port.old + self.new.received }
         ensures called { ComesBy ⟦<Stream as PartialEq>⟧.eq Q.puts Q.takes Q.removes
-            (receive id msgtyp T.ends moment) n port.old port.new self.old self.new result }
+            (receive call.now.id call.now.msgtyp T.ends call.now.moment) n port.old port.new
+            self.old self.new result }
     {
         self.came.clear();
         match self.reserve(n) {
@@ -240,8 +222,8 @@ impl Progress {
             Err(errno) => return Err(errno),
         }
         let came = &mut self.came;
-        let answer = port.take_many(rt, shared, id, msgtyp, patience, n, moment, came);
-        self.notes.note_all(id, &self.came);
+        let answer = port.take_many(rt, shared, call, patience, n, came);
+        self.notes.note_all(call.id, &self.came);
         self.received += self.came.len() as u64;
         answer
     }

@@ -4,7 +4,7 @@ ghost use Rattle.std.specs.Prelude.{◌≡◌, ◌+◌, ◌<◌, ◌≤◌, ℕ,
 ghost use Rattle.std.specs.Prelude.{vec_capacity};
 ghost use Rattle.mq_cli.specs.Batches.{TakesMany};
 
-use crate::Taken;
+use crate::{PutCall, TakeCall, Taken};
 use mq_calls::Errno;
 use mq_system::Patience;
 use mq_table::Id;
@@ -33,23 +33,19 @@ pub trait Port {
     /// By the id and the moment.
     ghost removes: { Self → ℕ → ℕ → Result ℕ Errno → Self → Type 0 };
 
-    /// Sends a message of this length, and returns its entry. It waits for room, and with `pages`
-    /// for pages too, until the patience ends.
+    /// Sends a message with this tag, and returns its entry. It waits until the patience ends.
     fn put<R: Wait, T: Patience>(
         &mut self,
         rt: &R,
         shared: &Self::Shared,
-        id: Id,
-        mtype: i64,
+        call: &PutCall,
         tag: u64,
-        length: u64,
-        pages: bool,
         patience: &mut T,
-        moment: u64,
     ) -> Result<u64, Errno>
         ensures calls { MatchResult result (λ _. calls self.new ≡ calls self.old + 1)
             (λ _. calls self.new ≡ calls self.old) }
-        ensures done { puts self.old id mtype tag length T.ends moment result self.new };
+        ensures done { puts self.old call.now.id call.now.mtype tag call.now.length T.ends call.now.moment result
+            self.new };
 
     /// Receives up to `most` messages, whose texts are spent, as that many calls for one. It waits
     /// for the first alone until the patience ends, and takes what is there.
@@ -57,19 +53,17 @@ pub trait Port {
         &mut self,
         rt: &R,
         shared: &Self::Shared,
-        id: Id,
-        msgtyp: i64,
+        call: &TakeCall,
         patience: &mut T,
         most: usize,
-        moment: u64,
         out: &mut Vec<Taken>,
     ) -> Result<(), Errno>
         requires some { 0 < most }
         requires empty { out.old.items ≡ [] }
         requires room { most ≤ vec_capacity out.old }
         ensures calls { calls self.new ≡ calls self.old + length out.new.items }
-        ensures done { TakesMany takes id msgtyp T.ends moment most self.old out.new.items result
-            self.new };
+        ensures done { TakesMany takes call.now.id call.now.msgtyp T.ends call.now.moment most self.old
+            out.new.items result self.new };
 
     /// Removes a queue, and returns the entry.
     fn remove<R: Wait>(

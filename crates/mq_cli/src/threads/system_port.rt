@@ -13,7 +13,7 @@ ghost use Rattle.mq_cli.specs.declared.threads.system_port.TheConstants.{LETTERS
 mod receive;
 
 use crate::draft::letters;
-use crate::{Port, Taken};
+use crate::{Port, PutCall, TakeCall, Taken};
 use mq_calls::{DraftError, Errno, Removal, SendRefused};
 use mq_queue::MSGMAX;
 use mq_system::{MAX_BATCH, Names, Patience, Pledge, Seat, SendFlags, System, TextOf};
@@ -129,14 +129,17 @@ impl<'a, N: Names> Port for SystemPort<'a, N> {
         &mut self,
         rt: &R,
         system: &System<Letters, N>,
-        id: Id,
-        mtype: i64,
+        call: &PutCall,
         tag: u64,
-        length: u64,
-        pages: bool,
         patience: &mut T,
-        moment: u64,
     ) -> Result<u64, Errno> {
+        let PutCall {
+            id,
+            mtype,
+            length,
+            pages,
+            moment,
+        } = *call;
         if length > MSGMAX {
             return Err(DraftError::TooLong.errno());
         }
@@ -160,19 +163,17 @@ impl<'a, N: Names> Port for SystemPort<'a, N> {
         &mut self,
         rt: &R,
         system: &System<Letters, N>,
-        id: Id,
-        msgtyp: i64,
+        call: &TakeCall,
         patience: &mut T,
         most: usize,
-        moment: u64,
         out: &mut Vec<Taken>,
     ) -> Result<(), Errno> {
         if most > 1 {
             if let Ok(batch) = Vec::with_capacity(self.alloc, most.min(MAX_BATCH)) {
-                return self.take_batch(rt, system, id, msgtyp, patience, moment, batch, out);
+                return self.take_batch(rt, system, call, patience, batch, out);
             }
         }
-        match self.take_one(rt, system, id, msgtyp, patience, moment) {
+        match self.take_one(rt, system, call, patience) {
             Ok(taken) => {
                 out.push_reserved(taken);
                 Ok(())

@@ -8,11 +8,14 @@ ghost use Rattle.mq_table.specs.declared.limits.TheConstants.{MAX_SEQ};
 ghost use Rattle.mq_system.specs.Answer.{receive_in_slot, remove_in_slot};
 ghost use Rattle.mq_system.specs.Answer.{send_in_slot, set_in_slot};
 ghost use Rattle.mq_system.specs.Held.{HasChanged, HasMade, HasNoted, HasRefused, MayBegin};
+ghost use Rattle.mq_system.specs.Many.{message_of};
 ghost use Rattle.mq_system.specs.Pledge.{MeetsItsPledge};
 ghost use Rattle.mq_system.specs.Seat.{front_of};
 ghost use Rattle.mq_system.specs.Shared.{IsDue, IsShared, with_pending};
 
-use crate::{Entries, Keys, Names, Pledge, Seat, SharedSlot, SlotOf, SlotParts, TextOf, WaitingOf};
+use crate::{
+    Entries, Keys, Letter, Names, Pledge, Seat, SharedSlot, SlotOf, SlotParts, TextOf, WaitingOf,
+};
 use mq_board::BoardWriter;
 use mq_calls::{Delivered, Errno, Got, Refused, Removal, SendRefused};
 use mq_message::{Message, Selection};
@@ -20,6 +23,19 @@ use mq_table::{Id, make_under, remove_under};
 use std::alloc::AllocError;
 use std::sync::Wait;
 use std::sync::ledger::Share;
+
+/// What a receive asks for (msgop(2)).
+#[derive(Clone, Copy)]
+pub struct ReceiveRequest {
+    pub id: Id,
+    /// The most bytes of the text.
+    pub size: u64,
+    pub selection: Selection,
+    /// Whether a longer text is truncated (MSG_NOERROR).
+    pub noerror: bool,
+    /// The time at which it is made, the queue's `rtime`.
+    pub moment: u64,
+}
 
 impl<P: Pledge, N: Names> SharedSlot<P, N> {
     /// Sends a text as this seat (msgop(2), msgsnd with IPC_NOWAIT), and returns the entry. EINVAL
@@ -29,55 +45,45 @@ impl<P: Pledge, N: Names> SharedSlot<P, N> {
         rt: &R,
         seat: &mut Seat<N>,
         id: Id,
-        mtype: i64,
-        tag: u64,
-        text: TextOf<N>,
+        letter: Letter<TextOf<N>>,
         moment: u64,
     ) -> Result<u64, SendRefused<TextOf<N>>>
         requires begun { MayBegin id self.old.whole seat.old }
-        requires pledge { P.kept seat.old.number tag mtype text.bytes }
+        requires pledge { P.kept seat.old.number letter.tag letter.mtype letter.text.bytes }
         ensures answer { MatchResult result
             (HasChanged (send_in_slot self.old.whole id
-            (record { mtype = mtype; sender = seat.old.number; tag = tag; body = text }) moment)
+            (message_of seat.old.number letter) moment)
             self.old self.new seat.old seat.new)
             (λ r. HasRefused (send_in_slot self.old.whole id
-            (record { mtype = mtype; sender = seat.old.number; tag = tag; body = text }) moment)
+            (message_of seat.old.number letter) moment)
             self.old self.new seat.old seat.new r.refused) }
-        ensures handed_back { IfErr result (λ r. r.text ≡ text) }
+        ensures handed_back { IfErr result (λ r. r.text ≡ letter.text) }
     {
-        let answer = self
-            .parts
-            .send::<P, R>(rt, seat, id, mtype, tag, text, moment);
+        let answer = self.parts.send::<P, R>(rt, seat, id, letter, moment);
         self.parts.writer.show(rt);
         answer
     }
 
     /// Receives the first message that the selection names (msgop(2), msgrcv with IPC_NOWAIT).
-    /// With `noerror`, the flag MSG_NOERROR, a longer text is truncated to `size` bytes. EINVAL,
-    /// EIDRM, ENOMSG, E2BIG, then ENOMEM.
+    /// EINVAL, EIDRM, ENOMSG, E2BIG, then ENOMEM.
     pub fn receive<R: Wait>(
         &mut self,
         rt: &R,
         seat: &mut Seat<N>,
-        id: Id,
-        size: u64,
-        selection: Selection,
-        noerror: bool,
-        moment: u64,
+        request: &ReceiveRequest,
     ) -> Result<Delivered<TextOf<N>>, Refused>
-        requires begun { MayBegin id self.old.whole seat.old }
+        requires begun { MayBegin request.now.id self.old.whole seat.old }
         ensures answer { MatchResult result
-            (HasChanged
-            (receive_in_slot self.old.whole id size selection noerror seat.old.number moment)
+            (HasChanged (receive_in_slot self.old.whole request.now.id request.now.size
+            request.now.selection request.now.noerror seat.old.number request.now.moment)
             self.old self.new seat.old seat.new)
-            (HasRefused
-            (receive_in_slot self.old.whole id size selection noerror seat.old.number moment)
+            (HasRefused (receive_in_slot self.old.whole request.now.id request.now.size
+            request.now.selection request.now.noerror seat.old.number request.now.moment)
             self.old self.new seat.old seat.new) }
-        ensures pledge { IfOk result (MeetsItsPledge P.kept size noerror) }
+        ensures pledge { IfOk result
+            (MeetsItsPledge P.kept request.now.size request.now.noerror) }
     {
-        let answer = self
-            .parts
-            .receive::<P, R>(rt, seat, id, size, selection, noerror, moment);
+        let answer = self.parts.receive::<P, R>(rt, seat, request);
         self.parts.writer.show(rt);
         answer
     }

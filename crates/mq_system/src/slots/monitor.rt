@@ -9,9 +9,9 @@ ghost use Rattle.mq_system.specs.Outcome.{IsLook, IsUnderLock};
 ghost use Rattle.mq_system.specs.Seat.{front_of};
 ghost use Rattle.mq_system.specs.Seen.{receive_verdict, send_verdict};
 
+use super::ReceiveRequest;
 use crate::{Names, Pledge, Seat, SharedSlot, TextOf, Waiters};
 use crossbeam_utils::{Backoff, CachePadded};
-use mq_message::Selection;
 use mq_table::Id;
 use std::hint::spin_loop;
 use std::sync::{Mutex, MutexGuard, Wait};
@@ -208,13 +208,10 @@ impl<P: Pledge, N: Names> SlotMonitor<P, N> {
     pub(crate) fn add_receiver(
         &self,
         _held: &SharedSlot<P, N>,
-        _id: Id,
-        _size: u64,
-        _selection: Selection,
-        _noerror: bool,
+        _request: &ReceiveRequest,
     ) -> SlotWaiter<'_>
-        requires none { receive_verdict (seq_of _id) _size _selection _noerror
-            _held.now.whole.events ≡ Some ENOMSG }
+        requires none { receive_verdict (seq_of _request.now.id) _request.now.size _request.now.selection
+            _request.now.noerror _held.now.whole.events ≡ Some ENOMSG }
     {
         let waiters = &*self.not_empty;
         let seen = waiters.register();

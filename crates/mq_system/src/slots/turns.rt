@@ -10,14 +10,15 @@ ghost use Rattle.mq_table.specs.declared.limits.TheConstants.{MAX_SEQ};
 ghost use Rattle.mq_system.specs.Answer.{looks_in_slot, receive_in_slot, refused_here};
 ghost use Rattle.mq_system.specs.Answer.{send_in_slot};
 ghost use Rattle.mq_system.specs.Held.{HasChanged, HasNoted, HasRefused, MayBegin};
-ghost use Rattle.mq_system.specs.Many.{HasReceivedMany, HasSentMany};
+ghost use Rattle.mq_system.specs.Many.{HasReceivedMany, HasSentMany, message_of};
 ghost use Rattle.mq_system.specs.Pledge.{MeetsItsPledge};
 ghost use Rattle.mq_system.specs.Seat.{front_of};
 ghost use Rattle.mq_system.specs.Shared.{IsDue, IsShared, locked, with_pending};
 
+use super::ReceiveRequest;
 use crate::{Letter, Names, Pledge, Seat, SlotParts, TextOf};
 use mq_calls::{Delivered, Errno, Refused, SendRefused};
-use mq_message::{Message, Selection};
+use mq_message::Message;
 use mq_table::Id;
 use std::collections::VecDeque;
 use std::sync::Wait;
@@ -102,30 +103,29 @@ impl<N: Names> SlotParts<N> {
         rt: &R,
         seat: &mut Seat<N>,
         id: Id,
-        mtype: i64,
-        tag: u64,
-        text: TextOf<N>,
+        letter: Letter<TextOf<N>>,
         moment: u64,
     ) -> Result<u64, SendRefused<TextOf<N>>>
         requires shared { IsShared P.kept N.slots N.last_seq self.old.writer.board
             self.old.writer.events self.old.writer.pending self.old.slot self.old.entries.parts
             self.old.entries.amount }
         requires begun { MayBegin id (whole self.old.writer.events self.old.slot) seat.old }
-        requires pledge { P.kept seat.old.number tag mtype text.bytes }
+        requires pledge { P.kept seat.old.number letter.tag letter.mtype letter.text.bytes }
         ensures shared { IsShared P.kept N.slots N.last_seq self.new.writer.board
             self.new.writer.events self.new.writer.pending self.new.slot self.new.entries.parts
             self.new.entries.amount }
         ensures answer { MatchResult result
             (HasChanged (send_in_slot (whole self.old.writer.events self.old.slot) id
-            (record { mtype = mtype; sender = seat.old.number; tag = tag; body = text }) moment)
+            (message_of seat.old.number letter) moment)
             (locked self.old.writer.events self.old.slot)
             (locked self.new.writer.events self.new.slot) seat.old seat.new)
             (λ r. HasRefused (send_in_slot (whole self.old.writer.events self.old.slot) id
-            (record { mtype = mtype; sender = seat.old.number; tag = tag; body = text }) moment)
+            (message_of seat.old.number letter) moment)
             (locked self.old.writer.events self.old.slot)
             (locked self.new.writer.events self.new.slot) seat.old seat.new r.refused) }
-        ensures handed_back { IfErr result (λ r. r.text ≡ text) }
+        ensures handed_back { IfErr result (λ r. r.text ≡ letter.text) }
     {
+        let Letter { mtype, tag, text } = letter;
         if mtype < 1 {
             let refused = Refused {
                 errno: Errno::EINVAL,
@@ -161,30 +161,37 @@ impl<N: Names> SlotParts<N> {
         &mut self,
         rt: &R,
         seat: &mut Seat<N>,
-        id: Id,
-        size: u64,
-        selection: Selection,
-        noerror: bool,
-        moment: u64,
+        request: &ReceiveRequest,
     ) -> Result<Delivered<TextOf<N>>, Refused>
         requires shared { IsShared P.kept N.slots N.last_seq self.old.writer.board
             self.old.writer.events self.old.writer.pending self.old.slot self.old.entries.parts
             self.old.entries.amount }
-        requires begun { MayBegin id (whole self.old.writer.events self.old.slot) seat.old }
+        requires begun { MayBegin request.now.id (whole self.old.writer.events self.old.slot)
+            seat.old }
         ensures shared { IsShared P.kept N.slots N.last_seq self.new.writer.board
             self.new.writer.events self.new.writer.pending self.new.slot self.new.entries.parts
             self.new.entries.amount }
         ensures answer { MatchResult result
-            (HasChanged (receive_in_slot (whole self.old.writer.events self.old.slot) id size
-            selection noerror seat.old.number moment)
+            (HasChanged (receive_in_slot (whole self.old.writer.events self.old.slot)
+            request.now.id request.now.size request.now.selection request.now.noerror
+            seat.old.number request.now.moment)
             (locked self.old.writer.events self.old.slot)
             (locked self.new.writer.events self.new.slot) seat.old seat.new)
-            (HasRefused (receive_in_slot (whole self.old.writer.events self.old.slot) id size
-            selection noerror seat.old.number moment)
+            (HasRefused (receive_in_slot (whole self.old.writer.events self.old.slot)
+            request.now.id request.now.size request.now.selection request.now.noerror
+            seat.old.number request.now.moment)
             (locked self.old.writer.events self.old.slot)
             (locked self.new.writer.events self.new.slot) seat.old seat.new) }
-        ensures pledge { IfOk result (MeetsItsPledge P.kept size noerror) }
+        ensures pledge { IfOk result
+            (MeetsItsPledge P.kept request.now.size request.now.noerror) }
     {
+        let ReceiveRequest {
+            id,
+            size,
+            selection,
+            noerror,
+            moment,
+        } = *request;
         self.look(id)?;
         self.holds();
         let number = seat.number();
@@ -206,33 +213,32 @@ impl<N: Names> SlotParts<N> {
         &mut self,
         rt: &R,
         seat: &mut Seat<N>,
-        id: Id,
-        size: u64,
-        selection: Selection,
-        noerror: bool,
+        request: &ReceiveRequest,
         n: usize,
-        moment: u64,
         out: &mut Vec<Delivered<TextOf<N>>>,
     ) -> Result<(), Refused>
         requires shared { IsShared P.kept N.slots N.last_seq self.old.writer.board
             self.old.writer.events self.old.writer.pending self.old.slot self.old.entries.parts
             self.old.entries.amount }
-        requires begun { MayBegin id (whole self.old.writer.events self.old.slot) seat.old }
+        requires begun { MayBegin request.now.id (whole self.old.writer.events self.old.slot)
+            seat.old }
         requires empty { out.old.items ≡ [] }
         requires room { n ≤ vec_capacity out.old }
         ensures shared { IsShared P.kept N.slots N.last_seq self.new.writer.board
             self.new.writer.events self.new.writer.pending self.new.slot self.new.entries.parts
             self.new.entries.amount }
-        ensures answer { HasReceivedMany id size selection noerror moment n
+        ensures answer { HasReceivedMany request.now.id request.now.size request.now.selection
+            request.now.noerror request.now.moment n
             (record { slot = locked self.old.writer.events self.old.slot; seat = seat.old })
             (record { slot = locked self.new.writer.events self.new.slot; seat = seat.new })
             out.new.items result }
-        ensures pledge { All (MeetsItsPledge P.kept size noerror) out.new.items }
+        ensures pledge { All (MeetsItsPledge P.kept request.now.size request.now.noerror)
+            out.new.items }
         ensures capacity { vec_capacity out.new ≡ vec_capacity out.old }
     {
         seat.holds();
         for _done in 0..n {
-            match self.receive::<P, R>(rt, seat, id, size, selection, noerror, moment) {
+            match self.receive::<P, R>(rt, seat, request) {
                 Ok(delivered) => out.push_reserved(delivered),
                 Err(refused) => return Err(refused),
             }
@@ -270,8 +276,8 @@ impl<N: Names> SlotParts<N> {
             let Some(letter) = letters.pop_front() else {
                 return Ok(());
             };
-            let Letter { mtype, tag, text } = letter;
-            match self.send::<P, R>(rt, seat, id, mtype, tag, text, moment) {
+            let (mtype, tag) = (letter.mtype, letter.tag);
+            match self.send::<P, R>(rt, seat, id, letter, moment) {
                 Ok(_entry) => (),
                 Err(SendRefused { refused, text }) => {
                     letters.push_front_reserved(Letter { mtype, tag, text });

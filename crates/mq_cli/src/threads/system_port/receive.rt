@@ -7,11 +7,11 @@ ghost use Rattle.mq_cli.specs.Batches.{TakesMany};
 ghost use Rattle.mq_cli.specs.Ports.{Receives, taken_of};
 
 use super::{Letters, SystemPort};
-use crate::Taken;
+use crate::{TakeCall, Taken};
 use mq_calls::{Delivered, Errno};
+use mq_message::Selection;
 use mq_queue::MSGMAX;
-use mq_system::{MAX_BATCH, Names, Patience, RecvFlags, Seat, System, TextOf};
-use mq_table::Id;
+use mq_system::{MAX_BATCH, Names, Patience, ReceiveRequest, RecvFlags, Seat, System, TextOf};
 use std::collections::VecDeque;
 use std::sync::Wait;
 
@@ -28,17 +28,16 @@ impl<'a, N: Names> SystemPort<'a, N> {
         &mut self,
         rt: &R,
         system: &System<Letters, N>,
-        id: Id,
-        msgtyp: i64,
+        call: &TakeCall,
         patience: &mut T,
-        moment: u64,
     ) -> Result<Taken, Errno>
         ensures calls { MatchResult result
             (λ _. sum self.new.seat.now.by_slot ≡ sum self.old.seat.now.by_slot + 1)
             (λ _. sum self.new.seat.now.by_slot ≡ sum self.old.seat.now.by_slot) }
-        ensures done { Receives N.slots self.old.seat.now self.new.seat.now id msgtyp T.ends moment
-            result }
+        ensures done { Receives N.slots self.old.seat.now self.new.seat.now call.now.id call.now.msgtyp
+            T.ends call.now.moment result }
     {
+        let TakeCall { id, msgtyp, moment } = *call;
         let flags = ALL_OF_A_TEXT;
         match system.msgrcv_within(rt, self.seat, id, MSGMAX, msgtyp, flags, patience, moment) {
             Ok(delivered) => Ok(spend(rt, system, self.seat, delivered)),
@@ -52,10 +51,8 @@ impl<'a, N: Names> SystemPort<'a, N> {
         &mut self,
         rt: &R,
         system: &System<Letters, N>,
-        id: Id,
-        msgtyp: i64,
+        call: &TakeCall,
         patience: &mut T,
-        moment: u64,
         batch: Vec<Delivered<TextOf<N>>>,
         out: &mut Vec<Taken>,
     ) -> Result<(), Errno>
@@ -67,15 +64,20 @@ impl<'a, N: Names> SystemPort<'a, N> {
         ensures calls { sum self.new.seat.now.by_slot
             ≡ sum self.old.seat.now.by_slot + length out.new.items }
         ensures done { TakesMany (λ old id msgtyp ends moment answer new. Receives N.slots
-            old.seat.now new.seat.now id msgtyp ends moment answer) id msgtyp T.ends moment
-            (vec_capacity batch) self.old out.new.items result self.new }
+            old.seat.now new.seat.now id msgtyp ends moment answer) call.now.id call.now.msgtyp T.ends
+            call.now.moment (vec_capacity batch) self.old out.new.items result self.new }
     {
+        let TakeCall { id, msgtyp, moment } = *call;
         let mut batch = batch;
         let n = batch.capacity();
-        let flags = ALL_OF_A_TEXT;
-        let ended = system.msgrcv_many_within(
-            rt, self.seat, id, MSGMAX, msgtyp, flags, patience, n, moment, &mut batch,
-        );
+        let request = ReceiveRequest {
+            id,
+            size: MSGMAX,
+            selection: Selection::read(msgtyp, false),
+            noerror: false,
+            moment,
+        };
+        let ended = system.msgrcv_many_within(rt, self.seat, &request, patience, n, &mut batch);
         spend_all(rt, system, self.seat, batch, out);
         match ended {
             Ok(()) => Ok(()),

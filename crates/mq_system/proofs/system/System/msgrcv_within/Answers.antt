@@ -21,10 +21,10 @@ returns-in-Ok g c =
     let h = enters c.args.seat.now c.loop.seat now (slot_of c.args.id) c.slot-slot.result c.deref_mut.result.now _ c.slot-slot.ensures.value c.deref_mut.ensures.value c.loop.invariant c.enter-held.ensures in
     let told = c.in-Ok.ensures in
     let fits : SFits w64 c.args.msgtyp = search rules in
-    let selected = simp to_z-of_z at c.read-selection.ensures in
+    let selected = simp to_z-of_z at c.read.ensures in
     let done =
     done_receive c.args.seat.now now c.receive.new.seat (slot_of c.args.id) s h c.args.id
-    c.args.size c.read-selection.result c.args.flags.noerror c.args.moment c.in-Ok.delivered c.receive.new.self.whole
+    c.args.size c.read.result c.args.flags.noerror c.args.moment c.in-Ok.delivered c.receive.new.self.whole
     told.answer.noted (cc (told.answer.ok)) in record {
       answer = record {
         early = in_slots g.N.Names.slots c.args.id within;
@@ -43,18 +43,18 @@ returns-then-ne g c =
     let h = enters c.args.seat.now c.loop.seat now (slot_of c.args.id) c.slot-slot.result c.deref_mut.result.now _ c.slot-slot.ensures.value c.deref_mut.ensures.value c.loop.invariant c.enter-held.ensures in
     let told = c.in-Err.ensures in
     let fits : SFits w64 c.args.msgtyp = search rules in
-    let selected = simp to_z-of_z at c.read-selection.ensures in
+    let selected = simp to_z-of_z at c.read.ensures in
     let ends : Bool = g.T.Patience.ends in
     let at_once : c.in-Err.refused.errno ≡ ENOMSG → c.args.flags.nowait ≡ true =
     λ same. search (rules, same) in
-    let may = receive_may s (ends || c.args.flags.nowait) c.args.id c.args.size c.read-selection.result c.args.flags.noerror now.number c.args.moment c.in-Err.refused told.answer.why (λ same. or_right ends c.args.flags.nowait (at_once same)) in
+    let may = receive_may s (ends || c.args.flags.nowait) c.args.id c.args.size c.read.result c.args.flags.noerror now.number c.args.moment c.in-Err.refused told.answer.why (λ same. or_right ends c.args.flags.nowait (at_once same)) in
     record {
       answer =
           rw (told.answer.same, ← selected)
           (turned_away _ _ _ _ c.args.seat.now now c.in-Err.refused
           (in_slots g.N.Names.slots c.args.id within) h.look may
           (decided_receive c.args.seat.now now now (slot_of c.args.id) s h c.args.id c.args.size
-          c.read-selection.result c.args.flags.noerror now.number c.args.moment _ h.known told.answer.why));
+          c.read.result c.args.flags.noerror now.number c.args.moment _ h.known told.answer.why));
     }
 
 pub returns-in_default : goal.returns-in_default
@@ -65,14 +65,14 @@ returns-in_default g c =
     let h = enters c.args.seat.now c.loop.seat now (slot_of c.args.id) c.slot-slot.result c.deref_mut.result.now _ c.slot-slot.ensures.value c.deref_mut.ensures.value c.loop.invariant c.enter-held.ensures in
     let told = c.in-Err.ensures in
     let fits : SFits w64 c.args.msgtyp = search rules in
-    let selected = simp to_z-of_z at c.read-selection.ensures in
+    let selected = simp to_z-of_z at c.read.ensures in
     let ends : (g.T.Patience.ends || c.args.flags.nowait) ≡ true = search rules in
-    let may = receive_may s (g.T.Patience.ends || c.args.flags.nowait) c.args.id c.args.size c.read-selection.result c.args.flags.noerror now.number c.args.moment c.in-Err.refused told.answer.why (λ same. ends) in
+    let may = receive_may s (g.T.Patience.ends || c.args.flags.nowait) c.args.id c.args.size c.read.result c.args.flags.noerror now.number c.args.moment c.in-Err.refused told.answer.why (λ same. ends) in
     record {
       answer =
           rw (told.answer.same, ← selected)
           (turned_away _ _ _ _ c.args.seat.now now c.in-Err.refused
           (in_slots g.N.Names.slots c.args.id within) h.look may
           (decided_receive c.args.seat.now now now (slot_of c.args.id) s h c.args.id c.args.size
-          c.read-selection.result c.args.flags.noerror now.number c.args.moment _ h.known told.answer.why));
+          c.read.result c.args.flags.noerror now.number c.args.moment _ h.known told.answer.why));
     }

@@ -39,7 +39,7 @@ returns-in-Ok g c =
     record {
       answer =
           rw (← had.1)
-          (sent_many g.N.Names.slots c.args.id c.args.moment within (ends || c.args.flags.nowait) 64
+          (sent_many g.N.Names.slots c.args.id c.args.moment within ends 64
           c.args.seat.now u v c.loop.letters.items c.send_many.new.letters.items _ (Some c.next_entry.result) h done
           (rw next (first_of_some (length u.slot.whole.events) done.sent was)) tt);
     }
@@ -60,9 +60,9 @@ returns-then-len-count g c =
     record {
       answer =
           rw (← had.1)
-          (sent_many g.N.Names.slots c.args.id c.args.moment within (ends || c.args.flags.nowait) 64
+          (sent_many g.N.Names.slots c.args.id c.args.moment within ends 64
           c.args.seat.now u v c.loop.letters.items c.send_many.new.letters.items _ (Some c.next_entry.result) h done
-          (rw next (first_of_some (length u.slot.whole.events) done.sent was)) (λ same. some_more (ends || c.args.flags.nowait) (length done.sent) was));
+          (rw next (first_of_some (length u.slot.whole.events) done.sent was)) (λ same. some_more ends (length done.sent) was));
     }
 
 pub returns-then-ne : goal.returns-then-ne
@@ -77,14 +77,14 @@ returns-then-ne g c =
     let count : length c.args.letters.now.items ≡ length c.loop.letters.items = ap length (search rules) in
     let as_many : length c.loop.letters.items ≤ length c.send_many.new.letters.items = search (rules, count) in
     let none = none_sent c.args.id c.args.moment 64 u v c.loop.letters.items c.send_many.new.letters.items _ done as_many in
-    let at_once : c.in-Err.refused.errno ≡ EAGAIN → c.args.flags.nowait ≡ true =
+    let at_once : c.in-Err.refused.errno ≡ EAGAIN → ends ≡ true =
     λ same. search (rules, same) in
     record {
       answer =
           rw (← had.1)
-          (sent_many g.N.Names.slots c.args.id c.args.moment within (ends || c.args.flags.nowait) 64
+          (sent_many g.N.Names.slots c.args.id c.args.moment within ends 64
           c.args.seat.now u v c.loop.letters.items c.send_many.new.letters.items _ None h done
-          (first_of_none (length u.slot.whole.events) done.sent none.2) (λ same. or_left (ends || c.args.flags.nowait) (nat_lt 0 (length done.sent)) (or_right ends c.args.flags.nowait (at_once same))));
+          (first_of_none (length u.slot.whole.events) done.sent none.2) (λ same. or_left ends (nat_lt 0 (length done.sent)) (at_once same)));
     }
 
 pub returns-in_default-left : goal.returns-in_default-left
@@ -99,13 +99,13 @@ returns-in_default-left g c =
     let count : length c.args.letters.now.items ≡ length c.loop.letters.items = ap length (search rules) in
     let as_many : length c.loop.letters.items ≤ length c.send_many.new.letters.items = search (rules, count) in
     let none = none_sent c.args.id c.args.moment 64 u v c.loop.letters.items c.send_many.new.letters.items _ done as_many in
-    let over : (ends || c.args.flags.nowait) ≡ true = search rules in
+    let over : ends ≡ true = search rules in
     record {
       answer =
           rw (← had.1)
-          (sent_many g.N.Names.slots c.args.id c.args.moment within (ends || c.args.flags.nowait) 64
+          (sent_many g.N.Names.slots c.args.id c.args.moment within ends 64
           c.args.seat.now u v c.loop.letters.items c.send_many.new.letters.items _ None h done
-          (first_of_none (length u.slot.whole.events) done.sent none.2) (λ same. or_left (ends || c.args.flags.nowait) (nat_lt 0 (length done.sent)) over));
+          (first_of_none (length u.slot.whole.events) done.sent none.2) (λ same. or_left ends (nat_lt 0 (length done.sent)) over));
     }
 
 pub loop-preserved : goal.loop-preserved

@@ -1,5 +1,4 @@
 use Rattle.std.proofs.Common.{rules, ◌≡◌, ◌+◌, ◌≤◌, [], length, None, refl, ◌∙◌, arith}
-use Rattle.std.proofs.lemmas.Int.{to_z-of_z}
 use Rattle.mq_cli.specs.Calls.{receive}
 use Rattle.mq_cli.specs.contracts.threads.notes.StreamPartialEq.TheImpl.{eq-value}
 use Rattle.mq_cli.proofs.FarLemmas.{further_more, further_until, goes_nowhere}
@@ -21,9 +20,9 @@ pub loop-done-preserved : goal.loop-done-preserved
 loop-done-preserved g c =
     let p = g.Q.Port in
     let far = c.loop-done.invariant in
-    let so = simp (to_z-of_z, c.ranges.msgtyp) at far.5 in
-    let by = simp (to_z-of_z, c.ranges.msgtyp) at c.in-Ok.ensures.called in
-    let call = receive c.args.id c.args.msgtyp g.T.Patience.ends c.args.moment in
+    let so = far.5 in
+    let by = c.in-Ok.ensures.called in
+    let call = receive c.args.call.now.id c.args.call.now.msgtyp g.T.Patience.ends c.args.call.now.moment in
     let now = c.take_some.new.self in
     let on = further_more eq-value.it p.puts p.takes p.removes call c.loop-done.done (length now.came.items) c.args.port.now c.loop-done.port c.take_some.new.port c.args.self.now c.loop-done.self now so by.called in (
       omega (arith, by.count.1, far.0),
@@ -31,7 +30,7 @@ loop-done-preserved g c =
       by.sent ∙ far.2,
       omega (arith, by.received, far.3),
       omega (arith, c.in-Ok.ensures.calls, far.4),
-      simp (to_z-of_z, c.ranges.msgtyp) (search (rules, on)),
+      search (rules, on),
     )
 
 pub returns-in-Err-clause-counted : goal.returns-in-Err-clause-counted
@@ -52,9 +51,9 @@ pub returns-in-Err-clause-called : goal.returns-in-Err-clause-called
 returns-in-Err-clause-called g c =
     let p = g.Q.Port in
     let far = c.loop-done.invariant in
-    let so = simp (to_z-of_z, c.ranges.msgtyp) at far.5 in
-    let by = simp (to_z-of_z, c.ranges.msgtyp) at c.in-Err.ensures.called in
-    let call = receive c.args.id c.args.msgtyp g.T.Patience.ends c.args.moment in
+    let so = far.5 in
+    let by = c.in-Err.ensures.called in
+    let call = receive c.args.call.now.id c.args.call.now.msgtyp g.T.Patience.ends c.args.call.now.moment in
     let within : c.loop-done.done + c.no_more_than-n.result ≤ c.args.count = omega (arith, far.0) in
     further_until eq-value.it p.puts p.takes p.removes call c.loop-done.done c.no_more_than-n.result c.args.count c.args.port.now c.loop-done.port c.take_some.new.port
     c.args.self.now c.loop-done.self c.take_some.new.self c.in-Err.errno within so by.called
@@ -75,5 +74,5 @@ returns-clause-counted g c =
 pub returns-clause-called : goal.returns-clause-called
 returns-clause-called g c =
     let all : c.loop-done.done ≡ c.args.count = omega (arith, c.loop-done.invariant.0) in
-    let so = simp (to_z-of_z, c.ranges.msgtyp) at c.loop-done.invariant.5 in
+    let so = c.loop-done.invariant.5 in
     rw all at so

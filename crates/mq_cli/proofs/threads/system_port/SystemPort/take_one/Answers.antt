@@ -1,4 +1,6 @@
-use Rattle.std.proofs.Common.{false}
+use Rattle.std.proofs.Common.{false, rules}
+use mir.Val.{SFits}
+use mir.Syntax.{w64}
 use Rattle.std.proofs.lemmas.Int.{to_z-of_z}
 use Rattle.mq_queue.specs.declared.limits.TheConstants.{MSGMAX}
 use Rattle.mq_message.specs.Selection.{selection_of}
@@ -10,6 +12,7 @@ use Rattle.mq_cli.proofs.threads.system_port.SystemPort.take_one.Goals as goal
 
 pub returns-in-Err-clause-done : goal.returns-in-Err-clause-done
 returns-in-Err-clause-done g c =
-    let turned = rw (or_none g.T.Patience.ends) at (simp (to_z-of_z, c.ranges.msgtyp) at c.in-Err.ensures.answer) in
-    refused_call (out_of_slots g.N.Names.slots c.args.id) (MayReceive g.T.Patience.ends false) (slot_of c.args.id)
-    (receive_verdict (seq_of c.args.id) MSGMAX (selection_of c.args.msgtyp false) false) c.args.self.now.seat.now c.msgrcv_within.new.seat c.in-Err.refused turned
+    let fits : SFits w64 c.args.call.now.msgtyp = search rules in
+    let turned = rw (or_none g.T.Patience.ends) at (simp to_z-of_z at c.in-Err.ensures.answer) in
+    refused_call (out_of_slots g.N.Names.slots c.args.call.now.id) (MayReceive g.T.Patience.ends false) (slot_of c.args.call.now.id)
+    (receive_verdict (seq_of c.args.call.now.id) MSGMAX (selection_of c.args.call.now.msgtyp false) false) c.args.self.now.seat.now c.msgrcv_within.new.seat c.in-Err.refused turned

@@ -21,8 +21,8 @@ append-requires-clause-due g c =
     let live = c.in_ok-look.ensures.live in
     let short = c.holds.ensures.few in
     let few = c.holds.ensures.made in
-    rw (← c.number-number.ensures) (receive_changes _ _ _ _ _ c.args.self.now.writer _ _ c.receive.new.self c.requires.shared short few live c.args.size
-    c.args.selection c.args.noerror c.number-number.result c.args.moment (received_header c.in-Ok.received) (cc (c.in-Ok.ensures.answer.ok))
+    rw (← c.number-number.ensures) (receive_changes _ _ _ _ _ c.args.self.now.writer _ _ c.receive.new.self c.requires.shared short few live c.args.request.now.size
+    c.args.request.now.selection c.args.request.now.noerror c.number-number.result c.args.request.now.moment (received_header c.in-Ok.received) (cc (c.in-Ok.ensures.answer.ok))
     c.in-Ok.ensures.noticed).due
 
 pub append-requires-clause-known : goal.append-requires-clause-known
@@ -30,8 +30,8 @@ append-requires-clause-known g c =
     let live = c.in_ok-look.ensures.live in
     let short = c.holds.ensures.few in
     let few = c.holds.ensures.made in
-    let its = receive_changes _ _ _ _ _ c.args.self.now.writer _ _ _ c.requires.shared short few live c.args.size
-    c.args.selection c.args.noerror c.number-number.result c.args.moment _ c.in-Ok.ensures.answer.ok
+    let its = receive_changes _ _ _ _ _ c.args.self.now.writer _ _ _ c.requires.shared short few live c.args.request.now.size
+    c.args.request.now.selection c.args.request.now.noerror c.number-number.result c.args.request.now.moment _ c.in-Ok.ensures.answer.ok
     c.in-Ok.ensures.noticed in
     rw (its.number, its.known) c.requires.begun.known
 
@@ -40,12 +40,12 @@ returns-in-Ok-clause-answer g c =
     let live = c.in_ok-look.ensures.live in
     let short = c.holds.ensures.few in
     let few = c.holds.ensures.made in
-    let its = receive_changes _ _ _ _ _ c.args.self.now.writer _ _ _ c.requires.shared short few live c.args.size
-    c.args.selection c.args.noerror c.number-number.result c.args.moment _ c.in-Ok.ensures.answer.ok
+    let its = receive_changes _ _ _ _ _ c.args.self.now.writer _ _ _ c.requires.shared short few live c.args.request.now.size
+    c.args.request.now.selection c.args.request.now.noerror c.number-number.result c.args.request.now.moment _ c.in-Ok.ensures.answer.ok
     c.in-Ok.ensures.noticed in
     let there = c.in_ok-look.ensures.value in
     let at = c.in-Ok.ensures.answer.entry ∙ entries_is _ _ c.requires.shared.published.kept in
-    let turn = delivers_it c.args.self.now.slot.messages c.args.size _ c.in-Ok.received at _ _ its.left c.in-Ok.ensures.answer.waited.body in
+    let turn = delivers_it c.args.self.now.slot.messages c.args.request.now.size _ c.in-Ok.received at _ _ its.left c.in-Ok.ensures.answer.waited.body in
     let ok = rw c.number-number.ensures at (answered_by (whole c.args.self.now.writer.events c.args.self.now.slot) _ there _ _ _ turn) in
     rw (c.of.ensures)
     (search (
@@ -59,20 +59,20 @@ returns-in-Ok-clause-pledge g c =
     let live = c.in_ok-look.ensures.live in
     let short = c.holds.ensures.few in
     let few = c.holds.ensures.made in
-    let its = receive_changes _ _ _ _ _ c.args.self.now.writer _ _ _ c.requires.shared short few live c.args.size
-    c.args.selection c.args.noerror c.number-number.result c.args.moment _ c.in-Ok.ensures.answer.ok
+    let its = receive_changes _ _ _ _ _ c.args.self.now.writer _ _ _ c.requires.shared short few live c.args.request.now.size
+    c.args.request.now.selection c.args.request.now.noerror c.number-number.result c.args.request.now.moment _ c.in-Ok.ensures.answer.ok
     c.in-Ok.ensures.noticed in
     let r = c.in-Ok.received in
-    let met = meets g.P.Pledge.kept c.args.size r _
+    let met = meets g.P.Pledge.kept c.args.request.now.size r _
     (found_pledged g.P.Pledge.kept c.args.self.now.slot.messages r.place c.requires.shared.pledged)
     c.in-Ok.ensures.answer.waited.sent c.in-Ok.ensures.answer.waited.body in
     rw c.of.ensures
     (record {
       part = met;
       uncut =
-          λ cut. meets_whole g.P.Pledge.kept c.args.size r met
-          (receipt_fits (whole c.args.self.now.writer.events c.args.self.now.slot) _ c.args.size c.args.selection c.number-number.result c.args.moment _
-          c.args.noerror cut its.left);
+          λ cut. meets_whole g.P.Pledge.kept c.args.request.now.size r met
+          (receipt_fits (whole c.args.self.now.writer.events c.args.self.now.slot) _ c.args.request.now.size c.args.request.now.selection c.number-number.result c.args.request.now.moment _
+          c.args.request.now.noerror cut its.left);
     })
 
 pub returns-in-Err-clause-answer : goal.returns-in-Err-clause-answer
@@ -80,10 +80,10 @@ returns-in-Err-clause-answer g c =
     let live = c.in_ok-look.ensures.live in
     let there = c.in_ok-look.ensures.value in
     let why = c.in-Err.ensures.answer.refused
-    ∙ receive_refused _ _ c.requires.shared.published.kept live c.args.size c.args.selection
-    c.args.noerror c.number-number.result c.args.moment
-    ∙ not_delivered c.args.self.now.slot.messages c.args.size (length c.args.self.now.writer.events)
-    (receives (whole c.args.self.now.writer.events c.args.self.now.slot) c.args.size c.args.selection c.args.noerror c.number-number.result c.args.moment) in
+    ∙ receive_refused _ _ c.requires.shared.published.kept live c.args.request.now.size c.args.request.now.selection
+    c.args.request.now.noerror c.number-number.result c.args.request.now.moment
+    ∙ not_delivered c.args.self.now.slot.messages c.args.request.now.size (length c.args.self.now.writer.events)
+    (receives (whole c.args.self.now.writer.events c.args.self.now.slot) c.args.request.now.size c.args.request.now.selection c.args.request.now.noerror c.number-number.result c.args.request.now.moment) in
     let s = whole c.args.self.now.writer.events c.args.self.now.slot in
     let is : c.refused.result ≡ refused_here s (errno_of c.in-Err.refusal) = search rules in
     (record {

@@ -19,7 +19,7 @@ returns-in-Err-clause-answer g c =
       seat = c.args.seat.now;
     } in
     let asked : Decides (Delivered PlainText) =
-    receive_of c.args.id c.args.size c.args.selection c.args.noerror c.args.moment in
+    receive_of c.args.request.now.id c.args.request.now.size c.args.request.now.selection c.args.request.now.noerror c.args.request.now.moment in
     let same = left_same _ _ _ _ told.unchanged told.same in
     record {
       turns =
@@ -41,7 +41,7 @@ loop-done-preserved g c =
     let mid : Under = record { slot = locked c.loop-done.self.writer.events c.loop-done.self.slot; seat = c.loop-done.seat } in
     let next : Under = record { slot = locked c.receive.new.self.writer.events c.receive.new.self.slot; seat = c.receive.new.seat } in
     let asked : Decides (Delivered PlainText) =
-    receive_of c.args.id c.args.size c.args.selection c.args.noerror c.args.moment in
+    receive_of c.args.request.now.id c.args.request.now.size c.args.request.now.selection c.args.request.now.noerror c.args.request.now.moment in
     let grown = c.push_reserved.ensures in
     rw grown.items (
       FoldsTo-push (Changes asked) start ds mid d next had.0 told.answer,
@@ -49,6 +49,6 @@ loop-done-preserved g c =
       again.1,
       omega (arith, had.3, length-append ds (d ∷ [])),
       grown.capacity ∙ had.4,
-      All-push (MeetsItsPledge g.P.Pledge.kept c.args.size c.args.noerror) ds d had.5 told.pledge,
+      All-push (MeetsItsPledge g.P.Pledge.kept c.args.request.now.size c.args.request.now.noerror) ds d had.5 told.pledge,
       told.shared,
     )

@@ -10,12 +10,12 @@ use Rattle.mq_system.proofs.slots.slot.SlotParts.receive_many.Given as goal
 -- the receipts so far, one after another, that a next one may begin, and the room is the same
 abbrev pub invariant-loop-done : goal.invariant-loop-done
 invariant-loop-done g l =
-    FoldsTo (Changes (receive_of l.id l.size l.selection l.noerror l.moment))
+    FoldsTo (Changes (receive_of l.request.id l.request.size l.request.selection l.request.noerror l.request.moment))
     (record { slot = locked l.fn.self.writer.events l.fn.self.slot; seat = l.fn.seat }) l.out.items
     (record { slot = locked l.self.writer.events l.self.slot; seat = l.seat })
-    × MayBegin l.id (whole l.self.writer.events l.self.slot) l.seat × (l.self.slot.number < length l.seat.fronts)
+    × MayBegin l.request.id (whole l.self.writer.events l.self.slot) l.seat × (l.self.slot.number < length l.seat.fronts)
     × (length l.out.items ≡ l._done) × (vec_capacity l.out ≡ vec_capacity l.fn.out)
-    × All (MeetsItsPledge g.P.Pledge.kept l.size l.noerror) l.out.items
+    × All (MeetsItsPledge g.P.Pledge.kept l.request.size l.request.noerror) l.out.items
     × IsShared g.P.Pledge.kept g.N.Names.slots g.N.Names.last_seq l.self.writer.board
     l.self.writer.events l.self.writer.pending l.self.slot l.self.entries.parts
     l.self.entries.amount

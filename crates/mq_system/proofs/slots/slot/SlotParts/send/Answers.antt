@@ -26,12 +26,12 @@ send-requires g c = record {
 
 pub append-requires-clause-due : goal.append-requires-clause-due
 append-requires-clause-due g c =
-    let fits : SFits w64 c.args.mtype = search rules in
+    let fits : SFits w64 c.args.letter.mtype = search rules in
     let message : Message PlainText = record {
-      mtype = c.args.mtype;
+      mtype = c.args.letter.mtype;
       sender = c.number.result;
-      tag = c.args.tag;
-      body = c.args.text;
+      tag = c.args.letter.tag;
+      body = c.args.letter.text;
     } in
     let told : kept_sends bytes_of c.args.self.now.slot message c.args.moment ≡ Ok (c.in-Ok-send.entry, c.send.new.self) =
     search (rules, to_z-of_z) in
@@ -44,12 +44,12 @@ append-requires-clause-due g c =
 
 pub append-requires-clause-known : goal.append-requires-clause-known
 append-requires-clause-known g c =
-    let fits : SFits w64 c.args.mtype = search rules in
+    let fits : SFits w64 c.args.letter.mtype = search rules in
     let message : Message PlainText = record {
-      mtype = c.args.mtype;
+      mtype = c.args.letter.mtype;
       sender = c.number.result;
-      tag = c.args.tag;
-      body = c.args.text;
+      tag = c.args.letter.tag;
+      body = c.args.letter.text;
     } in
     let told = simp to_z-of_z at c.in-Ok-send.ensures.answer in
     let noticed = simp to_z-of_z at c.in-Ok-send.ensures.noticed in
@@ -62,13 +62,13 @@ append-requires-clause-known g c =
 
 pub returns-in-Ok-send-clause-answer : goal.returns-in-Ok-send-clause-answer
 returns-in-Ok-send-clause-answer g c =
-    let sent : int_lt c.args.mtype (pos 1) ≡ false = search rules in
-    let fits : SFits w64 c.args.mtype = search rules in
+    let sent : int_lt c.args.letter.mtype (pos 1) ≡ false = search rules in
+    let fits : SFits w64 c.args.letter.mtype = search rules in
     let message : Message PlainText = record {
-      mtype = c.args.mtype;
+      mtype = c.args.letter.mtype;
       sender = c.number.result;
-      tag = c.args.tag;
-      body = c.args.text;
+      tag = c.args.letter.tag;
+      body = c.args.letter.text;
     } in
     let told = simp to_z-of_z at c.in-Ok-send.ensures.answer in
     let noticed = simp to_z-of_z at c.in-Ok-send.ensures.noticed in
@@ -79,7 +79,7 @@ returns-in-Ok-send-clause-answer g c =
     c.args.moment _ (rw c.number.ensures c.requires.pledge) told noticed in
     let there = c.in-Ok.ensures.value in
     let queue = answered_by (whole c.args.self.now.writer.events c.args.self.now.slot) _ there _ _ _ its.left in
-    let ok = rw c.number.ensures at (if_false (int_lt c.args.mtype (pos 1)) (Err (refused_early EINVAL)) _ sent ∙ queue) in
+    let ok = rw c.number.ensures at (if_false (int_lt c.args.letter.mtype (pos 1)) (Err (refused_early EINVAL)) _ sent ∙ queue) in
     (search (
       rules,
       has_changed _ _ _ _ _ _ c.args.self.now.writer _ _ _ _ its _
@@ -88,13 +88,13 @@ returns-in-Ok-send-clause-answer g c =
 
 pub returns-in-Err-send-clause-answer : goal.returns-in-Err-send-clause-answer
 returns-in-Err-send-clause-answer g c =
-    let sent : int_lt c.args.mtype (pos 1) ≡ false = search rules in
-    let fits : SFits w64 c.args.mtype = search rules in
+    let sent : int_lt c.args.letter.mtype (pos 1) ≡ false = search rules in
+    let fits : SFits w64 c.args.letter.mtype = search rules in
     let message : Message PlainText = record {
-      mtype = c.args.mtype;
+      mtype = c.args.letter.mtype;
       sender = c.number.result;
-      tag = c.args.tag;
-      body = c.args.text;
+      tag = c.args.letter.tag;
+      body = c.args.letter.text;
     } in
     let live = c.in-Ok.ensures.live in
     let there = c.in-Ok.ensures.value in
@@ -111,7 +111,7 @@ returns-in-Err-send-clause-answer g c =
       why =
           queue
           ∙ ap (λ a. refused_or_memory_in_slot s a)
-          (sym (if_false (int_lt c.args.mtype (pos 1)) (Err (refused_early EINVAL)) asked sent));
+          (sym (if_false (int_lt c.args.letter.mtype (pos 1)) (Err (refused_early EINVAL)) asked sent));
       unchanged = search rules;
       same = refl;
     })

@@ -17,7 +17,7 @@ loop-done-preserved g c =
     let had = c.loop-done.invariant in
     let l = c.in-Some.letter in
     let fits : SFits w64 c.in-Some.letter.mtype = search rules in
-    let told = simp to_z-of_z at c.in-Ok.ensures.answer in
+    let told = c.in-Ok.ensures.answer in
     let rest = c.pop_front.new.self.items in
     let start : Under = record { slot = locked c.args.self.now.writer.events c.args.self.now.slot; seat = c.args.seat.now } in
     let mid : Under = record { slot = locked c.loop-done.self.writer.events c.loop-done.self.slot; seat = c.loop-done.seat } in
@@ -42,7 +42,7 @@ returns-in-Err g c =
     let had = c.loop-done.invariant in
     let l = c.in-Some.letter in
     let fits : SFits w64 c.in-Some.letter.mtype = search rules in
-    let told = simp to_z-of_z at c.in-Err.ensures.answer in
+    let told = c.in-Err.ensures.answer in
     let rest = c.pop_front.new.self.items in
     let back = simp to_z-of_z at c.push_front_reserved.ensures.items in
     let same : c.push_front_reserved.new.self.items ≡ l ∷ rest =
