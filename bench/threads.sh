@@ -5,12 +5,13 @@
 # threads each of which sends and receives by turns in a queue of its own; one that sends to four by
 # types of their own; two with one text in a round trip; and 16 threads in one queue. In rows
 # `by 16` one call of the library sends, or receives, up to 16 texts, beside the others' times by calls
-# of one. Where they can, `mqsim threads`, a bounded channel of Rust's standard library and
-# crossbeam_channel are timed beside them. A queue has the quota 16,384, or twice a longer text.
-# Medians of rounds in each of which all programs do all rows; what a run of no texts takes is left
-# out. The library's ratios are printed beside their targets, with ! where one is missed, and
-# the status is 1 then. Draws the picture by gnuplot; without a name it draws none. Raises the kernel's
-# limits while it runs, where it may.
+# of one. The library retains its logs, as by default, and in the column `cut` cuts each after 4,000
+# entries, as a server that runs long does. Where they can, `mqsim threads`, a bounded channel of
+# Rust's standard library and crossbeam_channel are timed beside them. A queue has the quota 16,384, or
+# twice a longer text. Medians of rounds in each of which all programs do all rows; what a run of no
+# texts takes is left out. The library's ratios are printed beside their targets, with ! where one is
+# missed, and the status is 1 where one with retained logs is. Draws the picture by gnuplot; without a
+# name it draws none. Raises the kernel's limits while it runs, where it may.
 # Times mqsim and bench as they lie in crates/*/out, and builds one that does not. Requires cc,
 # rustc, and an idle machine.
 set -euo pipefail
@@ -35,9 +36,12 @@ from timing import medians, most_of_a_call, ratio, say_load, seconds
 
 TEXTS, ROUNDS, FOLDER, PICTURE = int(sys.argv[1]), int(sys.argv[2]), sys.argv[3], sys.argv[4]
 BENCH, MQSIM = "crates/bench/out/bench", "crates/mqsim/out/mqsim"
-PROGRAMS = {"mqsim": "mqsim", "library": "library", "kernel": "Linux", "mutex": "a mutex and a ring",
-            "channel": "a channel of Rust", "crossbeam": "a channel of crossbeam"}
-PEERS = ("kernel", "mutex")
+PROGRAMS = {"mqsim": "mqsim", "library": "library", "cut": "library, logs cut", "kernel": "Linux",
+            "mutex": "a mutex and a ring", "channel": "a channel of Rust",
+            "crossbeam": "a channel of crossbeam"}
+OURS, PEERS = ("library", "cut"), ("kernel", "mutex")
+# After how many entries a log is cut.
+ENTRIES = 4000
 MOST = most_of_a_call()
 MOST_A_LINE = 100_000
 # The most of a peer's time by the bytes of a text: of the kernel's through one queue, and of a ring's.
@@ -94,8 +98,8 @@ def rows():
     short = [row for row in made if row.length in (0, 1000)]
     made += [by_batches(row, BY_BATCHES, BY_BATCHES_OF_RING.get(row.length))
              for row in short if row.word == "flow" and row.senders <= 4]
-    made += [by_batches(row, None, ALONE_OF_RING)
-             for row in short if row.word == "own" and row.senders == 1]
+    made += [by_batches(row, None, ALONE_OF_RING if row.senders == 1 else None)
+             for row in short if row.word == "own" and row.senders != 2]
     return made
 
 
@@ -125,8 +129,10 @@ def run_of(name, row, count):
     words = row.words(count)
     if name == "mqsim":
         return seconds([MQSIM, "threads", "--height", "10"], script=script(row, count))
+    library = [BENCH, "batches", *words, EACH] if row.one else [BENCH, "system", *words]
     command = {
-        "library": [BENCH, "batches", *words, EACH] if row.one else [BENCH, "system", *words],
+        "library": library,
+        "cut": [*library, ENTRIES],
         "kernel": [f"{FOLDER}/peer_threads", "kernel", *words, MOST],
         "mutex": [f"{FOLDER}/peer_threads", "mutex", *words],
         "channel": [f"{FOLDER}/peer_channel", *words],
@@ -139,8 +145,8 @@ def names_of(row):
     """The programs that do a row: `mqsim` has at most 15 workers, and a channel no types. No other
     than the library has calls of several."""
     if row.one:
-        return ["library"]
-    return list(PROGRAMS) if row.word in ("flow", "two") and row.senders <= 4 else ["library", *PEERS]
+        return [*OURS]
+    return list(PROGRAMS) if row.word in ("flow", "two") and row.senders <= 4 else [*OURS, *PEERS]
 
 
 def measured(all_rows):
@@ -154,14 +160,15 @@ def measured(all_rows):
 
 
 def show(row, found):
-    """Prints a row; how many of its ratios are missed."""
+    """Prints a row; how many of its ratios with retained logs are missed."""
     head = f"{row.head}, {row.length}"
     wanted = (row.of_kernel, row.of_ring)
-    cells = [ratio(found["library"] / found[peer], most) for peer, most in zip(PEERS, wanted)]
+    cells = {name: [ratio(found[name] / found[peer], most) for peer, most in zip(PEERS, wanted)]
+             for name in OURS}
     print(f"{head:25}" + "".join(f"{found[name]:10.0f}" if name in found else f"{'-':>10}"
                                  for name in PROGRAMS)
-          + "".join(f"  {text:13}" for text, _ in cells), flush=True)
-    return sum(is_missed for _, is_missed in cells)
+          + "".join(f"  {text:17}" for name in OURS for text, _ in cells[name]), flush=True)
+    return sum(is_missed for _, is_missed in cells["library"])
 
 
 def show_growth(found):
@@ -183,12 +190,14 @@ def main():
     say_load("nanoseconds a text, and the library's ratios (wanted)")
     found = measured(rows())
     print(f"{'':25}" + "".join(f"{name:>10}" for name in PROGRAMS)
-          + "".join(f"  of {name:10}" for name in PEERS))
+          + "".join(f"  {f'{name} of {peer}':17}" for name in OURS for peer in PEERS))
     missed = sum(show(row, times) for row, times in found.items()) + show_growth(found)
     if PICTURE:
         several = {row.one: times["library"] for row, times in found.items() if row.one}
-        picture.bars(PICTURE, [*PROGRAMS.values(), f"library, {EACH} by a call"],
-                     [(f"{row.head}, {row.length} bytes", *times.values(), several.get(row))
+        drawn = [name for name in PROGRAMS if name != "cut"]
+        picture.bars(PICTURE, [*(PROGRAMS[name] for name in drawn), f"library, {EACH} by a call"],
+                     [(f"{row.head}, {row.length} bytes", *(times[name] for name in drawn),
+                       several.get(row))
                       for row, times in found.items() if len(times) == len(PROGRAMS)
                       and not row.one],
                      "nanoseconds a text")

@@ -8,7 +8,7 @@ use crate::words::Words;
 use anyhow::{Result, bail};
 use mq::{
     BatchReceived, BatchSent, Caller, Config, DEFAULTS, Delivered, Errno, Forever, Id, Letter,
-    MAX_HEIGHT, Names, Refused, Selection, TextOf, Worker, with_workers,
+    MAX_HEIGHT, Names, Refused, Selection, TextOf, Worker,
 };
 use std::alloc::{AllocError, Global};
 use std::collections::VecDeque;
@@ -226,7 +226,8 @@ impl Sizes {
 
 /// `batches flow BYTES COUNT SENDERS RECEIVERS QUOTA EACH`, as `system flow`, and `batches own
 /// BYTES CYCLES SEATS RECEIVERS QUOTA EACH`, as `system own`, but that one call sends, or receives,
-/// up to EACH texts: counts the bytes that were received.
+/// up to EACH texts: counts the bytes that were received. A last word ENTRIES says after how many
+/// entries the logs are cut.
 pub(crate) fn run(
     rt: &(impl Print + Threads + Wait + Clock + Sync),
     alloc: Global,
@@ -252,7 +253,7 @@ pub(crate) fn run(
     } else {
         sizes.own(threads, rounds as usize)?
     };
-    let ended = with_workers(rt, alloc, config, players)?;
+    let ended = words.setup(8, config)?.with_workers(rt, alloc, players)?;
     let mut came = 0u64;
     for answer in ended.answer {
         came = came.wrapping_add(answer?);

@@ -4,7 +4,7 @@ use crate::words::Words;
 use anyhow::{Result, bail};
 use mq::{
     Caller, Config, DEFAULTS, Delivered, Errno, Forever, GetFlags, Id, MAX_HEIGHT, MSGMAX, Names,
-    Pledge, RecvFlags, Seat, SendFlags, SendRefused, System, Worker, with_workers,
+    Pledge, RecvFlags, Seat, SendFlags, SendRefused, System, Worker,
 };
 use std::alloc::{AllocError, Global};
 use std::sync::Wait;
@@ -239,7 +239,7 @@ impl Sizes {
 /// RECEIVERS QUOTA`, where each sender sends COUNT texts through one queue of that quota and each
 /// receiver takes its share of them; `system types`, of the same words, where each sender sends
 /// COUNT texts to each receiver, which takes those of a type of its own: counts the bytes that were
-/// received.
+/// received. A seventh word ENTRIES says after how many entries the logs are cut.
 pub(crate) fn run(
     rt: &(impl Print + Threads + Wait + Clock + Sync),
     alloc: Global,
@@ -276,7 +276,7 @@ pub(crate) fn run(
         "own" => sizes.own(words.number(4, 4)?)?,
         _ => sizes.alone(words.number(4, 16)?)?,
     };
-    let ended = with_workers(rt, alloc, config, players)?;
+    let ended = words.setup(7, config)?.with_workers(rt, alloc, players)?;
     let mut came = 0u64;
     for answer in ended.answer {
         came = came.wrapping_add(answer?);

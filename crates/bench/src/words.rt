@@ -1,6 +1,7 @@
 //! The command-line arguments of a benchmark, by position.
 
 use anyhow::Result;
+use mq::{Config, Setup};
 
 /// The arguments of a command line, of which the first names what is measured.
 #[derive(Drop)]
@@ -15,6 +16,15 @@ impl Words {
             Some(word) => word.as_str(),
             None => "",
         }
+    }
+
+    /// A system of this size, whose logs are cut after as many entries as the number at a position
+    /// says, or retained where there is none.
+    pub(crate) fn setup(&self, place: usize, config: Config) -> Result<Setup> {
+        Ok(match self.number(place, 0)? {
+            0 => Setup::new(config),
+            entries => Setup::new(config).cut_logs_after(u64::from(entries)),
+        })
     }
 
     /// The number at a position, or that default where there is none.

@@ -92,8 +92,8 @@ pub record IsFirstWithNoText {V : Type 0} (bytes_of : V → List ℕ) (slots hei
 
 -- the first of these values have texts, up to so many
 pub record AreDrafted {V : Type 0} (bytes_of : V → List ℕ) (slots height id : ℕ) (ends : Bool)
-    (values : List (Letter V)) (drafts : List (Letter PlainText)) (ended : Result (Unit {0}) Refused)
-    : Type 0 where
+    (values : List (Letter V)) (drafts : List (Letter PlainText))
+    (ended : Result (Unit {0}) Refused) : Type 0 where
   pub made : List (Letter V)
   pub left : List (Letter V)
   pub split : values ≡ made ++ left

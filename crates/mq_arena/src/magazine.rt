@@ -13,8 +13,9 @@ use std::alloc::{AllocError, Global};
 use std::marker::Model;
 use std::sync::ledger::Ledger;
 
-/// The most pages that a magazine caches: those of a text of 8,192 bytes.
-pub const MAGAZINE_PAGES: u32 = 1 << INLINE_ORDER;
+/// The most pages that a magazine caches: those of two texts of 8,192 bytes, or of a batch of 16 of
+/// one page each.
+pub const MAGAZINE_PAGES: u32 = 2 << INLINE_ORDER;
 
 /// Lent blocks that no text uses, kept where the next draft finds one without the arena's lock
 /// (Bonwick and Adams, "Magazines and Vmem", USENIX 2001). It can't be dropped, since blocks can't:

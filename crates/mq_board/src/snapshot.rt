@@ -16,10 +16,11 @@ use std::marker::{Model, PhantomData};
 /// which events it has.
 #[derive(Drop)]
 pub struct Snapshot {
-    pub(crate) number: u8,
     pub(crate) board_row: BoardRow,
     /// The number of events.
     pub(crate) count: u64,
+    /// The board's number. It stands behind the words, so that copies of them are aligned.
+    pub(crate) number: u8,
     pub(crate) seen: Reached,
 }
 

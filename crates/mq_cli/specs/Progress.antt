@@ -76,7 +76,8 @@ pub record ComesFurther {Q : Type 0} (eq : Stream → Stream → Bool) (puts : P
 pub record ComesBy {Q : Type 0} (eq : Stream → Stream → Bool) (puts : Puts Q) (takes : Takes Q)
     (removes : Removals Q) (call : PortCall) (n : ℕ) (old new : Q) (before after : Progress)
     (result : Result (Unit {0}) Errno) : Type 0 where
-  pub count : MatchResult result (λ _. (0 < length after.came.items) × (length after.came.items ≤ n))
+  pub count : MatchResult result
+      (λ _. (0 < length after.came.items) × (length after.came.items ≤ n))
       (λ _. length after.came.items < n)
   pub sent : after.sent ≡ before.sent
   pub received : after.received ≡ before.received + length after.came.items

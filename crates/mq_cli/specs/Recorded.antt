@@ -23,8 +23,8 @@ RecordsLine n (Err cause) now (Err (Script line named)) = (line ≡ n) × (named
 RecordsLine n _ now _ = ⊥
 
 -- the lines leave this state, and these calls of them were refused
-abbrev pub RecordsLines : Result Recording (ℕ × Cause) → SessionState → Result (Vec Refusal) RunFault
-    → Type 0
+abbrev pub RecordsLines : Result Recording (ℕ × Cause) → SessionState
+    → Result (Vec Refusal) RunFault → Type 0
 RecordsLines whole s (Ok refusals) = whole ≡ Ok (recording s refusals.items)
 RecordsLines whole s (Err (Script line cause)) = whole ≡ Err (line, cause)
 RecordsLines whole s (Err Memory) = Unit {0}

@@ -25,8 +25,8 @@ pub enum RunFault {
     /// The first line that is not well formed, counted from 1. The lines before have been run.
     #[error("line {line}: {cause}")]
     Script { line: u64, cause: Cause },
-    /// The script has more than [`SCRIPT_LIMIT`](crate::SCRIPT_LIMIT) bytes, or more lines are typed
-    /// than a `u64` counts.
+    /// The script has more than [`SCRIPT_LIMIT`](crate::SCRIPT_LIMIT) bytes, or more lines are
+    /// typed than a `u64` counts.
     #[error("script too long")]
     Size,
     #[error("read failed")]

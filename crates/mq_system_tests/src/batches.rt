@@ -1,6 +1,6 @@
 //! Several messages by one call, of the first queue in slot 0, and the results as a test compares
-//! them. Seat 1 sends, and seat 2 receives. A call that was out of memory is retried: what it did before
-//! stays done.
+//! them. Seat 1 sends, and seat 2 receives. A call that was out of memory is retried: what it did
+//! before stays done.
 
 use crate::calls::{Wanted, seat};
 use crate::system::Calls;

@@ -172,8 +172,10 @@ impl Day for GoesBack {
         let page = drafted(rt, system, seats, 2, b"page");
         stands_at(rt, system, &page, least);
         let other = drafted(rt, system, seats, 1, b"other");
-        let whole = drafted(rt, system, seats, 2, front(8192));
-        spent(rt, system, seats, 2, whole);
+        let first = drafted(rt, system, seats, 2, front(8192));
+        let second = drafted(rt, system, seats, 2, front(8192));
+        spent(rt, system, seats, 2, first);
+        spent(rt, system, seats, 2, second);
         system.spend(rt, page);
         let start = system.shape(&other).start;
         spent(rt, system, seats, 2, other);
@@ -185,8 +187,8 @@ impl Day for GoesBack {
 
 #[test]
 fn what_another_seat_spends_is_returned_where_it_has_no_room(rt: HostRuntime) -> Result<(), Fail> {
-    let left = left_by(&rt, rt.alloc(), config(4, 1, 9), &GoesBack);
-    holds(&rt, left.free_pages == 16, "all pages are home");
+    let left = left_by(&rt, rt.alloc(), config(5, 1, 9), &GoesBack);
+    holds(&rt, left.free_pages == 32, "all pages are home");
     Ok(())
 }
 
@@ -201,12 +203,14 @@ impl Day for GoesBackToTheLast {
         system: &S,
         seats: &mut [S::Seat],
     ) {
-        let whole = drafted(rt, system, seats, 2, front(8192));
+        let first = drafted(rt, system, seats, 2, front(8192));
+        let second = drafted(rt, system, seats, 2, front(8192));
         let page = granted::drafted(rt, system, b"page");
         let other = drafted(rt, system, seats, 9, b"other");
         let start = system.shape(&other).start;
-        holds(rt, start == Some(9), "a page of the upper half");
-        spent(rt, system, seats, 2, whole);
+        holds(rt, start == Some(17), "a page of the upper half");
+        spent(rt, system, seats, 2, first);
+        spent(rt, system, seats, 2, second);
         system.spend(rt, page);
         spent(rt, system, seats, 2, other);
         let other = drafted(rt, system, seats, 9, b"other");
@@ -219,9 +223,9 @@ impl Day for GoesBackToTheLast {
 fn the_last_seat_gets_back_what_it_has_drafted(rt: HostRuntime) -> Result<(), Fail> {
     let nine = Config {
         seats: 9,
-        ..config(4, 1, 9)
+        ..config(5, 1, 9)
     };
     let left = left_by(&rt, rt.alloc(), nine, &GoesBackToTheLast);
-    holds(&rt, left.free_pages == 16, "all pages are home");
+    holds(&rt, left.free_pages == 32, "all pages are home");
     Ok(())
 }

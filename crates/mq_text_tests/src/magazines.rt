@@ -78,7 +78,7 @@ fn pops<L: OfHeight, R: Abort + Wait>(rt: &R, arena: &Arena<L>, magazine: &mut M
     arena.put(rt, block);
 }
 
-/// Does all that is done with a magazine, in an arena of 16 pages.
+/// Does all that is done with a magazine, in an arena of 32 pages.
 fn kept<L: OfHeight, R: Abort + Wait>(
     rt: &R,
     alloc: Global,
@@ -98,8 +98,8 @@ fn kept<L: OfHeight, R: Abort + Wait>(
     fills(rt, &arena, &mut magazine);
     lacks_a_page(rt, &mut magazine);
     holds!(rt;
-        emptied(rt, &arena, &mut magazine, 1) == 4,
-        "it kept eight pages"
+        emptied(rt, &arena, &mut magazine, 1) == MAGAZINE_PAGES / 2,
+        "it kept as many pages as it may"
     );
 
     fills(rt, &arena, &mut magazine);
@@ -112,7 +112,7 @@ fn kept<L: OfHeight, R: Abort + Wait>(
 
 #[test]
 fn a_magazine_caches_so_many_pages_and_frees_all(rt: HostRuntime) -> Result<(), Fail> {
-    let unopened = Unopened::new(rt.alloc(), 4)?;
+    let unopened = Unopened::new(rt.alloc(), 5)?;
     kept::<Brand, HostRuntime>(&rt, rt.alloc(), unopened, Blank::new(LEDGER_PARTS))?;
     Ok(())
 }

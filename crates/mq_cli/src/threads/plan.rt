@@ -152,8 +152,8 @@ impl Progress {
         ensures counted { HasCounted count 0 0 (Q.calls port.old) (Q.calls port.new)
             self.old self.new result }
         ensures called { ComesFurther ⟦<Stream as PartialEq>⟧.eq Q.puts Q.takes Q.removes
-            (sends_after self.old.sent call.now.id call.now.mtype count call.now.length T.ends call.now.moment)
-            port.old port.new self.old self.new (result_err result) }
+            (sends_after self.old.sent call.now.id call.now.mtype count call.now.length T.ends
+            call.now.moment) port.old port.new self.old self.new (result_err result) }
     {
         for _ in 0..count {
             match port.put(rt, shared, call, self.sent + 1, patience) {

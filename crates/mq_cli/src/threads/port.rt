@@ -44,8 +44,8 @@ pub trait Port {
     ) -> Result<u64, Errno>
         ensures calls { MatchResult result (λ _. calls self.new ≡ calls self.old + 1)
             (λ _. calls self.new ≡ calls self.old) }
-        ensures done { puts self.old call.now.id call.now.mtype tag call.now.length T.ends call.now.moment result
-            self.new };
+        ensures done { puts self.old call.now.id call.now.mtype tag call.now.length T.ends
+            call.now.moment result self.new };
 
     /// Receives up to `most` messages, whose texts are spent, as that many calls for one. It waits
     /// for the first alone until the patience ends, and takes what is there.
@@ -62,8 +62,8 @@ pub trait Port {
         requires empty { out.old.items ≡ [] }
         requires room { most ≤ vec_capacity out.old }
         ensures calls { calls self.new ≡ calls self.old + length out.new.items }
-        ensures done { TakesMany takes call.now.id call.now.msgtyp T.ends call.now.moment most self.old
-            out.new.items result self.new };
+        ensures done { TakesMany takes call.now.id call.now.msgtyp T.ends call.now.moment most
+            self.old out.new.items result self.new };
 
     /// Removes a queue, and returns the entry.
     fn remove<R: Wait>(

@@ -210,8 +210,8 @@ impl<P: Pledge, N: Names> SlotMonitor<P, N> {
         _held: &SharedSlot<P, N>,
         _request: &ReceiveRequest,
     ) -> SlotWaiter<'_>
-        requires none { receive_verdict (seq_of _request.now.id) _request.now.size _request.now.selection
-            _request.now.noerror _held.now.whole.events ≡ Some ENOMSG }
+        requires none { receive_verdict (seq_of _request.now.id) _request.now.size
+            _request.now.selection _request.now.noerror _held.now.whole.events ≡ Some ENOMSG }
     {
         let waiters = &*self.not_empty;
         let seen = waiters.register();

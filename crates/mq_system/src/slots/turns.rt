@@ -24,8 +24,8 @@ use std::collections::VecDeque;
 use std::sync::Wait;
 
 impl<N: Names> SlotParts<N> {
-    /// Appends the event by which the slot was just changed to the board's list, and notes it in the
-    /// seat that made it. The board's copies do not show it yet.
+    /// Appends the event by which the slot was just changed to the board's list, and notes it in
+    /// the seat that made it. The board's copies do not show it yet.
     fn append<P: Pledge, R: Wait>(&mut self, rt: &R, seat: &mut Seat<N>)
         requires due { IsDue P.kept N.slots N.last_seq seat.old.number self.old.writer.board
             self.old.writer.events self.old.writer.pending self.old.slot self.old.entries.parts

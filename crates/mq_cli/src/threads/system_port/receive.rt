@@ -34,8 +34,8 @@ impl<'a, N: Names> SystemPort<'a, N> {
         ensures calls { MatchResult result
             (λ _. sum self.new.seat.now.by_slot ≡ sum self.old.seat.now.by_slot + 1)
             (λ _. sum self.new.seat.now.by_slot ≡ sum self.old.seat.now.by_slot) }
-        ensures done { Receives N.slots self.old.seat.now self.new.seat.now call.now.id call.now.msgtyp
-            T.ends call.now.moment result }
+        ensures done { Receives N.slots self.old.seat.now self.new.seat.now call.now.id
+            call.now.msgtyp T.ends call.now.moment result }
     {
         let TakeCall { id, msgtyp, moment } = *call;
         let flags = ALL_OF_A_TEXT;
@@ -64,8 +64,8 @@ impl<'a, N: Names> SystemPort<'a, N> {
         ensures calls { sum self.new.seat.now.by_slot
             ≡ sum self.old.seat.now.by_slot + length out.new.items }
         ensures done { TakesMany (λ old id msgtyp ends moment answer new. Receives N.slots
-            old.seat.now new.seat.now id msgtyp ends moment answer) call.now.id call.now.msgtyp T.ends
-            call.now.moment (vec_capacity batch) self.old out.new.items result self.new }
+            old.seat.now new.seat.now id msgtyp ends moment answer) call.now.id call.now.msgtyp
+            T.ends call.now.moment (vec_capacity batch) self.old out.new.items result self.new }
     {
         let TakeCall { id, msgtyp, moment } = *call;
         let mut batch = batch;

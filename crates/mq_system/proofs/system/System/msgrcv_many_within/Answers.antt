@@ -1,12 +1,9 @@
-use Rattle.std.proofs.Common.{rules, ◌≡◌, ◌<◌, ◌≤◌, ◌||◌, [], Bool, true, nat_lt, arith, length, sym, ◌∙◌, subst}
-use mir.Val.{SFits}
-use mir.Syntax.{w64}
-use Rattle.std.proofs.lemmas.Int.{to_z-of_z}
+use Rattle.std.proofs.Common.{rules, ◌≡◌, ◌<◌, ◌≤◌, [], Bool, true, nat_lt, arith, length, sym, ◌∙◌, subst}
 use Rattle.mq_table.specs.Ids.{slot_of}
 use Rattle.mq_calls.specs.declared.errno.Errno.TheVariants.{ENOMSG}
 use Rattle.mq_system.specs.Many.{Changes, Under, receive_of}
 use Rattle.mq_system.specs.Outcome.{IsLook}
-use Rattle.mq_system.proofs.RefusalLemmas.{in_slots, or_right}
+use Rattle.mq_system.proofs.RefusalLemmas.{in_slots}
 use Rattle.mq_system.proofs.SeenLemmas.{enters}
 use Rattle.mq_system.proofs.SeenTurns.{early_many, none_many, or_left, out_slots, received_many, some_more}
 use Rattle.mq_system.proofs.TurnLemmas.{nil_of_none, none_done}

@@ -1,9 +1,8 @@
-use Rattle.std.proofs.Common.{rules, ◌≡◌, ◌<◌, ◌≤◌, ◌||◌, Bool, true, nat_lt, arith, length, None, Some, ap, refl, ◌∙◌, subst}
+use Rattle.std.proofs.Common.{rules, ◌≡◌, ◌<◌, ◌≤◌, Bool, true, nat_lt, arith, length, None, Some, ap, refl, ◌∙◌, subst}
 use Rattle.mq_table.specs.Ids.{slot_of}
 use Rattle.mq_calls.specs.declared.errno.Errno.TheVariants.{EAGAIN}
 use Rattle.mq_system.specs.Many.{Under}
 use Rattle.mq_system.specs.Outcome.{IsLook}
-use Rattle.mq_system.proofs.RefusalLemmas.{or_right}
 use Rattle.mq_system.proofs.SeenLemmas.{enters}
 use Rattle.mq_system.proofs.SeenTurns.{early_letters, first_of_none, first_of_some, no_letters, or_left, out_slots, sent_many, some_more}
 use Rattle.mq_system.proofs.TurnLemmas.{all_sent, none_sent, some_sent}
