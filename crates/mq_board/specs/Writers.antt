@@ -1,6 +1,5 @@
 -- The writer of a board.
 use Rattle.std.specs.Prelude.{◌≡◌, ℕ, ℤ, ◌-◌, ◌<◌, ◌^◌, Bool, true, false, List, [], ◌∷◌, ◌++◌, length}
-use Rattle.logbook.specs.Pages.{Book}
 use Rattle.mq_queue.specs.declared.event.Event.{Event}
 use Rattle.mq_queue.specs.declared.figures.BoardRow.{BoardRow}
 use Rattle.mq_queue.specs.declared.figures.Figures.{Figures}
@@ -8,17 +7,14 @@ use Rattle.mq_queue.specs.Log.{made_key}
 use Rattle.mq_queue.specs.Row.{last_log, made_count, row, slot_figures}
 use Rattle.mq_board.specs.declared.posting.Posting.{Posting}
 use Rattle.mq_board.specs.Histories.{History}
-use Rattle.mq_board.specs.Snapshots.{SnapshotState}
 
 abbrev pub posting : Event → Figures → Posting
 posting event after = record { event = event; after = after }
 
--- a writer: its board, the published list and what of it the copies show, what is pending, and the
--- places that were freed
+-- a writer: its board, the published list, what is pending, and the places that were freed
 pub record WriterState : Type 0 where
   pub board : ℕ
   pub events : List Event
-  pub shown : List Event
   pub pending : List Posting
   pub home : List ℕ
 
@@ -35,13 +31,6 @@ pub record HasOnePending (events : List Event) (pending : List Posting) : Type 0
   pub figures : next.after ≡ slot_figures (events ++ next.event ∷ [])
   pub length_fits : length events < 2 ^ 64 - 1
   pub made_fits : made_count events < 67108864
-
--- the copies show a snapshot of the board's history, and all of it, unless they are behind
-pub record AreShown (book : ℕ → Book) (published : History) (behind : Bool) (copies : SnapshotState)
-    : Type 0 where
-  pub board_is : copies.board ≡ published.board
-  pub book_is : copies.book ≡ book published.board
-  pub all : behind ≡ false → copies.events ≡ published.events
 
 -- what a writer keeps: the row and the last key of what it published
 pub record IsWriter (published : History) (roll : ℕ) (row_is : BoardRow) (key : ℤ)

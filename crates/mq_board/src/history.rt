@@ -1,94 +1,24 @@
 //! The history of a board: its published events, an append-only log of which one word is in memory,
-//! the number of the events. Proofs alone know which events they are.
+//! the number of the events. Proofs alone know which events they are. One compare-exchange appends
+//! one event or a batch of them.
 
-ghost use Rattle.std.specs.Prelude.{◌≡◌, ◌+◌, ◌-◌, ◌^◌, ◌<◌, ◌++◌, ◌∷◌, [], length, IfOk, IfSome, IsFalse, IsTrue};
+ghost use Rattle.std.specs.Prelude.{◌≡◌, ◌-◌, ◌^◌, ◌<◌, ◌++◌, ◌∷◌, [], length, None, IfOk, IfSome, IsFalse, IsTrue};
 ghost use mathlib.Core.List.{IsPrefix};
 ghost use Rattle.mq_queue.specs.Row.{row};
-ghost use Rattle.mq_board.specs.Histories.{word_of, history};
+ghost use Rattle.mq_board.specs.Histories.{events_of, word_of, history};
 ghost use Rattle.mq_board.specs.Snapshots.{snapshot_of};
 
+use crate::history_law::{Add, Batch, Counted, HistoryLaw, Learn, Nothing, Reached, RestOf};
 use crate::naming::Naming;
 use crate::snapshot::Snapshot;
 use crate::told::ToldList;
+use crate::writer::Rest;
 use crossbeam_utils::CachePadded;
-use logbook::{Gain, Offer, Plain, Play, Rule, Seen, Start, Word};
+use logbook::{Offer, Plain, Seen, Start, Word};
 use mq_queue::{BoardRow, Event};
 use std::alloc::{AllocError, Global};
 use std::marker::{Model, PhantomData};
 use std::sync::{Arc, Wait};
-
-/// The rule of a history.
-pub struct HistoryLaw;
-
-/// The word of a history.
-type Counted = Word<Event, u64, HistoryLaw>;
-
-/// A prefix of a history that was observed. It is zero-sized.
-pub(crate) type Reached = Seen<Event, u64, HistoryLaw>;
-
-impl Rule<Event, u64> for HistoryLaw {
-    ghost use Rattle.std.specs.Prelude.{[]};
-    ghost use base.Fml.{ftrue};
-    ghost use Rattle.mq_board.specs.Histories.{IsCounted};
-
-    ghost holds = { λ cells log. IsCounted cells log };
-
-    ghost first = { [] };
-
-    ghost hinted = { λ n log. Unit {0} };
-
-    ghost shows = { λ log. [] };
-
-    ghost keeps = { λ names log. ftrue };
-
-    ghost moves = { λ ask before after answer. Unit {0} };
-}
-
-/// Nothing is traded at a step.
-struct Nothing;
-
-impl<E, A> Gain<E, A> for Nothing {
-    ghost use base.Fml.{ftrue};
-
-    ghost after = { λ names about answer. ftrue };
-}
-
-/// The step that adds an event, where the history has as many as it says.
-struct Add;
-
-impl Play<Event, u64> for Add {
-    ghost use Rattle.mq_board.specs.Histories.{Adds};
-
-    ghost then = { Adds };
-}
-
-/// What is to be added.
-impl Plain<Event, Event, u64> for Add {
-    ghost use Rattle.std.specs.Prelude.{None};
-
-    ghost ask = { λ event. event };
-
-    ghost state = { λ event. None };
-}
-
-/// The step that learns all of the history.
-struct Learn;
-
-impl Play<Event, u64> for Learn {
-    ghost use Rattle.mq_board.specs.Histories.{LearnsAll};
-
-    ghost then = { LearnsAll };
-}
-
-/// It adds nothing.
-impl Plain<u64, Event, u64> for Learn {
-    ghost use Rattle.std.specs.Prelude.{None};
-    ghost use Rattle.mq_board.specs.Histories.{any_event};
-
-    ghost ask = { λ count. any_event };
-
-    ghost state = { λ count. None };
-}
 
 /// An empty history, which has no board number yet.
 #[derive(Drop)]
@@ -182,37 +112,38 @@ impl<J: Naming> EventCount<J> {
     fn load(&self, seen: &mut Reached) -> u64
         requires { seen.old.book ≡ J.board self.now }
         ensures book { seen.new.book ≡ seen.old.book }
-        ensures more { IsPrefix seen.old.log seen.new.log }
-        ensures all { result ≡ length seen.new.log }
+        ensures more { IsPrefix (events_of seen.old.log) (events_of seen.new.log) }
+        ensures all { result ≡ length (events_of seen.new.log) }
     {
-        let mut offer: Offer<Event, u64, HistoryLaw, Nothing> = seen.plain::<Nothing, u64, Learn>(
+        let mut offer: Offer<Batch, u64, HistoryLaw, Nothing> = seen.plain::<Nothing, u64, Learn>(
             &0,
         );
         let word: &Counted = &self.word;
         word.load::<Learn, Nothing>(seen, &mut offer)
     }
 
-    /// Adds an event to those that `seen` has, `count` of them, if these are all: in every run they
-    /// are, since only the board's writer adds.
-    fn try_add(&self, seen: &Reached, count: u64, event: Event) -> Option<Reached>
+    /// Adds events to those that `seen` has, `count` of them, if these are all: in every run they
+    /// are, since only the board's writer adds. `next` is the number of all events then.
+    fn try_add<X, M: Plain<X, Batch, u64>>(
+        &self,
+        seen: &Reached,
+        count: u64,
+        next: u64,
+        added: &X,
+    ) -> Option<Reached>
         requires book { seen.now.book ≡ J.board self.now }
-        requires count { count ≡ length seen.now.log }
-        requires room { count < 2 ^ 64 - 1 }
+        requires count { count ≡ length (events_of seen.now.log) }
+        requires next { next ≡ length (events_of seen.now.log ++ M.ask added.now) }
+        requires idle { M.state added.now ≡ None }
         ensures { IfSome result (λ more. (more.book ≡ seen.now.book)
-            × (more.log ≡ seen.now.log ++ event ∷ [])) }
+            × (events_of more.log ≡ events_of seen.now.log ++ M.ask added.now)) }
     {
         let mut more = seen.again();
-        let mut offer: Offer<Event, u64, HistoryLaw, Nothing> = more.plain::<Nothing, Event, Add>(
-            &event,
-        );
+        let mut offer: Offer<Batch, u64, HistoryLaw, Nothing> = more.plain::<Nothing, X, M>(added);
         let mut pen = more.no_pen();
         let word: &Counted = &self.word;
         let found = word.compare_exchange::<Add, Nothing>(
-            count,
-            count + 1,
-            &mut more,
-            &mut offer,
-            &mut pen,
+            count, next, &mut more, &mut offer, &mut pen,
         );
         if found == count { Some(more) } else { None }
     }
@@ -237,13 +168,14 @@ pub(crate) struct HistoryWriter<J: Naming> {
 
 impl<J: Naming> Model for HistoryWriter<J> {
     ghost use Rattle.std.specs.Prelude.{◌≡◌, length};
-    ghost use Rattle.mq_board.specs.Histories.{History, history};
+    ghost use Rattle.mq_board.specs.Histories.{History, events_of, history};
 
     ghost Value = { History };
 
-    ghost view = { λ b. history b.counter b.seen.log };
+    ghost view = { λ b. history b.counter (events_of b.seen.log) };
 
-    ghost invariant = { λ b. (b.count ≡ length b.seen.log) × (b.seen.book ≡ J.board b.counter) };
+    ghost invariant = { λ b. (b.count ≡ length (events_of b.seen.log))
+        × (b.seen.book ≡ J.board b.counter) };
 }
 
 impl<J: Naming> HistoryWriter<J> {
@@ -251,6 +183,13 @@ impl<J: Naming> HistoryWriter<J> {
         ensures { result ≡ self.now.board }
     {
         self.counter.board()
+    }
+
+    /// The number of events.
+    pub(crate) fn count(&self) -> u64
+        ensures { result ≡ length self.now.events }
+    {
+        self.count
     }
 
     /// A handle to the word that counts the events.
@@ -273,19 +212,38 @@ impl<J: Naming> HistoryWriter<J> {
         }
     }
 
-    /// Adds an event, if no other thread has added one, as none does.
-    fn try_add(&mut self, event: Event) -> bool
-        requires { length self.old.events < 2 ^ 64 - 1 }
+    /// Adds events, if no other thread has added one, as none does. `count` is the number of all
+    /// events then.
+    fn try_add<X, M: Plain<X, Batch, u64>>(&mut self, count: u64, added: &X) -> bool
+        requires count { count ≡ length (self.old.events ++ M.ask added.now) }
+        requires idle { M.state added.now ≡ None }
         ensures added { IsTrue result
-            → self.new ≡ history self.old.board (self.old.events ++ event ∷ []) }
+            → self.new ≡ history self.old.board (self.old.events ++ M.ask added.now) }
         ensures same { IsFalse result → self.new ≡ self.old }
     {
-        let Some(more) = self.counter.try_add(&self.seen, self.count, event) else {
+        let Some(more) = self
+            .counter
+            .try_add::<X, M>(&self.seen, self.count, count, added)
+        else {
             return false;
         };
         self.seen = more;
-        self.count += 1;
+        self.count = count;
         true
+    }
+
+    /// Adds events, by one compare-exchange. `count` is the number of all events then.
+    fn add_all<X, M: Plain<X, Batch, u64>, R: Wait>(&mut self, rt: &R, count: u64, added: &X)
+        requires count { count ≡ length (self.old.events ++ M.ask added.now) }
+        requires idle { M.state added.now ≡ None }
+        ensures { self.new ≡ history self.old.board (self.old.events ++ M.ask added.now) }
+    {
+        for _ in rt.forever() {
+            if self.try_add::<X, M>(count, added) {
+                return;
+            }
+        }
+        unreachable!()
     }
 
     /// Adds an event, by one compare-exchange. It allocates nothing.
@@ -293,12 +251,19 @@ impl<J: Naming> HistoryWriter<J> {
         requires { length self.old.events < 2 ^ 64 - 1 }
         ensures { self.new ≡ history self.old.board (self.old.events ++ event ∷ []) }
     {
-        for _ in rt.forever() {
-            if self.try_add(event) {
-                return;
-            }
-        }
-        unreachable!()
+        self.add_all::<Event, Add, R>(rt, self.count + 1, &event);
+    }
+
+    /// Adds the events of a list that it has beyond this history, by one compare-exchange. It
+    /// allocates nothing. `count` is the number of all events then.
+    pub(crate) fn add_rest<X, M: Rest<X>, R: Wait>(&mut self, rt: &R, list: &X, count: u64)
+        requires { count ≡ length (self.old.events
+            ++ M.rest list.now (length self.old.events)) }
+        ensures { self.new ≡ history self.old.board
+            (self.old.events ++ M.rest list.now (length self.old.events)) }
+    {
+        let about = (list, self.count);
+        self.add_all::<(&X, u64), RestOf<M>, R>(rt, count, &about);
     }
 
     /// Whether a front of this board is a prefix of the history, as each is.

@@ -6,6 +6,7 @@
 
 mod copies;
 mod history;
+mod history_law;
 mod making;
 mod naming;
 mod opened;
@@ -24,4 +25,4 @@ pub use posting::Posting;
 pub use reader::{BoardReader, BoardReading};
 pub use roll::OpenedRoll;
 pub use told::ToldList;
-pub use writer::BoardWriter;
+pub use writer::{BoardWriter, Rest};

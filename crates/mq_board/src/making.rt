@@ -45,8 +45,7 @@ pub fn next_board<J: Naming, R: Wait>(
     requires named { AreNamed J.board J.roll number opened.old.items }
     requires readers { (0 < readers) × (readers ≤ 16) }
     ensures number { IfOk result (λ made. made.0.board ≡ number) }
-    ensures empty { IfOk result (λ made. (made.0.events ≡ []) × (made.0.shown ≡ [])
-        × (made.0.pending ≡ [])) }
+    ensures empty { IfOk result (λ made. (made.0.events ≡ []) × (made.0.pending ≡ [])) }
     ensures out { IfOk result (λ made. made.0.home ≡ []) }
     ensures readers { IfOk result (λ made. made.1.items ≡ new_readers number readers) }
     ensures named { AreNamed J.board J.roll (number + 1) opened.new.items }
@@ -71,8 +70,7 @@ pub fn board<J: Naming, R: Wait>(
         × (opened.roll.seen.book ≡ J.roll number) }
     requires readers { (0 < readers) × (readers ≤ 16) }
     ensures number { IfOk result (λ made. made.0.board ≡ number) }
-    ensures empty { IfOk result (λ made. (made.0.events ≡ []) × (made.0.shown ≡ [])
-        × (made.0.pending ≡ [])) }
+    ensures empty { IfOk result (λ made. (made.0.events ≡ []) × (made.0.pending ≡ [])) }
     ensures out { IfOk result (λ made. made.0.home ≡ []) }
     ensures readers { IfOk result (λ made. made.1.items ≡ new_readers number readers) }
 {

@@ -1,4 +1,4 @@
-//! The buffer of a board's writer: an event between its `prepare` and its `append`.
+//! The buffer of a board's writer: an event between its `prepare` and its `publish`.
 
 use mq_queue::{Event, Figures, NO_FIGURES};
 

@@ -4,7 +4,7 @@ ghost use Rattle.std.specs.Prelude.{◌≡◌, ◌≤◌, ◌↔◌, length, IsT
 ghost use mathlib.Core.List.{IsPrefix};
 ghost use Rattle.mq_queue.specs.Row.{row};
 
-use crate::history::Reached;
+use crate::history_law::Reached;
 use crate::naming::Naming;
 use crossbeam_utils::rule::{Outcome, Protocol};
 use left_right::Absorb;
@@ -27,13 +27,15 @@ pub struct Snapshot {
 impl Model for Snapshot {
     ghost use Rattle.std.specs.Prelude.{◌≡◌, length};
     ghost use Rattle.mq_queue.specs.Row.{row};
+    ghost use Rattle.mq_board.specs.Histories.{events_of};
     ghost use Rattle.mq_board.specs.Snapshots.{SnapshotState, snapshot_of};
 
     ghost Value = { SnapshotState };
 
-    ghost view = { λ s. snapshot_of s.number s.seen.book s.seen.log };
+    ghost view = { λ s. snapshot_of s.number s.seen.book (events_of s.seen.log) };
 
-    ghost invariant = { λ s. (s.board_row ≡ row s.seen.log) × (s.count ≡ length s.seen.log) };
+    ghost invariant = { λ s. (s.board_row ≡ row (events_of s.seen.log))
+        × (s.count ≡ length (events_of s.seen.log)) };
 }
 
 impl Snapshot {

@@ -1,6 +1,6 @@
-//! The write side of a board: an event is appended to the history, and then shown by the copies.
+//! The write side of a board: events are appended to the history, and then shown by the copies.
 
-ghost use Rattle.std.specs.Prelude.{◌≡◌, ◌≢◌, ℕ, ◌++◌, ◌∷◌, [], map};
+ghost use Rattle.std.specs.Prelude.{◌≡◌, ◌≢◌, ℕ, ◌++◌, ◌∷◌, [], length, map, true};
 ghost use Rattle.std.specs.List.{All, AllPairs, Contains};
 ghost use mathlib.Core.List.{IsPrefix};
 ghost use Rattle.mq_queue.specs.Row.{row};
@@ -21,9 +21,17 @@ use std::alloc::AllocError;
 use std::marker::Model;
 use std::sync::Wait;
 
-/// The writer of a board, seen as its published list, the prefix of it that the copies show, the
-/// pending event and the places that were returned. There is one of each board. It can't be
-/// dropped: `end` or `close` gives the board up.
+/// Which events a list has beyond its first so many. Proofs alone read it: a board's writer is
+/// passed the list by reference, and copies nothing of it.
+pub trait Rest<X> {
+    ghost use Rattle.std.specs.Prelude.{ℕ, List};
+    ghost use Rattle.mq_queue.specs.declared.event.Event.{Event};
+
+    ghost rest: { X → ℕ → List Event };
+}
+
+/// The writer of a board, seen as its published list, the pending event and the places that were
+/// returned. There is one of each board. It can't be dropped: `end` or `close` gives the board up.
 pub struct BoardWriter<J: Naming> {
     copies: Copies<J>,
     history: HistoryWriter<J>,
@@ -35,26 +43,24 @@ pub struct BoardWriter<J: Naming> {
     /// A buffer for the event that is prepared and not published yet, and whether it holds one.
     next: Posting,
     is_pending: bool,
-    /// Whether events were appended that the copies do not show yet.
-    is_behind: bool,
 }
 
 impl<J: Naming> Model for BoardWriter<J> {
     ghost use Rattle.std.specs.Prelude.{◌≡◌};
-    ghost use Rattle.mq_board.specs.Writers.{AreShown, IsWriter, WriterState, pending_in};
+    ghost use Rattle.mq_board.specs.Snapshots.{snapshot_of};
+    ghost use Rattle.mq_board.specs.Writers.{IsWriter, WriterState, pending_in};
 
     ghost Value = { WriterState };
 
     ghost view = { λ w. record {
       board = w.history.board;
       events = w.history.events;
-      shown = w.copies.events;
       pending = pending_in w.is_pending w.next;
       home = w.roll.home;
     } };
 
     ghost invariant = { λ w. IsWriter w.history w.roll.board w.row w.key
-        × AreShown J.board w.history w.is_behind w.copies };
+        × (w.copies ≡ snapshot_of w.history.board (J.board w.history.board) w.history.events) };
 }
 
 impl<J: Naming> Notice for BoardWriter<J> {
@@ -83,7 +89,6 @@ impl<J: Naming> BoardWriter<J> {
         ensures { result ≡ record {
           board = history.board;
           events = [];
-          shown = [];
           pending = [];
           home = roll.home;
         } }
@@ -96,7 +101,6 @@ impl<J: Naming> BoardWriter<J> {
             key: 0,
             next: NOTHING,
             is_pending: false,
-            is_behind: false,
         }
     }
 
@@ -114,6 +118,13 @@ impl<J: Naming> BoardWriter<J> {
         self.row
     }
 
+    /// The number of the published events.
+    pub fn count(&self) -> u64
+        ensures { result ≡ length self.now.events }
+    {
+        self.history.count()
+    }
+
     /// A token that proves the published list, for a reader to learn.
     pub fn tell(&mut self) -> ToldList<J>
         ensures told { result ≡ history self.old.board self.old.events }
@@ -122,9 +133,9 @@ impl<J: Naming> BoardWriter<J> {
         ToldList::new(self.history.snapshot(self.row))
     }
 
-    /// Appends the event that is pending to the published list. It allocates nothing. The copies do
-    /// not show it before `show`.
-    pub fn append<R: Wait>(&mut self, rt: &R)
+    /// Publishes the event that is pending: readers find it from then on. It allocates nothing, and
+    /// waits for a reader that is still inside the copy that was published before the last.
+    pub fn publish<R: Wait>(&mut self, rt: &R)
         requires { HasOnePending self.old.events self.old.pending }
         ensures { self.new ≡ record self.old {
           events = self.old.events ++ map (λ p. p.event) self.old.pending;
@@ -135,33 +146,33 @@ impl<J: Naming> BoardWriter<J> {
         self.row = next_row(self.row, self.key, event, self.next.after);
         self.key = next_key(self.key, event);
         self.is_pending = false;
-        self.is_behind = true;
         self.history.add(rt, event);
+        self.copies.publish(rt, self.history.snapshot(self.row));
     }
 
-    /// Has the copies show all of the published list: readers find it from then on. It allocates
-    /// nothing, and waits for a reader that is still inside the copy that was published before the
-    /// last.
-    pub fn show<R: Wait>(&mut self, rt: &R)
-        ensures { self.new ≡ record self.old { shown = self.old.events } }
-    {
-        if self.is_behind {
-            self.is_behind = false;
-            self.copies.publish(rt, self.history.snapshot(self.row));
-        }
-    }
-
-    /// Publishes the event that is pending, as `append` and `show` do.
-    pub fn publish<R: Wait>(&mut self, rt: &R)
-        requires { HasOnePending self.old.events self.old.pending }
+    /// Publishes at once the events of a list that it has beyond the published one, with its row,
+    /// in which a queue is: readers find them all from then on, or none before. It allocates
+    /// nothing, and waits as `publish` does. `count` is the number of all events then.
+    pub fn publish_rest<X, M: Rest<X>, R: Wait>(
+        &mut self,
+        rt: &R,
+        list: &X,
+        count: u64,
+        whole: BoardRow,
+    )
+        requires count { count ≡ length (self.old.events
+            ++ M.rest list.now (length self.old.events)) }
+        requires row { whole ≡ row (self.old.events
+            ++ M.rest list.now (length self.old.events)) }
+        requires live { whole.live ≡ true }
         ensures { self.new ≡ record self.old {
-          events = self.old.events ++ map (λ p. p.event) self.old.pending;
-          shown = self.old.events ++ map (λ p. p.event) self.old.pending;
-          pending = [];
+          events = self.old.events ++ M.rest list.now (length self.old.events);
         } }
     {
-        self.append(rt);
-        self.show(rt);
+        self.row = whole;
+        self.key = whole.key;
+        self.history.add_rest::<X, M, R>(rt, list, count);
+        self.copies.publish(rt, self.history.snapshot(whole));
     }
 
     /// Takes a reader back. Its front is a prefix of the published list, and its place was not
@@ -205,7 +216,6 @@ impl<J: Naming> BoardWriter<J> {
             key: _,
             next: _,
             is_pending: _,
-            is_behind: _,
         } = self;
         copies.close(rt);
     }

@@ -31,6 +31,8 @@ macro_rules! holds {
 #[cfg(test)]
 mod answers;
 #[cfg(test)]
+mod batches;
+#[cfg(test)]
 mod calls;
 #[cfg(test)]
 mod ends;

@@ -1,11 +1,10 @@
 //! Readers that stop inside the copies of a board, and what others read and publish meanwhile.
 
-ghost use Rattle.std.specs.Prelude.{◌≡◌, ◌<◌, ◌≤◌, ◌++◌, ◌∷◌, [], pos, IfOk};
-ghost use Rattle.mq_board.specs.Writers.{HasOnePending, posting};
+ghost use Rattle.std.specs.Prelude.{◌≡◌, ◌<◌, ◌≤◌, ◌∷◌, [], pos, IfOk};
 
 use crate::posts::publish;
 use mq_board::{BoardReader, BoardReading, BoardWriter, MAX_PLACES, Naming, OpenedBoard, board};
-use mq_queue::{Event, Figures, MSGMNB, Notice};
+use mq_queue::{Event, Figures, MSGMNB};
 use std::alloc::{AllocError, Global};
 use std::hint::spin_loop;
 use std::marker::Brand;
@@ -15,13 +14,13 @@ use std::sync::atomic::{AtomicU64, Ordering};
 use std::test::*;
 use std::thread::{Threads, join};
 
-const MADE: Event = Event::Made {
+pub(crate) const MADE: Event = Event::Made {
     seat: 1,
     moment: 3,
     key: 9,
 };
 
-const AFTER_MADE: Figures = Figures {
+pub(crate) const AFTER_MADE: Figures = Figures {
     qnum: 0,
     cbytes: 0,
     qbytes: MSGMNB,
@@ -46,25 +45,8 @@ const AFTER_REMOVED: Figures = Figures {
 };
 
 /// Enters the copy that is published now, and stays there.
-fn stop<J: Naming>(rt: &impl Abort, reader: &BoardReader<J>) -> BoardReading<J> {
+pub(crate) fn stop<J: Naming>(rt: &impl Abort, reader: &BoardReader<J>) -> BoardReading<J> {
     reader.enter().expect(rt, "no place is free")
-}
-
-/// Appends an event to the published list, which the copies do not show yet.
-fn append<J: Naming, R: Wait>(
-    rt: &R,
-    writer: &mut BoardWriter<J>,
-    event: Event,
-    after: Figures,
-) -> Result<(), AllocError>
-    requires ready { HasOnePending writer.old.events (posting event after ∷ []) }
-    requires idle { writer.old.pending ≡ [] }
-    ensures { IfOk result (λ _. (writer.new.events ≡ writer.old.events ++ event ∷ [])
-        × (writer.new.pending ≡ [])) }
-{
-    writer.prepare(event, after)?;
-    writer.append(rt);
-    Ok(())
 }
 
 /// Publishes that a queue is made.
@@ -75,15 +57,6 @@ fn make<J: Naming, R: Wait>(rt: &R, writer: &mut BoardWriter<J>) -> Result<(), A
         × (writer.new.pending ≡ [])) }
 {
     publish(rt, writer, MADE, AFTER_MADE)
-}
-
-/// Appends that a queue is made and removed.
-fn append_both<J: Naming, R: Wait>(rt: &R, writer: &mut BoardWriter<J>) -> Result<(), AllocError>
-    requires empty { writer.old.events ≡ [] }
-    requires idle { writer.old.pending ≡ [] }
-{
-    append(rt, writer, MADE, AFTER_MADE)?;
-    append(rt, writer, REMOVED, AFTER_REMOVED)
 }
 
 /// How many queues a reader sees after a making while others are stopped inside a copy, and after
@@ -226,36 +199,5 @@ fn changed_by<R: Abort + Threads + Wait + Sync>(
 #[test]
 fn the_next_but_one_change_waits_for_a_reader_inside(rt: HostRuntime) -> Result<(), Fail> {
     assert_eq!(rt; changed_by(&rt, rt.alloc())?, (1, false));
-    Ok(())
-}
-
-/// How many queues a reader sees of two events that were appended, before the copies show them and
-/// then, while another is inside a copy: it would never end if each event changed the copies.
-fn shown_beside<J: Naming, R: Abort + Wait>(
-    rt: &R,
-    alloc: Global,
-    opened: OpenedBoard,
-) -> Result<(u32, u32), AllocError>
-    requires named { (opened.history.seen.book ≡ J.board 0) × (opened.roll.seen.book ≡ J.roll 0) }
-{
-    let (mut writer, mut readers) = board::<J, R>(alloc, rt, opened, 0, 2)?;
-    let inside = stop(rt, &readers[0]);
-    let appended = append_both(rt, &mut writer);
-    let before = readers[1].row().made;
-    writer.show(rt);
-    let then = readers[1].row().made;
-    inside.leave();
-    writer.close(rt);
-    appended?;
-    Ok((before, then))
-}
-
-fn shown_by<R: Abort + Wait>(rt: &R, alloc: Global) -> Result<(u32, u32), AllocError> {
-    shown_beside::<Brand, R>(rt, alloc, OpenedBoard::new())
-}
-
-#[test]
-fn several_events_that_were_appended_are_shown_at_once(rt: HostRuntime) -> Result<(), Fail> {
-    assert_eq!(rt; shown_by(&rt, rt.alloc())?, (0, 1));
     Ok(())
 }

@@ -28,14 +28,14 @@ pub struct Delivered<B> {
     /// The entry of the receipt.
     pub entry: u64,
     pub mtype: i64,
-    /// The sender's seat.
-    pub sender: u16,
     /// The sender's own number of the message.
     pub tag: u64,
     /// The number of bytes that were sent.
     pub length: u64,
     /// The text, truncated to the receiver's size.
     pub text: B,
+    /// The sender's seat.
+    pub sender: u16,
 }
 
 impl<B> Delivered<B> {

@@ -7,11 +7,12 @@ ghost use Rattle.std.specs.Prelude.{◌≡◌};
 pub struct Message<B> {
     /// The message's type, which a queue takes from 1 on.
     pub mtype: i64,
-    /// The number of the sender's seat, from 1, in place of the process id.
-    pub sender: u16,
     /// A number of the sender's own, which no queue reads.
     pub tag: u64,
     pub body: B,
+    /// The number of the sender's seat, from 1, in place of the process id. It stands behind the
+    /// words, so that copies of them are aligned.
+    pub sender: u16,
 }
 
 impl<B> Message<B> {
@@ -21,9 +22,9 @@ impl<B> Message<B> {
     {
         let Message {
             mtype: _,
-            sender: _,
             tag: _,
             body,
+            sender: _,
         } = self;
         body
     }

@@ -9,11 +9,11 @@ pub struct Received<B> {
     /// The place at which the message was sent.
     pub place: u64,
     pub mtype: i64,
-    /// The number of the sender's seat.
-    pub sender: u16,
     /// The sender's own number of the message.
     pub tag: u64,
     /// The number of bytes that were sent, of which `body` has no more than the receiver's size.
     pub length: u64,
     pub body: B,
+    /// The number of the sender's seat.
+    pub sender: u16,
 }

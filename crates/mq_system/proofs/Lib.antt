@@ -9,10 +9,12 @@ pub mod KeysLemmas
 pub mod LaterLemmas
 pub mod NameLemmas
 pub mod NextLemmas
+pub mod NoteLemmas
 pub mod PatienceLemmas
 pub mod PledgeLemmas
 pub mod RefusalLemmas
 pub mod ReportLemmas
+pub mod RestLemmas
 pub mod SeatLemmas
 pub mod SeenLemmas
 pub mod SeenTurns

@@ -5,15 +5,15 @@ use Rattle.std.specs.List.{sum}
 use Rattle.std.proofs.Common.{get_or-set_same, get_or-set_other, length-set}
 use Rattle.std.proofs.lemmas.Bool.Decides.{eqb_tells}
 use Rattle.std.proofs.lemmas.List.Elements.{All-head, All-tail}
-use Rattle.std.proofs.lemmas.List.{get_or-map, length-map, length_push, map-set, set-get_or}
-use Rattle.std.proofs.lemmas.List.Sums.{count_by-le-length, sum_by-append, sum_by-cons, sum_by_push}
+use Rattle.std.proofs.lemmas.List.{get_or-map, length-map, map-set, set-get_or}
+use Rattle.std.proofs.lemmas.List.Sums.{count_by-le-length, sum_by-append, sum_by-cons}
 use Rattle.std.proofs.Math.Nat.{suc-mul}
 use mathlib.Core.List.{IsPrefix}
 use Rattle.mq_queue.specs.declared.event.Event.{Event}
 use Rattle.mq_board.specs.Readers as reader
 use Rattle.mq_board.specs.Readers.{ReaderState}
 use Rattle.mq_system.specs.Fronts.{AreReaders, fronts_of}
-use Rattle.mq_system.specs.Seat.{AreKnown, IsLater, IsNext, IsSeat, SeatState, events_by, front_of, seat_of}
+use Rattle.mq_system.specs.Seat.{AreKnown, AreNext, IsLater, IsSeat, SeatState, events_by, front_of, seat_of}
 use Rattle.mq_system.specs.declared.seat.TheConstants.{MAX_COUNT}
 use Rattle.mq_system.proofs.LaterLemmas.{later_set}
 
@@ -24,15 +24,15 @@ most [] h = omega (arith)
 most (c ∷ cs) h =
     omega (arith, All-head (λ count. count ≤ MAX_COUNT) c cs h, most cs (All-tail (λ count. count ≤ MAX_COUNT) c cs h), sum_by-cons (λ x. x) c cs, suc-mul (length cs) MAX_COUNT)
 
--- where one count can grow, so can all together
-pub room_left : (counts : List ℕ) (slot : ℕ) → All (λ count. count ≤ MAX_COUNT) counts
-    → slot < length counts → slice_index counts slot < MAX_COUNT
-    → sum counts < length counts * MAX_COUNT
-room_left [] slot h low less = absurd (omega (arith, low))
-room_left (c ∷ cs) zero h low less =
+-- where one count can grow by so much, so can all together
+pub room_left : (counts : List ℕ) (slot more : ℕ) → All (λ count. count ≤ MAX_COUNT) counts
+    → slot < length counts → slice_index counts slot + more ≤ MAX_COUNT
+    → sum counts + more ≤ length counts * MAX_COUNT
+room_left [] slot more h low less = absurd (omega (arith, low))
+room_left (c ∷ cs) zero more h low less =
     omega (arith, less, most cs (All-tail (λ count. count ≤ MAX_COUNT) c cs h), sum_by-cons (λ x. x) c cs, suc-mul (length cs) MAX_COUNT)
-room_left (c ∷ cs) (suc k) h low less =
-    omega (arith, All-head (λ count. count ≤ MAX_COUNT) c cs h, room_left cs k (All-tail (λ count. count ≤ MAX_COUNT) c cs h) (omega (arith, low)) less, sum_by-cons (λ x. x) c cs, suc-mul (length cs) MAX_COUNT)
+room_left (c ∷ cs) (suc k) more h low less =
+    omega (arith, All-head (λ count. count ≤ MAX_COUNT) c cs h, room_left cs k more (All-tail (λ count. count ≤ MAX_COUNT) c cs h) (omega (arith, low)) less, sum_by-cons (λ x. x) c cs, suc-mul (length cs) MAX_COUNT)
 
 -- counts of nothing are small, sum to 0, and are known
 pub none_great : (n : ℕ) → All (λ count. count ≤ MAX_COUNT) (replicate n 0)
@@ -61,20 +61,20 @@ own_is_one seat e own = by (eqb_tells (seat_of e) seat)
     by (inl p) = rw p.0 refl
     by (inr p) = absurd (p.1 own)
 
--- it is one more of that seat's
-pub events_more : (seat : ℕ) (old new : List Event) → IsNext seat old new
-    → events_by seat new ≡ events_by seat old + 1
-events_more seat old new h =
-    ap (events_by seat) h.next ∙ sum_by_append_one h.event (own_is_one seat h.event h.own)
-  where
-    sum_by_append_one : (e : Event) → one_by seat e ≡ 1
-        → events_by seat (old ++ e ∷ []) ≡ events_by seat old + 1
-    sum_by_append_one e one =
-        sum_by_push (λ (x : Event). one_by seat x) old e ∙ ap (λ n. events_by seat old + n) one
+-- all of these are that seat's
+all_own : (seat : ℕ) (es : List Event) → All (λ e. seat_of e ≡ seat) es
+    → events_by seat es ≡ length es
+all_own seat [] own = refl
+all_own seat (e ∷ es) own =
+    omega (arith, sum_by-cons (λ (x : Event). one_by seat x) e es, own_is_one seat e (All-head (λ x. seat_of x ≡ seat) e es own), all_own seat es (All-tail (λ x. seat_of x ≡ seat) e es own))
 
-pub length_more : (seat : ℕ) (old new : List Event) → IsNext seat old new
-    → length new ≡ length old + 1
-length_more seat old new h = ap length h.next ∙ length_push old h.event
+-- so there are so many more of them
+pub events_more : (seat : ℕ) (old new : List Event) (more : ℕ) → AreNext seat old new more
+    → events_by seat new ≡ events_by seat old + more
+events_more seat old new more h =
+    ap (events_by seat) h.next
+    ∙ sum_by-append (λ (x : Event). one_by seat x) old h.events
+    ∙ ap (λ n. events_by seat old + n) (all_own seat h.events h.own ∙ h.many)
 
 -- a later list has no fewer events of a seat
 events_kept : (seat : ℕ) (old new : List Event) → IsPrefix old new
@@ -97,29 +97,30 @@ module _ (slots number : ℕ) (fronts : List (List Event)) (by_slot : List ℕ) 
           (omega (arith, known slot (rw (← p.1) low), events_kept number (slice_index_or fronts slot []) after later))
       by (inr p) = rw (get_or-set_other fronts slot k after [] p.1) (known k low)
 
-  -- and so they do where the seat made one event more and counts it
-  pub known_more : slot < length by_slot
-      → events_by number after ≡ events_by number (slice_index_or fronts slot []) + 1
+  -- and so they do where the seat made so many events more and counts them
+  pub known_more : (count : ℕ) → slot < length by_slot
+      → events_by number after ≡ events_by number (slice_index_or fronts slot []) + count
       → AreKnown slots number (slice_set fronts slot after)
-      (slice_set by_slot slot (slice_index by_slot slot + 1))
-  known_more there more k low = by (eqb_tells k slot)
+      (slice_set by_slot slot (slice_index by_slot slot + count))
+  known_more count there more k low = by (eqb_tells k slot)
     where
       by : (((k == slot) ≡ true) × (k ≡ slot)) ⊎ (((k == slot) ≡ false) × (k ≢ slot))
-          → slice_index (slice_set by_slot slot (slice_index by_slot slot + 1)) k
+          → slice_index (slice_set by_slot slot (slice_index by_slot slot + count)) k
           ≤ events_by number (slice_index_or (slice_set fronts slot after) k [])
       by (inl p) =
-          rw (p.1, get_or-set_same fronts slot after [] inside, get_or-set_same by_slot slot (slice_index by_slot slot + 1) 0 there)
+          rw (p.1, get_or-set_same fronts slot after [] inside, get_or-set_same by_slot slot (slice_index by_slot slot + count) 0 there)
           (omega (arith, known slot (rw (← p.1) low), more))
       by (inr p) =
-          rw (get_or-set_other fronts slot k after [] p.1, get_or-set_other by_slot slot k (slice_index by_slot slot + 1) 0 p.1)
+          rw (get_or-set_other fronts slot k after [] p.1, get_or-set_other by_slot slot k (slice_index by_slot slot + count) 0 p.1)
           (known k low)
 
--- a count that can grow: its changes are in a front that is not too long
-pub count_fits : (slots number : ℕ) (fronts : List (List Event)) (by_slot : List ℕ) (slot : ℕ)
-    → AreKnown slots number fronts by_slot → slot < slots
-    → length (slice_index_or fronts slot []) < MAX_COUNT → slice_index by_slot slot < MAX_COUNT
-count_fits slots number fronts by_slot slot known low short =
-    omega (arith, known slot low, short, count_by-le-length (λ (e : Event). seat_of e == number) (slice_index_or fronts slot []))
+-- a count that can grow by so much: its changes are in a list that is not too long
+pub count_fits : (slots number : ℕ) (fronts : List (List Event)) (by_slot : List ℕ)
+    (slot count : ℕ) (after : List Event) → AreKnown slots number fronts by_slot → slot < slots
+    → AreNext number (slice_index_or fronts slot []) after count → length after ≤ MAX_COUNT
+    → slice_index by_slot slot + count ≤ MAX_COUNT
+count_fits slots number fronts by_slot slot count after known low next short =
+    omega (arith, known slot low, short, events_more number (slice_index_or fronts slot []) after count next, count_by-le-length (λ (e : Event). seat_of e == number) after)
 
 -- a seat with these readers
 abbrev pub state : ℕ → List ℕ → List ReaderState → SeatState
@@ -219,14 +220,14 @@ module _ (seats slots number : ℕ) (readers : List ReaderState) (by_slot : List
       rw front_was short,
     )
 
-    -- what it knows once it has counted a change of its own, too
-    pub seat_noted : (events : List Event) → after.events ≡ events
-        → IsNext number (front_of (state number by_slot readers) slot) events
+    -- what it knows once it has counted changes of its own, too
+    pub seat_noted : (events : List Event) (count : ℕ) → after.events ≡ events
+        → AreNext number (front_of (state number by_slot readers) slot) events count
         → AreKnown slots number (fronts_of (slice_set readers slot after))
-        (slice_set by_slot slot (slice_index by_slot slot + 1))
-    seat_noted events told next =
+        (slice_set by_slot slot (slice_index by_slot slot + count))
+    seat_noted events count told next =
         rw fronts_are
         (known_more slots number (fronts_of readers) by_slot slot after.events inside_fronts h.known
-        (rw h.each low)
+        count (rw h.each low)
         (ap (events_by number) told
-        ∙ events_more number (front_of (state number by_slot readers) slot) events next))
+        ∙ events_more number (front_of (state number by_slot readers) slot) events count next))

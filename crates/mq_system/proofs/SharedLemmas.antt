@@ -20,17 +20,20 @@ use Rattle.mq_table.specs.KeptCalls.{kept_makes, kept_receives, kept_removes, ke
 use Rattle.mq_table.specs.KeptPart.{whole}
 use Rattle.mq_table.specs.Slot.{SlotState}
 use Rattle.mq_table.specs.declared.limits.TheConstants.{MAX_SEQ}
-use Rattle.mq_table.proofs.Kepts.{figures_is}
+use Rattle.mq_table.proofs.Kepts.{figures_is, live_more}
 use Rattle.mq_table.proofs.Stays.{left_is}
 use Rattle.mq_table.proofs.Turned.{IsTurned, made_turned, received_turned, removed_turned, sent_turned, set_turned}
 use Rattle.mq_table.proofs.Whole.{receives_whole, sends_whole, sets_whole}
 use Rattle.mq_calls.specs.Texts.{bytes_of}
 use Rattle.mq_board.specs.Writers.{WriterState, posting}
+use Rattle.mq_board.specs.declared.posting.Posting.{Posting}
 use Rattle.mq_system.specs.Answer.{SlotAnswer}
-use Rattle.mq_system.specs.Held.{HasChanged, HasNoted}
+use Rattle.mq_system.specs.Held.{HasAppended, HasChanged, HasNoted}
 use Rattle.mq_system.specs.Pledge.{IsPledged, Pledged}
-use Rattle.mq_system.specs.Seat.{IsNext, SeatState, seat_of}
-use Rattle.mq_system.specs.Shared.{IsDue, IsShared, locked, with_pending}
+use Rattle.mq_system.specs.Seat.{AreNext, IsNext, SeatState, seat_of}
+use Rattle.mq_system.specs.Shared.{IsBehind, IsDue, IsShared, all_events, locked, locked_all}
+use Rattle.mq_system.specs.Shared.{unpublished, with_pending}
+use Rattle.mq_system.proofs.RestLemmas.{all_next, behind_next, is_next, none_own}
 
 -- the pledge holds of all pending messages
 abbrev pub AllPledged : Pledged → List (ℕ × Message PlainText) → Type 0
@@ -217,6 +220,98 @@ module _ (kept : Pledged) (slots last_seq parts amount : ℕ) (desk due : Writer
           (rw (ap (λ (x : KeptSlot PlainText). x.messages) is) (none_pledged kept))
           (λ x. x ≡ removes (whole desk.events s) seat moment) (rw is refl)
 
+-- a call changed the slot by an event of this seat, which is not published yet
+pub record IsAppended (kept : Pledged) (slots last_seq seat : ℕ) (writer : WriterState)
+    (s t : KeptSlot PlainText) (parts amount : ℕ) (leaves : SlotState PlainText → Type 0)
+    : Type 0 where
+  pub behind : IsBehind kept slots last_seq seat writer t parts amount
+  pub number : t.number ≡ s.number
+  pub first : t.first ≡ s.first
+  pub next : IsNext seat (all_events writer.events s) (all_events writer.events t)
+  pub left : leaves (whole (all_events writer.events t) t)
+
+module _ (kept : Pledged) (slots last_seq seat : ℕ) (writer : WriterState)
+    (s t : KeptSlot PlainText) (parts amount : ℕ)
+    (h : IsBehind kept slots last_seq seat writer s parts amount)
+    (short : length (all_events writer.events s) < 2 ^ 64 - 1)
+    (few : made_count (all_events writer.events s) ≤ MAX_SEQ + 1)
+    (live : is_live (all_events writer.events s) ≡ true)
+  where
+    abbrev all : List Event
+    all = all_events writer.events s
+
+    -- a writer that has published all of it, and one that has taken in one event more
+    abbrev desk : WriterState
+    desk = record writer { events = all; pending = [] }
+
+    abbrev due : Event → WriterState
+    due e = record desk { pending = posting e (kept_figures t) ∷ [] }
+
+    abbrev whole_amount : ℕ
+    whole_amount = amount + length (unpublished (length writer.events) s)
+
+    started : IsShared kept slots last_seq writer.board all [] s parts whole_amount
+    started =
+        subst (λ (p : List Posting).
+        IsShared kept slots last_seq writer.board all p s parts whole_amount)
+        h.shared.published.none h.shared
+
+    abbrev Appended : (SlotState PlainText → Type 0) → Type 0
+    Appended leaves = IsAppended kept slots last_seq seat writer s t parts amount leaves
+
+    appended : (e : Event) → seat_of e ≡ seat → is_live (all ++ e ∷ []) ≡ true
+        → (leaves : SlotState PlainText → Type 0)
+        → IsChange kept slots last_seq seat desk (due e) s t parts whole_amount leaves
+        → Appended leaves
+    appended e own there leaves its = record {
+      behind =
+          behind_next kept slots last_seq seat writer s t parts amount h e its.due.shared its.first own there;
+      number = its.number;
+      first = its.first;
+      next =
+          is_next kept slots last_seq seat writer s t parts amount h e its.due.shared its.first own there;
+      left =
+          rw (all_next kept slots last_seq seat writer s t parts amount h e its.due.shared its.first own there)
+          its.left;
+    }
+
+    -- msgsnd
+    pub send_appends : (m : Message PlainText) (moment entry : ℕ) → m.sender ≡ seat
+        → IsPledged kept m → kept_sends bytes_of s m moment ≡ Ok (entry, t)
+        → Appended (λ x. sends bytes_of (whole all s) m moment ≡ Ok (entry, x))
+    send_appends m moment entry own pledged answer =
+        let e = event.Sent m.sender moment m.tag m.mtype (length (bytes_of m.body)) in
+        let leaves : SlotState PlainText → Type 0 =
+        λ x. sends bytes_of (whole all s) m moment ≡ Ok (entry, x) in
+        appended e own (live_more all e) leaves
+        (subst (λ (n : ℕ). IsChange kept slots last_seq n desk (due e) s t parts whole_amount leaves)
+        own
+        (send_changes kept slots last_seq parts whole_amount desk (due e) s t started short few live m moment entry pledged answer refl))
+
+    -- msgrcv
+    pub receive_appends : (size : ℕ) (selection : Selection) (noerror : Bool) (moment : ℕ)
+        (r : Header) → kept_receives s size selection noerror seat moment ≡ Ok (r, t)
+        → Appended (λ x. receives (whole all s) size selection noerror seat moment ≡ Ok (r, x))
+    receive_appends size selection noerror moment r answer =
+        let e = event.Received seat moment r.place selection size noerror in
+        appended e refl (live_more all e)
+        (λ x. receives (whole all s) size selection noerror seat moment ≡ Ok (r, x))
+        (receive_changes kept slots last_seq parts whole_amount desk (due e) s t started short few live size selection noerror seat moment r answer refl)
+
+-- such a call answers and leaves the slot as it says
+pub has_appended : {T : Type 0} (kept : Pledged) (slots last_seq seat : ℕ) (writer : WriterState)
+    (s t : KeptSlot PlainText) (parts amount : ℕ) (leaves : SlotState PlainText → Type 0)
+    → IsAppended kept slots last_seq seat writer s t parts amount leaves
+    → (decided : SlotAnswer T) (value : T)
+    → decided ≡ Ok (value, whole (all_events writer.events t) t)
+    → HasAppended decided (locked_all writer.events s) (locked_all writer.events t) seat value
+has_appended kept slots last_seq seat writer s t parts amount leaves its decided value is = record {
+  ok = is;
+  number = its.number;
+  kept = its.first;
+  next = its.next;
+}
+
 -- what is so once a change is published
 module _ (kept : Pledged) (slots last_seq seat parts amount : ℕ) (old new : WriterState)
     (slot : KeptSlot PlainText)
@@ -240,13 +335,14 @@ module _ (kept : Pledged) (slots last_seq seat parts amount : ℕ) (old new : Wr
         (sym published) (rw (part, noted) due.shared)
 
     -- one event more is published, which the seat made
-    pub next_by : (front : List Event) → front ≡ old.events → IsNext seat front new.events
+    pub next_by : (front : List Event) → front ≡ old.events → AreNext seat front new.events 1
     next_by front known = record {
-      event = due.ready.next.event;
-      own = due.own;
+      events = due.ready.next.event ∷ [];
+      own = All-push (λ e. seat_of e ≡ seat) [] due.ready.next.event (none_own seat) due.own;
       next =
           events_are ∙ ap (with_pending old.events) due.ready.one
           ∙ ap (λ (es : List Event). es ++ due.ready.next.event ∷ []) (sym known);
+      many = refl;
     }
 
 -- a change that is published and noted: the call has changed the slot as it answers

@@ -9,7 +9,7 @@ use Rattle.mq_table.specs.Slot.{SlotState, next_id}
 use Rattle.mq_calls.specs.declared.results.Got.{Got}
 use Rattle.mq_calls.specs.declared.results.Refused.{Refused}
 use Rattle.mq_system.specs.Answer.{SlotAnswer, refused_or_memory_in_slot}
-use Rattle.mq_system.specs.Seat.{IsCounted, SeatState, front_of}
+use Rattle.mq_system.specs.Seat.{IsCounted, IsNext, SeatState, front_of}
 use Rattle.mq_system.specs.Shared.{LockedSlot}
 
 -- a call may begin: its id's slot is locked, and the caller's seat knows all of it
@@ -29,6 +29,14 @@ pub record HasChanged {T : Type 0} (decided : SlotAnswer T) (held left : LockedS
   pub number : left.whole.number ≡ held.whole.number
   pub kept : left.first ≡ held.first
   pub noted : HasNoted old new held.whole.number left.whole.events
+
+-- a call answers what was decided for it, appended one entry of this seat, and drained none
+pub record HasAppended {T : Type 0} (decided : SlotAnswer T) (held left : LockedSlot) (seat : ℕ)
+    (value : T) : Type 0 where
+  pub ok : decided ≡ Ok (value, left.whole)
+  pub number : left.whole.number ≡ held.whole.number
+  pub kept : left.first ≡ held.first
+  pub next : IsNext seat held.whole.events left.whole.events
 
 -- a call is refused as was decided for it, or for memory, and left all as it was
 pub record HasRefused {T : Type 0} (decided : SlotAnswer T) (held left : LockedSlot)

@@ -4,19 +4,29 @@ use Rattle.std.specs.List.{FoldsTo}
 use Rattle.mq_arena.specs.Text.{PlainText}
 use Rattle.mq_message.specs.declared.message.Message.{Message}
 use Rattle.mq_message.specs.declared.selection.Selection.{Selection}
+use Rattle.mq_queue.specs.declared.event.Event.{Event}
+use Rattle.mq_table.specs.Kept.{KeptSlot}
 use Rattle.mq_calls.specs.declared.results.Delivered.{Delivered}
 use Rattle.mq_calls.specs.declared.results.Refused.{Refused}
 use Rattle.mq_system.specs.Answer.{SlotAnswer, receive_in_slot, send_in_slot}
 use Rattle.mq_system.specs.Answer.{refused_or_memory_in_slot}
 use Rattle.mq_system.specs.Held.{HasChanged}
-use Rattle.mq_system.specs.Seat.{SeatState}
-use Rattle.mq_system.specs.Shared.{LockedSlot}
+use Rattle.mq_system.specs.Seat.{SeatState, noted_more}
+use Rattle.mq_system.specs.Shared.{LockedSlot, all_events, locked_all, unpublished}
 use Rattle.mq_system.specs.declared.many.Letter.{Letter}
 
 -- a slot under its lock, and the seat of the caller that holds it
 pub record Under : Type 0 where
   pub slot : LockedSlot
   pub seat : SeatState
+
+-- a slot of which these entries are published, and the seat, once it has noted the others
+abbrev pub under_all : List Event → KeptSlot PlainText → SeatState → Under
+under_all published slot seat = record {
+  slot = locked_all published slot;
+  seat = noted_more seat slot.number (length (unpublished (length published) slot))
+      (all_events published slot);
+}
 
 -- what is decided for a call, by the state when it is called
 abbrev pub Decides : Type 0 → Type 0

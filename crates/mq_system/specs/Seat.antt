@@ -27,6 +27,13 @@ pub record IsNext (seat : ℕ) (old new : List Event) : Type 0 where
   pub own : seat_of event ≡ seat
   pub next : new ≡ old ++ event ∷ []
 
+-- so many events more, all made by this seat
+pub record AreNext (seat : ℕ) (old new : List Event) (count : ℕ) : Type 0 where
+  pub events : List Event
+  pub own : All (λ e. seat_of e ≡ seat) events
+  pub next : new ≡ old ++ events
+  pub many : length events ≡ count
+
 -- a seat has a number, for each slot how many changes it made there, and for each slot a front: the
 -- first events of the slot, as far as the seat knows them
 pub record SeatState : Type 0 where
@@ -70,6 +77,13 @@ pub record IsCounted (old new : SeatState) (slot : ℕ) : Type 0 where
   pub number : new.number ≡ old.number
   pub by_slot : new.by_slot ≡ slice_set old.by_slot slot (slice_index old.by_slot slot + 1)
   pub total : sum new.by_slot ≡ sum old.by_slot + 1
+
+-- a seat that counts so many changes more in a slot, and has learned these events of it
+abbrev pub noted_more : SeatState → ℕ → ℕ → List Event → SeatState
+noted_more seat slot count events = record seat {
+  by_slot = slice_set seat.by_slot slot (slice_index seat.by_slot slot + count);
+  fronts = slice_set seat.fronts slot events;
+}
 
 -- each front begins with the one before
 pub record IsLater (old new : SeatState) : Type 0 where

@@ -1,14 +1,15 @@
 -- What the locks of a system protect.
-use Rattle.std.specs.Prelude.{◌≡◌, ℕ, ℤ, ◌+◌, ◌-◌, ◌<◌, Bool, if◌then◌else◌, nat_le}
-use Rattle.std.specs.Prelude.{List, [], ◌++◌, All, length, map}
+use Rattle.std.specs.Prelude.{◌≡◌, ℕ, ℤ, ◌+◌, ◌-◌, ◌<◌, ◌≤◌, Bool, true, if◌then◌else◌, nat_le}
+use Rattle.std.specs.Prelude.{List, [], ◌++◌, All, drop, length, map}
 use Rattle.mq_arena.specs.Text.{PlainText}
+use Rattle.mq_queue.specs.Row.{is_live}
 use Rattle.mq_queue.specs.declared.event.Event.{Event}
 use Rattle.mq_table.specs.Ids.{slot_of}
-use Rattle.mq_table.specs.Kept.{KeptSlot}
+use Rattle.mq_table.specs.Kept.{KeptSlot, kept_of}
 use Rattle.mq_table.specs.KeptPart.{IsKeptPart, whole}
 use Rattle.mq_table.specs.Slot.{SlotState, empty_slot}
 use Rattle.mq_table.specs.SlotList.{IsSlotList}
-use Rattle.mq_board.specs.Writers.{HasOnePending}
+use Rattle.mq_board.specs.Writers.{HasOnePending, WriterState}
 use Rattle.mq_board.specs.declared.posting.Posting.{Posting}
 use Rattle.mq_system.specs.Pledge.{Pledged, IsPledged}
 use Rattle.mq_system.specs.Seat.{seat_of}
@@ -70,6 +71,29 @@ pub record IsDue (kept : Pledged) (slots last_seq seat board : ℕ) (events : Li
   pub own : seat_of ready.next.event ≡ seat
   pub shared : IsShared kept slots last_seq board (with_pending events pending) [] slot parts
       (amount + 1)
+
+-- the entries of a slot's list beyond its first so many, of which the drained ones are some
+abbrev pub unpublished : {B : Type 0} → ℕ → KeptSlot B → List Event
+unpublished count slot = drop (count - slot.first) (kept_of slot)
+
+-- the whole list of a slot, of which these entries are published
+abbrev pub all_events : {B : Type 0} → List Event → KeptSlot B → List Event
+all_events published slot = published ++ unpublished (length published) slot
+
+-- the slot under its lock, of which these entries are published
+abbrev pub locked_all : List Event → KeptSlot PlainText → LockedSlot
+locked_all published slot = locked (all_events published slot) slot
+
+-- a slot's board lacks the last entries of its list, which this seat made; a queue is there after
+-- them. The slot is as it is to be once they are published and the seat has noted them
+pub record IsBehind (kept : Pledged) (slots last_seq seat : ℕ) (writer : WriterState)
+    (slot : KeptSlot PlainText) (parts amount : ℕ) : Type 0 where
+  pub shared : IsShared kept slots last_seq writer.board (all_events writer.events slot)
+      writer.pending slot parts (amount + length (unpublished (length writer.events) slot))
+  pub first : slot.first ≤ length writer.events
+  pub own : All (λ e. seat_of e ≡ seat) (unpublished (length writer.events) slot)
+  pub live : 0 < length (unpublished (length writer.events) slot)
+      → is_live (all_events writer.events slot) ≡ true
 
 -- the key table under its lock: each id's slot is one of the system's
 abbrev pub AreWithin : ℕ → List (ℤ × ℕ) → Type 0

@@ -58,8 +58,8 @@ impl<P: Pledge, N: Names> SharedSlot<P, N> {
             out.new.items }
         ensures capacity { vec_capacity out.new ≡ vec_capacity out.old }
     {
-        let answer = self.parts.receive_many::<P, R>(rt, seat, request, n, out);
-        self.parts.writer.show(rt);
+        let answer = self.parts.receive_many::<P>(seat, request, n, out);
+        self.parts.publish_rest::<P, R>(rt, seat);
         answer
     }
 
@@ -88,10 +88,8 @@ impl<P: Pledge, N: Names> SharedSlot<P, N> {
             (record { slot = self.new; seat = seat.new }) letters.old.items letters.new.items
             result }
     {
-        let answer = self
-            .parts
-            .send_many::<P, R>(rt, seat, id, letters, most, moment);
-        self.parts.writer.show(rt);
+        let answer = self.parts.send_many::<P>(seat, id, letters, most, moment);
+        self.parts.publish_rest::<P, R>(rt, seat);
         answer
     }
 }

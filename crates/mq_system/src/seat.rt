@@ -4,7 +4,7 @@
 ghost use Rattle.std.specs.Prelude.{◌≡◌, ◌+◌, ◌*◌, ◌<◌, ◌≤◌, [], IfOk, MatchBool, length, replicate, slice_index, slice_set};
 ghost use Rattle.std.specs.List.{sum};
 ghost use Rattle.mq_queue.specs.Row.{row};
-ghost use Rattle.mq_system.specs.Seat.{AreKnown, IsCounted, IsLater, IsNext, IsSame, fresh_seat, front_of};
+ghost use Rattle.mq_system.specs.Seat.{AreKnown, AreNext, IsLater, IsSame, fresh_seat, front_of, noted_more};
 ghost use Rattle.mq_system.specs.declared.seat.TheConstants.{MAX_COUNT};
 
 use crate::{Entries, Fronts, Names};
@@ -142,20 +142,27 @@ impl<N: Names> Seat<N> {
         self.readers[slot as usize].row()
     }
 
-    /// Counts a change of its own in the slot, and learns of it. Its entry goes to the slot's part.
-    pub(crate) fn note(&mut self, entries: &mut Share<Entries<N>>, slot: u8, told: ToldList<N>)
+    /// Counts so many changes of its own in the slot, and learns of them. Their entries go to the
+    /// slot's part.
+    pub(crate) fn note(
+        &mut self,
+        entries: &mut Share<Entries<N>>,
+        slot: u8,
+        told: ToldList<N>,
+        count: u64,
+    )
         requires slot { slot < N.slots }
         requires told { told.board ≡ slot }
-        requires next { IsNext self.old.number (front_of self.old slot) told.events }
-        requires room { length (front_of self.old slot) < MAX_COUNT }
+        requires next { AreNext self.old.number (front_of self.old slot) told.events count }
+        requires room { length told.events ≤ MAX_COUNT }
         requires part { 0 < entries.old.parts }
-        ensures counted { IsCounted self.old self.new slot }
-        ensures learned { self.new.fronts ≡ slice_set self.old.fronts slot told.events }
-        ensures entries { entries.new.amount ≡ entries.old.amount + 1 }
+        ensures within { slot < length self.old.by_slot }
+        ensures noted { self.new ≡ noted_more self.old slot count told.events }
+        ensures entries { entries.new.amount ≡ entries.old.amount + count }
         ensures part { entries.new.parts ≡ entries.old.parts }
     {
-        self.by_slot[slot as usize] += 1;
-        self.left.transfer(entries, 1);
+        self.by_slot[slot as usize] += count;
+        self.left.transfer(entries, count);
         if !self.readers[slot as usize].learn(told) {
             unreachable!()
         }

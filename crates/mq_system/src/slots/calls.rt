@@ -59,8 +59,8 @@ impl<P: Pledge, N: Names> SharedSlot<P, N> {
             self.old self.new seat.old seat.new r.refused) }
         ensures handed_back { IfErr result (λ r. r.text ≡ letter.text) }
     {
-        let answer = self.parts.send::<P, R>(rt, seat, id, letter, moment);
-        self.parts.writer.show(rt);
+        let answer = self.parts.send::<P>(seat, id, letter, moment);
+        self.parts.publish_rest::<P, R>(rt, seat);
         answer
     }
 
@@ -83,8 +83,8 @@ impl<P: Pledge, N: Names> SharedSlot<P, N> {
         ensures pledge { IfOk result
             (MeetsItsPledge P.kept request.now.size request.now.noerror) }
     {
-        let answer = self.parts.receive::<P, R>(rt, seat, request);
-        self.parts.writer.show(rt);
+        let answer = self.parts.receive::<P>(seat, request);
+        self.parts.publish_rest::<P, R>(rt, seat);
         answer
     }
 

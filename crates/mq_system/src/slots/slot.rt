@@ -35,8 +35,8 @@ pub struct SharedSlot<P: Pledge, N: Names> {
     pledge: PhantomData<P>,
 }
 
-/// What a slot under its lock is made of. Between two calls of a batch, the board's copies do not
-/// show all of its list.
+/// What a slot under its lock is made of. Between two calls of a batch, its board lacks the entries
+/// that the batch appended.
 pub struct SlotParts<N: Names> {
     pub slot: SlotOf<N>,
     pub writer: BoardWriter<N>,
@@ -54,7 +54,7 @@ impl<P: Pledge, N: Names> Model for SharedSlot<P, N> {
 
     ghost invariant = { λ s. IsShared P.kept N.slots N.last_seq s.parts.writer.board
         s.parts.writer.events s.parts.writer.pending s.parts.slot s.parts.entries.parts
-        s.parts.entries.amount × (s.parts.writer.shown ≡ s.parts.writer.events) };
+        s.parts.entries.amount };
 }
 
 impl<P: Pledge, N: Names> SharedSlot<P, N> {
@@ -68,7 +68,7 @@ impl<P: Pledge, N: Names> SharedSlot<P, N> {
         requires within { slot.number < N.slots }
         requires board { writer.board ≡ slot.number }
         requires empty { slot ≡ empty_kept slot.number }
-        requires unused { (writer.events ≡ []) × (writer.shown ≡ []) × (writer.pending ≡ []) }
+        requires unused { (writer.events ≡ []) × (writer.pending ≡ []) }
         requires part { entries.parts ≡ 1 }
         requires none { entries.amount ≡ 0 }
         ensures { result ≡ empty_locked slot.number }

@@ -5,4 +5,4 @@ use Rattle.mq_system.proofs.slots.slot.SharedSlot.holds.Goals as goal
 pub returns-clause-waits : goal.returns-clause-waits
 returns-clause-waits g c =
     rw (← c.self.view_is)
-    (c.holds.ensures.waits ∙ waiting_is _ _ c.self.invariant.0.published.kept)
+    (c.holds.ensures.waits ∙ waiting_is _ _ c.self.invariant.published.kept)

@@ -4,5 +4,5 @@ use Rattle.mq_system.proofs.slots.slot.SharedSlot.is_free.Goals as goal
 
 pub returns : goal.returns
 returns g c =
-    rw (← c.self.view_is, ← is_free_is _ _ c.self.invariant.0.published.kept _)
+    rw (← c.self.view_is, ← is_free_is _ _ c.self.invariant.published.kept _)
     (search (rules, c.is_free.ensures.value))

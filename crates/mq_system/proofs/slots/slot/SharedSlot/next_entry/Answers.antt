@@ -3,5 +3,5 @@ use Rattle.mq_system.proofs.slots.slot.SharedSlot.next_entry.Goals as goal
 
 pub returns : goal.returns
 returns g c =
-    let same = entries_is _ _ c.self.invariant.0.published.kept in
+    let same = entries_is _ _ c.self.invariant.published.kept in
     rw (← c.self.view_is) (cc)

@@ -13,7 +13,7 @@ use Rattle.mq_system.proofs.slots.slot.SharedSlot.remove.Goals as goal
 
 pub remove_under-removed-requires : goal.remove_under-removed-requires
 remove_under-removed-requires g c = record {
-  live = live_is _ _ c.self.invariant.0.published.kept ∙ (rw (← c.self.view_is) at c.in_ok-look.ensures.live);
+  live = live_is _ _ c.self.invariant.published.kept ∙ (rw (← c.self.view_is) at c.in_ok-look.ensures.live);
 }
 
 pub publish-requires-clause-due : goal.publish-requires-clause-due
@@ -21,7 +21,7 @@ publish-requires-clause-due g c =
     let live = rw (← c.self.view_is) at c.in_ok-look.ensures.live in
     let short = rw (← c.self.view_is) at c.holds.ensures.few in
     let few = rw (← c.self.view_is) at c.holds.ensures.made in
-    rw (← c.number-number.ensures) (remove_changes _ _ _ _ _ c.self.inside.parts.writer _ _ _ c.self.invariant.0 short few live
+    rw (← c.number-number.ensures) (remove_changes _ _ _ _ _ c.self.inside.parts.writer _ _ _ c.self.invariant short few live
     c.number-number.result c.args.moment c.in-Ok.ensures.answer.taken.removed c.in-Ok.ensures.noticed).due
 
 pub publish-requires-clause-known : goal.publish-requires-clause-known
@@ -29,7 +29,7 @@ publish-requires-clause-known g c =
     let live = rw (← c.self.view_is) at c.in_ok-look.ensures.live in
     let short = rw (← c.self.view_is) at c.holds.ensures.few in
     let few = rw (← c.self.view_is) at c.holds.ensures.made in
-    let its = remove_changes _ _ _ _ _ c.self.inside.parts.writer _ _ _ c.self.invariant.0 short few live
+    let its = remove_changes _ _ _ _ _ c.self.inside.parts.writer _ _ _ c.self.invariant short few live
     c.number-number.result c.args.moment c.in-Ok.ensures.answer.taken.removed c.in-Ok.ensures.noticed in
     rw (its.number, its.known) (rw (← c.self.view_is) at c.requires.begun.known)
 
@@ -48,7 +48,7 @@ returns-clause-lawful g c = c.publish.ensures.shared.lawful
 
 pub returns-clause-keys : goal.returns-clause-keys
 returns-clause-keys g c =
-    rw (← c.self.view_is, ← c.keys.view_is, ← last_id_is _ _ c.self.invariant.0.published.kept)
+    rw (← c.self.view_is, ← c.keys.view_is, ← last_id_is _ _ c.self.invariant.published.kept)
     c.in-Ok.ensures.answer.forgotten
 
 pub returns-clause-answer : goal.returns-clause-answer
@@ -56,8 +56,8 @@ returns-clause-answer g c =
     let live = rw (← c.self.view_is) at c.in_ok-look.ensures.live in
     let short = rw (← c.self.view_is) at c.holds.ensures.few in
     let few = rw (← c.self.view_is) at c.holds.ensures.made in
-    let had = c.self.invariant.0 in
-    let its = remove_changes _ _ _ _ _ c.self.inside.parts.writer _ _ _ c.self.invariant.0 short few live
+    let had = c.self.invariant in
+    let its = remove_changes _ _ _ _ _ c.self.inside.parts.writer _ _ _ c.self.invariant short few live
     c.number-number.result c.args.moment c.in-Ok.ensures.answer.taken.removed c.in-Ok.ensures.noticed in
     let told = c.in-Ok.ensures.answer.taken.log in
     let log = told

@@ -10,7 +10,7 @@ use Rattle.mq_system.proofs.slots.slot.SharedSlot.set.Goals as goal
 
 pub set-requires : goal.set-requires
 set-requires g c = record {
-  live = live_is _ _ c.self.invariant.0.published.kept ∙ (rw (← c.self.view_is) at c.in_ok-look.ensures.live);
+  live = live_is _ _ c.self.invariant.published.kept ∙ (rw (← c.self.view_is) at c.in_ok-look.ensures.live);
 }
 
 pub publish-requires-clause-due : goal.publish-requires-clause-due
@@ -18,7 +18,7 @@ publish-requires-clause-due g c =
     let live = rw (← c.self.view_is) at c.in_ok-look.ensures.live in
     let short = rw (← c.self.view_is) at c.holds.ensures.few in
     let few = rw (← c.self.view_is) at c.holds.ensures.made in
-    rw (← c.number-number.ensures) (set_changes _ _ _ _ _ c.self.inside.parts.writer _ _ c.set.new.self c.self.invariant.0 short few live c.args.qbytes
+    rw (← c.number-number.ensures) (set_changes _ _ _ _ _ c.self.inside.parts.writer _ _ c.set.new.self c.self.invariant short few live c.args.qbytes
     c.number-number.result c.args.moment c.in-Ok.entry (cc (c.in-Ok.ensures.answer)) c.in-Ok.ensures.noticed).due
 
 pub publish-requires-clause-known : goal.publish-requires-clause-known
@@ -26,7 +26,7 @@ publish-requires-clause-known g c =
     let live = rw (← c.self.view_is) at c.in_ok-look.ensures.live in
     let short = rw (← c.self.view_is) at c.holds.ensures.few in
     let few = rw (← c.self.view_is) at c.holds.ensures.made in
-    let its = set_changes _ _ _ _ _ c.self.inside.parts.writer _ _ _ c.self.invariant.0 short few live c.args.qbytes
+    let its = set_changes _ _ _ _ _ c.self.inside.parts.writer _ _ _ c.self.invariant short few live c.args.qbytes
     c.number-number.result c.args.moment _ c.in-Ok.ensures.answer c.in-Ok.ensures.noticed in
     rw (its.number, its.known) (rw (← c.self.view_is) at c.requires.begun.known)
 
@@ -35,7 +35,7 @@ returns-in-Ok g c =
     let live = rw (← c.self.view_is) at c.in_ok-look.ensures.live in
     let short = rw (← c.self.view_is) at c.holds.ensures.few in
     let few = rw (← c.self.view_is) at c.holds.ensures.made in
-    let its = set_changes _ _ _ _ _ c.self.inside.parts.writer _ _ _ c.self.invariant.0 short few live c.args.qbytes
+    let its = set_changes _ _ _ _ _ c.self.inside.parts.writer _ _ _ c.self.invariant short few live c.args.qbytes
     c.number-number.result c.args.moment _ c.in-Ok.ensures.answer c.in-Ok.ensures.noticed in
     let there = rw (← c.self.view_is) at c.in_ok-look.ensures.value in
     let ok = rw c.number-number.ensures at (answered_by (whole c.self.inside.parts.writer.events c.self.inside.parts.slot) _ there _ _ _ its.left) in
@@ -54,7 +54,7 @@ returns-in-Err g c =
     let live = rw (← c.self.view_is) at c.in_ok-look.ensures.live in
     let there = rw (← c.self.view_is) at c.in_ok-look.ensures.value in
     let why = c.in-Err.ensures.answer.refused
-    ∙ set_refused _ _ c.self.invariant.0.published.kept live c.args.qbytes c.number-number.result
+    ∙ set_refused _ _ c.self.invariant.published.kept live c.args.qbytes c.number-number.result
     c.args.moment in
     let s = whole c.self.inside.parts.writer.events c.self.inside.parts.slot in
     let is : c.refused.result ≡ refused_here s (errno_of c.in-Err.refusal) = search rules in

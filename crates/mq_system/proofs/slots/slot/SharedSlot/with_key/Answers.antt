@@ -15,13 +15,13 @@ returns-then-key-clause-value g c =
     ≡ id_where (is_live_kept slot) (int_eq slot.key c.args.key) (last_id_now slot) =
     search (rules, c.last_id.ensures) in
     rw (← c.self.view_is)
-    (with_key_is c.self.inside.parts.writer.events slot c.self.invariant.0.published.kept c.args.key _ found)
+    (with_key_is c.self.inside.parts.writer.events slot c.self.invariant.published.kept c.args.key _ found)
 
 pub returns-then-key-clause-within : goal.returns-then-key-clause-within
 returns-then-key-clause-within g c =
     let s = whole c.self.inside.parts.writer.events c.self.inside.parts.slot in
     rw (← c.self.view_is)
-    (rw (c.last_id.ensures ∙ last_id_is _ _ c.self.invariant.0.published.kept)
+    (rw (c.last_id.ensures ∙ last_id_is _ _ c.self.invariant.published.kept)
     (slot_of_last s c.holds.ensures.numbered))
 
 pub returns-else-is_live-clause-value : goal.returns-else-is_live-clause-value
@@ -30,4 +30,4 @@ returns-else-is_live-clause-value g c =
     let none : None ≡ id_where (is_live_kept slot) (int_eq slot.key c.args.key) (last_id_now slot) =
     search rules in
     rw (← c.self.view_is)
-    (with_key_is c.self.inside.parts.writer.events slot c.self.invariant.0.published.kept c.args.key _ none)
+    (with_key_is c.self.inside.parts.writer.events slot c.self.invariant.published.kept c.args.key _ none)

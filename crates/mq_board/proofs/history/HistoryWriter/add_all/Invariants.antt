@@ -1,5 +1,5 @@
 use Rattle.std.proofs.Common.{◌≡◌}
-use Rattle.mq_board.proofs.history.HistoryWriter.add.Given as goal
+use Rattle.mq_board.proofs.history.HistoryWriter.add_all.Given as goal
 
 -- nothing was added yet
 abbrev pub invariant-loop : goal.invariant-loop

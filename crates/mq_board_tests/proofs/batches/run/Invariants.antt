@@ -1,4 +1,4 @@
-use Rattle.mq_board_tests.proofs.stopped.shown_by.Given as goal
+use Rattle.mq_board_tests.proofs.batches.run.Given as goal
 
 -- the board that was just opened
 abbrev pub ghosts-shown_beside : goal.ghosts-shown_beside
