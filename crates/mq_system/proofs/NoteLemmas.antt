@@ -1,6 +1,5 @@
 -- A seat that notes changes of a slot.
-use Rattle.std.proofs.Common.{◌≡◌, ℕ, ◌+◌, ◌<◌, List, [], length, slice_index, slice_index_or, slice_set, refl, ap, sym, ◌∙◌, arith, get_or-set_same, length-set}
-use Rattle.std.specs.List.{sum}
+use Rattle.std.proofs.Common.{◌≡◌, ℕ, ◌+◌, ◌<◌, List, [], length, slice_index, slice_set, refl, ap, sym, ◌∙◌, arith, get_or-set_same, length-set}
 use Rattle.std.proofs.lemmas.List.{set-get_or, set-set}
 use Rattle.std.proofs.lemmas.List.Sums.{sum_by-set}
 use Rattle.mq_queue.specs.declared.event.Event.{Event}

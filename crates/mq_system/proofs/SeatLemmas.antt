@@ -1,5 +1,5 @@
 -- What a seat keeps when it learns and when it counts.
-use Rattle.std.proofs.Common.{◌≡◌, ◌≢◌, ◌⊎◌, inl, inr, ℕ, zero, suc, ◌+◌, ◌*◌, ◌<◌, ◌≤◌, ◌==◌, true, false, Bool, List, All, slice_index, slice_index_or, slice_set, [], ◌∷◌, ◌++◌, length, replicate, MatchBool, refl, ap, sym, ◌∙◌, arith}
+use Rattle.std.proofs.Common.{◌≡◌, ◌≢◌, ◌⊎◌, inl, inr, ℕ, zero, suc, ◌+◌, ◌*◌, ◌<◌, ◌≤◌, ◌==◌, true, false, Bool, List, All, slice_index, slice_index_or, slice_set, [], ◌∷◌, length, replicate, MatchBool, refl, ap, sym, ◌∙◌, arith}
 use Rattle.std.specs.Prelude.{cond}
 use Rattle.std.specs.List.{sum}
 use Rattle.std.proofs.Common.{get_or-set_same, get_or-set_other, length-set}

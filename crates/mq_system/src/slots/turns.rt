@@ -134,8 +134,8 @@ impl<N: Names> SlotParts<N> {
         }
     }
 
-    /// Sends a text as this seat, as the locked slot does, but for its entry, which is not published
-    /// yet.
+    /// Sends a text as this seat, as the locked slot does, but for its entry, which is not
+    /// published yet.
     pub(crate) fn send<P: Pledge>(
         &mut self,
         seat: &Seat<N>,

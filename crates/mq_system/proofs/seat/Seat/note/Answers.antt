@@ -24,8 +24,7 @@ overflow_add-index_mut g c =
     let counts = had.by_slot.items in
     let kept = c.self.invariant in
     let count : c.index_mut.result.now ≡ slice_index counts c.args.slot =
-    c.index_mut.ensures.value
-    ∙ get_or_default counts c.args.slot c.index_mut.result.now 0 (rw kept.each c.requires.slot) in
+    cc (c.index_mut.ensures.value, get_or_default counts c.args.slot c.index_mut.result.now 0 (rw kept.each c.requires.slot)) in
     let fits : slice_index counts c.args.slot + c.args.count ≤ MAX_COUNT =
     count_fits g.N.Names.slots had.number (fronts_of had.readers.items) counts c.args.slot c.args.count c.args.told.events kept.known c.requires.slot (rw (← c.self.view_is) at c.requires.next) c.requires.room in
     omega (arith, count, fits)
@@ -43,8 +42,7 @@ invariant_of-self g c =
     had.left.parts had.left.amount c.args.slot before after c.requires.slot kept is
     c.learn.ensures.later in
     let count : c.index_mut.result.now ≡ slice_index counts c.args.slot =
-    c.index_mut.ensures.value
-    ∙ get_or_default counts c.args.slot c.index_mut.result.now 0 (rw kept.each c.requires.slot) in
+    cc (c.index_mut.ensures.value, get_or_default counts c.args.slot c.index_mut.result.now 0 (rw kept.each c.requires.slot)) in
     let fits : slice_index counts c.args.slot + c.args.count ≤ MAX_COUNT =
     count_fits g.N.Names.slots had.number (fronts_of readers) counts c.args.slot c.args.count c.args.told.events kept.known c.requires.slot (rw (← c.self.view_is) at c.requires.next) c.requires.room in
     let told = rw c.if-not-learn.false at c.learn.ensures.told in record {
@@ -72,8 +70,7 @@ returns-clause-noted g c =
     let counts = had.by_slot.items in
     let told = rw c.if-not-learn.false at c.learn.ensures.told in
     let count : c.index_mut.result.now ≡ slice_index counts c.args.slot =
-    c.index_mut.ensures.value
-    ∙ get_or_default counts c.args.slot c.index_mut.result.now 0 (rw c.self.invariant.each c.requires.slot) in
+    cc (c.index_mut.ensures.value, get_or_default counts c.args.slot c.index_mut.result.now 0 (rw c.self.invariant.each c.requires.slot)) in
     rw (← c.self.view_is)
     (same_seat _ (noted_more (state had.number counts readers) c.args.slot c.args.count c.args.told.events) refl
     (ap (λ n. slice_set counts c.args.slot (n + c.args.count)) count)

@@ -1,5 +1,4 @@
-use Rattle.std.proofs.Common.{◌≡◌, ◌<◌, true, ap, arith, length, length-append, sym, ◌∙◌}
-use Rattle.mq_queue.specs.Row.{row}
+use Rattle.std.proofs.Common.{◌≡◌, ◌<◌, ap, arith, length, length-append, sym, ◌∙◌}
 use Rattle.mq_table.proofs.Kepts.{entries_is, row_is}
 use Rattle.mq_system.specs.Shared.{all_events, unpublished}
 use Rattle.mq_system.proofs.NoteLemmas.{noted_none}

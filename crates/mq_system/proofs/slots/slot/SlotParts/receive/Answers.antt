@@ -1,4 +1,5 @@
 use Rattle.std.proofs.Common.{◌≡◌, length, refl, rules, ◌∙◌}
+use Rattle.mq_queue.specs.Answer.{received_header}
 use Rattle.mq_table.specs.Calls.{receives}
 use Rattle.mq_table.proofs.Kepts.{entries_is, live_is}
 use Rattle.mq_table.proofs.Whole.{receive_refused}
@@ -17,8 +18,8 @@ receive-requires g c = record {
 
 pub returns-in-Ok-clause-behind : goal.returns-in-Ok-clause-behind
 returns-in-Ok-clause-behind g c =
-    rw (← c.number-number.ensures) (receive_appends _ _ _ _ c.args.self.now.writer _ _ _ _ (rw (← c.number-number.ensures) at c.requires.behind) c.holds.ensures.few c.holds.ensures.made c.in_ok-look.ensures.live c.args.request.now.size
-    c.args.request.now.selection c.args.request.now.noerror c.args.request.now.moment _ c.in-Ok.ensures.answer.ok).behind
+    rw (← c.number-number.ensures) (receive_appends _ _ _ _ c.args.self.now.writer _ c.receive.new.self _ _ (rw (← c.number-number.ensures) at c.requires.behind) c.holds.ensures.few c.holds.ensures.made c.in_ok-look.ensures.live c.args.request.now.size
+    c.args.request.now.selection c.args.request.now.noerror c.args.request.now.moment (received_header c.in-Ok.received) (cc (c.in-Ok.ensures.answer.ok))).behind
 
 pub returns-in-Ok-clause-answer : goal.returns-in-Ok-clause-answer
 returns-in-Ok-clause-answer g c =
@@ -29,7 +30,7 @@ returns-in-Ok-clause-answer g c =
     let turn = delivers_it c.args.self.now.slot.messages c.args.request.now.size _ c.in-Ok.received at _ _ its.left c.in-Ok.ensures.answer.waited.body in
     let ok = answered_by (locked_all c.args.self.now.writer.events c.args.self.now.slot).whole _ there _ _ _ turn in
     rw (c.of.ensures, ← c.number-number.ensures)
-    (has_appended _ _ _ _ c.args.self.now.writer _ _ _ _ _ its _ _ ok)
+    (search (rules, has_appended _ _ _ _ c.args.self.now.writer _ _ _ _ _ its _ _ ok))
 
 pub returns-in-Ok-clause-pledge : goal.returns-in-Ok-clause-pledge
 returns-in-Ok-clause-pledge g c =

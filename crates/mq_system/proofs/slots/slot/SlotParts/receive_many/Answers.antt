@@ -19,11 +19,11 @@ loop-done-init g c =
     let start : Under = record { slot = locked c.args.self.now.writer.events c.args.self.now.slot; seat = c.args.seat.now } in
     rw c.requires.empty (
       start_is c.args.self.now.writer.events c.args.self.now.slot c.args.seat.now kept c.requires.begun.known,
-      c.requires.begun.slot_is,
-      refl,
-      refl,
+      cc (c.requires.begun.slot_is),
       search rules,
-      refl,
+      search rules,
+      search rules,
+      search rules,
       behind_none _ _ _ c.args.seat.now.number c.args.self.now.writer c.args.self.now.slot _ _ c.requires.shared,
     )
 

@@ -55,7 +55,7 @@ returns-in-Ok-send-clause-answer g c =
     let there = c.in-Ok.ensures.value in
     let queue = answered_by (locked_all c.args.self.now.writer.events c.args.self.now.slot).whole _ there _ _ _ its.left in
     let ok = if_false (int_lt c.args.letter.mtype (pos 1)) (Err (refused_early EINVAL)) _ sent ∙ queue in
-    rw (← c.number.ensures) (has_appended _ _ _ _ c.args.self.now.writer _ _ _ _ _ its _ _ ok)
+    rw (← c.number.ensures) (search (rules, has_appended _ _ _ _ c.args.self.now.writer _ _ _ _ _ its _ _ ok))
 
 pub returns-in-Err-send-clause-answer : goal.returns-in-Err-send-clause-answer
 returns-in-Err-send-clause-answer g c =

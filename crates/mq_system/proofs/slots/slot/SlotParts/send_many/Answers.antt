@@ -17,12 +17,12 @@ pub loop-done-init : goal.loop-done-init
 loop-done-init g c =
     let kept = c.requires.shared.published.kept in (
       [],
-      refl,
+      search rules,
       start_is c.args.self.now.writer.events c.args.self.now.slot c.args.seat.now kept c.requires.begun.known,
-      c.requires.begun.slot_is,
-      c.requires.pledge,
-      refl,
-      refl,
+      cc (c.requires.begun.slot_is),
+      search rules,
+      search rules,
+      search rules,
       behind_none _ _ _ c.args.seat.now.number c.args.self.now.writer c.args.self.now.slot _ _ c.requires.shared,
     )
 
