@@ -34,7 +34,7 @@ KERNELS = (f"{FOLDER}/kernel_cycle",)
 LENGTHS = (0, *(2**k for k in range(4, 17)))
 # The target instructions of a cycle, within 2 percent; and the greatest ratio to the kernel's time,
 # of which the last one must be met.
-COUNTED = {0: 347, 16: 1049, 1024: 1080, 8192: 2415}
+COUNTED = {0: 274, 16: 716, 1024: 747, 8192: 2164}
 WANTED = {0: 0.25, 16: 0.25, 1024: 0.25, 8192: 0.25, 65536: 0.35}
 COLUMNS = ("bytes", "instructions", "ns", "kernel_ns", "kernel_calls")
 

@@ -1,11 +1,12 @@
 #!/bin/bash
 # Counts the instructions of one message that is sent and one that is received behind other pending
 # messages, in the waiting list of a queue: `bench/index.sh`. By callgrind, as the difference of two
-# runs. Few messages are in a list: fails where the pair behind 8 or fewer takes more than 1.1 times
-# the plain list's. Many are in layers: fails where the pair behind 16,000 messages of 1, of 100 and
-# of 16,000 types takes more than three times the one behind 33 messages, the first number of which
-# none is kept in a small list, and where that behind 16,000 of 1 type takes more than twice the
-# plain list's behind none. Beside them it prints how many times that is. Requires valgrind.
+# runs. Few messages are in a list: fails where the pair behind 8 or fewer takes more than 30 beside
+# the plain list's, 24 of which branch on the form. Many are in layers: fails where the pair behind
+# 16,000 messages of 1, of 100 and of 16,000 types takes more than three times the one behind 33
+# messages, the first number of which none is kept in a small list, and where that behind 16,000 of
+# 1 type takes more than twice the plain list's behind none. Beside them it prints how many times
+# that is. Requires valgrind.
 set -euo pipefail
 cd "$(dirname "$0")/.."
 (cd crates/bench && rt run > /dev/null)
@@ -24,8 +25,8 @@ TYPES = (1, 100, MANY)
 FEW = (0, 1, 2, 4, 8)
 # The first number of messages behind which the pair's own makes more than are kept in a small list.
 IN_LAYERS = 33
-# How many times the list's instructions those behind few may be.
-LIKE_A_LIST = 1.1
+# How many more than the list's instructions those behind few may be.
+BESIDE_A_LIST = 30
 # How many times the instructions behind the first of many those behind 16,000 may be.
 MOST = 3
 # How many times the list's instructions behind none those behind 16,000 of one type may be.
@@ -52,7 +53,7 @@ missed = 0
 for waiting in FEW:
     for selection in SELECTIONS:
         list_, index = (instructions(body, waiting, 1, selection) for body in ("list", "index"))
-        over = index > LIKE_A_LIST * list_
+        over = index > BESIDE_A_LIST + list_
         missed += over
         print(f"{selection}, behind {waiting} of 1 type: list {list_:.0f}, index {index:.0f}, "
               f"{index / list_:.2f} times{' MISSED' if over else ''}", flush=True)

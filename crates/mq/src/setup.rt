@@ -24,9 +24,9 @@ impl Setup {
     }
 
     /// The same, but its logs need not grow: a call that finds `entries` or more retained entries
-    /// in its slot's log first drains and drops them. A drain takes time linear in the number of
-    /// pending messages of the slot, so the limit should be a few times as great. Where a drain is
-    /// out of memory, the next call makes it.
+    /// in its slot's log, and no fewer than messages are pending there, first drains and drops
+    /// them. So a drain, which takes time linear in the number of pending messages, costs each
+    /// entry a constant. Where a drain is out of memory, the next call makes it.
     pub fn cut_logs_after(self, entries: u64) -> Setup
         ensures { result ≡ record { config = self.config; log_limit = entries } }
     {

@@ -1,8 +1,10 @@
 //! A thread's cache of free blocks: a draft that finds one there takes no lock.
-ghost use Rattle.std.specs.Prelude.{◌≡◌, ◌==◌, ◌+◌, ◌^◌, ◌<◌, ◌≤◌, ◌++◌, ◌∷◌, []};
+ghost use Rattle.std.specs.Prelude.{◌≡◌, ◌==◌, ◌+◌, ◌^◌, ◌<◌, ◌≤◌, ◌++◌, ◌∷◌, [], List};
 ghost use Rattle.std.specs.Prelude.{IfNone, IfOk, IfErr, IfSome, OnOk, OnErr, option_to_list, position};
 ghost use Rattle.std.specs.List.Sorted.{IsPermutation};
 ghost use Rattle.mq_arena.specs.Account.{pages_of};
+ghost use Rattle.mq_arena.specs.Magazine.{HasMoved};
+ghost use Rattle.mq_arena.specs.OwnedBlock.{OwnedBlock};
 
 use crate::account::page_count;
 use crate::block::Block;
@@ -92,6 +94,25 @@ impl<L: Ledger> Magazine<L> {
         let block = self.blocks.pop()?;
         self.pages -= page_count(block.order());
         Some(block)
+    }
+
+    /// Moves blocks from the end of its list to another magazine, one after another, as long as
+    /// the next one fits there.
+    pub fn move_to(&mut self, other: &mut Magazine<L>)
+        ensures moved { HasMoved self.old self.new other.old other.new }
+        ensures most { (rest : List OwnedBlock) → (b : OwnedBlock) → self.new ≡ rest ++ b ∷ []
+            → MAGAZINE_PAGES < pages_of other.new + 2 ^ b.order }
+    {
+        while let Some(block) = self.blocks.pop() {
+            let pages = page_count(block.order());
+            match other.put(block) {
+                Ok(()) => self.pages -= pages,
+                Err(block) => {
+                    self.blocks.push_reserved(block);
+                    return;
+                }
+            }
+        }
     }
 
     /// Ends an empty magazine.

@@ -1,6 +1,6 @@
 -- What a call requires of pending messages and what it leaves of them, in whichever form they are
 -- held.
-use Rattle.std.specs.Prelude.{◌≡◌, ℕ, ℤ, ◌<◌, ◌++◌, ◌∷◌, [], All, List, IfNone, OnErr, OnOk}
+use Rattle.std.specs.Prelude.{◌≡◌, ℕ, ℤ, ◌<◌, ◌++◌, ◌∷◌, [], All, IfNone, OnErr, OnOk}
 use Rattle.std.specs.Prelude.{Option, Some, None, Result, option_to_list}
 use Rattle.mq_message.specs.declared.message.Message.{Message}
 use Rattle.mq_message.specs.Waiting.{message_at, without, Listed}

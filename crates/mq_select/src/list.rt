@@ -1,12 +1,12 @@
 //! The pending messages as a plain list: the form for few messages, and the first layer of many.
 
 ghost use Rattle.std.specs.Prelude.{◌≡◌, ◌==◌, ◌<◌, ◌++◌, ◌∷◌, [], All, AllPairs, IfOk};
-ghost use Rattle.std.specs.Prelude.{IsTrue, Some, find, int_le, length, map, not, pos, position};
+ghost use Rattle.std.specs.Prelude.{IsSome, IsTrue, Some, find, int_le, length, map, not, pos, position};
 ghost use Rattle.std.specs.Option.{option_map, ForSome};
 ghost use Rattle.std.specs.Ordering.{int_eq};
 ghost use Rattle.std.specs.VecDeque.{deque_len, deque_capacity};
 ghost use Rattle.mq_select.specs.Lowest.{first_lowest, lower_first_of};
-ghost use Rattle.mq_message.specs.Waiting.{headers_of};
+ghost use Rattle.mq_message.specs.Waiting.{headers_of, message_at, without};
 
 use mq_message::{Body, Header, Message, Selection, Waiting};
 use std::alloc::{AllocError, Global};
@@ -116,6 +116,21 @@ fn index_of<B>(messages: &VecDeque<Placed<B>>, place: u64) -> Option<usize>
     messages.binary_search_by_key(&place, |m| m.0).ok()
 }
 
+/// Takes out the message at this place, which is found by its index. It is not inlined: the first
+/// message, which is taken most often, needs none of it.
+#[inline(never)]
+fn take_behind<B>(messages: &mut VecDeque<Placed<B>>, place: u64) -> Message<B>
+    requires waits { IsSome (message_at place messages.old.items) }
+    requires rising { AllPairs (λ a b. a.0 < b.0) messages.old.items }
+    ensures taken { message_at place messages.old.items ≡ Some result }
+    ensures rest { messages.new.items ≡ without place messages.old.items }
+    ensures rising { AllPairs (λ a b. a.0 < b.0) messages.new.items }
+{
+    let index = index_of(messages, place).unwrap();
+    let (_, message) = messages.remove(index).unwrap();
+    message
+}
+
 /// The headers of the messages, in their order. `Err` means out of memory.
 fn headers_in<B: Body>(
     alloc: Global,
@@ -213,9 +228,11 @@ impl<B: Body> Waiting<B> for ListWaiting<B> {
 
     fn take(&mut self, place: u64) -> Message<B> {
         self.prepared = None;
-        let index = index_of(&self.messages, place).unwrap();
-        let (_, message) = self.messages.remove(index).unwrap();
-        message
+        if is_first(&self.messages, place) {
+            let (_, message) = self.messages.pop_front().unwrap();
+            return message;
+        }
+        take_behind(&mut self.messages, place)
     }
 
     fn length_of(&self, place: u64) -> u64 {

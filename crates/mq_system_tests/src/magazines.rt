@@ -193,7 +193,7 @@ fn what_another_seat_spends_is_returned_where_it_has_no_room(rt: HostRuntime) ->
 }
 
 /// The last of nine seats gets a block of the arena's upper half back that another has spent, and
-/// not the page before it, which is free.
+/// not the page before it, which is free; and it drafts that block once it has spent it.
 struct GoesBackToTheLast;
 
 impl Day for GoesBackToTheLast {
@@ -216,6 +216,9 @@ impl Day for GoesBackToTheLast {
         let other = drafted(rt, system, seats, 9, b"other");
         stands_at(rt, system, &other, start);
         spent(rt, system, seats, 9, other);
+        let other = drafted(rt, system, seats, 9, b"other");
+        stands_at(rt, system, &other, start);
+        spent(rt, system, seats, 9, other);
     }
 }
 
@@ -226,6 +229,52 @@ fn the_last_seat_gets_back_what_it_has_drafted(rt: HostRuntime) -> Result<(), Fa
         ..config(5, 1, 9)
     };
     let left = left_by(&rt, rt.alloc(), nine, &GoesBackToTheLast);
+    holds(&rt, left.free_pages == 32, "all pages are home");
+    Ok(())
+}
+
+/// A seat caches four blocks of four pages that another has drafted. With the fifth they go back to
+/// it, the last ones first; the first of them finds no room there.
+struct HandsOver;
+
+impl Day for HandsOver {
+    fn spend<S: Calls, R: Abort + Threads + Wait>(
+        &self,
+        rt: &R,
+        system: &S,
+        seats: &mut [S::Seat],
+    ) {
+        let first = drafted(rt, system, seats, 1, front(4096));
+        let second = drafted(rt, system, seats, 1, front(4096));
+        let third = drafted(rt, system, seats, 1, front(4096));
+        let fourth = drafted(rt, system, seats, 1, front(4096));
+        let fifth = drafted(rt, system, seats, 1, front(4096));
+        let (start_2, start_3) = (system.shape(&second).start, system.shape(&third).start);
+        let (start_4, start_5) = (system.shape(&fourth).start, system.shape(&fifth).start);
+        spent(rt, system, seats, 2, first);
+        spent(rt, system, seats, 2, second);
+        spent(rt, system, seats, 2, third);
+        spent(rt, system, seats, 2, fourth);
+        spent(rt, system, seats, 2, fifth);
+
+        let fifth = drafted(rt, system, seats, 1, front(4096));
+        stands_at(rt, system, &fifth, start_5);
+        let second = drafted(rt, system, seats, 1, front(4096));
+        stands_at(rt, system, &second, start_2);
+        let third = drafted(rt, system, seats, 1, front(4096));
+        stands_at(rt, system, &third, start_3);
+        let fourth = drafted(rt, system, seats, 1, front(4096));
+        stands_at(rt, system, &fourth, start_4);
+        spent(rt, system, seats, 1, second);
+        spent(rt, system, seats, 1, third);
+        spent(rt, system, seats, 1, fourth);
+        spent(rt, system, seats, 1, fifth);
+    }
+}
+
+#[test]
+fn a_full_magazine_is_handed_over_to_the_seat_that_drafted(rt: HostRuntime) -> Result<(), Fail> {
+    let left = left_by(&rt, rt.alloc(), config(5, 1, 9), &HandsOver);
     holds(&rt, left.free_pages == 32, "all pages are home");
     Ok(())
 }

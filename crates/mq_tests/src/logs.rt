@@ -110,6 +110,51 @@ fn a_system_that_is_set_up_without_a_limit_keeps_its_logs(rt: HostRuntime) {
     holds!(rt; left.first == 0 && left.last.len() as u64 == ENTRIES);
 }
 
+/// How many messages wait in a log that has more of them than its limit.
+const MANY: u64 = 25;
+
+/// Sends messages that stay. How many.
+#[derive(Clone, Copy, Drop)]
+struct LeavesMany;
+
+impl SystemProgram<NoPledge> for LeavesMany {
+    type Answer = Result<u64, Errno>;
+
+    fn run<N: Names, R: Wait + Clock>(
+        self,
+        _config: Config,
+        callers: &mut [Caller<'_, NoPledge, N, R>],
+    ) -> Result<u64, Errno> {
+        let Some(caller) = callers.first_mut() else {
+            return Err(Errno::EINVAL);
+        };
+        let id = caller.queue(5)?;
+        for tag in 0..MANY {
+            caller.send(id, Message::new(1, b"stays").tagged(tag))?;
+        }
+        Ok(MANY)
+    }
+}
+
+#[test]
+fn a_log_is_cut_only_once_it_has_as_many_entries_as_messages_wait(rt: HostRuntime) {
+    let setup = Setup::from(SMALL).cut_logs_after(LIMIT);
+    let Ok(ended) = setup.with_system(&rt, rt.alloc(), LeavesMany) else {
+        panic!(rt; "ENOMEM");
+    };
+    match ended.answer {
+        Ok(sent) => holds!(rt; sent == MANY),
+        Err(errno) => panic!(rt; "{errno}"),
+    }
+    let left = slot_of(&rt, &ended.slots, 0);
+    holds!(rt; left.left == MANY);
+    // The making and nine messages were drained; since then more wait than there are entries.
+    if left.first != LIMIT {
+        panic!(rt; "ENOMEM");
+    }
+    holds!(rt; left.last.len() as u64 == MANY + 1 - LIMIT);
+}
+
 /// A worker that passes messages, beside one that makes no call.
 #[derive(Clone, Copy, Drop)]
 enum Alone {

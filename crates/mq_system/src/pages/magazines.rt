@@ -2,7 +2,7 @@
 ghost use Rattle.std.specs.Prelude.{◌≡◌, ◌<◌, ◌≤◌, ◌⊎◌, true, IfErr, IfOk, IfSome, IsErrOf};
 ghost use Rattle.mq_tree.specs.declared.limits.TheConstants.{MAX_HEIGHT};
 
-use super::waiters::{Own, PageWaiters, Returned, take_now};
+use super::waiters::{Own, PageWaiters, Returned, free_all, take_now};
 use crate::{Names, Pages, Patience};
 use crossbeam_utils::CachePadded;
 use mq_arena::{Arena, Block, Homecoming, INLINE_ORDER, MAX_ORDER, Magazine, TakeError, Unwritten};
@@ -19,8 +19,8 @@ const NOBODY: u16 = u16::MAX;
 pub(crate) struct Magazines<N: Names> {
     each: Vec<Own<N>>,
     /// At the index of a block's first page, the index of the seat that last drafted with it, if
-    /// one did. A seat whose magazine is full returns a block to that seat's magazine, so that
-    /// neither takes the arena's lock.
+    /// one did. A seat whose magazine is full returns a block to that seat's magazine, and with it
+    /// those that it has cached: so it takes that lock seldom, and neither takes the arena's.
     drafters: Vec<AtomicU16>,
     waiters: PageWaiters,
     /// The order of a block that has all pages.
@@ -218,28 +218,48 @@ impl<N: Names> Magazines<N> {
     )
         requires { 1 ≤ seat }
     {
-        let returned = match self.keep(rt, seat - 1, block) {
+        let own = seat - 1;
+        let returned = match self.keep(rt, own, block) {
             Ok(returned) => returned,
-            Err(block) => self.put_back(rt, arena, block),
+            Err(block) => self.put_back(rt, arena, own, block),
         };
         self.waiters.wake(returned);
     }
 
-    /// Keeps a block in the magazine of the seat that drafted with it, while it has room; else the
-    /// block is freed.
+    /// Returns a block for which the magazine at this index has no room to the seat that drafted
+    /// with it, if that is another one; else, or where it has more pages than are inline, the block
+    /// is freed.
     fn put_back<R: Wait>(
         &self,
         rt: &R,
         arena: &Arena<Pages<N>>,
+        own: u16,
         block: Block<Pages<N>>,
     ) -> Returned {
         let drafter = self.drafter(block.start());
-        match self.keep(rt, drafter, block) {
-            Ok(returned) => returned,
-            Err(block) => {
-                let (_came, returned) = Returned::home(rt, arena, block);
+        if drafter == own || INLINE_ORDER < block.order() {
+            return Returned::freed(rt, arena, block);
+        }
+        match (self.each.get(own as usize), self.each.get(drafter as usize)) {
+            (Some(full), Some(other)) if own < drafter => {
+                let mut full = full.lock(rt);
+                let mut other = other.lock(rt);
+                let returned = Returned::moved(rt, arena, &mut full, &mut other, block);
+                MutexGuard::unlock(other);
+                free_all(rt, arena, &mut full);
+                MutexGuard::unlock(full);
                 returned
             }
+            (Some(full), Some(other)) => {
+                let mut other = other.lock(rt);
+                let mut full = full.lock(rt);
+                let returned = Returned::moved(rt, arena, &mut full, &mut other, block);
+                MutexGuard::unlock(other);
+                free_all(rt, arena, &mut full);
+                MutexGuard::unlock(full);
+                returned
+            }
+            _ => Returned::freed(rt, arena, block),
         }
     }
 

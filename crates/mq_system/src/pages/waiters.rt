@@ -1,7 +1,7 @@
 //! How a draft allocates pages or waits for some, and how they are returned. A draft waits only
 //! once it has tried after it registered as a waiter; and a call that returns pages wakes the
 //! waiters, for the token that says so can't be dropped.
-ghost use Rattle.std.specs.Prelude.{◌≡◌, ◌<◌, ◌≤◌, IfErr, IfOk, IsErrOf};
+ghost use Rattle.std.specs.Prelude.{◌≡◌, ◌<◌, ◌≤◌, [], IfErr, IfOk, IsErrOf};
 
 use crate::{Names, Pages, Waiters};
 use crossbeam_utils::CachePadded;
@@ -29,6 +29,16 @@ impl Returned {
         (homecoming, Returned { unwoken: () })
     }
 
+    /// Frees a block of a text that was spent.
+    pub(crate) fn freed<N: Names, R: Wait>(
+        rt: &R,
+        arena: &Arena<Pages<N>>,
+        block: Block<Pages<N>>,
+    ) -> Returned {
+        let (_homecoming, returned) = Returned::home(rt, arena, block);
+        returned
+    }
+
     /// Keeps a block in this magazine, or returns it where that has no room.
     pub(crate) fn kept<N: Names, R: Wait>(
         rt: &R,
@@ -43,6 +53,24 @@ impl Returned {
         match kept {
             Ok(()) => Ok(Returned { unwoken: () }),
             Err(block) => Err(block),
+        }
+    }
+
+    /// Moves a block to the magazine `other`, and behind it those of a full one, as many as there
+    /// is room for. Where there is none for the first, it is freed.
+    pub(crate) fn moved<N: Names, R: Wait>(
+        rt: &R,
+        arena: &Arena<Pages<N>>,
+        full: &mut Magazine<Pages<N>>,
+        other: &mut Magazine<Pages<N>>,
+        block: Block<Pages<N>>,
+    ) -> Returned {
+        match other.put(block) {
+            Ok(()) => {
+                full.move_to(other);
+                Returned { unwoken: () }
+            }
+            Err(block) => Returned::freed(rt, arena, block),
         }
     }
 }
@@ -118,6 +146,20 @@ impl<'w> Missed<'w> {
     }
 }
 
+/// Frees the blocks of a magazine. It takes the arena's lock only where there are some.
+pub(crate) fn free_all<N: Names, R: Wait>(
+    rt: &R,
+    arena: &Arena<Pages<N>>,
+    magazine: &mut Magazine<Pages<N>>,
+)
+    ensures { magazine.new ≡ [] }
+{
+    if let Some(block) = magazine.pop() {
+        arena.put(rt, block);
+        arena.put_all(rt, magazine);
+    }
+}
+
 /// A block of the arena, or `NoRun` where none fitted after all magazines were emptied, then
 /// `Memory`.
 pub(crate) fn take_now<N: Names, R: Wait>(
@@ -151,10 +193,7 @@ fn take_emptied<N: Names, R: Wait>(
     match magazines.split_first() {
         Some((first, rest)) => {
             let mut magazine = first.lock(rt);
-            if let Some(block) = magazine.pop() {
-                arena.put(rt, block);
-                arena.put_all(rt, &mut magazine);
-            }
+            free_all(rt, arena, &mut magazine);
             let taken = take_emptied(rt, arena, rest, order);
             MutexGuard::unlock(magazine);
             taken

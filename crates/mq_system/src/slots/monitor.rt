@@ -99,7 +99,7 @@ impl<P: Pledge, N: Names> SlotMonitor<P, N> {
     }
 
     /// From now on a call drains the slot's list where at least `entries` entries of it are
-    /// retained.
+    /// retained, and no fewer than messages are pending.
     pub(crate) fn limit_log(&mut self, entries: u64) {
         self.log_limit = entries;
     }
@@ -116,7 +116,8 @@ impl<P: Pledge, N: Names> SlotMonitor<P, N> {
     }
 
     /// The seat learns what happened in the slot, whose list is drained where it has reached the
-    /// limit. Where that runs out of memory, the next call does it.
+    /// limit. A drain takes time linear in the number of pending messages, so it waits for as many
+    /// entries: an entry then costs a constant. Where it runs out of memory, the next call does it.
     fn admit(&self, held: &mut SharedSlot<P, N>, seat: &mut Seat<N>, number: u8) -> bool
         requires within { number < N.slots }
         ensures look { IsLook seat.old seat.new }
@@ -127,7 +128,8 @@ impl<P: Pledge, N: Names> SlotMonitor<P, N> {
             return false;
         }
         if self.log_limit != u64::MAX {
-            let _ = held.cut_from(self.log_limit);
+            let pending = seat.known(number).figures.qnum;
+            let _ = held.cut_from(self.log_limit.max(pending));
         }
         true
     }
