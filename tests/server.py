@@ -15,7 +15,7 @@ TOP = os.path.dirname(os.path.dirname(os.path.abspath(__file__)))
 PROGRAM = f"{TOP}/crates/example_server/out/example_server"
 EVERY = 100_000
 SHORT, LONG = 200_000, 1_000_000
-# In MiB: the arena has 1.3, and each of two logs up to 131,072 events of 56 bytes, half as
+# In MiB: the arena has 1.3, and each of two logs up to 131,072 events of 48 bytes, half as
 # much again while it grows, and again what a cut returns until it is dropped.
 BOUND = 40
 MORE = 16

@@ -52,9 +52,9 @@ received_after kept slots id size selection noerror moment a b c d look is =
           message = its.message;
           done =
               subst (λ seat. IsDone a c (slot_of id) verdict d.entry
-              (event.Received seat moment its.message.place selection size noerror)) look.same.number
+              (event.Received seat noerror moment its.message.place selection size)) look.same.number
               (done_after a b c (slot_of id) verdict d.entry
-              (event.Received b.number moment its.message.place selection size noerror) look its.done);
+              (event.Received b.number noerror moment its.message.place selection size) look its.done);
           named = its.named;
           mtype = its.mtype;
           sender = its.sender;

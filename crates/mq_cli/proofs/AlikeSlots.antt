@@ -127,12 +127,12 @@ module _ (last_seq : ℕ) (a b : KeptSlot PlainText) (k : AreAlike last_seq a b)
         by : (answer : Result Header QueueError) → receive_answer (waiting (last_log k.list)) size
             selection noerror ≡ answer
             → TurnAlike last_seq
-            (kept_received a (λ m. event.Received seat moment m.place selection size noerror)
+            (kept_received a (λ m. event.Received seat noerror moment m.place selection size)
             answer)
-            (kept_received b (λ m. event.Received seat moment m.place selection size noerror)
+            (kept_received b (λ m. event.Received seat noerror moment m.place selection size)
             answer)
         by (Ok m) its =
-            let e : Event = event.Received seat moment m.place selection size noerror in
+            let e : Event = event.Received seat noerror moment m.place selection size in
             let log = last_log k.list in (
               refl,
               record {

@@ -39,7 +39,7 @@ received_after slots id msgtyp moment a b c d look told =
     let its = told.receipt in
     let grown = no_longer (front_of a slot) (front_of b slot) (look.later.later slot) in
     let by : ℕ → Type 0 =
-    λ n. slice_get (front_of c slot) d.entry ≡ Some (Received n moment its.message.place (selection_of msgtyp false) MSGMAX false) in
+    λ n. slice_get (front_of c slot) d.entry ≡ Some (Received n false moment its.message.place (selection_of msgtyp false) MSGMAX) in
     record {
       early = told.early;
       step = step_after a b c slot look told.step.counted told.step.later;

@@ -41,7 +41,7 @@ is_sent (Sent seat moment tag mtype n) = true
 is_sent _ = false
 
 abbrev pub is_receipt : Event → Bool
-is_receipt (Received seat moment place selection size noerror) = true
+is_receipt (Received seat noerror moment place selection size) = true
 is_receipt _ = false
 
 -- the entries that a slot leaves

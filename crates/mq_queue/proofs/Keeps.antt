@@ -124,7 +124,7 @@ changed_kept bytes base tail tail' messages kept kept' seat moment qbytes k limi
     rw same (kept_more bytes base tail tail' (Changed seat moment qbytes) messages messages kept _ k grown refl refl limit k.sound.waits shown k.figures.count k.figures.bytes limit)
 
 -- a message is received
-pub taken_kept : {B : Type 0} (bytes : B → List ℕ) (base : Base) (tail tail' : List Event) (messages messages' : List (ℕ × Message B)) (kept kept' : Figures) (selection : Selection) (size : ℕ) (noerror : Bool) (m : Header) (seat moment : ℕ) (k : IsKeptQueue bytes base tail messages kept) → IsTaken (k.cut ++ tail) selection size noerror m → tail' ≡ tail ++ Received seat moment m.place selection size noerror ∷ [] → messages' ≡ without m.place messages → kept' ≡ record kept { qnum = kept.qnum - 1; cbytes = kept.cbytes - m.length; rtime = moment; lrpid = seat } → IsKeptQueue bytes base tail' messages' kept'
+pub taken_kept : {B : Type 0} (bytes : B → List ℕ) (base : Base) (tail tail' : List Event) (messages messages' : List (ℕ × Message B)) (kept kept' : Figures) (selection : Selection) (size : ℕ) (noerror : Bool) (m : Header) (seat moment : ℕ) (k : IsKeptQueue bytes base tail messages kept) → IsTaken (k.cut ++ tail) selection size noerror m → tail' ≡ tail ++ Received seat noerror moment m.place selection size ∷ [] → messages' ≡ without m.place messages → kept' ≡ record kept { qnum = kept.qnum - 1; cbytes = kept.cbytes - m.length; rtime = moment; lrpid = seat } → IsKeptQueue bytes base tail' messages' kept'
 taken_kept bytes base tail tail' messages messages' kept kept' selection size noerror m seat moment k taken grown left same =
     let log : List Event = k.cut ++ tail in
     let fewer = taken_left log kept selection m k.figures.same taken.picked in
@@ -133,7 +133,7 @@ taken_kept bytes base tail tail' messages messages' kept kept' selection size no
     let added : kept.cbytes - m.length ≡ bytes_waiting rest = omega (arith, fewer.1) in
     let waits : headers_of bytes messages' ≡ rest = rw (left, headers_without bytes messages m.place, k.sound.waits) refl in
     let shown = ap (λ (f : Figures). record f { qnum = length rest; cbytes = bytes_waiting rest; rtime = moment; lrpid = seat }) k.figures.same in
-    rw same (kept_more bytes base tail tail' (Received seat moment m.place selection size noerror) messages messages' kept _ k grown refl refl (rw taken.picked (refl, taken.fits)) waits (rw (counted, added) shown) (omega (arith, k.figures.count)) (omega (arith, k.figures.bytes)) k.figures.limit)
+    rw same (kept_more bytes base tail tail' (Received seat noerror moment m.place selection size) messages messages' kept _ k grown refl refl (rw taken.picked (refl, taken.fits)) waits (rw (counted, added) shown) (omega (arith, k.figures.count)) (omega (arith, k.figures.bytes)) k.figures.limit)
 
 -- it is what the receiver gets
 pub taken_shown : {B : Type 0} (bytes : B → List ℕ) (base : Base) (tail : List Event) (messages : List (ℕ × Message B)) (kept : Figures) (selection : Selection) (size : ℕ) (noerror : Bool) (m : Header) (k : IsKeptQueue bytes base tail messages kept) → IsTaken (k.cut ++ tail) selection size noerror m → receive_answer (waiting_from base tail) size selection noerror ≡ Ok m

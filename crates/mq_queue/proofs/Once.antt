@@ -23,7 +23,7 @@ pub once : (log : List Event) → AllFollow [] log → Once log
 once = along Once (λ place. omega arith) step
   where
     by : (before : List Event) (event : Event) (place : ℕ) → CanFollow before event → count_by (names place) before ≤ 1 → count_by (names place) before + cond (names place event) 1 0 ≤ 1
-    by before (Received seat moment received selection size noerror) place next one =
+    by before (Received seat noerror moment received selection size) place next one =
         let new = (picked_there before seat moment received selection size noerror next).1.new in
         grind (arith, nat_tests, none_counted (names received) before new)
     by before _ place next one = omega arith

@@ -17,7 +17,7 @@ use Rattle.mq_queue.proofs.Steps.{NoneAhead, none_ahead_more, picked_there, stat
 reply_given : (before : List Event) (event : Event) (rest : List Event) → CanFollow before event → reply_to (state_of before) event ≡ given (before ++ rest) event
 reply_given before (Made seat moment key) rest next = refl
 reply_given before (Sent seat moment tag mtype n) rest next = grind (arith, common_steps, next.allowed)
-reply_given before (Received seat moment place selection size noerror) rest next =
+reply_given before (Received seat noerror moment place selection size) rest next =
     let there = picked_there before seat moment place selection size noerror next in
     let sent = picked_was_sent before place selection size noerror there.0 there.1 in
     let at = some_and (slice_get before place) (λ event. sent_at place event ≡ Some there.0) sent in

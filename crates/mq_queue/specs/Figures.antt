@@ -19,12 +19,12 @@ sending_told _ = None
 
 -- the seat that received, if the event is a receipt
 abbrev pub receiver_told : Event → Option ℕ
-receiver_told (Received seat moment place selection size noerror) = Some seat
+receiver_told (Received seat noerror moment place selection size) = Some seat
 receiver_told _ = None
 
 -- when a message was received, if the event is a receipt
 abbrev pub receipt_told : Event → Option ℕ
-receipt_told (Received seat moment place selection size noerror) = Some moment
+receipt_told (Received seat noerror moment place selection size) = Some moment
 receipt_told _ = None
 
 -- when the queue was created or its quota set, if the event is one of these

@@ -55,7 +55,7 @@ pub record IsHandedOut {B : Type 0} (size : ℕ) (selection : Selection) (noerro
   pub entry : r.entry ≡ old.base.places + length old.tail
   pub base : new.base ≡ old.base
   pub tail : new.tail
-      ≡ old.tail ++ event.Received seat moment r.place selection size noerror ∷ []
+      ≡ old.tail ++ event.Received seat noerror moment r.place selection size ∷ []
   pub messages : new.messages ≡ without r.place old.messages
 
 -- what a receiver of this size got is the message that was pending: its text, truncated to the

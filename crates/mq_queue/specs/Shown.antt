@@ -26,7 +26,7 @@ event_text (Sent seat moment tag mtype n) = joined
     (codes "sent seat=" ∷ decimal seat ∷ codes " moment=" ∷ decimal moment
     ∷ codes " type=" ∷ signed_decimal mtype ∷ codes " length=" ∷ decimal n
     ∷ codes " tag=" ∷ decimal tag ∷ [])
-event_text (Received seat moment place selection size noerror) = joined
+event_text (Received seat noerror moment place selection size) = joined
     (codes "received seat=" ∷ decimal seat ∷ codes " moment=" ∷ decimal moment
     ∷ codes " place=" ∷ decimal place ∷ codes " size=" ∷ decimal size
     ∷ codes " noerror=" ∷ bool_text noerror ∷ codes " selection=" ∷ selection_text selection

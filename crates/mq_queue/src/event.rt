@@ -27,11 +27,11 @@ pub enum Event {
     /// The message with this place was received.
     Received {
         seat: u16,
+        noerror: bool,
         moment: u64,
         place: u64,
         selection: Selection,
         size: u64,
-        noerror: bool,
     },
     /// The quota was set.
     Changed {

@@ -87,7 +87,7 @@ impl<B: Body, W: Waiting<B>> QueueState<B, W> {
         ensures body { IfOk result (IsWhatWaited B.bytes B.keeps size self.old.messages) }
         ensures noticed { MatchResult result
             (λ r. N.takes notice.old
-            (Event.Received seat moment r.place selection size noerror)
+            (Event.Received seat noerror moment r.place selection size)
             (figures_from self.new.base self.new.tail) notice.new)
             (λ _. notice.new ≡ notice.old) }
     {

@@ -120,6 +120,7 @@ impl<B> ByType<B> {
     }
 
     /// Adds a message of this type at the end.
+    #[inline(never)]
     fn put_at(&mut self, mtype: i64, place: u64, message: Message<B>)
         requires of_type { message.mtype ≡ mtype }
         requires room { CanPut place message self.old }

@@ -1,11 +1,12 @@
 //! The form for many pending messages: a list of one type, and an index by type behind it.
 
-ghost use Rattle.std.specs.Prelude.{◌≡◌, ◌<◌, ◌++◌, [], All, OnErr, OnOk, Some};
+ghost use Rattle.std.specs.Prelude.{◌≡◌, ◌<◌, ◌++◌, [], All, IfSome, IsSome, OnErr, OnOk, Some};
 ghost use Rattle.std.specs.Prelude.{false, length, map, nat_lt};
 ghost use Rattle.std.specs.Option.{option_map};
 ghost use Rattle.mq_message.specs.Selection.{pick};
+ghost use Rattle.mq_message.specs.Waiting.{message_at};
 ghost use Rattle.mq_select.specs.Layered.{joins, prefers, reaches, room_for};
-ghost use Rattle.mq_select.specs.Outcome.{CanPut, HasCrossed, IsFresh, IsPopped, IsPut};
+ghost use Rattle.mq_select.specs.Outcome.{CanPut, HasCrossed, IsFresh, IsPopped, IsPut, IsTaken};
 
 use crate::same::SameType;
 use crate::{ByType, ListWaiting};
@@ -162,7 +163,20 @@ impl<B: Body> Layered<B> {
     }
 }
 
-// The frequent calls are not inlined: in `IndexWaiting` they would make the small list's slower.
+/// Takes out the message at this place, which is behind the first layer. It is not inlined, and
+/// returns an option: so a message of the first layer, which is taken most often, is not copied
+/// through the memory in which this one is returned.
+#[inline(never)]
+fn take_behind<B: Body>(rest: &mut ByType<B>, place: u64) -> Option<Message<B>>
+    requires { IsSome (message_at place rest.old.messages) }
+    ensures there { IsSome result }
+    ensures taken { IfSome result (λ m. IsTaken place m rest.old rest.new) }
+{
+    Some(rest.take(place))
+}
+
+// Of the frequent calls those that move a message are inlined, since a move through memory costs
+// more than their branches. In `IndexWaiting` the others would make the small list's slower.
 impl<B: Body> Waiting<B> for Layered<B> {
     ghost messages = { λ w. w.messages };
 
@@ -192,7 +206,7 @@ impl<B: Body> Waiting<B> for Layered<B> {
         Ok(())
     }
 
-    #[inline(never)]
+    #[inline(always)]
     fn put_prepared(&mut self, place: u64, message: Message<B>)
         requires { CanPut place message self.old }
         ensures { IsPut place message self.old self.new }
@@ -205,11 +219,11 @@ impl<B: Body> Waiting<B> for Layered<B> {
         }
     }
 
-    #[inline(never)]
+    #[inline(always)]
     fn take(&mut self, place: u64) -> Message<B> {
         self.prepared = None;
         if is_behind(&self.rest, place) {
-            self.rest.take(place)
+            take_behind(&mut self.rest, place).unwrap()
         } else {
             self.first.take(place)
         }

@@ -73,7 +73,7 @@ ends_with last_seq events h live =
 untold : (e : Event) → is_made e ≡ false → key_told e ≡ None
 untold (Made seat moment key) unmade = absurd (true≢false unmade)
 untold (Sent seat moment tag mtype n) unmade = refl
-untold (Received seat moment place selection size noerror) unmade = refl
+untold (Received seat noerror moment place selection size) unmade = refl
 untold (Changed seat moment qbytes) unmade = refl
 untold (Removed seat moment) unmade = refl
 
@@ -99,7 +99,7 @@ makes (Made seat moment key) rest h each = record {
   is = ap (Made seat moment) (sym (key_kept (Made seat moment key ∷ []) rest key refl each));
 }
 makes (Sent seat moment tag mtype n) rest h each = absurd (true≢false (sym h))
-makes (Received seat moment place selection size noerror) rest h each = absurd (true≢false (sym h))
+makes (Received seat noerror moment place selection size) rest h each = absurd (true≢false (sym h))
 makes (Changed seat moment qbytes) rest h each = absurd (true≢false (sym h))
 makes (Removed seat moment) rest h each = absurd (true≢false (sym h))
 

@@ -79,4 +79,4 @@ module _ (s : SlotState PlainText) where
   received_next id size selection noerror seat moment d t is =
       receives_next (looks_in_slot s id)
       (receive_answer (waiting (last_log s.events)) size selection noerror) size
-      (λ m. event.Received seat moment m.place selection size noerror) d t is
+      (λ m. event.Received seat noerror moment m.place selection size) d t is

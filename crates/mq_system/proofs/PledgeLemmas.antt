@@ -129,7 +129,7 @@ module _ (s t : SlotState PlainText) (size : ℕ) (selection : Selection) (seat 
     (r : Header) where
   fits_by : (noerror : Bool) (answer : Result Header QueueError)
       → ((m : Header) → answer ≡ Ok m → m.length ≤ size)
-      → received s (λ m. event.Received seat moment m.place selection size noerror) answer
+      → received s (λ m. event.Received seat noerror moment m.place selection size) answer
       ≡ Ok (r, t)
       → r.length ≤ size
   fits_by noerror (Ok m) small e =

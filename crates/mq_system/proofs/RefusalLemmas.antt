@@ -164,6 +164,6 @@ module _ (s : SlotState PlainText) (nowait : Bool) where
   receive_may id size selection noerror seat moment r is again =
       subst (ReceiveMay noerror) (sym is)
       (picked_may (by_standing (standing s.events (seq_of id)))
-      (λ m. event.Received seat moment m.place selection size noerror) size noerror
+      (λ m. event.Received seat noerror moment m.place selection size) size noerror
       (pick (λ m. m.mtype) (waiting (last_log s.events)) selection)
       (λ same. again (ap (λ (x : Refused). x.errno) is ∙ same)))

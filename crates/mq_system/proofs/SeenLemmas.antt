@@ -296,7 +296,7 @@ module _ (old now new : SeatState) (slot : ℕ) (s : SlotState PlainText) (h : I
         by (receive_answer (waiting (last_log s.events)) size selection noerror) refl is
       where
         e : Header → Event
-        e m = event.Received now.number moment m.place selection size noerror
+        e m = event.Received now.number noerror moment m.place selection size
 
         told : SlotTurn PlainText (Delivered PlainText) → Delivered PlainText × SlotState PlainText
         told (Ok turn) = turn
@@ -321,7 +321,7 @@ module _ (old now new : SeatState) (slot : ℕ) (s : SlotState PlainText) (h : I
               record {
                 message = m;
                 done =
-                    own (λ seat. IsDone old new slot (receive_verdict (seq_of id) size selection noerror) d.entry (event.Received seat moment m.place selection size noerror))
+                    own (λ seat. IsDone old new slot (receive_verdict (seq_of id) size selection noerror) d.entry (event.Received seat noerror moment m.place selection size))
                     (rw (← entry)
                     (done_at (receive_verdict (seq_of id) size selection noerror) (e m) front
                     (rw picked turn.allowed)));
@@ -352,7 +352,7 @@ module _ (old now new : SeatState) (slot : ℕ) (s : SlotState PlainText) (h : I
         (why_received named))
       where
         e : Header → Event
-        e m = event.Received seat moment m.place selection size noerror
+        e m = event.Received seat noerror moment m.place selection size
 
         why_received : (named : Result Header QueueError)
             → why (delivers s.messages size (length s.events) (received s e named))

@@ -75,7 +75,7 @@ module _ (kept : Pledged) (s t : SlotState PlainText) (h : AllPledged kept s.mes
       by (receive_answer (waiting (last_log s.events)) size selection noerror) e
     where
       by : (answer : Result Header QueueError)
-          → received s (λ m. event.Received seat moment m.place selection size noerror) answer
+          → received s (λ m. event.Received seat noerror moment m.place selection size) answer
           ≡ Ok (r, t)
           → AllPledged kept t.messages
       by (Ok m) is =
@@ -184,10 +184,10 @@ module _ (kept : Pledged) (slots last_seq parts amount : ℕ) (desk due : Writer
       -- msgrcv
       pub receive_changes : (size : ℕ) (selection : Selection) (noerror : Bool) (seat moment : ℕ)
           (r : Header) → kept_receives s size selection noerror seat moment ≡ Ok (r, t)
-          → Took (event.Received seat moment r.place selection size noerror)
+          → Took (event.Received seat noerror moment r.place selection size)
           → Change seat (λ x. receives (whole desk.events s) size selection noerror seat moment ≡ Ok (r, x))
       receive_changes size selection noerror seat moment r answer took =
-          let e = event.Received seat moment r.place selection size noerror in
+          let e = event.Received seat noerror moment r.place selection size in
           let told = (receives_whole desk.events s h.published.kept live size selection noerror seat moment r t answer).answers in
           changes e
           (received_turned last_seq desk.events s h.published.kept h.lawful live size selection noerror seat moment r t answer)
@@ -293,7 +293,7 @@ module _ (kept : Pledged) (slots last_seq seat : ℕ) (writer : WriterState)
         (r : Header) → kept_receives s size selection noerror seat moment ≡ Ok (r, t)
         → Appended (λ x. receives (whole all s) size selection noerror seat moment ≡ Ok (r, x))
     receive_appends size selection noerror moment r answer =
-        let e = event.Received seat moment r.place selection size noerror in
+        let e = event.Received seat noerror moment r.place selection size in
         appended e refl (live_more all e)
         (λ x. receives (whole all s) size selection noerror seat moment ≡ Ok (r, x))
         (receive_changes kept slots last_seq parts whole_amount desk (due e) s t started short few live size selection noerror seat moment r answer refl)

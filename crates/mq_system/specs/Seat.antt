@@ -13,7 +13,7 @@ use Rattle.mq_system.specs.declared.seat.TheConstants.{MAX_COUNT}
 abbrev pub seat_of : Event → ℕ
 seat_of (Made seat moment key) = seat
 seat_of (Sent seat moment tag mtype n) = seat
-seat_of (Received seat moment place selection size noerror) = seat
+seat_of (Received seat noerror moment place selection size) = seat
 seat_of (Changed seat moment qbytes) = seat
 seat_of (Removed seat moment) = seat
 

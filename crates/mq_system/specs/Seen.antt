@@ -77,7 +77,7 @@ pub record IsReceipt (old new : SeatState) (slot seq size : ℕ) (selection : Se
     (noerror : Bool) (moment : ℕ) (d : Delivered PlainText) : Type 0 where
   pub message : Header
   pub done : IsDone old new slot (receive_verdict seq size selection noerror) d.entry
-      (Received old.number moment message.place selection size noerror)
+      (Received old.number noerror moment message.place selection size)
   pub named :
       receive_answer (waiting (last_log (take d.entry (front_of new slot)))) size selection noerror
       ≡ Ok message

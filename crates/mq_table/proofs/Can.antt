@@ -24,5 +24,5 @@ module _ (headers : List Header) (quota seat moment : ℕ) where
   -- a receipt that is not refused
   pub received_can : (size : ℕ) (selection : Selection) (noerror : Bool) (m : Header)
       → receive_answer headers size selection noerror ≡ Ok m
-      → CanHappen headers quota (Received seat moment m.place selection size noerror)
+      → CanHappen headers quota (Received seat noerror moment m.place selection size)
   received_can size selection noerror m taken = grind (arith, common_steps)

@@ -70,9 +70,9 @@ module _ {B : Type 0} (bytes : B → List ℕ) (s t : KeptSlot B) where
   -- msgrcv
   pub received_more : (size : ℕ) (selection : Selection) (noerror : Bool) (seat moment : ℕ)
       (m : Header) → kept_receives s size selection noerror seat moment ≡ Ok (m, t)
-      → IsOneMore bytes s t (event.Received seat moment m.place selection size noerror)
+      → IsOneMore bytes s t (event.Received seat noerror moment m.place selection size)
   received_more size selection noerror seat moment m is =
-      let by = taken_by s t (λ m. event.Received seat moment m.place selection size noerror)
+      let by = taken_by s t (λ m. event.Received seat noerror moment m.place selection size)
       (receive_answer (waiting_now s) size selection noerror) m is in record {
         messages = without m.place s.messages;
         left = by.1;

@@ -79,7 +79,7 @@ module _ {B : Type 0} (bytes : B → List ℕ) (number first gone : ℕ) (key : 
           (r : Received B) → IsHandedOut size selection noerror seat moment q q' r
           → IsSlot bytes made (Some q') base (slot q')
       got_slot size selection noerror seat moment r got =
-          gone_on (event.Received seat moment r.place selection size noerror) got.base got.tail refl
+          gone_on (event.Received seat noerror moment r.place selection size) got.base got.tail refl
           refl refl
           (received_can headers quota seat moment size selection noerror (received_header r)
           got.accepted)

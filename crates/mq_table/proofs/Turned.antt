@@ -88,7 +88,7 @@ module _ {B : Type 0} (last_seq : ℕ) (list : List Event) (s : KeptSlot B) (k :
     pub received_turned : (size : ℕ) (selection : Selection) (noerror : Bool) (seat moment : ℕ)
         (m : Header) (t : KeptSlot B)
         → kept_receives s size selection noerror seat moment ≡ Ok (m, t)
-        → IsTurned last_seq list (event.Received seat moment m.place selection size noerror) s t
+        → IsTurned last_seq list (event.Received seat noerror moment m.place selection size) s t
     received_turned size selection noerror seat moment m t is =
         more_turned (λ _. []) t _
         (received_more (λ _. []) s t size selection noerror seat moment m is)

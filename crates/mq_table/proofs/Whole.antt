@@ -80,7 +80,7 @@ module _ {B : Type 0} (list : List Event) (s : KeptSlot B) (k : IsKeptPart list 
   -- msgrcv
   module _ (size : ℕ) (selection : Selection) (noerror : Bool) (seat moment : ℕ) where
     abbrev pub got : Header → Event
-    got m = event.Received seat moment m.place selection size noerror
+    got m = event.Received seat noerror moment m.place selection size
 
     abbrev answer : Result Header QueueError
     answer = receive_answer (waiting (last_log list)) size selection noerror

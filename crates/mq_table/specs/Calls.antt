@@ -45,7 +45,7 @@ received s e (Err refusal) = Err refusal
 -- what msgrcv does in the slot's queue
 abbrev pub receives : {B : Type 0} → SlotState B → ℕ → Selection → Bool → ℕ → ℕ → SlotTurn B Header
 receives s size selection noerror seat moment =
-    received s (λ m. event.Received seat moment m.place selection size noerror)
+    received s (λ m. event.Received seat noerror moment m.place selection size)
     (receive_answer (waiting (last_log s.events)) size selection noerror)
 
 -- what IPC_SET does in the slot's queue

@@ -44,7 +44,7 @@ kept_received s e (Err refusal) = Err refusal
 abbrev pub kept_receives : {B : Type 0} → KeptSlot B → ℕ → Selection → Bool → ℕ → ℕ
     → KeptTurn B Header
 kept_receives s size selection noerror seat moment =
-    kept_received s (λ m. event.Received seat moment m.place selection size noerror)
+    kept_received s (λ m. event.Received seat noerror moment m.place selection size)
     (receive_answer (waiting_now s) size selection noerror)
 
 -- what IPC_SET does in the slot's queue

@@ -90,7 +90,7 @@ impl<B: Body, W: Waiting<B>> Slot<B, W> {
             (kept_receives self.old size selection noerror seat moment)) self.old self.new) }
         ensures noticed { MatchResult result
             (λ r. N.takes notice.old
-            (Event.Received seat moment r.place selection size noerror)
+            (Event.Received seat noerror moment r.place selection size)
             (kept_figures self.new) notice.new)
             (λ _. notice.new ≡ notice.old) }
     {

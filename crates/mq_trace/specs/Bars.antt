@@ -20,7 +20,7 @@ use Rattle.mq_trace.specs.declared.step.Step.{Step}
 -- whether the message with this place ceases to be pending at this event, whose position this is,
 -- and how: by its receipt, or by the removal of its queue
 abbrev pub end_of : ℕ → ℕ → Event → Option Until
-end_of place entry (Received seat moment received selection size noerror) =
+end_of place entry (Received seat noerror moment received selection size) =
     if received == place
     then Some (until.Received seat (record { entry = entry; moment = moment }))
     else None

@@ -21,7 +21,7 @@ use Rattle.mq_trace.specs.declared.step.Step.{Step}
 abbrev pub seat_of : Event → ℕ
 seat_of (Made seat moment key) = seat
 seat_of (Sent seat moment tag mtype n) = seat
-seat_of (Received seat moment place selection size noerror) = seat
+seat_of (Received seat noerror moment place selection size) = seat
 seat_of (Changed seat moment qbytes) = seat
 seat_of (Removed seat moment) = seat
 
@@ -29,7 +29,7 @@ seat_of (Removed seat moment) = seat
 abbrev pub moment_of : Event → ℕ
 moment_of (Made seat moment key) = moment
 moment_of (Sent seat moment tag mtype n) = moment
-moment_of (Received seat moment place selection size noerror) = moment
+moment_of (Received seat noerror moment place selection size) = moment
 moment_of (Changed seat moment qbytes) = moment
 moment_of (Removed seat moment) = moment
 
@@ -75,7 +75,7 @@ abbrev pub event_head : ℕ → Event → Option Header → List ℕ
 event_head id (Made seat moment key) message = instant_head (codes "made")
 event_head id (Sent seat moment tag mtype n) message =
     slice_head (codes "b") id (option_map_or (λ m. m.place) message 0) message
-event_head id (Received seat moment place selection size noerror) message =
+event_head id (Received seat noerror moment place selection size) message =
     slice_head (codes "e") id place message
 event_head id (Changed seat moment qbytes) message = instant_head (codes "quota")
 event_head id (Removed seat moment) message = instant_head (codes "removed")
@@ -97,7 +97,7 @@ abbrev pub event_args : Event → List ℕ
 event_args (Made seat moment key) = codes ",\"key\":" ++ signed_decimal key
 event_args (Sent seat moment tag mtype n) =
     codes ",\"length\":" ++ decimal n ++ codes ",\"tag\":" ++ decimal tag
-event_args (Received seat moment place selection size noerror) =
+event_args (Received seat noerror moment place selection size) =
     receipt_args place size noerror selection
 event_args (Changed seat moment qbytes) = codes ",\"qbytes\":" ++ decimal qbytes
 event_args (Removed seat moment) = []

@@ -35,8 +35,8 @@ abbrev pub counts_after : Counts → Event → Option Header → Counts
 counts_after c (Made seat moment key) message = no_counts
 counts_after c (Sent seat moment tag mtype n) message =
     record { messages = more c.messages 1; bytes = more c.bytes n }
-counts_after c (Received seat moment place selection size noerror) None = c
-counts_after c (Received seat moment place selection size noerror) (Some m) =
+counts_after c (Received seat noerror moment place selection size) None = c
+counts_after c (Received seat noerror moment place selection size) (Some m) =
     record { messages = c.messages - 1; bytes = c.bytes - m.length }
 counts_after c (Changed seat moment qbytes) message = c
 counts_after c (Removed seat moment) message = no_counts
@@ -52,7 +52,7 @@ place_of p = more (places_of p.base) (length p.log)
 
 -- the message that an event sends or receives: a receipt's is the one at the place that it names
 abbrev pub message_of : Point → Event → Option Header
-message_of p (Received seat moment place selection size noerror) = message_at p.base p.log place
+message_of p (Received seat noerror moment place selection size) = message_at p.base p.log place
 message_of p event = sent_at (place_of p) event
 
 -- the id of the last queue, within a u32

@@ -240,27 +240,22 @@ impl<N: Names> Magazines<N> {
         if drafter == own || INLINE_ORDER < block.order() {
             return Returned::freed(rt, arena, block);
         }
-        match (self.each.get(own as usize), self.each.get(drafter as usize)) {
-            (Some(full), Some(other)) if own < drafter => {
-                let mut full = full.lock(rt);
-                let mut other = other.lock(rt);
-                let returned = Returned::moved(rt, arena, &mut full, &mut other, block);
-                MutexGuard::unlock(other);
-                free_all(rt, arena, &mut full);
-                MutexGuard::unlock(full);
-                returned
-            }
-            (Some(full), Some(other)) => {
-                let mut other = other.lock(rt);
-                let mut full = full.lock(rt);
-                let returned = Returned::moved(rt, arena, &mut full, &mut other, block);
-                MutexGuard::unlock(other);
-                free_all(rt, arena, &mut full);
-                MutexGuard::unlock(full);
-                returned
-            }
-            _ => Returned::freed(rt, arena, block),
-        }
+        let seats = (self.each.get(own as usize), self.each.get(drafter as usize));
+        let (Some(full), Some(other)) = seats else {
+            return Returned::freed(rt, arena, block);
+        };
+        let (mut full, mut other) = if own < drafter {
+            let full = full.lock(rt);
+            (full, other.lock(rt))
+        } else {
+            let other = other.lock(rt);
+            (full.lock(rt), other)
+        };
+        let returned = Returned::moved(rt, arena, &mut full, &mut other, block);
+        MutexGuard::unlock(other);
+        free_all(rt, arena, &mut full);
+        MutexGuard::unlock(full);
+        returned
     }
 
     /// Keeps a block in the magazine of the seat at this index, or returns it where that has no

@@ -10,7 +10,7 @@ use std::sync::{Mutex, MutexGuard, Wait};
 use std::time::Duration;
 
 /// A seat's magazine under its lock, which another seat takes only to return a block that this one
-/// drafted, or where no free block of the arena has room.
+/// drafted, with those that it has cached itself, or where no free block of the arena has room.
 pub(crate) type Own<N> = CachePadded<Mutex<Magazine<Pages<N>>>>;
 
 /// A token of pages that were returned, whose waiters are not woken yet.

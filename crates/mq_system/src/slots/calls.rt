@@ -40,6 +40,7 @@ pub struct ReceiveRequest {
 impl<P: Pledge, N: Names> SharedSlot<P, N> {
     /// Sends a text as this seat (msgop(2), msgsnd with IPC_NOWAIT), and returns the entry. EINVAL
     /// for the type, EINVAL for the id, EIDRM, EAGAIN, then ENOMEM; the text is then returned.
+    #[inline(never)]
     pub fn send<R: Wait>(
         &mut self,
         rt: &R,
@@ -66,6 +67,7 @@ impl<P: Pledge, N: Names> SharedSlot<P, N> {
 
     /// Receives the first message that the selection names (msgop(2), msgrcv with IPC_NOWAIT).
     /// EINVAL, EIDRM, ENOMSG, E2BIG, then ENOMEM.
+    #[inline(never)]
     pub fn receive<R: Wait>(
         &mut self,
         rt: &R,

@@ -136,6 +136,7 @@ impl<N: Names> SlotParts<N> {
 
     /// Sends a text as this seat, as the locked slot does, but for its entry, which is not
     /// published yet.
+    #[inline(always)]
     pub(crate) fn send<P: Pledge>(
         &mut self,
         seat: &Seat<N>,
@@ -194,6 +195,7 @@ impl<N: Names> SlotParts<N> {
 
     /// Receives the first message that the selection names, as the locked slot does, but for its
     /// entry, which is not published yet.
+    #[inline(always)]
     pub(crate) fn receive<P: Pledge>(
         &mut self,
         seat: &Seat<N>,
