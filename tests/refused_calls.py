@@ -73,7 +73,7 @@ WAIT_FOR_OTHERS = {
 # The tests that may make no allocation.
 MAKE_NONE = {
     "mq_caller_tests seats::a_system_out_of_its_limits_is_not_made",
-    "mq_memory_tests programs::a_size_out_of_its_limits_is_refused_before_the_program_runs",
+    "mq_caller_tests programs::a_size_out_of_its_limits_is_refused_before_the_program_runs",
     "mq_local_tests face::layout::a_call_has_the_numbers_of_the_struct",
     "mq_local_tests face::layout::an_answer_has_the_numbers_of_the_struct",
     "mq_local_tests face::layout::the_flags_and_commands_are_those_of_linux",
@@ -81,7 +81,7 @@ MAKE_NONE = {
     "mq_local_tests names::a_refusal_is_named_as_in_the_manual",
     "mq_local_tests names::each_layers_refusal_has_its_errno",
     "mq_queue_tests lists::a_msgtyp_is_read_as_the_manual_says",
-    "mq_table_tests keys::an_id_is_its_slot_and_seq_up_to_the_bounds",
+    "mq_queue_tests table::keys::an_id_is_its_slot_and_seq_up_to_the_bounds",
     "mq_system_tests shared::no_parts_are_opened_for_no_slot",
     "mq_system_tests waiters::a_patience_says_how_long_it_waits",
     "mq_system_tests waiters::a_wait_does_not_take_twice_its_time",
@@ -91,7 +91,7 @@ MAKE_NONE = {
     "mq_system_tests worked::a_size_out_of_its_limits_is_refused",
     "mq_tests printed::each_refusal_becomes_an_errno_with_the_words_of_strerror",
     "mq_tests two::two_workers_at_one_seat_are_refused",
-    "mq_threads_tests refusals::an_empty_plan_makes_no_call",
+    "mq_cli_tests workers::refusals::an_empty_plan_makes_no_call",
 }
 
 

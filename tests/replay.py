@@ -1,5 +1,5 @@
 #!/usr/bin/env python3
-"""Runs the test of mq_replay_tests in which sixteen threads call at once in three slots, and checks
+"""Runs the test of mq_tests in which sixteen threads call at once in three slots, and checks
 that each reply is what the lists say that the slots leave.
 
 The judge is replay_model.py. First it must find each made-up mistake of replay_cases.py and
@@ -23,7 +23,7 @@ from replay_batch_cases import BATCH_CASES  # noqa: E402
 from replay_cases import CASES  # noqa: E402
 from replay_model import Flaw, done_by, judge, round_of  # noqa: E402
 
-TEST = [program_of("mq_replay_tests"), "runs::each_reply_is_that_of_the_slots_list"]
+TEST = [program_of("mq_tests"), "replay::runs::each_reply_is_that_of_the_slots_list"]
 ENDED = "\ntest result: ok\n"
 ROUNDS = 4
 RUNS = 8

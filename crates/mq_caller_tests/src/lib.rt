@@ -1,5 +1,6 @@
 //! Tests of callers: each call of one, one thread at all seats, and the calls of one thread beside
-//! those of a system.
+//! those of a system; that calls succeed while there is enough memory, that each error is the
+//! documented one, and of programs over the queues of one thread.
 
 #![tactic(auto)]
 
@@ -34,13 +35,21 @@ mod batches;
 #[cfg(test)]
 mod callers;
 #[cfg(test)]
+mod errors;
+#[cfg(test)]
 mod forms;
 #[cfg(test)]
 mod local_batches;
 #[cfg(test)]
 mod locals;
 #[cfg(test)]
+mod memory;
+#[cfg(test)]
+mod programs;
+#[cfg(test)]
 mod runs;
+#[cfg(test)]
+mod seat_calls;
 #[cfg(test)]
 mod seats;
 #[cfg(test)]

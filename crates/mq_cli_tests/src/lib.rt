@@ -1,5 +1,5 @@
-//! Tests of runs of scripts, answered and recorded, over readers and writers of their own, and
-//! of what is long.
+//! Tests of runs of scripts, answered and recorded, over readers and writers of their own, of what
+//! is long, and of the workers of threads scripts.
 
 #![tactic(auto)]
 
@@ -47,3 +47,5 @@ mod sizes;
 mod texts;
 #[cfg(test)]
 mod threads;
+#[cfg(test)]
+mod workers;

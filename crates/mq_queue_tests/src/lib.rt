@@ -1,5 +1,5 @@
-//! Tests of pending lists, plain and indexed by type, of one queue, and of texts on their way
-//! through queues.
+//! Tests of pending lists, plain and indexed by type, of one queue, of texts on their way through
+//! queues, and of the table of queues.
 
 #![tactic(auto)]
 
@@ -51,5 +51,7 @@ mod notices;
 mod parts;
 #[cfg(test)]
 mod steps;
+#[cfg(test)]
+mod table;
 #[cfg(test)]
 mod texts;

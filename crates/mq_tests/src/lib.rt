@@ -1,4 +1,5 @@
-//! Tests of workers, each at its seat, of the logs that they drain, and of values.
+//! Tests of workers, each at its seat, of the logs that they drain, of values, and of many threads
+//! at once.
 
 #![tactic(auto)]
 
@@ -40,6 +41,8 @@ mod joined;
 mod logs;
 #[cfg(test)]
 mod printed;
+#[cfg(test)]
+mod replay;
 #[cfg(test)]
 mod runs;
 #[cfg(test)]

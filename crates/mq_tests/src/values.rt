@@ -46,6 +46,11 @@ impl ValuePledge for Lists {
 /// What was wrong first.
 type Wrong = Option<&'static str>;
 
+/// How long a call may wait where nothing comes.
+fn span() -> Duration {
+    Duration::from_millis(1)
+}
+
 /// Each call of values, at one seat.
 #[derive(Drop)]
 struct EachCall;
@@ -61,67 +66,110 @@ impl SystemProgram<Carries<Bounded>> for EachCall {
         let Some(caller) = callers.first_mut() else {
             return Ok(Some("no caller"));
         };
-        let id = caller.queue(1)?;
-        let span = Duration::from_millis(1);
         let Ok(time) = Instant::now(caller.runtime()) else {
             return Ok(Some("no time"));
         };
-        let sent = [
-            caller.send_value(id, 1, 10, &(1, true)),
-            caller.try_send_value(id, 2, 20, &(2, false)),
-            caller.send_value_timeout(id, 3, 30, &(3, true), span),
-            caller.send_value_within(id, 4, 40, &(4, false), &mut NoWait),
-            caller.send_value_deadline(id, 5, 50, &(5, true), time),
-        ];
-        for (place, answer) in sent.iter().enumerate() {
-            if *answer != Ok(place as u64 + 1) {
-                return answer.map(|_| Some("an entry"));
+        let id = caller.queue(1)?;
+        for wrong in [sent(caller, id, time)?, refused(caller, id)] {
+            if wrong.is_some() {
+                return Ok(wrong);
             }
         }
-        if caller.send_value(id, 0, 0, &(0, true)) != Err(Errno::EINVAL)
-            || caller.try_send_value(Id::of(63, 0), 1, 0, &(0, true)) != Err(Errno::EINVAL)
-        {
-            return Ok(Some("EINVAL"));
-        }
-        let received = [
-            caller.try_receive_value(id, Selection::Exact(4))?,
-            caller.receive_value(id, Selection::UpTo(9))?,
-            caller.receive_value_timeout(id, Selection::Any, span)?,
-            caller.receive_value_within(id, Selection::Any, &mut NoWait)?,
-            caller.receive_value_deadline(id, Selection::Any, time)?,
-        ];
-        let wanted = [
-            (4, (4, false)),
-            (1, (1, true)),
-            (2, (2, false)),
-            (3, (3, true)),
-            (5, (5, true)),
-        ];
-        for (delivered, (number, value)) in received.iter().zip(wanted) {
-            if delivered.text != value
-                || delivered.mtype != number
-                || delivered.tag != number.unsigned_abs().wrapping_mul(10)
-                || delivered.length != 9
-            {
-                return Ok(Some("a value"));
-            }
-        }
-        let none = [
-            caller.try_receive_value(id, Selection::Any).err(),
-            caller.receive_value_timeout(id, Selection::Any, span).err(),
-            caller
-                .receive_value_deadline(id, Selection::Any, time)
-                .err(),
-        ];
-        for refusal in none {
-            if !matches!(&refusal, Some(NotReceived::Refused(Errno::ENOMSG)))
-                || refusal.map(|it| it.errno()) != Some(Errno::ENOMSG)
-            {
-                return Ok(Some("ENOMSG"));
+        for wrong in [received(caller, id, time)?, empty(caller, id, time)] {
+            if wrong.is_some() {
+                return Ok(wrong);
             }
         }
         is_full(caller, id)
     }
+}
+
+/// Five values, one by each call that sends.
+fn sent<N: Names, R: Wait + Clock>(
+    caller: &mut Caller<'_, Carries<Bounded>, N, R>,
+    id: Id,
+    time: Instant,
+) -> Result<Wrong, Errno> {
+    let sent = [
+        caller.send_value(id, 1, 10, &(1, true)),
+        caller.try_send_value(id, 2, 20, &(2, false)),
+        caller.send_value_timeout(id, 3, 30, &(3, true), span()),
+        caller.send_value_within(id, 4, 40, &(4, false), &mut NoWait),
+        caller.send_value_deadline(id, 5, 50, &(5, true), time),
+    ];
+    for (place, answer) in sent.iter().enumerate() {
+        if *answer != Ok(place as u64 + 1) {
+            return answer.map(|_| Some("an entry"));
+        }
+    }
+    Ok(None)
+}
+
+/// A type below 1, and a slot that is not there.
+fn refused<N: Names, R: Wait + Clock>(
+    caller: &mut Caller<'_, Carries<Bounded>, N, R>,
+    id: Id,
+) -> Wrong {
+    let refused = [
+        caller.send_value(id, 0, 0, &(0, true)),
+        caller.try_send_value(Id::of(63, 0), 1, 0, &(0, true)),
+    ];
+    if refused == [Err(Errno::EINVAL); 2] {
+        None
+    } else {
+        Some("EINVAL")
+    }
+}
+
+/// The five values, one by each call that receives.
+fn received<N: Names, R: Wait + Clock>(
+    caller: &mut Caller<'_, Carries<Bounded>, N, R>,
+    id: Id,
+    time: Instant,
+) -> Result<Wrong, Errno> {
+    let received = [
+        caller.try_receive_value(id, Selection::Exact(4))?,
+        caller.receive_value(id, Selection::UpTo(9))?,
+        caller.receive_value_timeout(id, Selection::Any, span())?,
+        caller.receive_value_within(id, Selection::Any, &mut NoWait)?,
+        caller.receive_value_deadline(id, Selection::Any, time)?,
+    ];
+    let wanted = [
+        (4, (4, false)),
+        (1, (1, true)),
+        (2, (2, false)),
+        (3, (3, true)),
+        (5, (5, true)),
+    ];
+    let is_wanted = received.iter().zip(wanted).all(|(delivered, (number, value))| {
+        delivered.text == value
+            && delivered.mtype == number
+            && delivered.tag == number.unsigned_abs().wrapping_mul(10)
+            && delivered.length == 9
+    });
+    Ok(if is_wanted { None } else { Some("a value") })
+}
+
+/// Receives that find no value.
+fn empty<N: Names, R: Wait + Clock>(
+    caller: &mut Caller<'_, Carries<Bounded>, N, R>,
+    id: Id,
+    time: Instant,
+) -> Wrong {
+    let none = [
+        caller.try_receive_value(id, Selection::Any).err(),
+        caller
+            .receive_value_timeout(id, Selection::Any, span())
+            .err(),
+        caller
+            .receive_value_deadline(id, Selection::Any, time)
+            .err(),
+    ];
+    let is_none = none.into_iter().all(|refusal| {
+        matches!(refusal, Some(NotReceived::Refused(Errno::ENOMSG)))
+            && refusal.map(|it| it.errno()) == Some(Errno::ENOMSG)
+    });
+    if is_none { None } else { Some("ENOMSG") }
 }
 
 /// Sends that may not wait for long, where one value fills the queue.
@@ -131,10 +179,9 @@ fn is_full<N: Names, R: Wait + Clock>(
 ) -> Result<Wrong, Errno> {
     caller.set(id, 9)?;
     caller.send_value(id, 1, 0, &(5, true))?;
-    let span = Duration::from_millis(1);
     let full = [
         caller.try_send_value(id, 2, 0, &(6, true)),
-        caller.send_value_timeout(id, 3, 0, &(7, true), span),
+        caller.send_value_timeout(id, 3, 0, &(7, true), span()),
         caller.send_value_within(id, 4, 0, &(8, true), &mut NoWait),
     ];
     for answer in full {

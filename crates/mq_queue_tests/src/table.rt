@@ -1,0 +1,7 @@
+//! Tests of ids, keys and slots.
+
+mod keys;
+mod lists;
+mod notices;
+mod plays;
+mod slot_calls;

@@ -1,5 +1,0 @@
-use Rattle.std.proofs.Common.{◌∙◌}
-use Rattle.mq_threads_tests.proofs.seats.day.Goals as goal
-
-pub turns-requires : goal.turns-requires
-turns-requires g c = c.deref.ensures.value ∙ c.in-Ok.ensures

@@ -1,6 +1,0 @@
-use Rattle.mq_system.proofs.NameLemmas.{names_are}
-use Rattle.mq_threads_tests.proofs.seats.lives.Goals as goal
-
-pub lived-requires-clause-names : goal.lived-requires-clause-names
-lived-requires-clause-names g c =
-    names_are c.in_ok-blanks.blanks c.args.config c.in_ok-blanks.ensures.entries c.in_ok-blanks.ensures.boards
