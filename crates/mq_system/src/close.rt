@@ -41,7 +41,8 @@ impl<N: Names> Model for Rest<N> {
 
     ghost view = { λ r. r.parts.parts };
 
-    ghost invariant = { λ r. (length r.fronts.items ≡ 0) × (N.seats ≤ vec_capacity r.fronts) };
+    ghost invariant = { λ r. (length r.fronts.items ≡ 0)
+        × (N.seats ≤ vec_capacity r.fronts) };
 }
 
 /// The rest while the system is in use: threads share the system, and none of them reaches it.

@@ -18,7 +18,10 @@ impl<P: Pledge, N: Names> System<P, N> {
         requires within { slot < N.slots }
         ensures answer { MatchResult result
             (λ cut. IsCutOf (front_of seat.new slot) (cut_shown cut))
-            (λ r. r ≡ record { errno = ENOMEM; entry = Some (length (front_of seat.new slot)) }) }
+            (λ r. r ≡ record {
+              errno = ENOMEM;
+              entry = Some (length (front_of seat.new slot));
+            }) }
         ensures look { IsLook seat.old seat.new }
     {
         let mut held = self.monitors[slot as usize].enter(rt, seat, slot);

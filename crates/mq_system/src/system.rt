@@ -129,9 +129,9 @@ impl<P: Pledge, N: Names> System<P, N> {
     }
 
     /// The same system, with bounded logs: a call that finds at least `entries` entries of its slot
-    /// retained, and no fewer than messages are pending there, drains and drops them before it acts.
-    /// `cut_log` and `close` return what is retained then. Where a drain runs out of memory, the next
-    /// call does it. Without this the logs are kept.
+    /// retained, and no fewer than messages are pending there, drains and drops them before it
+    /// acts. `cut_log` and `close` return what is retained then. Where a drain runs out of memory,
+    /// the next call does it. Without this the logs are kept.
     pub fn with_log_limit(self, entries: u64) -> System<P, N>
         ensures { result ≡ self }
     {

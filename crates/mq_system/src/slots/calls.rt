@@ -168,7 +168,8 @@ impl<P: Pledge, N: Names> SharedSlot<P, N> {
             self.old self.new seat.old seat.new r.0)
             (HasRefused (remove_in_slot self.old.whole id seat.old.number moment 0)
             self.old self.new seat.old seat.new) }
-        ensures keys { MatchResult result (λ _. keys.new ≡ forget (last_id self.old.whole) keys.old)
+        ensures keys { MatchResult result
+            (λ _. keys.new ≡ forget (last_id self.old.whole) keys.old)
             (λ _. keys.new ≡ keys.old) }
         ensures waited { IfOk result (λ r. r.1.messages ≡ self.old.whole.messages) }
         ensures lawful { IsSlotList N.last_seq self.new.whole.events }

@@ -20,6 +20,7 @@ ghost use Rattle.mq_system.specs.Shared.{IsShared, cut_at_end, cut_where, empty_
 ghost use Rattle.mq_system.specs.Shared.{locked};
 
 use crate::{Entries, Names, Pledge, Seat, SlotOf};
+use crossbeam_utils::CachePadded;
 use mq_board::BoardWriter;
 use mq_calls::{Errno, Refused};
 use mq_table::{Cut, Id, MAX_SLOTS};
@@ -30,7 +31,11 @@ use std::sync::ledger::Share;
 /// happened in the slot and nothing else, also what was drained from the slot's list since then. It
 /// is seen as the whole slot and the number of entries that were drained; the pledge holds of each
 /// pending message.
+#[repr(C)]
 pub struct SharedSlot<P: Pledge, N: Names> {
+    /// Unused bytes between the lock's word and what it protects: a call that tries to acquire the
+    /// lock takes no other cache line from its holder.
+    apart: CachePadded<()>,
     pub(crate) parts: SlotParts<N>,
     pledge: PhantomData<P>,
 }
@@ -79,6 +84,7 @@ impl<P: Pledge, N: Names> SharedSlot<P, N> {
             entries,
         };
         SharedSlot {
+            apart: CachePadded::new(()),
             parts,
             pledge: PhantomData,
         }
@@ -197,7 +203,11 @@ impl<P: Pledge, N: Names> SharedSlot<P, N> {
         ensures waits { Waits bytes_of self.whole }
     {
         self.holds();
-        let SharedSlot { parts, pledge: _ } = self;
+        let SharedSlot {
+            apart: _,
+            parts,
+            pledge: _,
+        } = self;
         parts
     }
 }
