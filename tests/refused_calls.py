@@ -73,7 +73,7 @@ WAIT_FOR_OTHERS = {
 # The tests that may make no allocation.
 MAKE_NONE = {
     "mq_caller_tests seats::a_system_out_of_its_limits_is_not_made",
-    "mq_caller_tests programs::a_size_out_of_its_limits_is_refused_before_the_program_runs",
+    "mq_local_caller_tests programs::a_size_out_of_its_limits_is_refused_before_the_program_runs",
     "mq_local_tests face::layout::a_call_has_the_numbers_of_the_struct",
     "mq_local_tests face::layout::an_answer_has_the_numbers_of_the_struct",
     "mq_local_tests face::layout::the_flags_and_commands_are_those_of_linux",

@@ -1,6 +1,5 @@
-//! Tests of callers: each call of one, one thread at all seats, and the calls of one thread beside
-//! those of a system; that calls succeed while there is enough memory, that each error is the
-//! documented one, and of programs over the queues of one thread.
+//! Tests of callers of a system: each call of one, and one thread at all seats; that calls succeed
+//! while there is enough memory, and that each error is the documented one.
 
 #![tactic(auto)]
 
@@ -39,13 +38,7 @@ mod errors;
 #[cfg(test)]
 mod forms;
 #[cfg(test)]
-mod local_batches;
-#[cfg(test)]
-mod locals;
-#[cfg(test)]
 mod memory;
-#[cfg(test)]
-mod programs;
 #[cfg(test)]
 mod runs;
 #[cfg(test)]

@@ -10,9 +10,6 @@ pub(crate) const SMALL: Config = Config {
     last_seq: 9,
 };
 
-/// Pages for four texts of the greatest length, of which two fill a queue.
-pub(crate) const ROOMY: Config = Config { height: 8, ..SMALL };
-
 /// Nothing is pledged.
 pub(crate) struct Nothing;
 

@@ -4,11 +4,11 @@
 ghost use Rattle.std.specs.Prelude.{◌≡◌};
 ghost use Rattle.std.specs.VecDeque.{deque_len};
 
-use crate::runs::{Nothing, ROOMY};
+use crate::locals::ROOMY;
 use mq::{
     BatchReceived, BatchSent, Caller, Clock, Config, Errno, Id, Ledger, Letter, LocalCaller,
-    LocalQueues, MAX_BATCH, Names, QueueProgram, Refused, Selection, SystemProgram, Text, TextOf,
-    Wait, with_queues, with_system,
+    LocalQueues, MAX_BATCH, Names, NoPledge, QueueProgram, Refused, Selection, SystemProgram, Text,
+    TextOf, Wait, with_queues, with_system,
 };
 use std::alloc::Global;
 use std::collections::VecDeque;
@@ -39,7 +39,7 @@ trait Batches {
     ) -> BatchReceived<Self::Text>;
 }
 
-impl<'a, N: Names, R: Wait + Clock> Batches for Caller<'a, Nothing, N, R> {
+impl<'a, N: Names, R: Wait + Clock> Batches for Caller<'a, NoPledge, N, R> {
     type Text = TextOf<N>;
 
     fn alloc(&mut self) -> Global {
@@ -258,13 +258,13 @@ fn make_calls<C: Batches>(caller: &mut C) -> Result<Vec<Told>, Errno> {
 #[derive(Clone, Copy, Drop)]
 struct Plays;
 
-impl SystemProgram<Nothing> for Plays {
+impl SystemProgram<NoPledge> for Plays {
     type Answer = Result<Vec<Told>, Errno>;
 
     fn run<N: Names, R: Wait + Clock>(
         self,
         _config: Config,
-        callers: &mut [Caller<'_, Nothing, N, R>],
+        callers: &mut [Caller<'_, NoPledge, N, R>],
     ) -> Result<Vec<Told>, Errno> {
         match callers.first_mut() {
             Some(caller) => make_calls(caller),

@@ -1,12 +1,19 @@
 //! The same calls by a caller of one thread and by a caller of a system, which answer the same.
 
-use crate::runs::{Nothing, ROOMY};
 use mq::{
     BoardRow, Caller, Clock, Config, Delivered, Errno, Figures, GetFlags, Id, Ledger, LocalCaller,
-    LocalQueues, MSGMNB, Message, Moments, Names, QueueProgram, ReceiveOptions, Selection,
-    SendRefused, SystemProgram, Usage, Wait, with_queues, with_system,
+    LocalQueues, MSGMNB, Message, Moments, Names, NoPledge, QueueProgram, ReceiveOptions,
+    Selection, SendRefused, SystemProgram, Usage, Wait, with_queues, with_system,
 };
 use std::alloc::Global;
+
+/// Pages for four texts of the greatest length, of which two fill a queue.
+pub(crate) const ROOMY: Config = Config {
+    height: 8,
+    slots: 4,
+    seats: 3,
+    last_seq: 9,
+};
 
 const NEW: GetFlags = GetFlags {
     create: true,
@@ -93,7 +100,7 @@ trait Calls {
     fn takes_text(&mut self, id: Id, selection: Selection) -> Answer;
 }
 
-impl<'a, N: Names, R: Wait + Clock> Calls for Caller<'a, Nothing, N, R> {
+impl<'a, N: Names, R: Wait + Clock> Calls for Caller<'a, NoPledge, N, R> {
     fn number(&self) -> u16 {
         self.number()
     }
@@ -431,13 +438,13 @@ fn make_calls<C: Calls>(caller: &mut C, alloc: Global) -> Result<Played, Errno> 
 #[derive(Clone, Copy, Drop)]
 struct Plays;
 
-impl SystemProgram<Nothing> for Plays {
+impl SystemProgram<NoPledge> for Plays {
     type Answer = Result<Played, Errno>;
 
     fn run<N: Names, R: Wait + Clock>(
         self,
         _config: Config,
-        callers: &mut [Caller<'_, Nothing, N, R>],
+        callers: &mut [Caller<'_, NoPledge, N, R>],
     ) -> Result<Played, Errno> {
         match callers.first_mut() {
             Some(caller) => {

@@ -1,5 +1,5 @@
 use Rattle.std.proofs.Common.{length}
-use Rattle.mq_caller_tests.proofs.local_batches.spend_all.Given as goal
+use Rattle.mq_local_caller_tests.proofs.local_batches.spend_all.Given as goal
 
 -- each iteration removes one
 abbrev pub invariant-loop-letter : goal.invariant-loop-letter
