@@ -17,9 +17,11 @@ use std::thread::{Threads, join_mut};
 /// A block of `2 ^ order` pages that begins at the page `start` of its arena, with its share of the
 /// arena's count of allocated pages. It can't be dropped: its owner frees it by the arena's `put`.
 pub struct Block<L: Ledger> {
+    // The pointer comes first: with padding in front of it, code that moves a block and reads its
+    // order copies the rest in two pieces that overlap, and each copy waits for the one before it.
+    pub(crate) pages: Places,
     pub(crate) start: u32,
     pub(crate) order: u8,
-    pub(crate) pages: Places,
     pub(crate) share: Share<L>,
 }
 
