@@ -7,8 +7,8 @@ use crate::system::Anything;
 use crate::words::Words;
 use anyhow::{Result, bail};
 use mq::{
-    BatchReceived, BatchSent, Caller, Config, DEFAULTS, Delivered, Errno, Forever, Id, Letter,
-    MAX_HEIGHT, Names, Refused, Selection, TextOf, Worker,
+    BatchReceived, BatchSent, Caller, Config, DEFAULTS, Delivered, Errno, Id, Letter, MAX_HEIGHT,
+    Names, Refused, Selection, TextOf, Worker,
 };
 use std::alloc::{AllocError, Global};
 use std::collections::VecDeque;
@@ -45,13 +45,14 @@ impl Player {
         if self.sends > 0 {
             caller.set(id, self.quota)?;
         }
+        let messages = self.messages(caller.alloc)?;
         let (mut unsent, mut due, mut bytes) = (self.sends, self.receives, 0u64);
         for _ in caller.rt.forever() {
             if unsent == 0 && due == 0 {
                 return Ok(bytes);
             }
             if unsent > 0 {
-                fill(caller, letters, &self.bytes, unsent.min(self.each))?;
+                fill(caller, letters, &messages, unsent.min(self.each))?;
                 unsent = unsent.saturating_sub(send(caller, id, letters)?);
             }
             if due > 0 {
@@ -61,6 +62,22 @@ impl Player {
             }
         }
         unreachable!()
+    }
+
+    /// The messages of one call.
+    fn messages(&self, alloc: Global) -> Result<Vec<Letter<&[u8]>>, Errno> {
+        let mut messages = Vec::new(alloc);
+        for _ in 0..self.each {
+            let message = Letter {
+                mtype: 1,
+                tag: 0,
+                text: self.bytes.as_slice(),
+            };
+            if messages.push(message).is_err() {
+                return Err(Errno::ENOMEM);
+            }
+        }
+        Ok(messages)
     }
 }
 
@@ -79,30 +96,15 @@ impl Worker<Anything> for Player {
     }
 }
 
-/// Adds letters of these bytes until there are so many.
+/// Adds texts of the first of these messages until there are so many.
 fn fill<N: Names, R: Wait + Clock>(
-    caller: &mut Caller<'_, Anything, N, R>,
+    caller: &Caller<'_, Anything, N, R>,
     letters: &mut VecDeque<Letter<TextOf<N>>>,
-    bytes: &[u8],
+    messages: &[Letter<&[u8]>],
     count: usize,
 ) -> Result<(), Errno> {
-    let (rt, system) = (caller.rt, caller.system);
-    for _ in letters.len()..count {
-        let text = match system.draft_by_within(rt, &mut caller.seat, bytes, &mut Forever) {
-            Ok(text) => text,
-            Err(refused) => return Err(refused.errno()),
-        };
-        let letter = Letter {
-            mtype: 1,
-            tag: 0,
-            text,
-        };
-        if let Err(unsent) = letters.push_back(letter) {
-            caller.spend(unsent.value.text);
-            return Err(Errno::ENOMEM);
-        }
-    }
-    Ok(())
+    let lacking = count.saturating_sub(letters.len()).min(messages.len());
+    caller.draft_texts(&messages[..lacking], letters)
 }
 
 /// Spends the letters that are left.
@@ -151,11 +153,10 @@ fn spend_texts<N: Names, R: Wait + Clock>(
         texts: texts.len(),
         bytes: 0,
     };
-    while let Some(delivered) = texts.pop_front() {
-        let Delivered { length, text, .. } = delivered;
-        came.bytes = came.bytes.wrapping_add(length);
-        caller.spend(text);
+    for delivered in texts.iter() {
+        came.bytes = came.bytes.wrapping_add(delivered.length);
     }
+    caller.spend_texts(texts);
     came
 }
 

@@ -41,13 +41,6 @@ module _ {A B : Type 0} (R : A → B → Type 0) where
   as_long (x ∷ xs) [] h = absurd h
   as_long (x ∷ xs) (z ∷ zs) h = ap suc (as_long xs zs h.1)
 
-  pub more_zipped : (xs : List A) (zs : List B) (x : A) (z : B) → AllZip R xs zs → R x z
-      → AllZip R (xs ++ x ∷ []) (zs ++ z ∷ [])
-  more_zipped [] [] x z h r = (r, tt)
-  more_zipped [] (b ∷ zs) x z h r = absurd h
-  more_zipped (a ∷ xs) [] x z h r = absurd h
-  more_zipped (a ∷ xs) (b ∷ zs) x z h r = (h.0, more_zipped xs zs x z h.1 r)
-
 module _ {V : Type 0} (bytes_of : V → List ℕ) (slots id : ℕ) where
   one_sent : (moment : ℕ) (old new : SeatState) (l : Letter PlainText) (v : Letter V)
       → IsDraftOf bytes_of l v → IsNextSent slots id moment old l new

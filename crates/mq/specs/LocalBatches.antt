@@ -8,6 +8,7 @@ use Rattle.mq_queue.specs.declared.limits.TheConstants.{MSGMAX}
 use Rattle.mq_calls.specs.Calls.{msgsnd}
 use Rattle.mq_calls.specs.Look.{Answer, refused_early, refused_or_memory}
 use Rattle.mq_calls.specs.State.{QueuesState}
+use Rattle.mq_calls.specs.Texts.{text_spent}
 use Rattle.mq_calls.specs.declared.errno.Errno.{Errno}
 use Rattle.mq_calls.specs.declared.errno.Errno.TheVariants.{ENOMEM}
 use Rattle.mq_calls.specs.declared.results.Delivered.{Delivered}
@@ -58,6 +59,11 @@ pub record AnswersLetters (seat id moment most : ℕ) (before after : QueuesStat
   pub all : MatchResult ended (λ _. length sent ≡ min (length letters) most)
       (λ _. length sent < most)
   pub refused : MatchResult ended (λ _. Unit {0}) (IsFirstRefusal seat id moment after left)
+
+-- the queues once these texts are spent, one after another
+abbrev pub texts_spent : List (Delivered PlainText) → QueuesState → QueuesState
+texts_spent [] s = s
+texts_spent (d ∷ ds) s = texts_spent ds (text_spent d.text s)
 
 -- a receipt of a text of any length, in the state before it
 abbrev pub receives_text : ℕ → ℕ → Selection → ℕ → QueuesState → Answer (Delivered PlainText)

@@ -1,10 +1,12 @@
 //! The texts that a caller of one thread writes in place.
 ghost use Rattle.std.specs.Prelude.{◌≡◌};
+ghost use Rattle.std.specs.VecDeque.{deque_len};
 ghost use Rattle.mq_calls.specs.Calls.{msgsnd};
 ghost use Rattle.mq_calls.specs.Look.{refused_at};
 ghost use Rattle.mq_calls.specs.Texts.{text_spent};
 ghost use Rattle.mq_local.specs.Outcome.{AnswersSend};
 ghost use Rattle.mq.specs.Local.{AnswersDraft, AnswersText};
+ghost use Rattle.mq.specs.LocalBatches.{texts_spent};
 
 use crate::LocalCaller;
 use crate::msgtyp::msgtyp_of;
@@ -13,6 +15,7 @@ use mq_calls::{Delivered, Errno, SendRefused};
 use mq_message::Selection;
 use mq_queue::MSGMAX;
 use mq_table::Id;
+use std::collections::VecDeque;
 use std::sync::ledger::Ledger;
 
 impl<'a, L: Ledger> LocalCaller<'a, L> {
@@ -86,5 +89,18 @@ impl<'a, L: Ledger> LocalCaller<'a, L> {
         ensures moment { self.new.of.now.moment ≡ self.old.of.now.moment }
     {
         self.of.queues.spend(text);
+    }
+
+    /// Spends all texts of the list, as one call of `spend` each, and leaves it empty.
+    pub fn spend_texts(&mut self, texts: &mut VecDeque<Delivered<Text<L>>>)
+        ensures same_reference { self.new.of.ghost_name ≡ self.old.of.ghost_name }
+        ensures none { deque_len texts.new ≡ 0 }
+        ensures back { self.new.of.now.queues ≡ texts_spent texts.old.items self.old.of.now.queues }
+        ensures seat { self.new.seat ≡ self.old.seat }
+        ensures moment { self.new.of.now.moment ≡ self.old.of.now.moment }
+    {
+        while let Some(delivered) = texts.pop_front() {
+            self.spend(delivered.text);
+        }
     }
 }

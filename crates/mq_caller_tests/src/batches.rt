@@ -4,8 +4,8 @@ ghost use Rattle.std.specs.Prelude.{◌≡◌};
 ghost use Rattle.std.specs.VecDeque.{deque_len};
 
 use mq::{
-    BatchReceived, Caller, Clock, Config, DEFAULTS, Delivered, Errno, Id, Letter, MAX_BATCH, Names,
-    NoPledge, NoWait, ReceiveOptions, Refused, Selection, SystemProgram, TextOf, Wait, with_system,
+    BatchReceived, Caller, Clock, Config, DEFAULTS, Errno, Id, Letter, MAX_BATCH, Names, NoPledge,
+    NoWait, ReceiveOptions, Refused, Selection, SystemProgram, TextOf, Wait, with_system,
 };
 use std::collections::VecDeque;
 
@@ -68,11 +68,10 @@ fn told<N: Names, R: Wait + Clock>(
     let BatchReceived { texts, ended } = received;
     let mut texts = texts;
     let mut tags = 1u64;
-    while let Some(delivered) = texts.pop_front() {
-        let Delivered { tag, text, .. } = delivered;
-        tags = tags.wrapping_mul(10).wrapping_add(tag);
-        caller.spend(text);
+    for delivered in texts.iter() {
+        tags = tags.wrapping_mul(10).wrapping_add(delivered.tag);
     }
+    caller.spend_texts(&mut texts);
     texts.destroy_empty();
     Ok((tags, errno_of(ended)?))
 }
@@ -199,6 +198,127 @@ fn several_texts_are_sent_and_received_by_one_call(rt: HostRuntime) {
     };
     match ended.answer {
         Ok(None) => (),
+        Ok(Some(wrong)) => panic!(rt; "{wrong}"),
+        Err(errno) => panic!(rt; "{errno}"),
+    }
+}
+
+/// Four pages.
+const TINY: Config = Config { height: 2, ..SIZE };
+
+fn letter(mtype: i64, tag: u64, bytes: &[u8]) -> Letter<&[u8]> {
+    Letter {
+        mtype,
+        tag,
+        text: bytes,
+    }
+}
+
+/// The message that is received next has this type, tag and bytes.
+fn is_next<N: Names, R: Wait + Clock>(
+    caller: &mut Caller<'_, NoPledge, N, R>,
+    id: Id,
+    wanted: &Letter<&[u8]>,
+) -> Result<bool, Errno> {
+    let received = caller.try_receive(id, Selection::Any)?;
+    let is_header = received.mtype == wanted.mtype && received.tag == wanted.tag;
+    Ok(is_header && received.text.as_slice() == wanted.text)
+}
+
+/// Texts of letters up to one that is too long; as many as there are pages for; and texts in pages
+/// that the seat has cached.
+fn drafts<N: Names, R: Wait + Clock>(
+    caller: &mut Caller<'_, NoPledge, N, R>,
+    letters: &mut VecDeque<Letter<TextOf<N>>>,
+) -> Wrong {
+    let id = caller.queue(5)?;
+    let Ok(long) = vec![in caller.alloc(); b'l'; 65_537] else {
+        return Err(Errno::ENOMEM);
+    };
+    let (two, long) = (&long[..1_025], long.as_slice());
+    caller.draft_texts(&[], letters)?;
+    let some = [
+        letter(7, 4, b"abc"),
+        letter(8, 5, b""),
+        letter(9, 6, two),
+        letter(1, 7, long),
+        letter(1, 8, b"d"),
+    ];
+    match caller.draft_texts(&some, letters) {
+        Err(Errno::EINVAL) if letters.len() == 3 => (),
+        Err(Errno::ENOMEM) => return Err(Errno::ENOMEM),
+        _ => return Ok(Some("a text that is too long")),
+    }
+    errno_of(caller.send_texts(id, letters).ended)?;
+    for wanted in some[..3].iter() {
+        if !is_next(caller, id, wanted)? {
+            return Ok(Some("texts of several lengths"));
+        }
+    }
+    let five = [
+        letter(1, 0, b"a"),
+        letter(2, 1, b"b"),
+        letter(3, 2, b"c"),
+        letter(4, 3, b"d"),
+        letter(5, 4, b"e"),
+    ];
+    for _ in 0..2 {
+        match caller.try_draft_texts(&five, letters) {
+            Err(Errno::ENOMEM) if letters.len() == 4 => (),
+            Err(errno) => return Err(errno),
+            Ok(()) => return Ok(Some("five texts in four pages")),
+        }
+        errno_of(caller.send_texts(id, letters).ended)?;
+        for wanted in five[..4].iter() {
+            if !is_next(caller, id, wanted)? {
+                return Ok(Some("a text in each page"));
+            }
+        }
+    }
+    caller.draft_texts_within(&five[..3], letters, &mut NoWait)?;
+    if caller.draft_texts(&five[3..], letters) != Err(Errno::ENOMEM) || letters.len() != 4 {
+        return Err(Errno::ENOMEM);
+    }
+    errno_of(caller.send_texts(id, letters).ended)?;
+    for wanted in five[..4].iter() {
+        if !is_next(caller, id, wanted)? {
+            return Ok(Some("texts behind others"));
+        }
+    }
+    Ok(None)
+}
+
+/// Drafts several texts by one call.
+#[derive(Drop)]
+struct DraftsSeveral;
+
+impl SystemProgram<NoPledge> for DraftsSeveral {
+    type Answer = Wrong;
+
+    fn run<N: Names, R: Wait + Clock>(
+        self,
+        _config: Config,
+        callers: &mut [Caller<'_, NoPledge, N, R>],
+    ) -> Wrong {
+        let Some(caller) = callers.first_mut() else {
+            return Ok(Some("no seat"));
+        };
+        let mut letters = VecDeque::new(caller.alloc());
+        let wrong = drafts(caller, &mut letters);
+        spend_all(caller, &mut letters);
+        letters.destroy_empty();
+        wrong
+    }
+}
+
+#[test]
+fn several_texts_are_drafted_by_one_call(rt: HostRuntime) {
+    let Ok(ended) = with_system(&rt, rt.alloc(), TINY, DraftsSeveral) else {
+        panic!(rt; "ENOMEM");
+    };
+    match ended.answer {
+        Ok(None) if ended.free_pages == 4 => (),
+        Ok(None) => panic!(rt; "a page is not free"),
         Ok(Some(wrong)) => panic!(rt; "{wrong}"),
         Err(errno) => panic!(rt; "{errno}"),
     }

@@ -6,9 +6,9 @@ ghost use Rattle.std.specs.VecDeque.{deque_len};
 
 use crate::locals::ROOMY;
 use mq::{
-    BatchReceived, BatchSent, Caller, Clock, Config, Errno, Id, Ledger, Letter, LocalCaller,
-    LocalQueues, MAX_BATCH, Names, NoPledge, QueueProgram, Refused, Selection, SystemProgram, Text,
-    TextOf, Wait, with_queues, with_system,
+    BatchReceived, BatchSent, Caller, Clock, Config, Delivered, Errno, Id, Ledger, Letter,
+    LocalCaller, LocalQueues, MAX_BATCH, Names, NoPledge, QueueProgram, Refused, Selection,
+    SystemProgram, Text, TextOf, Wait, with_queues, with_system,
 };
 use std::alloc::Global;
 use std::collections::VecDeque;
@@ -28,6 +28,9 @@ trait Batches {
     fn draft(&mut self, len: u64) -> Result<Self::Text, Errno>;
 
     fn spend(&mut self, text: Self::Text);
+
+    fn spend_texts(&mut self, texts: &mut VecDeque<Delivered<Self::Text>>)
+        ensures { deque_len texts.new ≡ 0 };
 
     fn send_texts(&mut self, id: Id, letters: &mut VecDeque<Letter<Self::Text>>) -> BatchSent;
 
@@ -64,6 +67,12 @@ impl<'a, N: Names, R: Wait + Clock> Batches for Caller<'a, NoPledge, N, R> {
 
     fn spend(&mut self, text: TextOf<N>) {
         Caller::spend(self, text);
+    }
+
+    fn spend_texts(&mut self, texts: &mut VecDeque<Delivered<TextOf<N>>>)
+        ensures { deque_len texts.new ≡ 0 }
+    {
+        Caller::spend_texts(self, texts);
     }
 
     fn send_texts(&mut self, id: Id, letters: &mut VecDeque<Letter<TextOf<N>>>) -> BatchSent {
@@ -105,6 +114,12 @@ impl<'a, L: Ledger> Batches for LocalCaller<'a, L> {
 
     fn spend(&mut self, text: Text<L>) {
         LocalCaller::spend(self, text);
+    }
+
+    fn spend_texts(&mut self, texts: &mut VecDeque<Delivered<Text<L>>>)
+        ensures { deque_len texts.new ≡ 0 }
+    {
+        LocalCaller::spend_texts(self, texts);
     }
 
     fn send_texts(&mut self, id: Id, letters: &mut VecDeque<Letter<Text<L>>>) -> BatchSent {
@@ -194,7 +209,7 @@ fn takes<C: Batches>(
     let BatchReceived { texts, ended } = caller.receive_texts(id, selection, most);
     let mut texts = texts;
     let mut all = 1u64;
-    while let Some(delivered) = texts.pop_front() {
+    for delivered in texts.iter() {
         let parts = [
             delivered.entry,
             delivered.mtype.unsigned_abs(),
@@ -205,8 +220,8 @@ fn takes<C: Batches>(
         for part in parts {
             all = all.wrapping_mul(1000).wrapping_add(part);
         }
-        caller.spend(delivered.text);
     }
+    caller.spend_texts(&mut texts);
     texts.destroy_empty();
     Ok(Told {
         texts: all,

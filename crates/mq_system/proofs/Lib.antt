@@ -1,4 +1,5 @@
 pub mod AnswerLemmas
+pub mod BlockLemmas
 pub mod ClosedLemmas
 pub mod CountLemmas
 pub mod EndLemmas

@@ -45,6 +45,7 @@ mod blanks;
 mod close;
 mod control;
 mod cut;
+mod drafts;
 mod figures;
 mod flags;
 mod fronts;

@@ -4,7 +4,7 @@
 ghost use Rattle.std.specs.Prelude.{◌≡◌, ◌↔◌, ◌⊎◌, ◌<◌, ◌≤◌, ◌-◌, ◌*◌, ◌^◌, ℕ, true, false};
 ghost use Rattle.std.specs.Prelude.{◌++◌, None, length, nat_lt, replicate, vec_len, IfOk, IsErrOf};
 ghost use Rattle.std.specs.List.{concat};
-ghost use Rattle.mq_arena.specs.Bytes.{pages_with};
+ghost use Rattle.std.specs.VecDeque.{deque_len};
 ghost use Rattle.mq_arena.specs.Text.{order_for};
 ghost use Rattle.mq_calls.specs.Limits.{keeps_limits};
 ghost use Rattle.mq_system.specs.Drafts.{IsInLeast};
@@ -16,8 +16,8 @@ use crate::keys::KeyLock;
 use crate::pages::Magazines;
 use crate::parts::{fill_monitors, give_up, leave, make_slots_and_seats};
 use crate::{
-    Blanks, Config, DraftError, Entries, Keys, Names, NoWait, Pages, Patience, Pledge, Seat,
-    SlotMonitor, SysError, Tally, TextOf,
+    Blanks, Config, Delivered, DraftError, Entries, Keys, Names, NoWait, Pages, Patience, Pledge,
+    Seat, SlotMonitor, SysError, Tally, TextOf,
 };
 use mq_arena::{
     Arena, Block, Homecoming, INLINE_LEN, LEDGER_PARTS, PAGE_LEN, TakeError, Text, Unopened,
@@ -27,6 +27,7 @@ use mq_calls::ClosedSlot;
 use mq_queue::MSGMAX;
 use mq_table::MAX_SLOTS;
 use std::alloc::Global;
+use std::collections::VecDeque;
 use std::marker::Model;
 use std::sync::Wait;
 use std::sync::ledger::Total;
@@ -304,31 +305,46 @@ impl<P: Pledge, N: Names> System<P, N> {
             None => (),
         }
     }
-}
 
-/// The block that was taken, with these bytes in its first ones and zeros behind them.
-fn written<N: Names>(
-    taken: Result<Unwritten<Pages<N>>, TakeError>,
-    bytes: &[u8],
-) -> Result<Block<Pages<N>>, DraftError>
-    requires most { length bytes.now ≤ MSGMAX }
-    requires order { IfOk taken (λ b. b.order ≡ order_for (length bytes.now)) }
-    requires memory { IsErrOf taken TakeError.Memory → INLINE_LEN < length bytes.now }
-    ensures order { IfOk result (λ b. b.order ≡ order_for (length bytes.now)) }
-    ensures pages { IfOk result (λ b. b.pages ≡ pages_with (2 ^ b.order) bytes.now) }
-    ensures bytes { IfOk result (λ b. concat b.pages
-        ≡ bytes.now ++ replicate (PAGE_LEN * 2 ^ b.order - length bytes.now) 0) }
-    ensures too_long { ¬ IsErrOf result DraftError.TooLong }
-    ensures no_run { IsErrOf result DraftError.NoRun → IsErrOf taken TakeError.NoRun }
-    ensures memory { IsErrOf result DraftError.Memory → INLINE_LEN < length bytes.now }
-{
-    match taken {
-        Ok(block) => Ok(block.overwrite(bytes)),
-        Err(refusal) => Err(DraftError::from(refusal)),
+    /// Spends texts as `spend_by` does, under one hold of the lock of this seat's magazine, or one
+    /// more for each that has no room there.
+    pub fn spend_texts_by<R: Wait>(
+        &self,
+        rt: &R,
+        seat: &Seat<N>,
+        texts: &mut VecDeque<Delivered<TextOf<N>>>,
+    )
+        ensures { deque_len texts.new ≡ 0 }
+    {
+        seat.holds();
+        let number = seat.number();
+        self.magazines.put_all(rt, &self.arena, number, texts);
     }
 }
 
+/// The block with these bytes in its first ones and zeros behind them.
+fn written<N: Names>(block: Unwritten<Pages<N>>, bytes: &[u8]) -> Block<Pages<N>>
+    requires most { length bytes.now ≤ MSGMAX }
+    requires order { block.order ≡ order_for (length bytes.now) }
+    ensures order { result.order ≡ order_for (length bytes.now) }
+    ensures bytes { concat result.pages
+        ≡ bytes.now ++ replicate (PAGE_LEN * 2 ^ result.order - length bytes.now) 0 }
+{
+    block.overwrite(bytes)
+}
+
 /// The text of these bytes in the block that was taken for it.
+pub(crate) fn text_in<N: Names>(block: Unwritten<Pages<N>>, bytes: &[u8]) -> TextOf<N>
+    requires some { 0 < length bytes.now }
+    requires most { length bytes.now ≤ MSGMAX }
+    requires order { block.order ≡ order_for (length bytes.now) }
+    ensures bytes { result.bytes ≡ bytes.now }
+    ensures block { IsInLeast (length bytes.now) result }
+{
+    Text::of(written(block, bytes), bytes.len())
+}
+
+/// The text of these bytes in the block that was taken for it, if one was.
 fn filled<N: Names>(
     taken: Result<Unwritten<Pages<N>>, TakeError>,
     bytes: &[u8],
@@ -343,6 +359,8 @@ fn filled<N: Names>(
     ensures no_run { IsErrOf result DraftError.NoRun → IsErrOf taken TakeError.NoRun }
     ensures memory { IsErrOf result DraftError.Memory → INLINE_LEN < length bytes.now }
 {
-    let block = written(taken, bytes)?;
-    Ok(Text::of(block, bytes.len()))
+    match taken {
+        Ok(block) => Ok(text_in(block, bytes)),
+        Err(refusal) => Err(DraftError::from(refusal)),
+    }
 }

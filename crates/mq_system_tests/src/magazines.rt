@@ -1,11 +1,16 @@
 //! Texts that a seat has spent: its magazine caches their pages for its next drafts, and other
 //! seats can allocate them all the same.
+ghost use Rattle.std.specs.Prelude.{◌≡◌};
+ghost use Rattle.std.specs.VecDeque.{deque_len};
 
 use crate::calls::seat;
 use crate::day::{Day, config, left_by};
 use crate::system::Calls;
 use crate::{granted, holds};
-use mq_system::{Config, DraftError};
+use mq_calls::Delivered;
+use mq_system::{Config, DraftError, Letter};
+use std::alloc::Global;
+use std::collections::VecDeque;
 use std::process::Abort;
 use std::sync::Wait;
 use std::test::Fail;
@@ -233,6 +238,28 @@ fn the_last_seat_gets_back_what_it_has_drafted(rt: HostRuntime) -> Result<(), Fa
     Ok(())
 }
 
+/// Seat 1 drafts four texts of four pages, which stand there.
+fn four_stand_at<S: Calls, R: Abort + Wait>(
+    rt: &R,
+    system: &S,
+    seats: &mut [S::Seat],
+    starts: [Option<u32>; 4],
+) {
+    let [start_1, start_2, start_3, start_4] = starts;
+    let first = drafted(rt, system, seats, 1, front(4096));
+    stands_at(rt, system, &first, start_1);
+    let second = drafted(rt, system, seats, 1, front(4096));
+    stands_at(rt, system, &second, start_2);
+    let third = drafted(rt, system, seats, 1, front(4096));
+    stands_at(rt, system, &third, start_3);
+    let fourth = drafted(rt, system, seats, 1, front(4096));
+    stands_at(rt, system, &fourth, start_4);
+    spent(rt, system, seats, 1, first);
+    spent(rt, system, seats, 1, second);
+    spent(rt, system, seats, 1, third);
+    spent(rt, system, seats, 1, fourth);
+}
+
 /// A seat caches four blocks of four pages that another has drafted. With the fifth they go back to
 /// it, the last ones first; the first of them finds no room there.
 struct HandsOver;
@@ -256,25 +283,153 @@ impl Day for HandsOver {
         spent(rt, system, seats, 2, third);
         spent(rt, system, seats, 2, fourth);
         spent(rt, system, seats, 2, fifth);
-
-        let fifth = drafted(rt, system, seats, 1, front(4096));
-        stands_at(rt, system, &fifth, start_5);
-        let second = drafted(rt, system, seats, 1, front(4096));
-        stands_at(rt, system, &second, start_2);
-        let third = drafted(rt, system, seats, 1, front(4096));
-        stands_at(rt, system, &third, start_3);
-        let fourth = drafted(rt, system, seats, 1, front(4096));
-        stands_at(rt, system, &fourth, start_4);
-        spent(rt, system, seats, 1, second);
-        spent(rt, system, seats, 1, third);
-        spent(rt, system, seats, 1, fourth);
-        spent(rt, system, seats, 1, fifth);
+        four_stand_at(rt, system, seats, [start_5, start_2, start_3, start_4]);
     }
 }
 
 #[test]
 fn a_full_magazine_is_handed_over_to_the_seat_that_drafted(rt: HostRuntime) -> Result<(), Fail> {
     let left = left_by(&rt, rt.alloc(), config(5, 1, 9), &HandsOver);
+    holds(&rt, left.free_pages == 32, "all pages are home");
+    Ok(())
+}
+
+/// Seat 1 drafts a text of these bytes, and adds it to a list of received ones.
+fn add<S: Calls, R: Abort + Wait>(
+    rt: &R,
+    system: &S,
+    seats: &mut [S::Seat],
+    bytes: &[u8],
+    texts: &mut VecDeque<Delivered<S::Text>>,
+) -> Option<u32> {
+    let text = drafted(rt, system, seats, 1, bytes);
+    let start = system.shape(&text).start;
+    let delivered = Delivered {
+        entry: 0,
+        mtype: 1,
+        tag: 0,
+        length: bytes.len() as u64,
+        text,
+        sender: 1,
+    };
+    match texts.push_back(delivered) {
+        Ok(()) => start,
+        Err(_) => panic!(rt; "no memory for a list"),
+    }
+}
+
+/// A seat spends by one call as it does by as many: its magazine is full before the last text.
+#[derive(Drop)]
+struct HandsOverAll {
+    alloc: Global,
+}
+
+impl Day for HandsOverAll {
+    fn spend<S: Calls, R: Abort + Threads + Wait>(
+        &self,
+        rt: &R,
+        system: &S,
+        seats: &mut [S::Seat],
+    ) {
+        let mut texts = VecDeque::new(self.alloc);
+        add(rt, system, seats, b"", &mut texts);
+        add(rt, system, seats, front(4096), &mut texts);
+        let start_2 = add(rt, system, seats, front(4096), &mut texts);
+        let start_3 = add(rt, system, seats, front(4096), &mut texts);
+        add(rt, system, seats, b"", &mut texts);
+        let start_4 = add(rt, system, seats, front(4096), &mut texts);
+        let start_5 = add(rt, system, seats, front(4096), &mut texts);
+        let start = add(rt, system, seats, b"page", &mut texts);
+        add(rt, system, seats, b"", &mut texts);
+        system.spend_texts_by(rt, seat(rt, seats, 1), &mut texts);
+        texts.destroy_empty();
+        four_stand_at(rt, system, seats, [start_5, start_2, start_3, start_4]);
+        let page = drafted(rt, system, seats, 2, b"page");
+        stands_at(rt, system, &page, start);
+        spent(rt, system, seats, 2, page);
+    }
+}
+
+#[test]
+fn texts_are_spent_by_one_call_as_by_a_call_each(rt: HostRuntime) -> Result<(), Fail> {
+    let day = HandsOverAll { alloc: rt.alloc() };
+    let left = left_by(&rt, rt.alloc(), config(5, 1, 9), &day);
+    holds(&rt, left.free_pages == 32, "all pages are home");
+    Ok(())
+}
+
+/// The text of these bytes that a seat drafts by a call of several.
+fn drafted_of_several<S: Calls, R: Abort + Wait>(
+    rt: &R,
+    alloc: Global,
+    system: &S,
+    seat: &S::Seat,
+    bytes: &[u8],
+) -> S::Text {
+    let letters = [Letter {
+        mtype: 1,
+        tag: 0,
+        text: bytes,
+    }];
+    let Ok(mut texts) = VecDeque::with_capacity(alloc, 1) else {
+        panic!(rt; "no memory for a list");
+    };
+    let drafted = system.draft_texts_by(alloc, rt, seat, &letters, &mut texts);
+    let text = texts.pop_front();
+    spend_rest(rt, system, &mut texts);
+    texts.destroy_empty();
+    match text {
+        Some(letter) => letter.text,
+        None => panic!(rt; "it is refused: {drafted:?}"),
+    }
+}
+
+/// Spends the letters that are left.
+fn spend_rest<S: Calls, R: Wait>(rt: &R, system: &S, letters: &mut VecDeque<Letter<S::Text>>)
+    ensures { deque_len letters.new ≡ 0 }
+{
+    while let Some(letter) = letters.pop_front() {
+        system.spend(rt, letter.text);
+    }
+}
+
+/// A seat that drafts a block by a call of several gets it back from a seat that has drafted it
+/// before, and whose magazine is full.
+#[derive(Drop)]
+struct GoesBackOfSeveral {
+    alloc: Global,
+}
+
+impl Day for GoesBackOfSeveral {
+    fn spend<S: Calls, R: Abort + Threads + Wait>(
+        &self,
+        rt: &R,
+        system: &S,
+        seats: &mut [S::Seat],
+    ) {
+        let page = drafted(rt, system, seats, 1, b"page");
+        let other = drafted(rt, system, seats, 2, b"other");
+        let start = system.shape(&other).start;
+        spent(rt, system, seats, 1, other);
+        let other = drafted_of_several(rt, self.alloc, system, seat(rt, seats, 0), b"again");
+        stands_at(rt, system, &other, start);
+        has(rt, system, &other, b"again");
+        let first = drafted(rt, system, seats, 2, front(8192));
+        let second = drafted(rt, system, seats, 2, front(8192));
+        spent(rt, system, seats, 2, first);
+        spent(rt, system, seats, 2, second);
+        system.spend(rt, page);
+        spent(rt, system, seats, 2, other);
+        let other = drafted(rt, system, seats, 1, b"other");
+        stands_at(rt, system, &other, start);
+        spent(rt, system, seats, 1, other);
+    }
+}
+
+#[test]
+fn a_seat_gets_back_what_it_has_drafted_by_a_call_of_several(rt: HostRuntime) -> Result<(), Fail> {
+    let day = GoesBackOfSeveral { alloc: rt.alloc() };
+    let left = left_by(&rt, rt.alloc(), config(5, 1, 9), &day);
     holds(&rt, left.free_pages == 32, "all pages are home");
     Ok(())
 }

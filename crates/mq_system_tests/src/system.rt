@@ -1,5 +1,6 @@
 //! A system as its tests see it: its calls, and nothing of what it is made of.
 ghost use Rattle.std.specs.Prelude.{◌≡◌};
+ghost use Rattle.std.specs.VecDeque.{deque_len};
 
 use crate::calls::Wanted;
 use crate::day::Anything;
@@ -13,6 +14,7 @@ use mq_system::{
     ReceiveRequest, RecvFlags, Refused, Seat, SendFlags, System, TextOf,
 };
 use mq_table::{Cut, Id};
+use std::alloc::Global;
 use std::collections::VecDeque;
 use std::process::Abort;
 use std::sync::Wait;
@@ -136,9 +138,27 @@ pub(crate) trait Calls {
         bytes: &[u8],
     ) -> Result<Self::Text, DraftError>;
 
+    /// Without a wait. The list must have room for the texts.
+    fn draft_texts_by<R: Abort + Wait>(
+        &self,
+        alloc: Global,
+        rt: &R,
+        seat: &Self::Seat,
+        letters: &[Letter<&[u8]>],
+        texts: &mut VecDeque<Letter<Self::Text>>,
+    ) -> Result<(), DraftError>;
+
     fn spend<R: Wait>(&self, rt: &R, text: Self::Text) -> Homecoming;
 
     fn spend_by<R: Wait>(&self, rt: &R, seat: &Self::Seat, text: Self::Text);
+
+    fn spend_texts_by<R: Wait>(
+        &self,
+        rt: &R,
+        seat: &Self::Seat,
+        texts: &mut VecDeque<Delivered<Self::Text>>,
+    )
+        ensures { deque_len texts.new ≡ 0 };
 
     /// The number of a seat.
     fn number(&self, seat: &Self::Seat) -> u16;
@@ -319,12 +339,36 @@ impl<N: Names> Calls for System<Anything, N> {
         self.draft_by(rt, seat, bytes)
     }
 
+    fn draft_texts_by<R: Abort + Wait>(
+        &self,
+        alloc: Global,
+        rt: &R,
+        seat: &Seat<N>,
+        letters: &[Letter<&[u8]>],
+        texts: &mut VecDeque<Letter<TextOf<N>>>,
+    ) -> Result<(), DraftError> {
+        let room = texts.capacity().saturating_sub(texts.len());
+        holds(rt, letters.len() <= room, "the list has room");
+        self.draft_texts_by_within(alloc, rt, seat, letters, &mut NoWait, texts)
+    }
+
     fn spend<R: Wait>(&self, rt: &R, text: TextOf<N>) -> Homecoming {
         self.spend(rt, text)
     }
 
     fn spend_by<R: Wait>(&self, rt: &R, seat: &Seat<N>, text: TextOf<N>) {
         self.spend_by(rt, seat, text);
+    }
+
+    fn spend_texts_by<R: Wait>(
+        &self,
+        rt: &R,
+        seat: &Seat<N>,
+        texts: &mut VecDeque<Delivered<TextOf<N>>>,
+    )
+        ensures { deque_len texts.new ≡ 0 }
+    {
+        self.spend_texts_by(rt, seat, texts);
     }
 
     fn number(&self, seat: &Seat<N>) -> u16 {

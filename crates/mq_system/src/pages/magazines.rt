@@ -1,12 +1,19 @@
 //! The seats' magazines: caches of spent blocks, from which a seat drafts without the arena's lock.
-ghost use Rattle.std.specs.Prelude.{◌≡◌, ◌<◌, ◌≤◌, ◌⊎◌, true, IfErr, IfOk, IfSome, IsErrOf};
+ghost use Rattle.std.specs.Prelude.{◌≡◌, ◌<◌, ◌≤◌, ◌⊎◌, [], true, length, IfErr, IfNone, IfOk};
+ghost use Rattle.std.specs.Prelude.{IfSome, IsErrOf};
+ghost use Rattle.std.specs.VecDeque.{deque_capacity, deque_len};
 ghost use Rattle.mq_tree.specs.declared.limits.TheConstants.{MAX_HEIGHT};
+ghost use Rattle.mq_system.specs.Drafts.{AreBlocksFor};
 
-use super::waiters::{Own, PageWaiters, Returned, free_all, take_now};
-use crate::{Names, Pages, Patience};
+use super::waiters::{Own, PageWaiters, Returned, free_all, next_block, take_now};
+use crate::{Delivered, Letter, Names, Pages, Patience, TextOf};
 use crossbeam_utils::CachePadded;
-use mq_arena::{Arena, Block, Homecoming, INLINE_ORDER, MAX_ORDER, Magazine, TakeError, Unwritten};
+use mq_arena::{
+    Arena, Block, Homecoming, INLINE_ORDER, MAX_ORDER, Magazine, TakeError, Unwritten, order_for,
+};
+use mq_queue::MSGMAX;
 use std::alloc::{AllocError, Global};
+use std::collections::VecDeque;
 use std::marker::Model;
 use std::sync::atomic::{AtomicU16, Ordering};
 use std::sync::{Mutex, MutexGuard, Wait};
@@ -113,9 +120,31 @@ impl<N: Names> Magazines<N> {
         Ok(block)
     }
 
+    /// Takes blocks for the texts of these letters out of the magazine of the seat with this number,
+    /// under one hold of its lock: for the first ones, up to one for which it has none.
+    pub(crate) fn take_first<R: Wait>(
+        &self,
+        rt: &R,
+        seat: u16,
+        letters: &[Letter<&[u8]>],
+        blocks: &mut VecDeque<Unwritten<Pages<N>>>,
+    )
+        requires seat { 1 ≤ seat }
+        requires empty { blocks.old.items ≡ [] }
+        requires room { length letters.now ≤ deque_capacity blocks.old }
+        ensures { AreBlocksFor (λ r. r.now) blocks.new.items letters.now }
+    {
+        let own = seat - 1;
+        if let Some(magazine) = self.each.get(own as usize) {
+            let mut magazine = magazine.lock(rt);
+            empty_for(&mut magazine, letters, blocks);
+            MutexGuard::unlock(magazine);
+        }
+    }
+
     /// Notes which seat drafts with the block that begins there. It writes only a change, so that
     /// the cache line stays shared.
-    fn note(&self, start: u32, seat: u16) {
+    pub(crate) fn note(&self, start: u32, seat: u16) {
         if let Some(drafter) = self.drafters.get(start as usize) {
             if drafter.load(Ordering::Relaxed) != seat {
                 drafter.store(seat, Ordering::Relaxed);
@@ -226,6 +255,45 @@ impl<N: Names> Magazines<N> {
         self.waiters.wake(returned);
     }
 
+    /// Keeps the blocks of these texts as `put` does, as many under one hold of the lock of the
+    /// seat's magazine as it has room for.
+    pub(crate) fn put_all<R: Wait>(
+        &self,
+        rt: &R,
+        arena: &Arena<Pages<N>>,
+        seat: u16,
+        texts: &mut VecDeque<Delivered<TextOf<N>>>,
+    )
+        requires { 1 ≤ seat }
+        ensures { deque_len texts.new ≡ 0 }
+    {
+        let own = seat - 1;
+        while let Some(block) = self.keep_all(rt, own, texts) {
+            let freed = self.put_back(rt, arena, own, block);
+            self.waiters.wake(freed);
+        }
+    }
+
+    /// Keeps the blocks of these texts in the magazine of the seat at this index, up to the first
+    /// for which it has no room: that is returned.
+    fn keep_all<R: Wait>(
+        &self,
+        rt: &R,
+        seat: u16,
+        texts: &mut VecDeque<Delivered<TextOf<N>>>,
+    ) -> Option<Block<Pages<N>>>
+        ensures none { IfNone result (deque_len texts.new ≡ 0) }
+        ensures fewer { IfSome result (λ b. deque_len texts.new < deque_len texts.old) }
+    {
+        let block = next_block(texts)?;
+        let Some(own) = self.each.get(seat as usize) else {
+            return Some(block);
+        };
+        let (kept, left) = Returned::kept_all::<N, R>(rt, own, block, texts);
+        self.waiters.wake(kept);
+        left
+    }
+
     /// Returns a block for which the magazine at this index has no room to the seat that drafted
     /// with it, if that is another one; else, or where it has more pages than are inline, the block
     /// is freed.
@@ -271,6 +339,30 @@ impl<N: Names> Magazines<N> {
         match self.each.get(seat as usize) {
             Some(own) => Returned::kept::<N, R>(rt, own, block),
             None => Err(block),
+        }
+    }
+}
+
+/// Takes blocks for the texts of these letters out of a magazine: for the first ones, up to one for
+/// which it has none.
+fn empty_for<N: Names>(
+    magazine: &mut Magazine<Pages<N>>,
+    letters: &[Letter<&[u8]>],
+    blocks: &mut VecDeque<Unwritten<Pages<N>>>,
+)
+    requires empty { blocks.old.items ≡ [] }
+    requires room { length letters.now ≤ deque_capacity blocks.old }
+    ensures { AreBlocksFor (λ r. r.now) blocks.new.items letters.now }
+{
+    for place in 0..letters.len() {
+        let letter = &letters[place];
+        let len = letter.text.len();
+        if len == 0 || MSGMAX < len as u64 {
+            return;
+        }
+        match magazine.take(order_for(len)) {
+            Some(block) => blocks.push_back_reserved(block),
+            None => return,
         }
     }
 }

@@ -1,11 +1,13 @@
 //! How a draft allocates pages or waits for some, and how they are returned. A draft waits only
 //! once it has tried after it registered as a waiter; and a call that returns pages wakes the
 //! waiters, for the token that says so can't be dropped.
-ghost use Rattle.std.specs.Prelude.{◌≡◌, ◌<◌, ◌≤◌, [], IfErr, IfOk, IsErrOf};
+ghost use Rattle.std.specs.Prelude.{◌≡◌, ◌<◌, ◌≤◌, [], IfErr, IfNone, IfOk, IfSome, IsErrOf};
+ghost use Rattle.std.specs.VecDeque.{deque_len};
 
-use crate::{Names, Pages, Waiters};
+use crate::{Delivered, Names, Pages, TextOf, Waiters};
 use crossbeam_utils::CachePadded;
 use mq_arena::{Arena, Block, Homecoming, INLINE_ORDER, MAX_ORDER, Magazine, TakeError, Unwritten};
+use std::collections::VecDeque;
 use std::sync::{Mutex, MutexGuard, Wait};
 use std::time::Duration;
 
@@ -56,6 +58,26 @@ impl Returned {
         }
     }
 
+    /// Keeps a block in this magazine, and then those of these texts, up to the first for which it
+    /// has no room: that is returned.
+    pub(crate) fn kept_all<N: Names, R: Wait>(
+        rt: &R,
+        own: &Own<N>,
+        block: Block<Pages<N>>,
+        texts: &mut VecDeque<Delivered<TextOf<N>>>,
+    ) -> (Returned, Option<Block<Pages<N>>>)
+        ensures none { IfNone result.1 (deque_len texts.new ≡ 0) }
+        ensures fewer { deque_len texts.new ≤ deque_len texts.old }
+    {
+        let mut magazine = own.lock(rt);
+        let left = match magazine.put(block) {
+            Ok(()) => fill(&mut magazine, texts),
+            Err(block) => Some(block),
+        };
+        MutexGuard::unlock(magazine);
+        (Returned { unwoken: () }, left)
+    }
+
     /// Moves a block to the magazine `other`, and behind it those of a full one, as many as there
     /// is room for. Where there is none for the first, it is freed.
     pub(crate) fn moved<N: Names, R: Wait>(
@@ -73,6 +95,37 @@ impl Returned {
             Err(block) => Returned::freed(rt, arena, block),
         }
     }
+}
+
+/// The block of the first of these texts that has one. Those before it are spent with it.
+pub(crate) fn next_block<N: Names>(
+    texts: &mut VecDeque<Delivered<TextOf<N>>>,
+) -> Option<Block<Pages<N>>>
+    ensures none { IfNone result (deque_len texts.new ≡ 0) }
+    ensures fewer { IfSome result (λ b. deque_len texts.new < deque_len texts.old) }
+{
+    while let Some(delivered) = texts.pop_front() {
+        if let Some(block) = delivered.text.into_block() {
+            return Some(block);
+        }
+    }
+    None
+}
+
+/// Caches the blocks of these texts, up to the first for which there is no room: that is returned.
+fn fill<N: Names>(
+    magazine: &mut Magazine<Pages<N>>,
+    texts: &mut VecDeque<Delivered<TextOf<N>>>,
+) -> Option<Block<Pages<N>>>
+    ensures none { IfNone result (deque_len texts.new ≡ 0) }
+    ensures fewer { deque_len texts.new ≤ deque_len texts.old }
+{
+    while let Some(block) = next_block(texts) {
+        if let Err(block) = magazine.put(block) {
+            return Some(block);
+        }
+    }
+    None
 }
 
 /// The drafts that wait for pages: woken where a text was spent, whether its pages were freed or

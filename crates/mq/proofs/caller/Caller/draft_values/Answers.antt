@@ -8,7 +8,7 @@ use Rattle.mq_arena.specs.Text.{PlainText}
 use Rattle.mq_system.specs.declared.many.Letter.{Letter}
 use Rattle.mq_system.specs.declared.many.TheConstants.{MAX_BATCH}
 use Rattle.mq.specs.ValueBatches.{HasNoText, IsDraftOf}
-use Rattle.mq.proofs.BatchLemmas.{more_zipped}
+use Rattle.mq_system.proofs.BlockLemmas.{more_zipped}
 use Rattle.mq.proofs.caller.Caller.draft_values.Goals as goal
 
 pub returns-in-Err-clause-answer : goal.returns-in-Err-clause-answer

@@ -3,7 +3,8 @@ use Rattle.std.proofs.lemmas.List.Elements.{All-rest}
 use Rattle.mq_arena.specs.Text.{PlainText}
 use Rattle.mq_calls.specs.declared.results.Delivered.{Delivered}
 use Rattle.mq.specs.ValueBatches.{IsReadable, IsValueOf}
-use Rattle.mq.proofs.BatchLemmas.{more_zipped, with_more_room}
+use Rattle.mq_system.proofs.BlockLemmas.{more_zipped}
+use Rattle.mq.proofs.BatchLemmas.{with_more_room}
 use Rattle.mq.proofs.caller.Caller.read_values.Goals as goal
 
 pub loop-done-preserved : goal.loop-done-preserved

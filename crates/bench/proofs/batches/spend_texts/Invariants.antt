@@ -1,9 +1,0 @@
-use Rattle.std.proofs.Common.{length}
-use Rattle.bench.proofs.batches.spend_texts.Given as goal
-
--- each iteration removes one
-abbrev pub invariant-loop-delivered : goal.invariant-loop-delivered
-invariant-loop-delivered g l = Unit {0}
-
-abbrev pub decreases-loop-delivered : goal.decreases-loop-delivered
-decreases-loop-delivered g l = length l.texts.items
