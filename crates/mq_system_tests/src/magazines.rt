@@ -314,7 +314,7 @@ fn add<S: Calls, R: Abort + Wait>(
     };
     match texts.push_back(delivered) {
         Ok(()) => start,
-        Err(_) => panic!(rt; "no memory for a list"),
+        Err(_) => panic!(rt; "out of memory"),
     }
 }
 
@@ -372,7 +372,7 @@ fn drafted_of_several<S: Calls, R: Abort + Wait>(
         text: bytes,
     }];
     let Ok(mut texts) = VecDeque::with_capacity(alloc, 1) else {
-        panic!(rt; "no memory for a list");
+        panic!(rt; "out of memory");
     };
     let drafted = system.draft_texts_by(alloc, rt, seat, &letters, &mut texts);
     let text = texts.pop_front();
