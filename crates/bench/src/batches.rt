@@ -96,7 +96,8 @@ impl Worker<Anything> for Player {
     }
 }
 
-/// Adds texts of the first of these messages until there are so many.
+/// Adds texts of the first of these messages until there are so many. Those without bytes have no
+/// block, and are drafted one by one.
 fn fill<N: Names, R: Wait + Clock>(
     caller: &Caller<'_, Anything, N, R>,
     letters: &mut VecDeque<Letter<TextOf<N>>>,
@@ -104,7 +105,23 @@ fn fill<N: Names, R: Wait + Clock>(
     count: usize,
 ) -> Result<(), Errno> {
     let lacking = count.saturating_sub(letters.len()).min(messages.len());
-    caller.draft_texts(&messages[..lacking], letters)
+    let messages = &messages[..lacking];
+    match messages.first() {
+        Some(message) if message.text.is_empty() => (),
+        _ => return caller.draft_texts(messages, letters),
+    }
+    for _ in 0..lacking {
+        let letter = Letter {
+            mtype: 1,
+            tag: 0,
+            text: caller.draft(0)?,
+        };
+        if let Err(unsent) = letters.push_back(letter) {
+            caller.spend(unsent.value.text);
+            return Err(Errno::ENOMEM);
+        }
+    }
+    Ok(())
 }
 
 /// Spends the letters that are left.
