@@ -73,7 +73,7 @@ impl<'a, P: Pledge, N: Names, R: Wait + Clock> Caller<'a, P, N, R> {
 
     /// Drafts texts of these letters' bytes, and adds them to the list, as that many calls of
     /// `draft` and `Text::fill`. It waits for pages for the first alone. The first refusal ends it,
-    /// with the errors of `draft`, or with ENOMEM and no text where there is no memory to list them.
+    /// with the errors of `draft`; ENOMEM and no text where there is no memory to list them.
     pub fn draft_texts(
         &self,
         letters: &[Letter<&[u8]>],

@@ -1,5 +1,5 @@
-//! Drafts of several texts. Their blocks are taken out of the seat's magazine, as far as it has them,
-//! under one hold of its lock.
+//! Drafts of several texts, whose blocks are taken out of the seat's magazine, as far as it has
+//! them, under one hold of its lock.
 ghost use Rattle.std.specs.Prelude.{◌≡◌, ◌+◌, ◌≤◌, ◌||◌, [], IfErr, IfOk, OnErr, drop, length};
 ghost use Rattle.std.specs.VecDeque.{deque_capacity, deque_len};
 ghost use Rattle.mq_system.specs.Drafts.{AreBlocksFor, AreDrafted, IsDraft};
@@ -47,8 +47,8 @@ impl<P: Pledge, N: Names> System<P, N> {
         Ok(())
     }
 
-    /// Blocks of the seat's magazine for the first of these letters; none where the first needs none,
-    /// or where there is no memory to list them.
+    /// Blocks of the seat's magazine for the first of these letters; none where the first needs
+    /// none, or where there is no memory to list them.
     fn blocks_for<R: Wait>(
         &self,
         alloc: Global,
@@ -71,8 +71,8 @@ impl<P: Pledge, N: Names> System<P, N> {
         blocks
     }
 
-    /// Drafts the next of several texts in the first of these blocks, or else by a draft of its own,
-    /// which may wait if it is the first.
+    /// Drafts the next of several texts in the first of these blocks, or else by a draft of its
+    /// own, which may wait if it is the first.
     fn draft_next<R: Wait, T: Patience>(
         &self,
         rt: &R,

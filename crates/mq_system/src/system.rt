@@ -5,6 +5,7 @@ ghost use Rattle.std.specs.Prelude.{◌≡◌, ◌↔◌, ◌⊎◌, ◌<◌, �
 ghost use Rattle.std.specs.Prelude.{◌++◌, None, length, nat_lt, replicate, vec_len, IfOk, IsErrOf};
 ghost use Rattle.std.specs.List.{concat};
 ghost use Rattle.std.specs.VecDeque.{deque_len};
+ghost use Rattle.mq_arena.specs.Bytes.{pages_with};
 ghost use Rattle.mq_arena.specs.Text.{order_for};
 ghost use Rattle.mq_calls.specs.Limits.{keeps_limits};
 ghost use Rattle.mq_system.specs.Drafts.{IsInLeast};
@@ -323,10 +324,12 @@ impl<P: Pledge, N: Names> System<P, N> {
 }
 
 /// The block with these bytes in its first ones and zeros behind them.
+#[inline(always)]
 fn written<N: Names>(block: Unwritten<Pages<N>>, bytes: &[u8]) -> Block<Pages<N>>
     requires most { length bytes.now ≤ MSGMAX }
     requires order { block.order ≡ order_for (length bytes.now) }
     ensures order { result.order ≡ order_for (length bytes.now) }
+    ensures pages { result.pages ≡ pages_with (2 ^ result.order) bytes.now }
     ensures bytes { concat result.pages
         ≡ bytes.now ++ replicate (PAGE_LEN * 2 ^ result.order - length bytes.now) 0 }
 {
@@ -334,6 +337,7 @@ fn written<N: Names>(block: Unwritten<Pages<N>>, bytes: &[u8]) -> Block<Pages<N>
 }
 
 /// The text of these bytes in the block that was taken for it.
+#[inline(always)]
 pub(crate) fn text_in<N: Names>(block: Unwritten<Pages<N>>, bytes: &[u8]) -> TextOf<N>
     requires some { 0 < length bytes.now }
     requires most { length bytes.now ≤ MSGMAX }

@@ -120,8 +120,8 @@ impl<N: Names> Magazines<N> {
         Ok(block)
     }
 
-    /// Takes blocks for the texts of these letters out of the magazine of the seat with this number,
-    /// under one hold of its lock: for the first ones, up to one for which it has none.
+    /// Takes blocks for the texts of these letters out of the magazine of the seat with this
+    /// number, under one hold of its lock: for the first ones, up to one for which it has none.
     pub(crate) fn take_first<R: Wait>(
         &self,
         rt: &R,
@@ -137,7 +137,7 @@ impl<N: Names> Magazines<N> {
         let own = seat - 1;
         if let Some(magazine) = self.each.get(own as usize) {
             let mut magazine = magazine.lock(rt);
-            empty_for(&mut magazine, letters, blocks);
+            take_blocks(&mut magazine, letters, blocks);
             MutexGuard::unlock(magazine);
         }
     }
@@ -345,7 +345,7 @@ impl<N: Names> Magazines<N> {
 
 /// Takes blocks for the texts of these letters out of a magazine: for the first ones, up to one for
 /// which it has none.
-fn empty_for<N: Names>(
+fn take_blocks<N: Names>(
     magazine: &mut Magazine<Pages<N>>,
     letters: &[Letter<&[u8]>],
     blocks: &mut VecDeque<Unwritten<Pages<N>>>,

@@ -1,7 +1,7 @@
 use Rattle.std.proofs.Common.{rules, arith, ◌≡◌, ◌<◌, ◌++◌, ◌∷◌, [], length, sym, subst, slice_index_or}
 use Rattle.mq_system.specs.Drafts.{AreBlocksFor, IsBlockFor}
 use Rattle.mq_system.proofs.BlockLemmas.{no_letter, one_more}
-use Rattle.mq_system.proofs.pages.magazines.empty_for.Goals as goal
+use Rattle.mq_system.proofs.pages.magazines.take_blocks.Goals as goal
 
 pub loop-place-preserved : goal.loop-place-preserved
 loop-place-preserved g c =
