@@ -324,7 +324,6 @@ impl<P: Pledge, N: Names> System<P, N> {
 }
 
 /// The block with these bytes in its first ones and zeros behind them.
-#[inline(always)]
 fn written<N: Names>(block: Unwritten<Pages<N>>, bytes: &[u8]) -> Block<Pages<N>>
     requires most { length bytes.now ≤ MSGMAX }
     requires order { block.order ≡ order_for (length bytes.now) }
@@ -337,7 +336,6 @@ fn written<N: Names>(block: Unwritten<Pages<N>>, bytes: &[u8]) -> Block<Pages<N>
 }
 
 /// The text of these bytes in the block that was taken for it.
-#[inline(always)]
 pub(crate) fn text_in<N: Names>(block: Unwritten<Pages<N>>, bytes: &[u8]) -> TextOf<N>
     requires some { 0 < length bytes.now }
     requires most { length bytes.now ≤ MSGMAX }
